@@ -5,6 +5,7 @@ pub mod Making
 pub mod Compacted
 pub mod Placing
 pub mod Still
+pub mod Bytes
 pub mod Searching
 pub mod Several
 pub mod AllPlaced

@@ -245,7 +245,7 @@ same_fewer slots count fewer place address le holds =
     go generation Retired there = refl
     go generation (Used block) there = used generation block (is_gone slots count block) refl there
 
-apart_at : (address size : ℕ) (slots : Slots) → All (IsApart address size) slots → (place : ℕ) → IsApart address size (slot_at slots place)
+pub apart_at : (address size : ℕ) (slots : Slots) → All (IsApart address size) slots → (place : ℕ) → IsApart address size (slot_at slots place)
 apart_at address size slots all place = elim (cases_lt place (length slots)) [
   | inl within ↦ all place new_slot within
   | inr past ↦ λ i from to held. subst (HoldsByte i) (get_or_past slots place new_slot past) held

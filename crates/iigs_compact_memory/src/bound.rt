@@ -66,6 +66,10 @@ pub fn bound(places: &Places, trial: &mut Places, want: &Want) -> Option<u32>
         (λ least. (count : ℕ) → count < least → NoneAfter places.now.banks places.now.slots want.now count) }
     ensures banks { trial.new.banks ≡ places.now.banks }
 {
+    places.know_arranged();
+    if places.most_room() < want.size {
+        return None;
+    }
     let mut enough = places.purgeable();
     if !fits_still(places, trial, want, enough) {
         return None;

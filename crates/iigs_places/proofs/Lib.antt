@@ -25,6 +25,7 @@ pub mod Quick
 pub mod Puts
 pub mod Moved
 pub mod Sliding
+pub mod Lasting
 pub mod Orders
 pub mod Fresh
 pub mod Alls

@@ -1,6 +1,6 @@
 //! Places of blocks among banks.
 
-ghost use Rattle.std.specs.Prelude.{◌≡◌, ◌≢◌, ◌+◌, ◌-◌, ◌<◌, ◌≤◌, ◌^◌, ℕ, [], false, All, MatchOption, IsSome, IsSomeAnd, IsTrue, Some, IfSome, IfOk, IfErr, OnErr, OnOk, length, count_by, map, vec_capacity};
+ghost use Rattle.std.specs.Prelude.{◌≡◌, ◌≢◌, ◌+◌, ◌-◌, ◌<◌, ◌≤◌, ◌^◌, ℕ, [], false, All, MatchOption, IsSome, IsSomeAnd, IsTrue, Some, IfSome, IfOk, IfErr, OnErr, OnOk, length, count_by, sum_by, map, vec_capacity};
 ghost use Rattle.std.specs.Option.{option_map_or};
 ghost use Rattle.std.specs.Result.{result_ok};
 ghost use Rattle.iigs_meaning.specs.declared.handles.Handle as declared;
@@ -14,6 +14,7 @@ ghost use Rattle.iigs_meaning.specs.Blocks.{new_slots, can_purge_of, address_in}
 ghost use Rattle.iigs_meaning.specs.Banks.{AreDistinctTo, IsBanksRefusal};
 ghost use Rattle.iigs_meaning.specs.Room.{CountsBelow, IsRoom};
 ghost use Rattle.iigs_places.specs.Offsets.{bytes_below, offset_of};
+ghost use Rattle.iigs_places.specs.Sizes.{free_below, lasting_in};
 ghost use Rattle.iigs_places.specs.Arranged.{IsArranged};
 ghost use Rattle.iigs_places.specs.Table.{IsPut, IsReput};
 ghost use Rattle.iigs_places.specs.Alls.{AllPut};
@@ -26,7 +27,7 @@ use crate::search::least_among;
 use crate::slide::slide_all;
 use crate::spots::Spot;
 use crate::table::{
-    Put, purge_user, put_all, put_block, replace_block, set, start_plan, used_bytes,
+    Put, lasting_bytes, purge_user, put_all, put_block, replace_block, set, start_plan, used_bytes,
 };
 use iigs_handles::{Handles, HandlesFault, SLOTS};
 use iigs_meaning::{
@@ -422,5 +423,14 @@ impl Places {
         let free = self.map.free_bytes();
         let used = used_bytes(&self.table);
         free - used as u32
+    }
+
+    /// How many bytes of free memory lie in no block, once all purgeable blocks are purged.
+    pub fn most_room(&self) -> u32
+        ensures { result + sum_by lasting_in self.now.slots ≡ free_below self.now.banks 256 }
+    {
+        let free = self.map.free_bytes();
+        let lasting = lasting_bytes(&self.table);
+        free - lasting as u32
     }
 }

@@ -7,7 +7,7 @@ ghost use Rattle.iigs_meaning.specs.Fits.{IsWant, block_in};
 ghost use Rattle.iigs_meaning.specs.Placement.{emptied_where, can_purge};
 ghost use Rattle.iigs_meaning.specs.Puts.{Purges, IsPlaceRefusal, IsReplaceRefusal, IsPlaceAllRefusal, without_user, without_user_in, slots_for};
 ghost use Rattle.iigs_meaning.specs.Blocks.{can_purge_of};
-ghost use Rattle.iigs_places.specs.Sizes.{size_in};
+ghost use Rattle.iigs_places.specs.Sizes.{size_in, lasting_in};
 ghost use Rattle.iigs_places.specs.Spots.{turn_of as turn_in_order, IsBoundedSlot};
 ghost use Rattle.iigs_places.specs.Alls.{AllPut};
 ghost use Rattle.iigs_places.specs.Table.{IsPut, IsReput};
@@ -291,6 +291,40 @@ pub fn used_bytes(table: &Handles<Block>) -> u64
     ensures { result ≡ sum_by size_in table.now }
 {
     bytes_in(&table.slots()[..table.end()])
+}
+
+fn lasting_of(slot: &Slot<Block>) -> u32
+    requires { IsBoundedSlot slot.now }
+    ensures value { result ≡ lasting_in slot.now }
+    ensures small { result ≤ 2 ^ 24 }
+{
+    if let Content::Used(block) = &slot.content {
+        if can_be_purged(block) {
+            return 0;
+        }
+    }
+    size_of(slot)
+}
+
+// How many bytes the blocks in these slots have that aren't purgeable.
+fn lasting_among(slots: &[Slot<Block>]) -> u64
+    requires bounded { All IsBoundedSlot slots.now }
+    requires few { length slots.now ≤ 4096 }
+    ensures { result ≡ sum_by lasting_in slots.now }
+{
+    let mut total = 0;
+    for slot in slots {
+        total += u64::from(lasting_of(slot));
+    }
+    total
+}
+
+/// How many bytes the blocks have that are there and aren't purgeable. Slots that were never used have none.
+pub fn lasting_bytes(table: &Handles<Block>) -> u64
+    requires { All IsBoundedSlot table.now }
+    ensures { result ≡ sum_by lasting_in table.now }
+{
+    lasting_among(&table.slots()[..table.end()])
 }
 
 /// Places blocks for these wants in order, locked with level 0. `layout` is that of the table. `made` tells where they

@@ -15,7 +15,7 @@ ghost use Rattle.orca_text.specs.View.{line};
 use crate::body::Body;
 use macro_meaning::{MacroCause, MacroFault};
 use orca_symbols::{ModelLine, model_of, operation_is};
-use orca_text::{Lines, SourceLine};
+use orca_text::{LinePart, Lines, SourceLine};
 use std::alloc::{AllocError, Global};
 
 /// A macro.
@@ -119,7 +119,10 @@ fn closed(
     if begins + 1 == mend {
         return Ok(Err(fault_at(model, MacroCause::BadArguments)));
     }
-    match model_of(alloc, model.text.bytes())? {
+    let text = LinePart {
+        bytes: model.text.bytes(),
+    };
+    match model_of(alloc, text)? {
         Some(found) => {
             let d = closed_with(alloc, behind, found, lines, begins + 2, mend)?;
             Ok(Ok(d))

@@ -14,6 +14,7 @@ use orca_symbols::{
     is_target, joined, kind_of, number, pieces, quoted, signed_decimal, symbol_word, target_word,
     two_pieces,
 };
+use orca_text::LinePart;
 use std::alloc::{AllocError, Global};
 
 /// Of two faults that stand together the one that is answered: NoSuchSymbol comes before BadSetting.
@@ -126,11 +127,10 @@ fn setting<'a>(
     alloc: Global,
     of: Values<'_>,
     kind: Kind,
-    label: &'a [u8],
+    label: LinePart<'a>,
     text: Result<Text, MacroCause>,
 ) -> Result<Deed<'a>, AllocError>
-    requires { length label.now ≤ 255 }
-    ensures { IfOk result (λ d. deed d ≡ setting (values of.entry) kind label.now text) }
+    ensures { IfOk result (λ d. deed d ≡ setting (values of.entry) kind label.entry.bytes.now text) }
 {
     let named = symbol_word(alloc, label)?;
     match both(settable(of, kind, named), text) {
@@ -146,9 +146,9 @@ fn printed(alloc: Global, kind: Kind, n: u32) -> Result<Text, AllocError>
     match kind {
         Kind::Flag => {
             if n == 0 {
-                return Text::of(alloc, b"0");
+                return Text::of(alloc, LinePart { bytes: b"0" });
             }
-            Text::of(alloc, b"1")
+            Text::of(alloc, LinePart { bytes: b"1" })
         }
         Kind::Number => signed_decimal(alloc, n.cast_signed()),
         Kind::Text => signed_decimal(alloc, n.cast_signed()),
@@ -177,12 +177,10 @@ fn set<'a>(
     alloc: Global,
     of: Values<'_>,
     kind: Kind,
-    label: &'a [u8],
-    operand: &[u8],
+    label: LinePart<'a>,
+    operand: LinePart<'_>,
 ) -> Result<Deed<'a>, AllocError>
-    requires label { length label.now ≤ 255 }
-    requires operand { length operand.now ≤ 255 }
-    ensures { IfOk result (λ d. IsSetting (values of.entry) kind label.now operand.now (deed d)) }
+    ensures { IfOk result (λ d. IsSetting (values of.entry) kind label.entry.bytes.now operand.entry.bytes.now (deed d)) }
 {
     match kind {
         Kind::Number => set_number(alloc, of, Kind::Number, label, operand),
@@ -200,14 +198,12 @@ fn set_number<'a>(
     alloc: Global,
     of: Values<'_>,
     kind: Kind,
-    label: &'a [u8],
-    operand: &[u8],
+    label: LinePart<'a>,
+    operand: LinePart<'_>,
 ) -> Result<Deed<'a>, AllocError>
-    requires label { length label.now ≤ 255 }
-    requires operand { length operand.now ≤ 255 }
     ensures { IfOk result (λ d. (answer : Answer)
-        × IsCondition (values of.entry) operand.now answer
-        × (deed d ≡ setting (values of.entry) kind label.now (printed_answer kind answer))) }
+        × IsCondition (values of.entry) operand.entry.bytes.now answer
+        × (deed d ≡ setting (values of.entry) kind label.entry.bytes.now (printed_answer kind answer))) }
 {
     let answer = condition(alloc, of, operand)?;
     let text = printed_answer(alloc, kind, answer)?;
@@ -216,9 +212,8 @@ fn set_number<'a>(
 
 /// Texts in quotes, joined.
 #[tactic(auto, using(crate::proofs::Texts::joined_fits))]
-fn joined_text(alloc: Global, operand: &[u8]) -> Result<Result<Text, MacroCause>, AllocError>
-    requires { length operand.now ≤ 255 }
-    ensures { IfOk result (λ text. text ≡ or_bad (joined (pieces 0x2B operand.now))) }
+fn joined_text(alloc: Global, operand: LinePart<'_>) -> Result<Result<Text, MacroCause>, AllocError>
+    ensures { IfOk result (λ text. text ≡ or_bad (joined (pieces 0x2B operand.entry.bytes.now))) }
 {
     let found = pieces(alloc, b'+', operand)?;
     match joined(alloc, found.as_slice())? {
@@ -257,12 +252,11 @@ fn behind_first(text: &[u8], count: usize) -> &[u8]
 #[tactic(auto, using(crate::proofs::Texts::middle_good, crate::proofs::Texts::middle_low, crate::proofs::Texts::middle_few))]
 fn middle_from(
     alloc: Global,
-    text: &[u8],
+    text: LinePart<'_>,
     start: i32,
     count: i32,
 ) -> Result<Result<Text, MacroCause>, AllocError>
-    requires { length text.now ≤ 255 }
-    ensures { IfOk result (λ found. found ≡ middle_from text.now start count) }
+    ensures { IfOk result (λ found. found ≡ middle_from text.entry.bytes.now start count) }
 {
     if start < 1 {
         return Ok(Err(MacroCause::BadSetting));
@@ -270,8 +264,11 @@ fn middle_from(
     if count < 0 {
         return Ok(Err(MacroCause::BadSetting));
     }
-    let behind = behind_first(text, start.unsigned_abs() as usize - 1);
-    let found = Text::of(alloc, front_of(behind, count.unsigned_abs() as usize))?;
+    let behind = behind_first(text.bytes, start.unsigned_abs() as usize - 1);
+    let middle = LinePart {
+        bytes: front_of(behind, count.unsigned_abs() as usize),
+    };
+    let found = Text::of(alloc, middle)?;
     Ok(Ok(found))
 }
 
@@ -280,17 +277,16 @@ fn middle_from(
 fn middle_with<'a>(
     alloc: Global,
     of: Values<'_>,
-    label: &'a [u8],
-    text: &[u8],
+    label: LinePart<'a>,
+    text: LinePart<'_>,
     numbers: Result<(u32, u32), MacroCause>,
 ) -> Result<Deed<'a>, AllocError>
-    requires label { length label.now ≤ 255 }
-    requires text { length text.now ≤ 255 }
-    ensures { IfOk result (λ d. deed d ≡ setting (values of.entry) Kind.Text label.now (middle_of (both (or_bad (quoted text.now)) numbers))) }
+    ensures { IfOk result (λ d. deed d ≡ setting (values of.entry) Kind.Text label.entry.bytes.now (middle_of (both (or_bad (quoted text.entry.bytes.now)) numbers))) }
 {
     match numbers {
-        Ok((start, count)) => match quoted(text) {
+        Ok((start, count)) => match quoted(text.bytes) {
             Some(inside) => {
+                let inside = LinePart { bytes: inside };
                 let found = middle_from(alloc, inside, start.cast_signed(), count.cast_signed())?;
                 setting(alloc, of, Kind::Text, label, found)
             }
@@ -304,17 +300,16 @@ fn middle_with<'a>(
 fn middle<'a>(
     alloc: Global,
     of: Values<'_>,
-    label: &'a [u8],
+    label: LinePart<'a>,
     operands: &[Piece<'_>],
 ) -> Result<Deed<'a>, AllocError>
-    requires { length label.now ≤ 255 }
-    ensures { IfOk result (λ d. IsMiddle (values of.entry) label.now operands.now (deed d)) }
+    ensures { IfOk result (λ d. IsMiddle (values of.entry) label.entry.bytes.now operands.now (deed d)) }
 {
     match operands {
         [text, start, count] => {
-            let start = number(alloc, of, start.bytes())?;
-            let count = number(alloc, of, count.bytes())?;
-            middle_with(alloc, of, label, text.bytes(), both(start, count))
+            let start = number(alloc, of, start.part())?;
+            let count = number(alloc, of, count.part())?;
+            middle_with(alloc, of, label, text.part(), both(start, count))
         }
         _ => setting(alloc, of, Kind::Text, label, Err(MacroCause::BadSetting)),
     }
@@ -332,16 +327,19 @@ fn is_zero(answer: Result<u32, MacroCause>) -> bool
 
 /// AIF.
 #[tactic(auto, using(crate::proofs::Both::two_branch, crate::proofs::Both::no_branch, crate::proofs::Both::not_two))]
-fn branch_if<'a>(alloc: Global, of: Values<'_>, operand: &'a [u8]) -> Result<Deed<'a>, AllocError>
-    requires { length operand.now ≤ 255 }
-    ensures { IfOk result (λ d. IsBranchIf (values of.entry) (pieces 0x2C operand.now) (deed d)) }
+fn branch_if<'a>(
+    alloc: Global,
+    of: Values<'_>,
+    operand: LinePart<'a>,
+) -> Result<Deed<'a>, AllocError>
+    ensures { IfOk result (λ d. IsBranchIf (values of.entry) (pieces 0x2C operand.entry.bytes.now) (deed d)) }
 {
     let Some((asked, target)) = two_pieces(b',', operand) else {
         return Ok(Deed::Fails(MacroCause::BadSetting));
     };
     let answer = condition(alloc, of, asked)?;
     if is_zero(answer) {
-        if is_target(target) {
+        if is_target(target.bytes) {
             return Ok(Deed::Rests);
         }
     }
@@ -414,17 +412,16 @@ fn note<'a>(alloc: Global, of: Values<'_>, operands: &[Piece<'_>]) -> Result<Dee
 {
     match operands {
         [text, severity] => {
-            let answer = number(alloc, of, severity.bytes())?;
-            Ok(noting(text.bytes(), answer))
+            let answer = number(alloc, of, severity.part())?;
+            Ok(noting(text.part().bytes, answer))
         }
         _ => Ok(Deed::Fails(MacroCause::BadSetting)),
     }
 }
 
 /// ANOP, or no operation.
-fn resting<'a>(label: &[u8], text: &'a [u8]) -> Deed<'a>
-    requires { length text.now ≤ 255 }
-    ensures { deed result ≡ resting label.now text.now }
+fn resting<'a>(label: &[u8], text: LinePart<'a>) -> Deed<'a>
+    ensures { deed result ≡ resting label.now text.entry.bytes.now }
 {
     if label.is_empty() {
         return Deed::Rests;
@@ -437,14 +434,11 @@ pub(crate) fn done<'a>(
     alloc: Global,
     of: Values<'_>,
     statement: Statement,
-    text: &'a [u8],
-    label: &'a [u8],
-    operand: &'a [u8],
+    text: LinePart<'a>,
+    label: LinePart<'a>,
+    operand: LinePart<'a>,
 ) -> Result<Deed<'a>, AllocError>
-    requires text { length text.now ≤ 255 }
-    requires label { length label.now ≤ 255 }
-    requires operand { length operand.now ≤ 255 }
-    ensures { IfOk result (λ d. IsDone (values of.entry) statement text.now label.now operand.now (deed d)) }
+    ensures { IfOk result (λ d. IsDone (values of.entry) statement text.entry.bytes.now label.entry.bytes.now operand.entry.bytes.now (deed d)) }
 {
     match statement {
         Statement::Declare(declaration) => {
@@ -465,7 +459,7 @@ pub(crate) fn done<'a>(
             let answer = number(alloc, of, operand)?;
             Ok(counting(answer))
         }
-        Statement::Nothing => Ok(resting(label, text)),
+        Statement::Nothing => Ok(resting(label.bytes, text)),
         Statement::Leave => Ok(Deed::Leaves),
         Statement::Note => {
             let operands = pieces(alloc, b',', operand)?;

@@ -28,7 +28,7 @@ use crate::visited::{Standing, deed_of, is_given, planned};
 use crate::visits::{MOST_VISITS, Outcome, onward, step};
 use macro_meaning::{MacroCause, MacroFault};
 use orca_symbols::{State, Symbols, Values};
-use orca_text::{Lines, SourceLine, TextCause, TextFault, read_lines};
+use orca_text::{LinePart, Lines, SourceLine, TextCause, TextFault, read_lines};
 use std::alloc::{AllocError, Global};
 
 /// Memory ran out.
@@ -209,7 +209,12 @@ fn give(alloc: Global, out: &mut Lines, of: &SourceLine, given: &Deed<'_>) -> Re
     ensures few { OnOk result (length out.new ≤ length out.old + 1) }
 {
     match given {
-        Deed::Gives(text) => out.push(alloc, of.file, of.line, text.bytes()),
+        Deed::Gives(text) => {
+            let text = LinePart {
+                bytes: text.bytes(),
+            };
+            out.push(alloc, of.file, of.line, text)
+        }
         Deed::Rests => Ok(()),
         Deed::Declares(_, _) => Ok(()),
         Deed::Sets(_, _, _) => Ok(()),

@@ -6,7 +6,7 @@ ghost use Rattle.orca_macro.specs.Head.{IsHead};
 use macro_meaning::Statement;
 use omf_base::Name;
 use orca_symbols::{cut, statement_of};
-use orca_text::{folded, is_comment, part, three_fields};
+use orca_text::{LinePart, folded, is_comment, part, three_fields};
 use std::alloc::{AllocError, Global};
 
 /// The front of a line, with a blank behind its operation.
@@ -26,43 +26,45 @@ pub(crate) struct Head {
 
 impl Head {
     /// What stands behind the sequence symbol.
-    pub(crate) fn behind_sequence<'a>(&self, text: &'a [u8]) -> &'a [u8]
-        requires { self.now.sequence ≤ length text.now }
-        ensures value { result.now ≡ drop self.now.sequence text.now }
-        ensures bound { length result.now ≤ length text.now }
+    pub(crate) fn behind_sequence<'a>(&self, text: LinePart<'a>) -> LinePart<'a>
+        requires { self.now.sequence ≤ length text.bytes.now }
+        ensures value { result.bytes.now ≡ drop self.now.sequence text.entry.bytes.now }
+        ensures bound { length result.bytes.now ≤ length text.entry.bytes.now }
     {
-        let (_, behind) = text.split_at(self.sequence);
-        behind
+        let (_, behind) = text.bytes.split_at(self.sequence);
+        LinePart { bytes: behind }
     }
 
     /// The label, in a text behind its sequence symbol.
-    pub(crate) fn label_in<'a>(&self, text: &'a [u8]) -> &'a [u8]
-        requires { self.now.label ≤ length text.now }
-        ensures value { result.now ≡ take self.now.label text.now }
-        ensures bound { length result.now ≤ length text.now }
+    pub(crate) fn label_in<'a>(&self, text: LinePart<'a>) -> LinePart<'a>
+        requires { self.now.label ≤ length text.bytes.now }
+        ensures value { result.bytes.now ≡ take self.now.label text.entry.bytes.now }
+        ensures bound { length result.bytes.now ≤ length text.entry.bytes.now }
     {
-        let (label, _) = text.split_at(self.label);
-        label
+        let (label, _) = text.bytes.split_at(self.label);
+        LinePart { bytes: label }
     }
 }
 
 /// The head that these bytes are, if they are one.
 #[tactic(auto, using(crate::proofs::Heads::head_is))]
-pub(crate) fn head_of(alloc: Global, front: &[u8]) -> Result<Option<Head>, AllocError>
-    requires { length front.now ≤ 255 }
-    ensures { IfOk result (λ head. IfSome head (λ h. IsHead h front.now)) }
+pub(crate) fn head_of(alloc: Global, front: LinePart<'_>) -> Result<Option<Head>, AllocError>
+    ensures { IfOk result (λ head. IfSome head (λ h. IsHead h front.entry.bytes.now)) }
 {
     let text = cut(front);
     let fields = three_fields(text);
     let operation = part(text, fields.operation);
-    if is_comment(text) || operation.is_empty() || fields.operation.to as usize >= text.len() {
+    if is_comment(text.bytes)
+        || operation.bytes.is_empty()
+        || fields.operation.to as usize >= text.bytes.len()
+    {
         return Ok(None);
     }
     Ok(Some(Head {
-        sequence: front.len() - text.len(),
+        sequence: front.bytes.len() - text.bytes.len(),
         label: fields.label.to as usize,
         end: fields.operation.to as usize,
         operation: folded(alloc, operation)?,
-        statement: statement_of(operation),
+        statement: statement_of(operation.bytes),
     }))
 }

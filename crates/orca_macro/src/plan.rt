@@ -1,6 +1,6 @@
 //! What is known of a line before it is visited.
 
-ghost use Rattle.std.specs.Prelude.{◌≡◌, ◌≤◌, ◌==◌, List, ℕ, length, true, false, IfOk};
+ghost use Rattle.std.specs.Prelude.{◌≡◌, ◌==◌, List, ℕ, length, true, false, IfOk};
 ghost use Rattle.orca_meaning.specs.Line.{HaveFields, is_comment};
 ghost use Rattle.orca_macro.specs.Head.{BeginsSo};
 ghost use Rattle.orca_symbols.specs.Plain.{plain_len};
@@ -13,7 +13,7 @@ use omf_base::Name;
 use orca_symbols::{
     Part, cut, is_plain, operation_is, parts_of, plain_front, statement_of, target_name,
 };
-use orca_text::{SourceLine, is_comment, part, three_fields};
+use orca_text::{LinePart, SourceLine, is_comment, part, three_fields};
 use std::alloc::{AllocError, Global};
 
 /// What a line does at each of its visits, as far as that rests on no symbol and no macro.
@@ -44,12 +44,11 @@ pub(crate) enum Plan {
 fn known_of_done(
     alloc: Global,
     statement: Statement,
-    text: &[u8],
-    label: &[u8],
-    operand: &[u8],
+    text: LinePart<'_>,
+    label: LinePart<'_>,
+    operand: LinePart<'_>,
 ) -> Result<Known, AllocError>
-    requires { length operand.now ≤ 255 }
-    ensures { IfOk result (λ p. FitsDone statement text.now label.now operand.now (known p)) }
+    ensures { IfOk result (λ p. FitsDone statement text.entry.bytes.now label.entry.bytes.now operand.entry.bytes.now (known p)) }
 {
     match statement {
         Statement::Branch => match target_name(alloc, operand)? {
@@ -57,7 +56,7 @@ fn known_of_done(
             None => Ok(Known::Open),
         },
         Statement::Nothing => {
-            if label.is_empty() {
+            if label.bytes.is_empty() {
                 return Ok(Known::Rests);
             }
             Ok(Known::Open)
@@ -75,18 +74,17 @@ fn known_of_done(
 
 /// What a line does behind its sequence symbol that isn't a comment.
 #[tactic(auto, using(crate::proofs::Plans::statement_fits))]
-fn known_of_statement(alloc: Global, text: &[u8]) -> Result<Known, AllocError>
-    requires { length text.now ≤ 255 }
-    ensures { IfOk result (λ p. FitsStatement text.now (known p)) }
+fn known_of_statement(alloc: Global, text: LinePart<'_>) -> Result<Known, AllocError>
+    ensures { IfOk result (λ p. FitsStatement text.entry.bytes.now (known p)) }
 {
     let fields = three_fields(text);
     let operation = part(text, fields.operation);
     let label = part(text, fields.label);
     let operand = part(text, fields.operand);
-    if operation.is_empty() {
+    if operation.bytes.is_empty() {
         return Ok(Known::Open);
     }
-    match statement_of(operation) {
+    match statement_of(operation.bytes) {
         Some(found) => known_of_done(alloc, found, text, label, operand),
         None => Ok(Known::Open),
     }
@@ -94,19 +92,18 @@ fn known_of_statement(alloc: Global, text: &[u8]) -> Result<Known, AllocError>
 
 /// What a line without `&` does that isn't a comment.
 #[tactic(auto, using(crate::proofs::Plans::rest_fits, crate::proofs::Plans::line_fits))]
-fn known_of(alloc: Global, of: &SourceLine, text: &[u8]) -> Result<Known, AllocError>
+fn known_of(alloc: Global, of: &SourceLine, text: LinePart<'_>) -> Result<Known, AllocError>
     requires fields { HaveFields of.now.text (line of.now).fields }
-    requires text { text.now ≡ of.now.text }
-    requires short { length text.now ≤ 255 }
-    requires other { is_comment text.now ≡ false }
-    requires plain { (plain_len text.now == length text.now) ≡ true }
+    requires text { text.bytes.now ≡ of.now.text }
+    requires other { is_comment text.bytes.now ≡ false }
+    requires plain { (plain_len text.bytes.now == length text.bytes.now) ≡ true }
     ensures { IfOk result (λ p. FitsLine (line of.now) (known p)) }
 {
     if operation_is(of, b"MACRO") {
         return Ok(Known::Open);
     }
     let rest = cut(text);
-    if is_comment(rest) {
+    if is_comment(rest.bytes) {
         return Ok(Known::Rests);
     }
     known_of_statement(alloc, rest)
@@ -134,7 +131,7 @@ pub(crate) fn plan_of(alloc: Global, of: &SourceLine) -> Result<Plan, AllocError
         return Ok(Plan::Comment);
     }
     if is_plain(text) {
-        let known = known_of(alloc, of, text)?;
+        let known = known_of(alloc, of, LinePart { bytes: text })?;
         return Ok(Plan::Plain(known));
     }
     let parts = parts_of(alloc, of)?;

@@ -28,7 +28,7 @@ fn is_labelled(of: &SourceLine) -> bool
     requires { HaveFields of.now.text (line of.now).fields }
     ensures { result ≡ not (length (part of.now.text of.now.label) == 0) }
 {
-    !of.part(of.label).is_empty()
+    !of.part(of.label).bytes.is_empty()
 }
 
 /// Whether a line is a comment, or given as it stands unless a macro has the name of its operation, whatever the symbols are: it
@@ -39,7 +39,7 @@ pub(crate) fn is_untouched(of: &SourceLine) -> bool
     requires own { (line of.now).fields ≡ fields_of of.now.text }
     ensures { IsTrue result → IsUntouched (line of.now) }
 {
-    let operation = of.part(of.operation);
+    let operation = of.part(of.operation).bytes;
     let text = of.text.bytes();
     if operation.is_empty() {
         if is_comment(text) {

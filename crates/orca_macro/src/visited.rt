@@ -1,6 +1,6 @@
 //! What a visited line does (ORCA/M reference manual, "Conditional assembly directives").
 
-ghost use Rattle.std.specs.Prelude.{IsTrue, ◌≡◌, ◌==◌, ◌≤◌, ◌<◌, nat_lt, length, take, slice_get, Some, None, Ok, IfOk, MatchOption, false};
+ghost use Rattle.std.specs.Prelude.{IsTrue, ◌≡◌, ◌==◌, ◌<◌, nat_lt, length, take, slice_get, Some, None, Ok, IfOk, MatchOption, false};
 ghost use Rattle.macro_meaning.specs.Deed.{calling_if, calling_at, begins_definition, IsDeed, IsStatement, IsShort, cut};
 ghost use Rattle.macro_meaning.specs.Substitution.{first_passes};
 ghost use Rattle.orca_symbols.specs.View.{values};
@@ -26,7 +26,7 @@ use orca_symbols::{
     Part, Symbols, Values, Word, bound, cut, fill, is_folded, is_operation, is_plain, names_count,
     shown, statement_of,
 };
-use orca_text::{SourceLine, folded, is_comment, operand_behind, part, three_fields};
+use orca_text::{LinePart, SourceLine, folded, is_comment, operand_behind, part, three_fields};
 use std::alloc::{AllocError, Global};
 
 /// Where a line stands.
@@ -44,14 +44,13 @@ pub(crate) struct Standing<'a> {
 fn named<'a>(
     alloc: Global,
     program: &'a Program,
-    operation: &[u8],
+    operation: LinePart<'_>,
 ) -> Result<Option<(usize, &'a Definition)>, AllocError>
-    requires { length operation.now ≤ 255 }
-    ensures { IfOk result (λ found. MatchOption found (first_named (folded operation.now) program.now.definitions ≡ None)
-        (λ x. (first_named (folded operation.now) program.now.definitions ≡ Some x.0) × (slice_get program.now.definitions x.0 ≡ Some (definition x.1.now)))) }
+    ensures { IfOk result (λ found. MatchOption found (first_named (folded operation.entry.bytes.now) program.now.definitions ≡ None)
+        (λ x. (first_named (folded operation.entry.bytes.now) program.now.definitions ≡ Some x.0) × (slice_get program.now.definitions x.0 ≡ Some (definition x.1.now)))) }
 {
-    if is_folded(operation) {
-        return Ok(program.named(operation));
+    if is_folded(operation.bytes) {
+        return Ok(program.named(operation.bytes));
     }
     let asked = folded(alloc, operation)?;
     Ok(program.named(asked.bytes()))
@@ -61,17 +60,14 @@ fn named<'a>(
 fn called<'a>(
     alloc: Global,
     at: Standing<'_>,
-    text: &'a [u8],
+    text: LinePart<'a>,
     place: usize,
     found: &Definition,
-    label: &[u8],
-    operand: &[u8],
+    label: LinePart<'_>,
+    operand: LinePart<'_>,
     spare: &mut Symbols,
 ) -> Result<Deed<'a>, AllocError>
-    requires text { length text.now ≤ 255 }
-    requires label { length label.now ≤ 255 }
-    requires operand { length operand.now ≤ 255 }
-    ensures { IfOk result (λ d. deed d ≡ calling_if (where_ at.entry).root text.now place (Some (definition found.now)) label.now operand.now) }
+    ensures { IfOk result (λ d. deed d ≡ calling_if (where_ at.entry).root text.entry.bytes.now place (Some (definition found.now)) label.entry.bytes.now operand.entry.bytes.now) }
 {
     if found.behind >= at.root {
         return Ok(Deed::Gives(Word::lent(text)));
@@ -90,18 +86,14 @@ fn called<'a>(
 fn calling<'a>(
     alloc: Global,
     at: Standing<'_>,
-    text: &'a [u8],
-    operation: &[u8],
-    label: &[u8],
-    operand: &[u8],
+    text: LinePart<'a>,
+    operation: LinePart<'_>,
+    label: LinePart<'_>,
+    operand: LinePart<'_>,
     spare: &mut Symbols,
 ) -> Result<Deed<'a>, AllocError>
-    requires text { length text.now ≤ 255 }
-    requires operation { length operation.now ≤ 255 }
-    requires label { length label.now ≤ 255 }
-    requires operand { length operand.now ≤ 255 }
-    ensures { IfOk result (λ d. deed d ≡ calling_at (where_ at.entry).definitions (where_ at.entry).root text.now
-        (first_named (folded operation.now) (where_ at.entry).definitions) label.now operand.now) }
+    ensures { IfOk result (λ d. deed d ≡ calling_at (where_ at.entry).definitions (where_ at.entry).root text.entry.bytes.now
+        (first_named (folded operation.entry.bytes.now) (where_ at.entry).definitions) label.entry.bytes.now operand.entry.bytes.now) }
 {
     match named(alloc, at.program, operation)? {
         Some((place, found)) => called(alloc, at, text, place, found, label, operand, spare),
@@ -113,20 +105,19 @@ fn calling<'a>(
 fn statement<'a>(
     alloc: Global,
     at: Standing<'_>,
-    text: &'a [u8],
+    text: LinePart<'a>,
     spare: &mut Symbols,
 ) -> Result<Deed<'a>, AllocError>
-    requires { length text.now ≤ 255 }
-    ensures { IfOk result (λ d. IsStatement (where_ at.entry) text.now (three_fields text.now) (deed d)) }
+    ensures { IfOk result (λ d. IsStatement (where_ at.entry) text.entry.bytes.now (three_fields text.entry.bytes.now) (deed d)) }
 {
     let fields = three_fields(text);
     let operation = part(text, fields.operation);
     let label = part(text, fields.label);
     let operand = part(text, fields.operand);
-    if operation.is_empty() {
+    if operation.bytes.is_empty() {
         return done(alloc, at.values, Statement::Nothing, text, label, operand);
     }
-    match statement_of(operation) {
+    match statement_of(operation.bytes) {
         Some(found) => done(alloc, at.values, found, text, label, operand),
         None => calling(alloc, at, text, operation, label, operand, spare),
     }
@@ -137,7 +128,7 @@ fn begins_definition(at: Standing<'_>, of: &SourceLine) -> bool
     requires { HaveFields of.now.text (line of.now).fields }
     ensures { result ≡ begins_definition (where_ at.entry) (line of.now) }
 {
-    at.in_source && is_operation(of.part(of.operation), b"MACRO")
+    at.in_source && is_operation(of.part(of.operation).bytes, b"MACRO")
 }
 
 /// What a line does, with the texts in place.
@@ -157,8 +148,8 @@ fn written<'a>(
     if begins_definition(at, of) {
         return Ok(Deed::Rests);
     }
-    let rest = cut(text);
-    if is_comment(rest) {
+    let rest = cut(LinePart { bytes: text });
+    if is_comment(rest.bytes) {
         return Ok(Deed::Rests);
     }
     statement(alloc, at, rest, spare)
@@ -192,14 +183,13 @@ pub(crate) fn is_given(
 fn headed_call<'a>(
     alloc: Global,
     at: Standing<'_>,
-    text: &'a [u8],
+    text: LinePart<'a>,
     head: &Head,
     spare: &mut Symbols,
 ) -> Result<Deed<'a>, AllocError>
-    requires text { length text.now ≤ 255 }
-    requires head { HasFields head.now text.now }
-    ensures { IfOk result (λ d. deed d ≡ calling_at (where_ at.entry).definitions (where_ at.entry).root text.now
-        (first_named head.now.operation (where_ at.entry).definitions) (take head.now.label text.now) (part text.now (three_fields text.now).operand)) }
+    requires { HasFields head.now text.bytes.now }
+    ensures { IfOk result (λ d. deed d ≡ calling_at (where_ at.entry).definitions (where_ at.entry).root text.entry.bytes.now
+        (first_named head.now.operation (where_ at.entry).definitions) (take head.now.label text.entry.bytes.now) (part text.entry.bytes.now (three_fields text.entry.bytes.now).operand)) }
 {
     match at.program.named(head.operation.bytes()) {
         Some((place, found)) => {
@@ -224,13 +214,12 @@ fn headed_call<'a>(
 fn headed_statement<'a>(
     alloc: Global,
     at: Standing<'_>,
-    text: &'a [u8],
+    text: LinePart<'a>,
     head: &Head,
     spare: &mut Symbols,
 ) -> Result<Deed<'a>, AllocError>
-    requires text { length text.now ≤ 255 }
-    requires head { HasFields head.now text.now }
-    ensures { IfOk result (λ d. IsStatement (where_ at.entry) text.now (three_fields text.now) (deed d)) }
+    requires { HasFields head.now text.bytes.now }
+    ensures { IfOk result (λ d. IsStatement (where_ at.entry) text.entry.bytes.now (three_fields text.entry.bytes.now) (deed d)) }
 {
     match head.statement {
         Some(statement) => {
@@ -268,7 +257,8 @@ fn headed<'a>(
     if begins_definition(at, of) {
         return Ok(Deed::Rests);
     }
-    headed_statement(alloc, at, head.behind_sequence(text), head, spare)
+    let behind = head.behind_sequence(LinePart { bytes: text });
+    headed_statement(alloc, at, behind, head, spare)
 }
 
 /// What a visited line does. The buffer takes its text, so that not each line takes memory anew.
@@ -316,7 +306,12 @@ fn known_deed<'a>(
     match said {
         Known::Rests => Ok(Deed::Rests),
         Known::Leaves => Ok(Deed::Leaves),
-        Known::Goes(target) => Ok(Deed::Goes(Word::lent(target.bytes()))),
+        Known::Goes(target) => {
+            let name = LinePart {
+                bytes: target.bytes(),
+            };
+            Ok(Deed::Goes(Word::lent(name)))
+        }
         Known::Open => written(alloc, at, of, of.text.bytes(), spare),
     }
 }

@@ -252,7 +252,7 @@ pub(crate) fn amount_of(
 fn formula_in(alloc: Global, text: LinePart<'_>) -> Result<Result<Formula, AsmCause>, AllocError>
     ensures { IfOk result (IsTerms text.entry.bytes.now) }
 {
-    let Some(found) = formula_at(alloc, Operands::Labels, text.bytes)? else {
+    let Some(found) = formula_at(alloc, Operands::Labels, text)? else {
         return Ok(Err(AsmCause::BadOperand));
     };
     if !found.rest.is_empty() {

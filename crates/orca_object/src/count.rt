@@ -35,7 +35,7 @@ fn computed_count<'a>(
     ensures found { IfOk result (λ found. IfSome found (λ x. IsComputed (constants known.entry) behind.entry.bytes.now x.0 x.1.now)) }
     ensures none { IfOk result (λ found. IfNone found ((tree : Tree) (rest : List ℕ) → MeansAt Labels behind.entry.bytes.now tree (0x29 ∷ rest) → ⊥)) }
 {
-    let Some(found) = formula_at(alloc, Operands::Labels, behind.bytes)? else {
+    let Some(found) = formula_at(alloc, Operands::Labels, behind)? else {
         return Ok(None);
     };
     let Some(rest) = behind_byte(found.rest, b')') else {

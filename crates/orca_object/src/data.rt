@@ -121,10 +121,7 @@ pub(crate) fn do_instruct(
     requires short { IsShortOption kept.old.segment }
     ensures { IfOk result (λ done. (state : State) (l : Line) → ShowsState state kept.old → IsLeft state l (Instruct mnemonic) label (line_operand line.now) done kept.new) }
 {
-    let _text = line.part(line.operand);
-    let known = kept.known();
-    known.know_small();
-    let given = instruction_given(alloc, known, kept.widths, mnemonic, line)?;
+    let given = instruction_given(alloc, kept.known(), kept.widths, mnemonic, line)?;
     give_statement(alloc, kept, 0x4D, label, given)
 }
 

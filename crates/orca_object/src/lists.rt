@@ -15,7 +15,7 @@ pub(crate) fn names_in(alloc: Global, text: LinePart<'_>) -> Result<Option<Vec<N
     let mut out = Vec::new(alloc);
     let mut left = text.bytes;
     'names: loop {
-        let Some((name, rest)) = name_at(alloc, left)? else {
+        let Some((name, rest)) = name_at(alloc, LinePart { bytes: left })? else {
             return Ok(None);
         };
         out.push(name)?;

@@ -127,7 +127,7 @@ pub(crate) fn numbers_in(
     let mut fault = None;
     let mut left = text.bytes;
     'formulas: loop {
-        let Some(found) = formula_at(alloc, Operands::Labels, left)? else {
+        let Some(found) = formula_at(alloc, Operands::Labels, LinePart { bytes: left })? else {
             return Ok(None);
         };
         let answer = numbered(alloc, known, width, &found.formula, found.large)?;

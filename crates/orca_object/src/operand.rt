@@ -45,7 +45,7 @@ pub(crate) fn name_of(
     ensures { IfOk result (λ answer. name_answer answer ≡ name_of text.entry.bytes.now) }
 {
     if is_name(text.bytes) {
-        let name = folded(alloc, text.bytes)?;
+        let name = folded(alloc, text)?;
         return Ok(Ok(name));
     }
     Ok(Err(AsmCause::BadOperand))

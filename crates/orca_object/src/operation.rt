@@ -255,7 +255,7 @@ pub(crate) fn label_of(
     if !is_name(text.bytes) {
         return Ok(Err(AsmCause::BadLabel));
     }
-    let name = folded(alloc, text.bytes)?;
+    let name = folded(alloc, text)?;
     if kept.is_taken(begins_segment(operation), name.bytes()) {
         return Ok(Err(AsmCause::Duplicate));
     }

@@ -7,6 +7,7 @@ ghost use Rattle.orca_text.specs.OperandView.{line_mnemonic, line_operand};
 ghost use Rattle.asm_meaning.specs.Elements.{Element, AreElements};
 ghost use Rattle.orca_object.specs.GivenBy.{IsByInstruction, IsByList, HasElements};
 ghost use Rattle.orca_object.specs.GivenView.{given_answer, parts_answer};
+ghost use Rattle.orca_object.specs.MarkView.{IsPlainAnswer};
 ghost use Rattle.orca_object.specs.ModeView.{widths};
 ghost use Rattle.orca_object.specs.NamesView.{constants};
 
@@ -31,9 +32,11 @@ pub(crate) fn instruction_given(
     requires operation { LiesIn line.now.text line.now.operation }
     requires operand { LiesIn line.now.text line.now.operand }
     requires mnemonic { line_mnemonic line.now ≡ Some mnemonic }
-    ensures { IfOk result (λ answer. IsByInstruction (constants known.entry) (widths of) mnemonic (line_operand line.now) (given_answer answer)) }
+    ensures given { IfOk result (λ answer. IsByInstruction (constants known.entry) (widths of) mnemonic (line_operand line.now) (given_answer answer)) }
+    ensures plain { IfOk result IsPlainAnswer }
 {
     let _text = line.part(line.operand);
+    known.know_small();
     match read_operand(alloc, line) {
         Ok(operand) => {
             let answer = instruct(alloc, known, of, mnemonic, &operand)?;

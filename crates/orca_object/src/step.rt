@@ -68,12 +68,11 @@ fn do_operation(
     requires short { IsShortOption kept.old.segment }
     ensures { IfOk result (λ done. (state : State) → ShowsState state kept.old → IsLeft state (line of.now) operation label (line_operand of.now) done kept.new) }
 {
-    let operand = of.part(of.operand);
-    let text = LinePart { bytes: operand };
+    let text = of.part(of.operand);
     match operation {
         Operation::Instruct(mnemonic) => do_instruct(alloc, kept, mnemonic, label, of),
         Operation::Direct(Directive::Begin(class)) => {
-            do_begin(alloc, kept, of.file, of.line, class, label, operand)
+            do_begin(alloc, kept, of.file, of.line, class, label, text.bytes)
         }
         Operation::Direct(Directive::Entry) => do_entry(alloc, kept, label),
         Operation::Direct(Directive::Equ) => do_equ(alloc, kept, label, text),
@@ -129,14 +128,14 @@ fn step(alloc: Global, kept: &mut Kept, of: &SourceLine) -> Result<Result<(), As
     ensures step { IfOk result (λ done. (state : State) → ShowsState state kept.old → Steps state (line of.now) done kept.new) }
     ensures short { IfOk result (λ done. OnOk done (IsShortOption kept.new.segment)) }
 {
-    let Some(operation) = operation_of(of.part(of.operation)) else {
+    let Some(operation) = operation_of(of.part(of.operation).bytes) else {
         return Ok(Err(AsmCause::UnknownOperation));
     };
     let text = of.part(of.label);
-    if is_misplaced(kept, operation, text, of.part(of.operand)) {
+    if is_misplaced(kept, operation, text.bytes, of.part(of.operand).bytes) {
         return Ok(Err(AsmCause::OutsideSegment));
     }
-    let label = label_of(alloc, kept, operation, LinePart { bytes: text })?;
+    let label = label_of(alloc, kept, operation, text)?;
     finish(alloc, kept, operation, label, of)
 }
 

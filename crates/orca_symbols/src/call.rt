@@ -18,7 +18,7 @@ use crate::symbols::{Symbol, Symbols, is_count};
 use crate::text::Text;
 use macro_meaning::Kind;
 use omf_base::Name;
-use orca_text::{behind_byte, is_name_start, is_spelled, name_len};
+use orca_text::{LinePart, behind_byte, is_name_start, is_spelled, name_len};
 use std::alloc::{AllocError, Global};
 
 /// A parameter, the text that it gets, and the place of the parameter that the next operand without keyword gets.
@@ -66,13 +66,12 @@ fn named(piece: &[u8]) -> Option<(&[u8], &[u8])>
 }
 
 /// `NAME=text` with the name of a parameter.
-fn keyword<'a>(parameters: &'a [Name], place: usize, piece: &'a [u8]) -> Option<Bind<'a>>
-    requires { length piece.now ≤ 255 }
+fn keyword<'a>(parameters: &'a [Name], place: usize, piece: LinePart<'a>) -> Option<Bind<'a>>
     ensures short { IfSome result (λ b. length b.text.now ≤ 255) }
-    ensures found { MatchOption result (keyword_from parameters.now place (name_at piece.now) ≡ None)
-        (λ b. keyword_from parameters.now place (name_at piece.now) ≡ Some (bind b)) }
+    ensures found { MatchOption result (keyword_from parameters.now place (name_at piece.entry.bytes.now) ≡ None)
+        (λ b. keyword_from parameters.now place (name_at piece.entry.bytes.now) ≡ Some (bind b)) }
 {
-    let Some((name, text)) = named(piece) else {
+    let Some((name, text)) = named(piece.bytes) else {
         return None;
     };
     match spelled_among(parameters, name) {
@@ -87,11 +86,10 @@ fn keyword<'a>(parameters: &'a [Name], place: usize, piece: &'a [u8]) -> Option<
 
 /// What an operand binds, if it can be bound.
 #[tactic(auto, unfolding(macro_meaning::specs::Call::binding))]
-fn binding<'a>(parameters: &'a [Name], place: usize, piece: &'a [u8]) -> Option<Bind<'a>>
-    requires { length piece.now ≤ 255 }
+fn binding<'a>(parameters: &'a [Name], place: usize, piece: LinePart<'a>) -> Option<Bind<'a>>
     ensures short { IfSome result (λ b. length b.text.now ≤ 255) }
-    ensures found { MatchOption result (binding parameters.now place piece.now ≡ None)
-        (λ b. binding parameters.now place piece.now ≡ Some (bind b)) }
+    ensures found { MatchOption result (binding parameters.now place piece.entry.bytes.now ≡ None)
+        (λ b. binding parameters.now place piece.entry.bytes.now ≡ Some (bind b)) }
 {
     if let Some(found) = keyword(parameters, place, piece) {
         return Some(found);
@@ -99,7 +97,7 @@ fn binding<'a>(parameters: &'a [Name], place: usize, piece: &'a [u8]) -> Option<
     match parameters.get(place) {
         Some(parameter) => Some(Bind {
             name: parameter.bytes(),
-            text: piece,
+            text: piece.bytes,
             next: place + 1,
         }),
         None => None,
@@ -112,10 +110,9 @@ fn bind_once(
     alloc: Global,
     symbols: &mut Symbols,
     parameter: &[u8],
-    text: &[u8],
+    text: LinePart<'_>,
 ) -> Result<bool, AllocError>
-    requires { length text.now ≤ 255 }
-    ensures { IfOk result (λ fresh. IsOnce fresh parameter.now text.now (symbols_of symbols.old) (symbols_of symbols.new)) }
+    ensures { IfOk result (λ fresh. IsOnce fresh parameter.now text.entry.bytes.now (symbols_of symbols.old) (symbols_of symbols.new)) }
 {
     let text = Text::of(alloc, text)?;
     symbols.add_new(alloc, parameter, Symbol::Own(Kind::Text, text))
@@ -126,22 +123,21 @@ fn bind_once(
 fn bind_pieces(
     alloc: Global,
     parameters: &[Name],
-    operand: &[u8],
+    operand: LinePart<'_>,
     symbols: &mut Symbols,
 ) -> Result<Option<usize>, AllocError>
-    requires { length operand.now ≤ 255 }
-    ensures all { IfOk result (λ fits. MatchOption fits (bound_all parameters.now 0 (pieces 0x2C operand.now) (symbols_of symbols.old) ≡ None)
-        (λ place. bound_all parameters.now 0 (pieces 0x2C operand.now) (symbols_of symbols.old) ≡ Some (symbols_of symbols.new))) }
+    ensures all { IfOk result (λ fits. MatchOption fits (bound_all parameters.now 0 (pieces 0x2C operand.entry.bytes.now) (symbols_of symbols.old) ≡ None)
+        (λ place. bound_all parameters.now 0 (pieces 0x2C operand.entry.bytes.now) (symbols_of symbols.old) ≡ Some (symbols_of symbols.new))) }
     ensures reached { IfOk result (λ fits. IfSome fits (λ place. AreBound parameters.now place (symbols_of symbols.new))) }
 {
     let mut place = 0;
-    let mut left = operand;
+    let mut left = operand.bytes;
     'operands: loop {
-        let (piece, behind) = first_piece(b',', left);
+        let (piece, behind) = first_piece(b',', LinePart { bytes: left });
         let Some(found) = binding(parameters, place, piece) else {
             return Ok(None);
         };
-        if !bind_once(alloc, symbols, found.name, found.text)? {
+        if !bind_once(alloc, symbols, found.name, LinePart { bytes: found.text })? {
             return Ok(None);
         }
         place = found.next;
@@ -157,15 +153,14 @@ fn bind_pieces(
 fn bind_all(
     alloc: Global,
     parameters: &[Name],
-    operand: &[u8],
+    operand: LinePart<'_>,
     symbols: &mut Symbols,
 ) -> Result<Option<usize>, AllocError>
-    requires { length operand.now ≤ 255 }
-    ensures all { IfOk result (λ fits. MatchOption fits (bound_all parameters.now 0 (arguments operand.now) (symbols_of symbols.old) ≡ None)
-        (λ place. bound_all parameters.now 0 (arguments operand.now) (symbols_of symbols.old) ≡ Some (symbols_of symbols.new))) }
+    ensures all { IfOk result (λ fits. MatchOption fits (bound_all parameters.now 0 (arguments operand.entry.bytes.now) (symbols_of symbols.old) ≡ None)
+        (λ place. bound_all parameters.now 0 (arguments operand.entry.bytes.now) (symbols_of symbols.old) ≡ Some (symbols_of symbols.new))) }
     ensures reached { IfOk result (λ fits. IfSome fits (λ place. AreBound parameters.now place (symbols_of symbols.new))) }
 {
-    if operand.is_empty() {
+    if operand.bytes.is_empty() {
         return Ok(Some(0));
     }
     bind_pieces(alloc, parameters, operand, symbols)
@@ -179,7 +174,7 @@ fn bind_missing(alloc: Global, parameter: &Name, symbols: &mut Symbols) -> Resul
     if let Some(_) = symbols.get(parameter.bytes()) {
         return Ok(());
     }
-    let text = Text::of(alloc, b"")?;
+    let text = Text::of(alloc, LinePart { bytes: b"" })?;
     symbols.add(alloc, parameter.bytes(), Symbol::Own(Kind::Text, text))
 }
 
@@ -219,17 +214,16 @@ fn bind_label(
 fn label_bound(
     alloc: Global,
     parameter: &Option<Name>,
-    label: &[u8],
+    label: LinePart<'_>,
     spare: Symbols,
 ) -> Result<Symbols, AllocError>
-    requires { length label.now ≤ 255 }
-    ensures { IfOk result (λ s. symbols_of s ≡ label_bound parameter.now label.now) }
+    ensures { IfOk result (λ s. symbols_of s ≡ label_bound parameter.now label.entry.bytes.now) }
 {
     let mut symbols = spare.emptied();
     let Some(parameter) = parameter else {
         return Ok(symbols);
     };
-    if label.is_empty() {
+    if label.bytes.is_empty() {
         return Ok(symbols);
     }
     let text = Text::of(alloc, label)?;
@@ -242,14 +236,12 @@ fn label_bound(
 pub fn bound(
     alloc: Global,
     of: &ModelLine,
-    label: &[u8],
-    operand: &[u8],
+    label: LinePart<'_>,
+    operand: LinePart<'_>,
     spare: Symbols,
 ) -> Result<Option<Symbols>, AllocError>
-    requires label { length label.now ≤ 255 }
-    requires operand { length operand.now ≤ 255 }
-    ensures { IfOk result (λ found. MatchOption found (bound (model of.now) label.now operand.now ≡ None)
-        (λ s. bound (model of.now) label.now operand.now ≡ Some (symbols_of s))) }
+    ensures { IfOk result (λ found. MatchOption found (bound (model of.now) label.entry.bytes.now operand.entry.bytes.now ≡ None)
+        (λ s. bound (model of.now) label.entry.bytes.now operand.entry.bytes.now ≡ Some (symbols_of s))) }
 {
     let mut symbols = label_bound(alloc, &of.label, label, spare)?;
     let parameters = of.parameters.as_slice();

@@ -1,6 +1,6 @@
 //! Conditions and the numbers of conditional assembly (ORCA/M reference manual, "Conditional assembly expressions").
 
-ghost use Rattle.std.specs.Prelude.{◌≡◌, ◌≤◌, ◌++◌, ◌∷◌, [], ◌==◌, not, List, ℕ, length, Some, None, Ok, Err, is_some, IfOk, IfErr, IfSome, IfNone, OnOk, MatchOption};
+ghost use Rattle.std.specs.Prelude.{◌≡◌, ◌++◌, ◌∷◌, [], ◌==◌, not, List, ℕ, Some, None, Ok, Err, is_some, IfOk, IfErr, IfSome, IfNone, OnOk, MatchOption};
 ghost use Rattle.std.specs.List.{list_all};
 ghost use Rattle.omf_format.specs.Expression.{AreTerms, terms_text, Tree, Spells};
 ghost use Rattle.omf_format.specs.Value.{value, truth, apply_two};
@@ -19,7 +19,7 @@ use macro_meaning::MacroCause;
 use omf_expr::{Env, Expr, Term, Value, ValueFault, evaluate, put_term};
 use orca_meaning::Operator;
 use orca_text::{
-    Formula, FormulaTerm, Operands, ShortFormula, formula_at, is_too_deep, short_formula,
+    Formula, FormulaTerm, LinePart, Operands, ShortFormula, formula_at, is_too_deep, short_formula,
 };
 use std::alloc::{AllocError, Global};
 
@@ -31,14 +31,13 @@ fn truth(holds: bool) -> u32
 }
 
 /// What a formula asks of a symbol's text.
-fn attribute(code: u8, text: &[u8]) -> u32
-    requires { length text.now ≤ 255 }
-    ensures { result ≡ attribute code text.now }
+fn attribute(code: u8, text: LinePart<'_>) -> u32
+    ensures { result ≡ attribute code text.entry.bytes.now }
 {
     if code == 0x84 {
-        return text.len() as u32;
+        return text.bytes.len() as u32;
     }
-    truth(!text.is_empty())
+    truth(!text.bytes.is_empty())
 }
 
 impl<'a> Env for Values<'a> {
@@ -53,7 +52,7 @@ impl<'a> Env for Values<'a> {
 
     fn attribute(&self, term: u8, name: &[u8]) -> Option<u32> {
         match text_of(*self, name) {
-            Some(text) => Some(attribute(term, text)),
+            Some(text) => Some(attribute(term, LinePart { bytes: text })),
             None => None,
         }
     }
@@ -184,17 +183,16 @@ fn short_value(text: &[u8]) -> Option<u32>
     }
 }
 
-/// The value of the formula that a text of at most 255 bytes is, or what is wrong with it.
+/// The value of the formula that a text is, or what is wrong with it.
 #[inline(always)]
 pub fn number(
     alloc: Global,
     of: Values<'_>,
-    text: &[u8],
+    text: LinePart<'_>,
 ) -> Result<Result<u32, MacroCause>, AllocError>
-    requires { length text.now ≤ 255 }
-    ensures { IfOk result (λ answer. IsNumber (values of.entry) text.now answer) }
+    ensures { IfOk result (λ answer. IsNumber (values of.entry) text.entry.bytes.now answer) }
 {
-    match short_value(text) {
+    match short_value(text.bytes) {
         Some(n) => Ok(Ok(n)),
         None => long_number(alloc, of, text),
     }
@@ -204,10 +202,9 @@ pub fn number(
 fn long_number(
     alloc: Global,
     of: Values<'_>,
-    text: &[u8],
+    text: LinePart<'_>,
 ) -> Result<Result<u32, MacroCause>, AllocError>
-    requires { length text.now ≤ 255 }
-    ensures { IfOk result (λ answer. IsNumber (values of.entry) text.now answer) }
+    ensures { IfOk result (λ answer. IsNumber (values of.entry) text.entry.bytes.now answer) }
 {
     let Some(found) = formula_at(alloc, Operands::Symbols, text)? else {
         return Ok(Err(MacroCause::BadSetting));
@@ -270,17 +267,16 @@ fn comparison(text: &[u8]) -> Option<bool>
     }
 }
 
-/// The value of a condition of at most 255 bytes: a comparison of two texts, or a formula.
+/// The value of a condition: a comparison of two texts, or a formula.
 #[inline(always)]
 pub fn condition(
     alloc: Global,
     of: Values<'_>,
-    text: &[u8],
+    text: LinePart<'_>,
 ) -> Result<Result<u32, MacroCause>, AllocError>
-    requires { length text.now ≤ 255 }
-    ensures { IfOk result (λ answer. IsCondition (values of.entry) text.now answer) }
+    ensures { IfOk result (λ answer. IsCondition (values of.entry) text.entry.bytes.now answer) }
 {
-    match comparison(text) {
+    match comparison(text.bytes) {
         Some(holds) => Ok(Ok(truth(holds))),
         None => number(alloc, of, text),
     }

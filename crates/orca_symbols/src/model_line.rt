@@ -1,6 +1,6 @@
 //! Model lines (ORCA/M reference manual, "Macro definitions").
 
-ghost use Rattle.std.specs.Prelude.{◌≡◌, ◌≤◌, [], List, ℕ, length, Some, None, IfOk, MatchOption, option_map};
+ghost use Rattle.std.specs.Prelude.{◌≡◌, [], List, ℕ, Some, None, IfOk, MatchOption, option_map};
 ghost use Rattle.macro_meaning.specs.Definition.{names_of, parameters_of, label_of, model_of, model_by};
 ghost use Rattle.orca_symbols.specs.ModelView.{model};
 ghost use Rattle.orca_text.specs.View.{fields};
@@ -9,7 +9,7 @@ ghost use Rattle.orca_meaning.specs.Line.{HaveFields};
 use crate::names::{symbol_name, whole};
 use crate::operands::{Piece, piece_at, pieces};
 use omf_base::Name;
-use orca_text::{Fields, is_comment, name_at, part, three_fields};
+use orca_text::{Fields, LinePart, is_comment, name_at, part, three_fields};
 use std::alloc::{AllocError, Global};
 
 /// What a model line says, with all names in upper case.
@@ -34,7 +34,7 @@ fn names_of(alloc: Global, pieces: &[Piece<'_>]) -> Result<Option<Vec<Name>>, Al
         let Some(piece) = piece_at(pieces, at) else {
             return Ok(Some(names));
         };
-        let Some(name) = symbol_name(alloc, piece.bytes())? else {
+        let Some(name) = symbol_name(alloc, piece.part())? else {
             return Ok(None);
         };
         names.push(name)?;
@@ -43,11 +43,10 @@ fn names_of(alloc: Global, pieces: &[Piece<'_>]) -> Result<Option<Vec<Name>>, Al
 }
 
 /// The parameters of an operand.
-fn parameters_of(alloc: Global, operand: &[u8]) -> Result<Option<Vec<Name>>, AllocError>
-    requires { length operand.now ≤ 255 }
-    ensures { IfOk result (λ found. MatchOption found (parameters_of operand.now ≡ None) (λ v. parameters_of operand.now ≡ Some v.items)) }
+fn parameters_of(alloc: Global, operand: LinePart<'_>) -> Result<Option<Vec<Name>>, AllocError>
+    ensures { IfOk result (λ found. MatchOption found (parameters_of operand.entry.bytes.now ≡ None) (λ v. parameters_of operand.entry.bytes.now ≡ Some v.items)) }
 {
-    if operand.is_empty() {
+    if operand.bytes.is_empty() {
         return Ok(Some(Vec::new(alloc)));
     }
     let found = pieces(alloc, b',', operand)?;
@@ -55,11 +54,10 @@ fn parameters_of(alloc: Global, operand: &[u8]) -> Result<Option<Vec<Name>>, All
 }
 
 /// The label parameter, which may be missing; none where the label is no parameter.
-fn label_of(alloc: Global, label: &[u8]) -> Result<Option<Option<Name>>, AllocError>
-    requires { length label.now ≤ 255 }
-    ensures { IfOk result (λ found. found ≡ label_of label.now) }
+fn label_of(alloc: Global, label: LinePart<'_>) -> Result<Option<Option<Name>>, AllocError>
+    ensures { IfOk result (λ found. found ≡ label_of label.entry.bytes.now) }
 {
-    if label.is_empty() {
+    if label.bytes.is_empty() {
         return Ok(Some(None));
     }
     match symbol_name(alloc, label)? {
@@ -69,10 +67,9 @@ fn label_of(alloc: Global, label: &[u8]) -> Result<Option<Option<Name>>, AllocEr
 }
 
 /// The model line with these fields.
-fn model_by(alloc: Global, text: &[u8], at: Fields) -> Result<Option<ModelLine>, AllocError>
-    requires short { length text.now ≤ 255 }
-    requires within { HaveFields text.now (fields at) }
-    ensures { IfOk result (λ found. MatchOption found (model_by text.now (fields at) ≡ None) (λ m. model_by text.now (fields at) ≡ Some (model m))) }
+fn model_by(alloc: Global, text: LinePart<'_>, at: Fields) -> Result<Option<ModelLine>, AllocError>
+    requires { HaveFields text.bytes.now (fields at) }
+    ensures { IfOk result (λ found. MatchOption found (model_by text.entry.bytes.now (fields at) ≡ None) (λ m. model_by text.entry.bytes.now (fields at) ≡ Some (model m))) }
 {
     let named = name_at(alloc, part(text, at.operation))?;
     let Some(name) = whole(named) else {
@@ -93,11 +90,10 @@ fn model_by(alloc: Global, text: &[u8], at: Fields) -> Result<Option<ModelLine>,
 
 /// What a line says as a model line, if it is one.
 #[tactic(auto, unfolding(macro_meaning::specs::Definition::model_of))]
-pub fn model_of(alloc: Global, text: &[u8]) -> Result<Option<ModelLine>, AllocError>
-    requires { length text.now ≤ 255 }
-    ensures { IfOk result (λ found. MatchOption found (model_of text.now ≡ None) (λ m. model_of text.now ≡ Some (model m))) }
+pub fn model_of(alloc: Global, text: LinePart<'_>) -> Result<Option<ModelLine>, AllocError>
+    ensures { IfOk result (λ found. MatchOption found (model_of text.entry.bytes.now ≡ None) (λ m. model_of text.entry.bytes.now ≡ Some (model m))) }
 {
-    if is_comment(text) {
+    if is_comment(text.bytes) {
         return Ok(None);
     }
     model_by(alloc, text, three_fields(text))

@@ -1,6 +1,6 @@
 //! Which statement an operation is, and the names of symbols and sequence symbols.
 
-ghost use Rattle.std.specs.Prelude.{◌≡◌, ◌≤◌, List, ℕ, length, bytes_eq, Some, None, is_some, IfOk, MatchOption};
+ghost use Rattle.std.specs.Prelude.{◌≡◌, List, ℕ, bytes_eq, Some, None, is_some, IfOk, MatchOption};
 ghost use Rattle.std.specs.Option.{option_map};
 ghost use Rattle.orca_meaning.specs.Characters.{folded};
 ghost use Rattle.orca_meaning.specs.Line.{HaveFields};
@@ -13,7 +13,9 @@ ghost use Rattle.orca_text.specs.View.{line};
 
 use macro_meaning::{Declaration, Kind, Statement};
 use omf_base::Name;
-use orca_text::{SourceLine, behind_byte, is_name_start, is_spelled, name_at, name_len, symbol_at};
+use orca_text::{
+    LinePart, SourceLine, behind_byte, is_name_start, is_spelled, name_at, name_len, symbol_at,
+};
 use std::alloc::{AllocError, Global};
 
 /// Whether an operation has this spelling.
@@ -28,7 +30,7 @@ pub fn operation_is(of: &SourceLine, spelling: &[u8]) -> bool
     requires { HaveFields of.now.text (line of.now).fields }
     ensures { result ≡ operation_is spelling.now (line of.now) }
 {
-    is_operation(of.part(of.operation), spelling)
+    is_operation(of.part(of.operation).bytes, spelling)
 }
 
 /// The statements that begin with A.
@@ -168,23 +170,21 @@ pub(crate) fn whole(found: Option<(Name, &[u8])>) -> Option<Name>
 }
 
 /// The name of a symbol, where the text is `&NAME` and nothing else.
-pub(crate) fn symbol_name(alloc: Global, text: &[u8]) -> Result<Option<Name>, AllocError>
-    requires { length text.now ≤ 255 }
-    ensures { IfOk result (λ name. name ≡ symbol_name text.now) }
+pub(crate) fn symbol_name(alloc: Global, text: LinePart<'_>) -> Result<Option<Name>, AllocError>
+    ensures { IfOk result (λ name. name ≡ symbol_name text.entry.bytes.now) }
 {
     let found = symbol_at(alloc, text)?;
     Ok(whole(found))
 }
 
 /// The name of a sequence symbol, where the text is `.NAME` and nothing else.
-pub fn sequence_name(alloc: Global, text: &[u8]) -> Result<Option<Name>, AllocError>
-    requires { length text.now ≤ 255 }
-    ensures { IfOk result (λ name. name ≡ sequence_name text.now) }
+pub fn sequence_name(alloc: Global, text: LinePart<'_>) -> Result<Option<Name>, AllocError>
+    ensures { IfOk result (λ name. name ≡ sequence_name text.entry.bytes.now) }
 {
-    let Some(behind) = behind_byte(text, b'.') else {
+    let Some(behind) = behind_byte(text.bytes, b'.') else {
         return Ok(None);
     };
-    let found = name_at(alloc, behind)?;
+    let found = name_at(alloc, LinePart { bytes: behind })?;
     Ok(whole(found))
 }
 
@@ -210,12 +210,11 @@ pub(crate) fn is_sequence(text: &[u8]) -> bool
 }
 
 /// Where a branch goes: a sequence symbol, maybe behind a `^`.
-pub fn target_name(alloc: Global, text: &[u8]) -> Result<Option<Name>, AllocError>
-    requires { length text.now ≤ 255 }
-    ensures { IfOk result (λ name. name ≡ target_name text.now) }
+pub fn target_name(alloc: Global, text: LinePart<'_>) -> Result<Option<Name>, AllocError>
+    ensures { IfOk result (λ name. name ≡ target_name text.entry.bytes.now) }
 {
-    match behind_byte(text, b'^') {
-        Some(behind) => sequence_name(alloc, behind),
+    match behind_byte(text.bytes, b'^') {
+        Some(behind) => sequence_name(alloc, LinePart { bytes: behind }),
         None => sequence_name(alloc, text),
     }
 }

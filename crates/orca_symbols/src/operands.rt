@@ -4,7 +4,7 @@ ghost use Rattle.std.specs.Prelude.{◌≡◌, ◌≤◌, ◌<◌, ◌+◌, ◌^
 ghost use Rattle.macro_meaning.specs.Pieces.{open_behind, parts, pieces, closed_at, quoted_at, quoted, joined, appended};
 ghost use Rattle.orca_symbols.specs.Piece.{piece_len, more_pieces, AreNotTwo};
 
-use orca_text::quote_behind;
+use orca_text::{LinePart, quote_behind};
 use std::alloc::{AllocError, Global};
 use std::marker::Model;
 
@@ -25,19 +25,17 @@ impl<'a> Model for Piece<'a> {
 }
 
 impl<'a> Piece<'a> {
-    fn of(bytes: &'a [u8]) -> Piece<'a>
-        requires { length bytes.now ≤ 255 }
-        ensures { result ≡ bytes.now }
+    fn of(part: LinePart<'a>) -> Piece<'a>
+        ensures { result ≡ part.entry.bytes.now }
     {
-        Piece { bytes }
+        Piece { bytes: part.bytes }
     }
 
-    /// Its bytes.
-    pub fn bytes(&self) -> &'a [u8]
-        ensures value { result.now ≡ self.now }
-        ensures short { length result.now ≤ 255 }
+    /// The same as a part of a line.
+    pub fn part(&self) -> LinePart<'a>
+        ensures { result.bytes.now ≡ self.now }
     {
-        self.bytes
+        LinePart { bytes: self.bytes }
     }
 }
 
@@ -66,15 +64,14 @@ fn open_behind(quote: Option<u8>, count: usize, byte: u8) -> usize
 
 /// How many bytes stand before the first separator outside quotes and parentheses.
 #[tactic(auto, unfolding(crate::specs::Piece::piece_len))]
-fn piece_len(separator: u8, text: &[u8]) -> usize
-    requires { length text.now ≤ 255 }
-    ensures value { result ≡ piece_len separator None 0 text.now }
-    ensures bound { result ≤ length text.now }
+fn piece_len(separator: u8, text: LinePart<'_>) -> usize
+    ensures value { result ≡ piece_len separator None 0 text.entry.bytes.now }
+    ensures bound { result ≤ length text.entry.bytes.now }
 {
     let mut quote = None;
     let mut open: usize = 0;
     let mut count: usize = 0;
-    let mut left = text;
+    let mut left = text.bytes;
     'bytes: while let Some((byte, behind)) = left.split_first() {
         if quote.is_none() && open == 0 && *byte == separator {
             return count;
@@ -92,16 +89,15 @@ fn piece_len(separator: u8, text: &[u8]) -> usize
 pub fn pieces<'a>(
     alloc: Global,
     separator: u8,
-    text: &'a [u8],
+    text: LinePart<'a>,
 ) -> Result<Vec<Piece<'a>>, AllocError>
-    requires { length text.now ≤ 255 }
-    ensures { IfOk result (λ v. v.items ≡ pieces separator text.now) }
+    ensures { IfOk result (λ v. v.items ≡ pieces separator text.entry.bytes.now) }
 {
     let mut found = Vec::new(alloc);
-    let mut left = text;
+    let mut left = text.bytes;
     'pieces: loop {
-        let (piece, behind) = left.split_at(piece_len(separator, left));
-        found.push(Piece::of(piece))?;
+        let (piece, behind) = left.split_at(piece_len(separator, LinePart { bytes: left }));
+        found.push(Piece::of(LinePart { bytes: piece }))?;
         let Some((_, others)) = behind.split_first() else {
             return Ok(found);
         };
@@ -111,34 +107,32 @@ pub fn pieces<'a>(
 
 /// The first piece, and the text behind its separator, if there is one.
 #[tactic(auto, using(crate::proofs::Parted::and_more, crate::proofs::Parted::alone))]
-pub(crate) fn first_piece(separator: u8, text: &[u8]) -> (&[u8], Option<&[u8]>)
-    requires { length text.now ≤ 255 }
-    ensures short { length result.0.now ≤ 255 }
-    ensures behind { IfSome result.1 (λ rest. length rest.now < length text.now) }
-    ensures pieces { pieces separator text.now ≡ result.0.now ∷ more_pieces separator (option_copied result.1) }
+pub(crate) fn first_piece(separator: u8, text: LinePart<'_>) -> (LinePart<'_>, Option<&[u8]>)
+    ensures behind { IfSome result.1 (λ rest. length rest.now < length text.entry.bytes.now) }
+    ensures pieces { pieces separator text.entry.bytes.now ≡ result.0.bytes.now ∷ more_pieces separator (option_copied result.1) }
 {
-    let (first, behind) = text.split_at(piece_len(separator, text));
+    let (first, behind) = text.bytes.split_at(piece_len(separator, text));
+    let piece = LinePart { bytes: first };
     match behind.split_first() {
-        Some((_, rest)) => (first, Some(rest)),
-        None => (first, None),
+        Some((_, rest)) => (piece, Some(rest)),
+        None => (piece, None),
     }
 }
 
 /// The two pieces of a text with just one separator outside quotes and parentheses.
 #[tactic(auto, using(crate::proofs::Parted::two_are, crate::proofs::Parted::one_alone, crate::proofs::Parted::three_are))]
-pub fn two_pieces(separator: u8, text: &[u8]) -> Option<(&[u8], &[u8])>
-    requires { length text.now ≤ 255 }
-    ensures bound { IfSome result (λ x. (length x.0.now ≤ 255) × (length x.1.now ≤ 255)) }
-    ensures pieces { MatchOption result (AreNotTwo (pieces separator text.now)) (λ x. pieces separator text.now ≡ x.0.now ∷ x.1.now ∷ []) }
+pub fn two_pieces(separator: u8, text: LinePart<'_>) -> Option<(LinePart<'_>, LinePart<'_>)>
+    ensures { MatchOption result (AreNotTwo (pieces separator text.entry.bytes.now)) (λ x. pieces separator text.entry.bytes.now ≡ x.0.bytes.now ∷ x.1.bytes.now ∷ []) }
 {
-    let (first, behind) = text.split_at(piece_len(separator, text));
-    let Some((_, second)) = behind.split_first() else {
+    let (first, behind) = text.bytes.split_at(piece_len(separator, text));
+    let Some((_, rest)) = behind.split_first() else {
         return None;
     };
-    if piece_len(separator, second) < second.len() {
+    let second = LinePart { bytes: rest };
+    if piece_len(separator, second) < rest.len() {
         return None;
     }
-    Some((first, second))
+    Some((LinePart { bytes: first }, second))
 }
 
 /// Where the first quote of this kind stands.
@@ -207,7 +201,7 @@ pub fn joined(alloc: Global, pieces: &[Piece<'_>]) -> Result<Option<Vec<u8>>, Al
         let Some(piece) = piece_at(pieces, at) else {
             return Ok(Some(out));
         };
-        let Some(text) = quoted(piece.bytes()) else {
+        let Some(text) = quoted(piece.part().bytes) else {
             return Ok(None);
         };
         out.extend_from_slice(text)?;

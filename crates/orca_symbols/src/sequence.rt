@@ -5,7 +5,7 @@ ghost use Rattle.macro_meaning.specs.Deed.{cut};
 ghost use Rattle.macro_meaning.specs.Substitution.{first_passes};
 
 use crate::names::is_sequence;
-use orca_text::label_in;
+use orca_text::{LinePart, label_in};
 
 /// Whether a dot stands at the front.
 #[inline(always)]
@@ -20,18 +20,17 @@ pub fn begins_dot(text: &[u8]) -> bool
 
 /// The line behind a sequence symbol in column 1.
 #[tactic(auto, unfolding(macro_meaning::specs::Deed::cut), using(crate::proofs::Cuts::cut_none))]
-pub fn cut(text: &[u8]) -> &[u8]
-    requires { length text.now ≤ 255 }
-    ensures value { result.now ≡ cut text.now }
-    ensures bound { length result.now ≤ length text.now }
+pub fn cut(text: LinePart<'_>) -> LinePart<'_>
+    ensures value { result.bytes.now ≡ cut text.entry.bytes.now }
+    ensures bound { length result.bytes.now ≤ length text.entry.bytes.now }
 {
-    if !begins_dot(text) {
+    if !begins_dot(text.bytes) {
         return text;
     }
     let label = label_in(text);
-    if is_sequence(label) {
-        let (_, behind) = text.split_at(label.len());
-        return behind;
+    if is_sequence(label.bytes) {
+        let (_, behind) = text.bytes.split_at(label.bytes.len());
+        return LinePart { bytes: behind };
     }
     text
 }

@@ -15,7 +15,7 @@ ghost use Rattle.orca_text.specs.View.{line};
 use crate::names::statement_of;
 use crate::symbols::{Values, text_of};
 use macro_meaning::{Kind, Statement};
-use orca_text::{SourceLine, Span, folded, is_name_start, name_len, part, quote_behind};
+use orca_text::{LinePart, SourceLine, Span, folded, is_name_start, name_len, part, quote_behind};
 use std::alloc::{AllocError, Global};
 
 /// What `&NAME` is at a place.
@@ -60,12 +60,11 @@ fn is_outside(front: &[u8]) -> bool
 }
 
 /// Whether `L:` or `C:` stands directly before a place of a field, outside its quotes.
-fn is_asked(text: &[u8], field: Span, at: u32) -> bool
-    requires lies { LiesIn text.now field }
-    requires few { length text.now ≤ 255 }
-    ensures { result ≡ is_asked text.now field at }
+fn is_asked(text: LinePart<'_>, field: Span, at: u32) -> bool
+    requires { LiesIn text.bytes.now field }
+    ensures { result ≡ is_asked text.entry.bytes.now field at }
 {
-    if field.from + 2 <= at && at < field.to && asks_before(text, at) {
+    if field.from + 2 <= at && at < field.to && asks_before(text.bytes, at) {
         let front = part(
             text,
             Span {
@@ -73,7 +72,7 @@ fn is_asked(text: &[u8], field: Span, at: u32) -> bool
                 to: at,
             },
         );
-        return is_outside(front);
+        return is_outside(front.bytes);
     }
     false
 }
@@ -146,7 +145,10 @@ fn naming_by(statement: Option<Statement>, of: &SourceLine, at: u32) -> Naming
     if sets_label(statement) && lies_in(of.label, at) {
         return Naming::Named;
     }
-    if may_ask(statement) && is_asked(of.text.bytes(), of.operand, at) {
+    let text = LinePart {
+        bytes: of.text.bytes(),
+    };
+    if may_ask(statement) && is_asked(text, of.operand, at) {
         return Naming::Named;
     }
     Naming::Replaced
@@ -204,17 +206,16 @@ pub fn is_folded(name: &[u8]) -> bool
 fn named_text<'a>(
     alloc: Global,
     of: Values<'a>,
-    behind: &[u8],
+    behind: LinePart<'_>,
 ) -> Result<Option<&'a [u8]>, AllocError>
-    requires { length behind.now ≤ 255 }
-    ensures { IfOk result (λ found. MatchOption found (text_of (values of.entry) (Rattle.orca_meaning.specs.Characters.folded (take (name_length behind.now) behind.now)) ≡ None)
-        (λ t. text_of (values of.entry) (Rattle.orca_meaning.specs.Characters.folded (take (name_length behind.now) behind.now)) ≡ Some t.now)) }
+    ensures { IfOk result (λ found. MatchOption found (text_of (values of.entry) (Rattle.orca_meaning.specs.Characters.folded (take (name_length behind.entry.bytes.now) behind.entry.bytes.now)) ≡ None)
+        (λ t. text_of (values of.entry) (Rattle.orca_meaning.specs.Characters.folded (take (name_length behind.entry.bytes.now) behind.entry.bytes.now)) ≡ Some t.now)) }
 {
-    let (bytes, _) = behind.split_at(name_len(behind));
+    let (bytes, _) = behind.bytes.split_at(name_len(behind.bytes));
     if is_folded(bytes) {
         return Ok(text_of(of, bytes));
     }
-    let name = folded(alloc, bytes)?;
+    let name = folded(alloc, LinePart { bytes })?;
     Ok(text_of(of, name.bytes()))
 }
 
@@ -223,25 +224,24 @@ pub(crate) fn in_place<'a>(
     alloc: Global,
     of: Values<'a>,
     at: Naming,
-    behind: &[u8],
+    behind: LinePart<'_>,
 ) -> Result<Option<(&'a [u8], usize)>, AllocError>
-    requires { length behind.now ≤ 255 }
-    ensures place { IfOk result (λ found. MatchOption found (in_place (text_of (values of.entry)) (naming at) behind.now ≡ None)
-        (λ x. in_place (text_of (values of.entry)) (naming at) behind.now ≡ Some (x.0.now, x.1))) }
-    ensures bound { IfOk result (λ found. IfSome found (λ x. x.1 ≤ length behind.now)) }
+    ensures place { IfOk result (λ found. MatchOption found (in_place (text_of (values of.entry)) (naming at) behind.entry.bytes.now ≡ None)
+        (λ x. in_place (text_of (values of.entry)) (naming at) behind.entry.bytes.now ≡ Some (x.0.now, x.1))) }
+    ensures bound { IfOk result (λ found. IfSome found (λ x. x.1 ≤ length behind.entry.bytes.now)) }
 {
     match at {
         Naming::Replaced => {
-            if !begins_letter(behind) {
+            if !begins_letter(behind.bytes) {
                 return Ok(Some((b"&", 0)));
             }
             match named_text(alloc, of, behind)? {
-                Some(text) => Ok(Some((text, taken_length(behind)))),
+                Some(text) => Ok(Some((text, taken_length(behind.bytes)))),
                 None => Ok(None),
             }
         }
         Naming::Named => {
-            if !begins_name(behind) {
+            if !begins_name(behind.bytes) {
                 return Ok(Some((b"&", 0)));
             }
             match named_text(alloc, of, behind)? {
@@ -313,7 +313,7 @@ pub fn shown(
         (λ v. substituted (text_of (values of.entry)) (naming_at source.now.text (line source.now).fields) 0 0 source.now.text ≡ Some v.items)) }
 {
     let text = source.text.bytes();
-    let statement = statement_of(source.part(source.operation));
+    let statement = statement_of(source.part(source.operation).bytes);
     let mut out = buffer;
     out.clear();
     let mut left = text;
@@ -323,7 +323,8 @@ pub fn shown(
             return Ok(Some(out));
         };
         let at = (text.len() - rest.len()) as u32;
-        match in_place(alloc, of, naming_at(source, statement, at), behind)? {
+        let named = naming_at(source, statement, at);
+        match in_place(alloc, of, named, LinePart { bytes: behind })? {
             Some((put, more)) => {
                 out.extend_from_slice(put)?;
                 let (_, others) = behind.split_at(more);

@@ -13,6 +13,7 @@ use crate::text::Text;
 use indexmap::IndexMap;
 use itoa::Buffer;
 use macro_meaning::{Declaration, Kind};
+use orca_text::LinePart;
 use std::alloc::{AllocError, Global};
 use std::marker::Model;
 
@@ -67,7 +68,10 @@ fn decimal(alloc: Global, n: u32) -> Result<Text, AllocError>
     ensures { IfOk result (λ v. v ≡ decimal n) }
 {
     let mut buffer = Buffer::new();
-    Text::of(alloc, buffer.format(n).as_bytes())
+    let digits = LinePart {
+        bytes: buffer.format(n).as_bytes(),
+    };
+    Text::of(alloc, digits)
 }
 
 /// A signed number in decimal digits.
@@ -76,7 +80,10 @@ pub fn signed_decimal(alloc: Global, z: i32) -> Result<Text, AllocError>
     ensures { IfOk result (λ v. v ≡ signed_decimal z) }
 {
     let mut buffer = Buffer::new();
-    Text::of(alloc, buffer.format(z).as_bytes())
+    let digits = LinePart {
+        bytes: buffer.format(z).as_bytes(),
+    };
+    Text::of(alloc, digits)
 }
 
 impl Calls {
@@ -307,8 +314,8 @@ pub fn first_text(alloc: Global, kind: Kind) -> Result<Text, AllocError>
     ensures { IfOk result (λ v. v ≡ first_text kind) }
 {
     match kind {
-        Kind::Number => Text::of(alloc, b"0"),
-        Kind::Flag => Text::of(alloc, b"0"),
-        Kind::Text => Text::of(alloc, b""),
+        Kind::Number => Text::of(alloc, LinePart { bytes: b"0" }),
+        Kind::Flag => Text::of(alloc, LinePart { bytes: b"0" }),
+        Kind::Text => Text::of(alloc, LinePart { bytes: b"" }),
     }
 }

@@ -16,7 +16,7 @@ use crate::substitution::{
 use crate::symbols::{Values, text_of};
 use crate::text::name;
 use omf_base::Name;
-use orca_text::{SourceLine, folded, name_len};
+use orca_text::{LinePart, SourceLine, folded, name_len};
 use std::alloc::{AllocError, Global};
 
 /// A part of a line.
@@ -42,31 +42,29 @@ pub(crate) enum Place {
 }
 
 /// The name at the front, in upper case.
-fn front_name(alloc: Global, behind: &[u8]) -> Result<Name, AllocError>
-    requires { length behind.now ≤ 255 }
-    ensures { IfOk result (λ name. name ≡ characters.folded (take (name_length behind.now) behind.now)) }
+fn front_name(alloc: Global, behind: LinePart<'_>) -> Result<Name, AllocError>
+    ensures { IfOk result (λ name. name ≡ characters.folded (take (name_length behind.entry.bytes.now) behind.entry.bytes.now)) }
 {
-    let (bytes, _) = behind.split_at(name_len(behind));
-    folded(alloc, bytes)
+    let (bytes, _) = behind.bytes.split_at(name_len(behind.bytes));
+    folded(alloc, LinePart { bytes })
 }
 
 /// What comes in place of an `&` before these bytes.
 #[tactic(auto, using(crate::proofs::Templates::ampersand, crate::proofs::Templates::not_letter, crate::proofs::Templates::not_name, crate::proofs::Templates::text, crate::proofs::Templates::asked))]
-fn place_of(alloc: Global, at: Naming, behind: &[u8]) -> Result<Place, AllocError>
-    requires { length behind.now ≤ 255 }
-    ensures place { IfOk result (λ p. (text_of : List ℕ → Option (List ℕ)) → in_place text_of (naming at) behind.now ≡ with_more (more_of p) (placed text_of p)) }
-    ensures bound { IfOk result (λ p. more_of p ≤ length behind.now) }
+fn place_of(alloc: Global, at: Naming, behind: LinePart<'_>) -> Result<Place, AllocError>
+    ensures place { IfOk result (λ p. (text_of : List ℕ → Option (List ℕ)) → in_place text_of (naming at) behind.entry.bytes.now ≡ with_more (more_of p) (placed text_of p)) }
+    ensures bound { IfOk result (λ p. more_of p ≤ length behind.entry.bytes.now) }
 {
     match at {
         Naming::Replaced => {
-            if !begins_letter(behind) {
+            if !begins_letter(behind.bytes) {
                 return Ok(Place::Ampersand);
             }
             let name = front_name(alloc, behind)?;
-            Ok(Place::Text(name, taken_length(behind)))
+            Ok(Place::Text(name, taken_length(behind.bytes)))
         }
         Naming::Named => {
-            if !begins_name(behind) {
+            if !begins_name(behind.bytes) {
                 return Ok(Place::Ampersand);
             }
             let name = front_name(alloc, behind)?;
@@ -78,11 +76,10 @@ fn place_of(alloc: Global, at: Naming, behind: &[u8]) -> Result<Place, AllocErro
 
 /// Puts bytes that are copied behind the parts.
 #[tactic(auto, using(crate::proofs::Templates::closed_empty, crate::proofs::Templates::closed_some))]
-fn close(alloc: Global, parts: &mut Vec<Part>, run: &[u8]) -> Result<(), AllocError>
-    requires { length run.now ≤ 255 }
-    ensures { OnOk result ((text_of : List ℕ → Option (List ℕ)) (tail : Option (List ℕ)) → followed text_of parts.new.items tail ≡ followed text_of parts.old.items (with_front run.now tail)) }
+fn close(alloc: Global, parts: &mut Vec<Part>, run: LinePart<'_>) -> Result<(), AllocError>
+    ensures { OnOk result ((text_of : List ℕ → Option (List ℕ)) (tail : Option (List ℕ)) → followed text_of parts.new.items tail ≡ followed text_of parts.old.items (with_front run.entry.bytes.now tail)) }
 {
-    if run.is_empty() {
+    if run.bytes.is_empty() {
         return Ok(());
     }
     let bytes = name(alloc, run)?;
@@ -110,7 +107,10 @@ fn add(
             Ok(0)
         }
         Place::Text(name, more) => {
-            close(alloc, parts, run.as_slice())?;
+            let front = LinePart {
+                bytes: run.as_slice(),
+            };
+            close(alloc, parts, front)?;
             parts.push(Part::Put(name))?;
             run.clear();
             Ok(more)
@@ -129,18 +129,22 @@ pub fn parts_of(alloc: Global, of: &SourceLine) -> Result<Vec<Part>, AllocError>
     ensures { IfOk result (λ parts. HasParts (line of.now) parts.items) }
 {
     let text = of.text.bytes();
-    let statement = statement_of(of.part(of.operation));
+    let statement = statement_of(of.part(of.operation).bytes);
     let mut parts = Vec::new(alloc);
     let mut run = Vec::new(alloc);
     let mut left = text;
     'runs: loop {
         let rest = copy_plain(&mut run, left)?;
         let Some((_, behind)) = rest.split_first() else {
-            close(alloc, &mut parts, run.as_slice())?;
+            let last = LinePart {
+                bytes: run.as_slice(),
+            };
+            close(alloc, &mut parts, last)?;
             return Ok(parts);
         };
         let at = (text.len() - rest.len()) as u32;
-        let place = place_of(alloc, naming_at(of, statement, at), behind)?;
+        let named = naming_at(of, statement, at);
+        let place = place_of(alloc, named, LinePart { bytes: behind })?;
         let more = add(alloc, &mut parts, &mut run, place)?;
         let (_, others) = behind.split_at(more);
         left = others;
@@ -149,14 +153,17 @@ pub fn parts_of(alloc: Global, of: &SourceLine) -> Result<Vec<Part>, AllocError>
 
 /// The bytes with which all begins that comes of parts.
 #[tactic(auto, using(crate::proofs::Templates::needs_more, crate::proofs::Templates::begins_plain))]
-pub fn plain_front(parts: &[Part]) -> Option<&[u8]>
-    ensures short { IfSome result (λ front. length front.now ≤ 255) }
-    ensures front { IfSome result (λ front. BeginWith parts.now front.now) }
+pub fn plain_front(parts: &[Part]) -> Option<LinePart<'_>>
+    ensures { IfSome result (λ front. BeginWith parts.now front.bytes.now) }
 {
     let mut left = parts;
     'parts: while let Some((first, others)) = left.split_first() {
         match first {
-            Part::Plain(bytes) => return Some(bytes.bytes()),
+            Part::Plain(bytes) => {
+                return Some(LinePart {
+                    bytes: bytes.bytes(),
+                });
+            }
             Part::Need(_) => left = others,
             Part::Put(_) => return None,
         }

@@ -4,18 +4,18 @@ ghost use Rattle.std.specs.Prelude.{◌≡◌, ◌≤◌, length, IfOk};
 
 use arrayvec::ArrayVec;
 use omf_base::{Name, NameFault};
+use orca_text::LinePart;
 use std::alloc::{AllocError, Global};
 use std::marker::Model;
 
 /// How many bytes stand in the value itself.
 const FEW: usize = 16;
 
-/// Bytes, of which there are at most 255.
-pub(crate) fn name(alloc: Global, bytes: &[u8]) -> Result<Name, AllocError>
-    requires { length bytes.now ≤ 255 }
-    ensures { IfOk result (λ n. n ≡ bytes.now) }
+/// The bytes of a part.
+pub(crate) fn name(alloc: Global, part: LinePart<'_>) -> Result<Name, AllocError>
+    ensures { IfOk result (λ n. n ≡ part.entry.bytes.now) }
 {
-    match Name::of(alloc, bytes) {
+    match Name::of(alloc, part.bytes) {
         Ok(name) => Ok(name),
         Err(NameFault::TooLong) => unreachable!(),
         Err(NameFault::Memory) => Err(AllocError),
@@ -50,17 +50,16 @@ impl Model for Text {
 
 impl Text {
     /// A copy of bytes. A few of them take no memory.
-    pub fn of(alloc: Global, bytes: &[u8]) -> Result<Text, AllocError>
-        requires { length bytes.now ≤ 255 }
-        ensures { IfOk result (λ text. text ≡ bytes.now) }
+    pub fn of(alloc: Global, part: LinePart<'_>) -> Result<Text, AllocError>
+        ensures { IfOk result (λ text. text ≡ part.entry.bytes.now) }
     {
         let mut few = ArrayVec::new();
-        match few.try_extend_from_slice(bytes) {
+        match few.try_extend_from_slice(part.bytes) {
             Ok(()) => Ok(Text {
                 kept: Kept::Few(few),
             }),
             Err(_) => {
-                let many = name(alloc, bytes)?;
+                let many = name(alloc, part)?;
                 Ok(Text {
                     kept: Kept::Many(many),
                 })

@@ -8,7 +8,7 @@ ghost use Rattle.orca_meaning.specs.Token.{name_at};
 use crate::names::is_name;
 use crate::substitution::is_folded;
 use omf_base::Name;
-use orca_text::{behind_byte, folded};
+use orca_text::{LinePart, behind_byte, folded};
 use std::alloc::{AllocError, Global};
 use std::marker::Model;
 
@@ -32,11 +32,13 @@ impl<'a> Model for Word<'a> {
 
 impl<'a> Word<'a> {
     /// Bytes that are lent.
-    pub fn lent(lent: &'a [u8]) -> Word<'a>
-        requires { length lent.now ≤ 255 }
-        ensures { result ≡ lent.now }
+    pub fn lent(part: LinePart<'a>) -> Word<'a>
+        ensures { result ≡ part.entry.bytes.now }
     {
-        Word { own: None, lent }
+        Word {
+            own: None,
+            lent: part.bytes,
+        }
     }
 
     fn own(name: Name) -> Word<'a>
@@ -61,25 +63,23 @@ impl<'a> Word<'a> {
 }
 
 /// Bytes in upper case.
-fn folded_word<'a>(alloc: Global, bytes: &'a [u8]) -> Result<Word<'a>, AllocError>
-    requires { length bytes.now ≤ 255 }
-    ensures { IfOk result (λ word. word ≡ characters.folded bytes.now) }
+fn folded_word<'a>(alloc: Global, text: LinePart<'a>) -> Result<Word<'a>, AllocError>
+    ensures { IfOk result (λ word. word ≡ characters.folded text.entry.bytes.now) }
 {
-    if is_folded(bytes) {
-        return Ok(Word::lent(bytes));
+    if is_folded(text.bytes) {
+        return Ok(Word::lent(text));
     }
-    let name = folded(alloc, bytes)?;
+    let name = folded(alloc, text)?;
     Ok(Word::own(name))
 }
 
 /// The name that a text is, in upper case.
 #[tactic(auto, using(crate::proofs::WholeName::some_name, crate::proofs::WholeName::none_name))]
 #[inline(always)]
-fn whole_word<'a>(alloc: Global, text: &'a [u8]) -> Result<Option<Word<'a>>, AllocError>
-    requires { length text.now ≤ 255 }
-    ensures { IfOk result (λ word. word ≡ whole (name_at text.now)) }
+fn whole_word<'a>(alloc: Global, text: LinePart<'a>) -> Result<Option<Word<'a>>, AllocError>
+    ensures { IfOk result (λ word. word ≡ whole (name_at text.entry.bytes.now)) }
 {
-    if is_name(text) {
+    if is_name(text.bytes) {
         let word = folded_word(alloc, text)?;
         return Ok(Some(word));
     }
@@ -89,36 +89,33 @@ fn whole_word<'a>(alloc: Global, text: &'a [u8]) -> Result<Option<Word<'a>>, All
 /// The name of a symbol, where the text is `&NAME` and nothing else.
 #[tactic(auto, unfolding(orca_meaning::specs::Token::symbol_at))]
 #[inline(always)]
-pub fn symbol_word<'a>(alloc: Global, text: &'a [u8]) -> Result<Option<Word<'a>>, AllocError>
-    requires { length text.now ≤ 255 }
-    ensures { IfOk result (λ word. word ≡ symbol_name text.now) }
+pub fn symbol_word<'a>(alloc: Global, text: LinePart<'a>) -> Result<Option<Word<'a>>, AllocError>
+    ensures { IfOk result (λ word. word ≡ symbol_name text.entry.bytes.now) }
 {
-    match behind_byte(text, b'&') {
-        Some(behind) => whole_word(alloc, behind),
+    match behind_byte(text.bytes, b'&') {
+        Some(behind) => whole_word(alloc, LinePart { bytes: behind }),
         None => Ok(None),
     }
 }
 
 /// The name of a sequence symbol, where the text is `.NAME` and nothing else.
 #[inline(always)]
-fn sequence_word<'a>(alloc: Global, text: &'a [u8]) -> Result<Option<Word<'a>>, AllocError>
-    requires { length text.now ≤ 255 }
-    ensures { IfOk result (λ word. word ≡ sequence_name text.now) }
+fn sequence_word<'a>(alloc: Global, text: LinePart<'a>) -> Result<Option<Word<'a>>, AllocError>
+    ensures { IfOk result (λ word. word ≡ sequence_name text.entry.bytes.now) }
 {
-    match behind_byte(text, b'.') {
-        Some(behind) => whole_word(alloc, behind),
+    match behind_byte(text.bytes, b'.') {
+        Some(behind) => whole_word(alloc, LinePart { bytes: behind }),
         None => Ok(None),
     }
 }
 
 /// Where a branch goes: a sequence symbol, maybe behind a `^`.
 #[inline(always)]
-pub fn target_word<'a>(alloc: Global, text: &'a [u8]) -> Result<Option<Word<'a>>, AllocError>
-    requires { length text.now ≤ 255 }
-    ensures { IfOk result (λ word. word ≡ target_name text.now) }
+pub fn target_word<'a>(alloc: Global, text: LinePart<'a>) -> Result<Option<Word<'a>>, AllocError>
+    ensures { IfOk result (λ word. word ≡ target_name text.entry.bytes.now) }
 {
-    match behind_byte(text, b'^') {
-        Some(behind) => sequence_word(alloc, behind),
+    match behind_byte(text.bytes, b'^') {
+        Some(behind) => sequence_word(alloc, LinePart { bytes: behind }),
         None => sequence_word(alloc, text),
     }
 }

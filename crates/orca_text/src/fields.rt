@@ -7,6 +7,7 @@ ghost use Rattle.orca_meaning.specs.Quotes.{outside_from, quote_behind};
 ghost use Rattle.orca_meaning.specs.Line.{is_ink, is_comment, three_fields, operand_span, statement_fields, fields_of, part, LiesIn, HaveFields};
 ghost use Rattle.orca_text.specs.View.{fields};
 
+use crate::line_part::LinePart;
 use crate::operation::operation_use;
 use orca_meaning::{OperandUse, Span};
 
@@ -40,15 +41,15 @@ pub(crate) fn from(text: &[u8], at: usize) -> &[u8]
 }
 
 /// The bytes of a field that lies in the text.
-pub fn part(text: &[u8], span: Span) -> &[u8]
-    requires { LiesIn text.now span }
-    ensures value { result.now ≡ part text.now span }
-    ensures bound { length result.now ≤ length text.now }
+pub fn part(text: LinePart<'_>, span: Span) -> LinePart<'_>
+    requires { LiesIn text.bytes.now span }
+    ensures value { result.bytes.now ≡ part text.entry.bytes.now span }
+    ensures bound { length result.bytes.now ≤ length text.entry.bytes.now }
 {
-    let field = from(text, span.from as usize);
+    let field = from(text.bytes, span.from as usize);
     match field.get(..(span.to - span.from) as usize) {
-        Some(bytes) => bytes,
-        None => field,
+        Some(bytes) => LinePart { bytes },
+        None => LinePart { bytes: field },
     }
 }
 
@@ -132,18 +133,17 @@ fn blank_outside(rest: &[u8]) -> usize
     count
 }
 
-/// The label, the operation, and the third field of a line of at most 255 bytes, whatever the operation does with it.
+/// The label, the operation, and the third field of a line, whatever the operation does with it.
 #[tactic(auto, unfolding(orca_meaning::specs::Line::three_fields))]
-pub fn three_fields(text: &[u8]) -> Fields
-    requires { length text.now ≤ 255 }
-    ensures value { fields result ≡ three_fields text.now }
-    ensures within { HaveFields text.now (fields result) }
+pub fn three_fields(text: LinePart<'_>) -> Fields
+    ensures value { fields result ≡ three_fields text.entry.bytes.now }
+    ensures within { HaveFields text.entry.bytes.now (fields result) }
 {
-    let label_end = blank_in(text) as u32;
-    let operation = label_end + ink_in(from(text, label_end as usize)) as u32;
-    let operation_end = operation + blank_in(from(text, operation as usize)) as u32;
-    let operand = operation_end + ink_in(from(text, operation_end as usize)) as u32;
-    let operand_end = operand + blank_outside(from(text, operand as usize)) as u32;
+    let label_end = blank_in(text.bytes) as u32;
+    let operation = label_end + ink_in(from(text.bytes, label_end as usize)) as u32;
+    let operation_end = operation + blank_in(from(text.bytes, operation as usize)) as u32;
+    let operand = operation_end + ink_in(from(text.bytes, operation_end as usize)) as u32;
+    let operand_end = operand + blank_outside(from(text.bytes, operand as usize)) as u32;
     Fields {
         label: Span {
             from: 0,
@@ -162,25 +162,25 @@ pub fn three_fields(text: &[u8]) -> Fields
 
 /// The third field of a line whose operation ends at a place.
 #[tactic(auto, using(crate::proofs::Places::operand_is))]
-pub fn operand_behind(text: &[u8], end: usize) -> &[u8]
-    requires { (three_fields text.now).operation.to ≡ end }
-    ensures value { result.now ≡ part text.now (three_fields text.now).operand }
-    ensures bound { length result.now ≤ length text.now }
+pub fn operand_behind(text: LinePart<'_>, end: usize) -> LinePart<'_>
+    requires { (three_fields text.bytes.now).operation.to ≡ end }
+    ensures value { result.bytes.now ≡ part text.entry.bytes.now (three_fields text.entry.bytes.now).operand }
+    ensures bound { length result.bytes.now ≤ length text.entry.bytes.now }
 {
-    let behind = from(text, end);
+    let behind = from(text.bytes, end);
     let (_, third) = behind.split_at(ink_in(behind));
     let (operand, _) = third.split_at(blank_outside(third));
-    operand
+    LinePart { bytes: operand }
 }
 
 /// What begins in column 1 of a line, up to the first blank.
 #[tactic(auto, using(crate::proofs::Places::label_is))]
-pub fn label_in(text: &[u8]) -> &[u8]
-    ensures value { result.now ≡ part text.now (three_fields text.now).label }
-    ensures bound { length result.now ≤ length text.now }
+pub fn label_in(text: LinePart<'_>) -> LinePart<'_>
+    ensures value { result.bytes.now ≡ part text.entry.bytes.now (three_fields text.entry.bytes.now).label }
+    ensures bound { length result.bytes.now ≤ length text.entry.bytes.now }
 {
-    let (label, _) = text.split_at(blank_in(text));
-    label
+    let (label, _) = text.bytes.split_at(blank_in(text.bytes));
+    LinePart { bytes: label }
 }
 
 /// Whether all bytes are blank.
@@ -240,28 +240,26 @@ fn operand_span(text: &[u8], third: Span, operand_use: OperandUse) -> Span
 
 /// The fields of a line that isn't a comment.
 #[inline(always)]
-fn statement_fields(text: &[u8]) -> Fields
-    requires { length text.now ≤ 255 }
-    ensures value { fields result ≡ statement_fields text.now (three_fields text.now) }
-    ensures within { HaveFields text.now (fields result) }
+fn statement_fields(text: LinePart<'_>) -> Fields
+    ensures value { fields result ≡ statement_fields text.entry.bytes.now (three_fields text.entry.bytes.now) }
+    ensures within { HaveFields text.entry.bytes.now (fields result) }
 {
     let three = three_fields(text);
-    let operand_use = operation_use(part(text, three.operation));
+    let operand_use = operation_use(part(text, three.operation).bytes);
     Fields {
         label: three.label,
         operation: three.operation,
-        operand: operand_span(text, three.operand, operand_use),
+        operand: operand_span(text.bytes, three.operand, operand_use),
     }
 }
 
 /// The fields of a line. A comment has none.
 #[tactic(auto, unfolding(orca_meaning::specs::Line::fields_of))]
-pub(crate) fn fields_of(text: &[u8]) -> Fields
-    requires { length text.now ≤ 255 }
-    ensures value { fields result ≡ fields_of text.now }
-    ensures within { HaveFields text.now (fields result) }
+pub(crate) fn fields_of(text: LinePart<'_>) -> Fields
+    ensures value { fields result ≡ fields_of text.entry.bytes.now }
+    ensures within { HaveFields text.entry.bytes.now (fields result) }
 {
-    if is_comment(text) {
+    if is_comment(text.bytes) {
         let nothing = Span { from: 0, to: 0 };
         return Fields {
             label: nothing,

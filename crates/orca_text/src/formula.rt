@@ -12,6 +12,7 @@ ghost use Rattle.orca_text.specs.View.{term};
 ghost use Rattle.orca_text.specs.WaitView.{wait};
 
 use crate::formula_term::{Formula, FormulaTerm};
+use crate::line_part::LinePart;
 use crate::operand_tokens::{
     FormulaOperand, OperandToken, OperatorToken, operand_token, operator_token,
 };
@@ -227,13 +228,12 @@ enum Next<'a> {
 fn operand_next<'a>(
     alloc: Global,
     operands: Operands,
-    left: &'a [u8],
+    left: LinePart<'a>,
     out: &mut Vec<FormulaTerm>,
     waiting: &mut Waiting,
     large: &mut bool,
 ) -> Result<Next<'a>, AllocError>
-    requires { length left.now ≤ 255 }
-    ensures { IfOk result (λ next. IsNext operands (state (map term out.old.items) waiting.old true) large.old left.now next (map term out.new.items) waiting.new large.new) }
+    ensures { IfOk result (λ next. IsNext operands (state (map term out.old.items) waiting.old true) large.old left.entry.bytes.now next (map term out.new.items) waiting.new large.new) }
 {
     let Some((next, behind)) = operand_token(alloc, operands, left)? else {
         return Ok(Next::Fails);
@@ -276,18 +276,17 @@ fn take_next<'a>(
     alloc: Global,
     operands: Operands,
     expects: bool,
-    left: &'a [u8],
+    left: LinePart<'a>,
     out: &mut Vec<FormulaTerm>,
     waiting: &mut Waiting,
     large: &mut bool,
 ) -> Result<Next<'a>, AllocError>
-    requires { length left.now ≤ 255 }
-    ensures { IfOk result (λ next. IsNext operands (state (map term out.old.items) waiting.old expects) large.old left.now next (map term out.new.items) waiting.new large.new) }
+    ensures { IfOk result (λ next. IsNext operands (state (map term out.old.items) waiting.old expects) large.old left.entry.bytes.now next (map term out.new.items) waiting.new large.new) }
 {
     if expects {
         return operand_next(alloc, operands, left, out, waiting, large);
     }
-    operator_next(left, out, waiting)
+    operator_next(left.bytes, out, waiting)
 }
 
 /// A formula at the front of a text.
@@ -301,28 +300,27 @@ pub struct FormulaAt<'a> {
     pub rest: &'a [u8],
 }
 
-/// The formula that stands at the front of a text of at most 255 bytes, as far as operators go on, if one does.
+/// The formula that stands at the front of a text, as far as operators go on, if one does.
 pub fn formula_at<'a>(
     alloc: Global,
     operands: Operands,
-    text: &'a [u8],
+    text: LinePart<'a>,
 ) -> Result<Option<FormulaAt<'a>>, AllocError>
-    requires { length text.now ≤ 255 }
-    ensures found { IfOk result (λ found. IfSome found (λ x. IsFormulaAt operands text.now x.formula x.large x.rest.now)) }
-    ensures none { IfOk result (λ found. IfNone found (HasNoFormula operands text.now)) }
-    ensures bound { IfOk result (λ found. IfSome found (λ x. length x.rest.now ≤ length text.now)) }
+    ensures found { IfOk result (λ found. IfSome found (λ x. IsFormulaAt operands text.entry.bytes.now x.formula x.large x.rest.now)) }
+    ensures none { IfOk result (λ found. IfNone found (HasNoFormula operands text.entry.bytes.now)) }
+    ensures bound { IfOk result (λ found. IfSome found (λ x. length x.rest.now ≤ length text.entry.bytes.now)) }
 {
     let mut out = Vec::new(alloc);
     let mut waiting = Waiting::new(alloc);
     let mut large = false;
     let mut expects = true;
-    let mut left = text;
+    let mut left = text.bytes;
     'tokens: loop {
         match take_next(
             alloc,
             operands,
             expects,
-            left,
+            LinePart { bytes: left },
             &mut out,
             &mut waiting,
             &mut large,

@@ -1,9 +1,10 @@
 //! A line of a source.
 
-ghost use Rattle.std.specs.Prelude.{◌≡◌, ◌≤◌, length, IfOk};
+ghost use Rattle.std.specs.Prelude.{◌≡◌, IfOk};
 ghost use Rattle.orca_meaning.specs.Line.{line_of, part, LiesIn};
 
 use crate::fields::{self, fields_of};
+use crate::line_part::LinePart;
 use omf_base::{Name, NameFault};
 use orca_meaning::Span;
 use std::alloc::{AllocError, Global};
@@ -29,13 +30,17 @@ pub struct SourceLine {
 impl SourceLine {
     ghost use Rattle.orca_text.specs.View.{line};
 
-    /// The line of these bytes, which are at most 255.
-    pub fn of(alloc: Global, file: u32, number: u32, text: &[u8]) -> Result<SourceLine, AllocError>
-        requires { length text.now ≤ 255 }
-        ensures { IfOk result (λ l. line l ≡ line_of file number text.now) }
+    /// The line of these bytes.
+    pub fn of(
+        alloc: Global,
+        file: u32,
+        number: u32,
+        text: LinePart<'_>,
+    ) -> Result<SourceLine, AllocError>
+        ensures { IfOk result (λ l. line l ≡ line_of file number text.entry.bytes.now) }
     {
         let fields = fields_of(text);
-        match Name::of(alloc, text) {
+        match Name::of(alloc, text.bytes) {
             Ok(text) => Ok(SourceLine {
                 file,
                 line: number,
@@ -68,11 +73,13 @@ impl SourceLine {
     }
 
     /// The bytes of one of its fields.
-    pub fn part(&self, span: Span) -> &[u8]
+    pub fn part(&self, span: Span) -> LinePart<'_>
         requires { LiesIn self.now.text span }
-        ensures value { result.now ≡ part self.now.text span }
-        ensures short { length result.now ≤ 255 }
+        ensures { result.bytes.now ≡ part self.now.text span }
     {
-        fields::part(self.text.bytes(), span)
+        let text = LinePart {
+            bytes: self.text.bytes(),
+        };
+        fields::part(text, span)
     }
 }

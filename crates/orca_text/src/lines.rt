@@ -10,6 +10,7 @@ ghost use Rattle.orca_text.specs.Refusals.{IsRefused};
 
 use crate::fields::is_comment;
 use crate::line::SourceLine;
+use crate::line_part::LinePart;
 use omf_base::split_line;
 use orca_meaning::{TextCause, TextFault};
 use std::alloc::{AllocError, Global};
@@ -50,17 +51,16 @@ impl Lines {
         }
     }
 
-    /// Appends a line, of at most 255 bytes.
+    /// Appends a line.
     pub fn push(
         &mut self,
         alloc: Global,
         file: u32,
         number: u32,
-        text: &[u8],
+        text: LinePart<'_>,
     ) -> Result<(), AllocError>
-        requires short { length text.now ≤ 255 }
-        requires room { length self.old + 1 < 2 ^ 32 }
-        ensures ok { OnOk result (self.new ≡ self.old ++ line_of file number text.now ∷ []) }
+        requires { length self.old + 1 < 2 ^ 32 }
+        ensures ok { OnOk result (self.new ≡ self.old ++ line_of file number text.entry.bytes.now ∷ []) }
         ensures err { OnErr result (self.new ≡ self.old) }
     {
         let line = SourceLine::of(alloc, file, number, text)?;
@@ -158,7 +158,7 @@ pub fn read_lines(alloc: Global, file: u32, source: &[u8]) -> Result<Lines, Text
             Ok(()) => {}
             Err(fault) => return Err(fault),
         }
-        match lines.push(alloc, file, number, text) {
+        match lines.push(alloc, file, number, LinePart { bytes: text }) {
             Ok(()) => {}
             Err(_) => return Err(TextFault {
                 cause: TextCause::Memory,

@@ -14,6 +14,7 @@ use crate::forms::{behind_opening, behind_prefix, form_behind, opening_of, prefi
 use crate::formula::{FormulaAt, formula_at};
 use crate::formula_term::{Formula, FormulaTerm};
 use crate::line::SourceLine;
+use crate::line_part::LinePart;
 use crate::operand_tokens::behind_byte;
 use crate::operation::{is_spelled, row_of};
 use orca_meaning::{Form, Mnemonic, Opening, OperandUse, Operands, Prefix, TextCause, TextFault};
@@ -139,15 +140,14 @@ fn two_formulas(
 }
 
 /// The formula behind the comma at the front, where it is all that stands there.
-fn second_formula(alloc: Global, rest: &[u8]) -> Result<Option<FormulaAt<'_>>, AllocError>
-    requires { length rest.now ≤ 255 }
-    ensures found { IfOk result (λ found. IfSome found (λ x. IsSecond rest.now x.formula x.large)) }
-    ensures none { IfOk result (λ found. IfNone found (HasNoSecond rest.now)) }
+fn second_formula(alloc: Global, rest: LinePart<'_>) -> Result<Option<FormulaAt<'_>>, AllocError>
+    ensures found { IfOk result (λ found. IfSome found (λ x. IsSecond rest.entry.bytes.now x.formula x.large)) }
+    ensures none { IfOk result (λ found. IfNone found (HasNoSecond rest.entry.bytes.now)) }
 {
-    let Some(behind) = behind_byte(rest, b',') else {
+    let Some(behind) = behind_byte(rest.bytes, b',') else {
         return Ok(None);
     };
-    let Some(second) = formula_at(alloc, Operands::Labels, behind)? else {
+    let Some(second) = formula_at(alloc, Operands::Labels, LinePart { bytes: behind })? else {
         return Ok(None);
     };
     if !second.rest.is_empty() {
@@ -186,17 +186,16 @@ fn front_of(mnemonic: Option<Mnemonic>, text: &[u8]) -> (Opening, Prefix, &[u8])
 fn formula_operand(
     alloc: Global,
     mnemonic: Option<Mnemonic>,
-    text: &[u8],
+    text: LinePart<'_>,
 ) -> Result<Operand, TextCause>
-    requires short { length text.now ≤ 255 }
-    requires some { 0 < length text.now }
-    requires other { is_accumulator mnemonic text.now ≡ false }
-    ensures ok { IfOk result (IsRead mnemonic text.now) }
-    ensures refused { IfErr result (λ cause. IsRefusedFor cause mnemonic text.now) }
+    requires some { 0 < length text.bytes.now }
+    requires other { is_accumulator mnemonic text.bytes.now ≡ false }
+    ensures ok { IfOk result (IsRead mnemonic text.entry.bytes.now) }
+    ensures refused { IfErr result (λ cause. IsRefusedFor cause mnemonic text.entry.bytes.now) }
 {
     let here = values_here(mnemonic);
-    let (opening, prefix, body) = front_of(mnemonic, text);
-    let first = match formula_at(alloc, Operands::Labels, body) {
+    let (opening, prefix, body) = front_of(mnemonic, text.bytes);
+    let first = match formula_at(alloc, Operands::Labels, LinePart { bytes: body }) {
         Ok(Some(first)) => first,
         Ok(None) => return Err(TextCause::BadOperand),
         Err(_) => return Err(TextCause::Memory),
@@ -205,7 +204,7 @@ fn formula_operand(
         return one_formula(here, form, prefix, first);
     }
     match opening {
-        Opening::Open => match second_formula(alloc, first.rest) {
+        Opening::Open => match second_formula(alloc, LinePart { bytes: first.rest }) {
             Ok(Some(second)) => two_formulas(here, prefix, first, second),
             Ok(None) => Err(TextCause::BadOperand),
             Err(_) => Err(TextCause::Memory),
@@ -234,14 +233,13 @@ fn operand_of(
     alloc: Global,
     mnemonic: Option<Mnemonic>,
     accumulator: bool,
-    text: &[u8],
+    text: LinePart<'_>,
 ) -> Result<Operand, TextCause>
-    requires short { length text.now ≤ 255 }
-    requires tested { accumulator ≡ is_accumulator mnemonic text.now }
-    ensures ok { IfOk result (IsRead mnemonic text.now) }
-    ensures refused { IfErr result (λ cause. IsRefusedFor cause mnemonic text.now) }
+    requires { accumulator ≡ is_accumulator mnemonic text.bytes.now }
+    ensures ok { IfOk result (IsRead mnemonic text.entry.bytes.now) }
+    ensures refused { IfErr result (λ cause. IsRefusedFor cause mnemonic text.entry.bytes.now) }
 {
-    if text.is_empty() {
+    if text.bytes.is_empty() {
         return Ok(bare_operand(alloc, Form::Nothing));
     }
     if accumulator {
@@ -263,14 +261,13 @@ fn means_accumulator(operand_use: OperandUse) -> bool
 }
 
 /// The operand in a line with this operation.
-fn operand_in(alloc: Global, operation: &[u8], text: &[u8]) -> Result<Operand, TextCause>
-    requires { length text.now ≤ 255 }
-    ensures ok { IfOk result (IsRead (mnemonic_of operation.now) text.now) }
-    ensures refused { IfErr result (λ cause. IsRefusedFor cause (mnemonic_of operation.now) text.now) }
+fn operand_in(alloc: Global, operation: &[u8], text: LinePart<'_>) -> Result<Operand, TextCause>
+    ensures ok { IfOk result (IsRead (mnemonic_of operation.now) text.entry.bytes.now) }
+    ensures refused { IfErr result (λ cause. IsRefusedFor cause (mnemonic_of operation.now) text.entry.bytes.now) }
 {
     match row_of(operation) {
         Some((mnemonic, operand_use)) => {
-            let accumulator = means_accumulator(operand_use) && is_spelled(text, b"A");
+            let accumulator = means_accumulator(operand_use) && is_spelled(text.bytes, b"A");
             operand_of(alloc, Some(mnemonic), accumulator, text)
         }
         None => operand_of(alloc, None, false, text),
@@ -286,7 +283,11 @@ pub fn read_operand(alloc: Global, line: &SourceLine) -> Result<Operand, TextFau
     ensures operand { IfOk result (IsRead (line_mnemonic line.now) (line_operand line.now)) }
     ensures refused { IfErr result (IsOperandFault line.now) }
 {
-    match operand_in(alloc, line.part(line.operation), line.part(line.operand)) {
+    match operand_in(
+        alloc,
+        line.part(line.operation).bytes,
+        line.part(line.operand),
+    ) {
         Ok(operand) => Ok(operand),
         Err(cause) => Err(TextFault {
             cause,

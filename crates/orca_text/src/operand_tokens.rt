@@ -9,6 +9,7 @@ ghost use Rattle.orca_text.specs.Kept.{fitting, kept_operand, kept_token};
 ghost use Rattle.orca_text.specs.TokenView.{operand, operand_token, operator_token, number_operand, letter_of, asked, asked_name};
 
 use crate::fields::from;
+use crate::line_part::LinePart;
 use crate::operator_tokens::{operator_at, sign_at};
 use crate::tokens::number_at;
 use omf_base::Name;
@@ -86,48 +87,45 @@ pub fn name_len(behind: &[u8]) -> usize
     count
 }
 
-/// Bytes in upper case, as a name. They are at most 255.
-pub fn folded(alloc: Global, bytes: &[u8]) -> Result<Name, AllocError>
-    requires { length bytes.now ≤ 255 }
-    ensures { IfOk result (λ name. name ≡ folded bytes.now) }
+/// Bytes in upper case, as a name.
+pub fn folded(alloc: Global, text: LinePart<'_>) -> Result<Name, AllocError>
+    ensures { IfOk result (λ name. name ≡ folded text.entry.bytes.now) }
 {
-    let mut name = Vec::with_capacity(alloc, bytes.len())?;
-    'bytes: for byte in bytes {
+    let mut name = Vec::with_capacity(alloc, text.bytes.len())?;
+    'bytes: for byte in text.bytes {
         name.push(byte.to_ascii_uppercase())?;
     }
     Ok(Name::from_vec(name))
 }
 
-/// The longest name at the front of a text of at most 255 bytes, in upper case, and what stands behind it.
+/// The longest name at the front of a text, in upper case, and what stands behind it.
 #[tactic(auto, unfolding(orca_meaning::specs::Token::name_at))]
-pub fn name_at(alloc: Global, text: &[u8]) -> Result<Option<(Name, &[u8])>, AllocError>
-    requires { length text.now ≤ 255 }
-    ensures { IfOk result (λ found. MatchOption found (name_at text.now ≡ None) (λ x. name_at text.now ≡ Some (x.0, x.1.now))) }
+pub fn name_at(alloc: Global, text: LinePart<'_>) -> Result<Option<(Name, &[u8])>, AllocError>
+    ensures { IfOk result (λ found. MatchOption found (name_at text.entry.bytes.now ≡ None) (λ x. name_at text.entry.bytes.now ≡ Some (x.0, x.1.now))) }
 {
-    let Some((first, behind)) = text.split_first() else {
+    let Some((first, behind)) = text.bytes.split_first() else {
         return Ok(None);
     };
     if !is_name_start(*first) {
         return Ok(None);
     }
-    let (bytes, rest) = text.split_at(1 + name_len(behind));
-    let name = folded(alloc, bytes)?;
+    let (bytes, rest) = text.bytes.split_at(1 + name_len(behind));
+    let name = folded(alloc, LinePart { bytes })?;
     Ok(Some((name, rest)))
 }
 
-/// The name of a symbol behind `&` at the front of a text of at most 255 bytes, and what stands behind it.
+/// The name of a symbol behind `&` at the front of a text, and what stands behind it.
 #[tactic(auto, unfolding(orca_meaning::specs::Token::symbol_at))]
-pub fn symbol_at(alloc: Global, text: &[u8]) -> Result<Option<(Name, &[u8])>, AllocError>
-    requires { length text.now ≤ 255 }
-    ensures { IfOk result (λ found. MatchOption found (symbol_at text.now ≡ None) (λ x. symbol_at text.now ≡ Some (x.0, x.1.now))) }
+pub fn symbol_at(alloc: Global, text: LinePart<'_>) -> Result<Option<(Name, &[u8])>, AllocError>
+    ensures { IfOk result (λ found. MatchOption found (symbol_at text.entry.bytes.now ≡ None) (λ x. symbol_at text.entry.bytes.now ≡ Some (x.0, x.1.now))) }
 {
-    let Some((first, behind)) = text.split_first() else {
+    let Some((first, behind)) = text.bytes.split_first() else {
         return Ok(None);
     };
     if *first != b'&' {
         return Ok(None);
     }
-    name_at(alloc, behind)
+    name_at(alloc, LinePart { bytes: behind })
 }
 
 /// What is asked of a name.
@@ -153,10 +151,9 @@ fn asked_by(letter: u8) -> Option<Asked>
 fn asked_name(
     alloc: Global,
     operands: Operands,
-    text: &[u8],
+    text: LinePart<'_>,
 ) -> Result<Option<(Name, &[u8])>, AllocError>
-    requires { length text.now ≤ 255 }
-    ensures { IfOk result (λ found. MatchOption found (asked_name operands text.now ≡ None) (λ x. asked_name operands text.now ≡ Some (x.0, x.1.now))) }
+    ensures { IfOk result (λ found. MatchOption found (asked_name operands text.entry.bytes.now ≡ None) (λ x. asked_name operands text.entry.bytes.now ≡ Some (x.0, x.1.now))) }
 {
     match operands {
         Operands::Labels => name_at(alloc, text),
@@ -170,13 +167,12 @@ fn asked_name(
 fn attribute_at(
     alloc: Global,
     operands: Operands,
-    text: &[u8],
+    text: LinePart<'_>,
 ) -> Result<Option<(FormulaOperand, &[u8])>, AllocError>
-    requires { length text.now ≤ 255 }
-    ensures { IfOk result (λ found. MatchOption found (attribute_at (asked_name operands) text.now ≡ None)
-        (λ x. seen_as kept_operand (attribute_at (asked_name operands) text.now) ≡ Some (operand x.0, x.1.now))) }
+    ensures { IfOk result (λ found. MatchOption found (attribute_at (asked_name operands) text.entry.bytes.now ≡ None)
+        (λ x. seen_as kept_operand (attribute_at (asked_name operands) text.entry.bytes.now) ≡ Some (operand x.0, x.1.now))) }
 {
-    let Some((letter, colon_on)) = text.split_first() else {
+    let Some((letter, colon_on)) = text.bytes.split_first() else {
         return Ok(None);
     };
     let Some((colon, behind)) = colon_on.split_first() else {
@@ -188,7 +184,7 @@ fn attribute_at(
     let Some(asked) = asked_by(*letter) else {
         return Ok(None);
     };
-    let Some((name, rest)) = asked_name(alloc, operands, behind)? else {
+    let Some((name, rest)) = asked_name(alloc, operands, LinePart { bytes: behind })? else {
         return Ok(None);
     };
     match asked {
@@ -214,12 +210,14 @@ fn behind_star(text: &[u8]) -> Option<&[u8]>
 
 /// An operand of a statement that isn't a number.
 #[inline(always)]
-fn label_at(alloc: Global, text: &[u8]) -> Result<Option<(FormulaOperand, &[u8])>, AllocError>
-    requires { length text.now ≤ 255 }
-    ensures { IfOk result (λ found. MatchOption found (other_operand_at Operands.Labels text.now ≡ None)
-        (λ x. seen_as kept_operand (other_operand_at Operands.Labels text.now) ≡ Some (operand x.0, x.1.now))) }
+fn label_at(
+    alloc: Global,
+    text: LinePart<'_>,
+) -> Result<Option<(FormulaOperand, &[u8])>, AllocError>
+    ensures { IfOk result (λ found. MatchOption found (other_operand_at Operands.Labels text.entry.bytes.now ≡ None)
+        (λ x. seen_as kept_operand (other_operand_at Operands.Labels text.entry.bytes.now) ≡ Some (operand x.0, x.1.now))) }
 {
-    if let Some(behind) = behind_star(text) {
+    if let Some(behind) = behind_star(text.bytes) {
         return Ok(Some((FormulaOperand::Here, behind)));
     }
     if let Some(found) = attribute_at(alloc, Operands::Labels, text)? {
@@ -236,11 +234,10 @@ fn label_at(alloc: Global, text: &[u8]) -> Result<Option<(FormulaOperand, &[u8])
 fn other_operand_at(
     alloc: Global,
     operands: Operands,
-    text: &[u8],
+    text: LinePart<'_>,
 ) -> Result<Option<(FormulaOperand, &[u8])>, AllocError>
-    requires { length text.now ≤ 255 }
-    ensures { IfOk result (λ found. MatchOption found (other_operand_at operands text.now ≡ None)
-        (λ x. seen_as kept_operand (other_operand_at operands text.now) ≡ Some (operand x.0, x.1.now))) }
+    ensures { IfOk result (λ found. MatchOption found (other_operand_at operands text.entry.bytes.now ≡ None)
+        (λ x. seen_as kept_operand (other_operand_at operands text.entry.bytes.now) ≡ Some (operand x.0, x.1.now))) }
 {
     match operands {
         Operands::Labels => label_at(alloc, text),
@@ -265,13 +262,12 @@ fn number_operand(number: Option<u32>) -> FormulaOperand
 fn operand_at(
     alloc: Global,
     operands: Operands,
-    text: &[u8],
+    text: LinePart<'_>,
 ) -> Result<Option<(FormulaOperand, &[u8])>, AllocError>
-    requires { length text.now ≤ 255 }
-    ensures { IfOk result (λ found. MatchOption found (operand_at operands text.now ≡ None)
-        (λ x. seen_as kept_operand (operand_at operands text.now) ≡ Some (operand x.0, x.1.now))) }
+    ensures { IfOk result (λ found. MatchOption found (operand_at operands text.entry.bytes.now ≡ None)
+        (λ x. seen_as kept_operand (operand_at operands text.entry.bytes.now) ≡ Some (operand x.0, x.1.now))) }
 {
-    if let Some((number, rest)) = number_at(text) {
+    if let Some((number, rest)) = number_at(text.bytes) {
         return Ok(Some((number_operand(number), rest)));
     }
     other_operand_at(alloc, operands, text)
@@ -297,16 +293,15 @@ pub fn behind_byte(text: &[u8], wanted: u8) -> Option<&[u8]>
 pub(crate) fn operand_token(
     alloc: Global,
     operands: Operands,
-    text: &[u8],
+    text: LinePart<'_>,
 ) -> Result<Option<(OperandToken, &[u8])>, AllocError>
-    requires { length text.now ≤ 255 }
-    ensures { IfOk result (λ found. MatchOption found (operand_token_at operands text.now ≡ None)
-        (λ x. seen_as kept_token (operand_token_at operands text.now) ≡ Some (operand_token x.0, x.1.now))) }
+    ensures { IfOk result (λ found. MatchOption found (operand_token_at operands text.entry.bytes.now ≡ None)
+        (λ x. seen_as kept_token (operand_token_at operands text.entry.bytes.now) ≡ Some (operand_token x.0, x.1.now))) }
 {
-    if let Some(behind) = behind_byte(text, b'(') {
+    if let Some(behind) = behind_byte(text.bytes, b'(') {
         return Ok(Some((OperandToken::Opens, behind)));
     }
-    if let Some((sign, behind)) = sign_at(text) {
+    if let Some((sign, behind)) = sign_at(text.bytes) {
         return Ok(Some((OperandToken::Before(sign), behind)));
     }
     match operand_at(alloc, operands, text)? {

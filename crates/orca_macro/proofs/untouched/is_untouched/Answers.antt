@@ -20,7 +20,7 @@ returns-in-Some-Nothing c = λ some.
       no_macro = sym c.operation_is.ensures ∙ c.if-operation_is.false;
       own = c.requires.own;
     } in
-    resting_untouched (line c.args.of.now) c.bytes-text.result.now written c.part-operation.result.now (part c.args.of.now.text c.args.of.now.label) c.part-operation.ensures.value refl
+    resting_untouched (line c.args.of.now) c.bytes-text.result.now written c.part.result.bytes.now (part c.args.of.now.text c.args.of.now.label) c.part.ensures refl
     (sym c.statement_or_anop.ensures ∙ c.in-Some-Nothing.is ∙ ap (λ (s : Statement). Some s) c.in-Some-Nothing.field-0-is) (sym c.is_labelled.ensures ∙ some)
 
 pub returns-in-None : goal.returns-in-None
@@ -34,4 +34,4 @@ returns-in-None c = λ _.
       no_macro = sym c.operation_is.ensures ∙ c.if-operation_is.false;
       own = c.requires.own;
     } in
-    untouched (line c.args.of.now) c.bytes-text.result.now written c.part-operation.result.now c.part-operation.ensures.value (sym c.statement_or_anop.ensures ∙ c.in-None.is)
+    untouched (line c.args.of.now) c.bytes-text.result.now written c.part.result.bytes.now c.part.ensures (sym c.statement_or_anop.ensures ∙ c.in-None.is)

@@ -6,5 +6,5 @@ use Rattle.orca_macro.proofs.visited.statement.Goals as goal
 
 pub returns-in-Some : goal.returns-in-Some
 returns-in-Some c =
-    statement_ok (where_ c.args.at) c.args.text.now (fields c.three_fields-fields.result) c.part-operation.result.now c.part-label.result.now c.part-operand.result.now c.in-Some.found c.done-in-Some.result
+    statement_ok (where_ c.args.at) c.args.text.bytes.now (fields c.three_fields-fields.result) c.part-operation.result.bytes.now c.part-label.result.bytes.now c.part-operand.result.bytes.now c.in-Some.found c.done-in-Some.result
     c.three_fields-fields.ensures.value c.part-operation.ensures.value c.part-label.ensures.value c.part-operand.ensures.value (sym c.is_empty.ensures ∙ c.if-is_empty.false) c.in-Some.ensures c.done-in-Some.ensures

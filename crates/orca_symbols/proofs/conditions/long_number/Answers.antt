@@ -20,11 +20,11 @@ returns-then-not-are_declared c =
     (ap (list_all (is_declared (values c.args.of))) (sym c.terms.ensures) ∙ sym c.are_declared.ensures ∙ c.if-not-are_declared.true)
 
 pub value_of-requires : goal.value_of-requires
-value_of-requires c = fine_terms c.args.text.now c.in-Some.found.formula c.in-Some.found.large c.in-Some.found.rest.now c.requires (rw c.in-Some.is at c.in_ok-found.ensures.found) c.if-found.false
+value_of-requires c = fine_terms c.args.text.bytes.now c.in-Some.found.formula c.in-Some.found.large c.in-Some.found.rest.now c.args.text.short (rw c.in-Some.is at c.in_ok-found.ensures.found) c.if-found.false
 
 pub returns : goal.returns
 returns c =
-    all_values (values c.args.of) c.args.text.now c.in-Some.found.formula c.in-Some.found.large c.in-Some.found.rest.now c.value_of.result c.requires (rw c.in-Some.is at c.in_ok-found.ensures.found)
+    all_values (values c.args.of) c.args.text.bytes.now c.in-Some.found.formula c.in-Some.found.large c.in-Some.found.rest.now c.value_of.result c.args.text.short (rw c.in-Some.is at c.in_ok-found.ensures.found)
     (empty_rest c.in-Some.found.rest.now (sym c.is_empty.ensures ∙ c.if-not-is_empty.false))
     (ap (list_all (is_declared (values c.args.of))) (sym c.terms.ensures) ∙ sym c.are_declared.ensures ∙ c.if-not-are_declared.false)
     c.if-found.false (not_deep c.is_too_deep.result _ c.is_too_deep.ensures c.if-is_too_deep.false) c.value_of.ensures

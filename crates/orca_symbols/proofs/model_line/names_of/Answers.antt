@@ -6,7 +6,7 @@ use Rattle.orca_symbols.proofs.model_line.names_of.Goals as goal
 
 pub pieces-preserved : goal.pieces-preserved
 pieces-preserved c =
-    let found = ap symbol_name (sym c.bytes.ensures.value) ∙ sym c.in_ok-name.ensures ∙ c.in-Some-2.is in (
+    let found = ap symbol_name (sym c.part.ensures) ∙ sym c.in_ok-name.ensures ∙ c.in-Some-2.is in (
       names_next c.args.pieces.now c.pieces.at c.in-Some.piece.now c.in-Some-2.name c.pieces.names.items c.push.new.self.items _ c.in-Some.ensures found c.in_ok-push.ensures.items c.pieces.invariant.0,
       get_inside c.args.pieces.now c.pieces.at c.in-Some.piece.now c.in-Some.ensures,
     )

@@ -24,7 +24,7 @@ runs-preserved c =
           c.runs.parts.items c.add.new.parts.items c.in-Some.field-0-0.now c.in_ok-place.place c.in_ok-more.more (omega (arith, c.runs.invariant.within, ap length c.bytes-text.ensures.value)) c.runs.invariant.so
           c.in_ok-rest.ensures.rest c.in_ok-rest.ensures.copied c.in-Some.ensures.cases.0
           (λ text_of. subst (λ (n : Naming). in_place text_of n c.in-Some.behind.now ≡ with_more (more_of c.in_ok-place.place) (placed text_of c.in_ok-place.place))
-          (c.naming_at.ensures ∙ ap (λ (t : List ℕ). naming_at text (line c.args.of.now).fields (length t - length c.in_ok-rest.rest.now)) c.bytes-text.ensures.value) (c.in_ok-place.ensures.place text_of))
+          (c.naming_at-named.ensures ∙ ap (λ (t : List ℕ). naming_at text (line c.args.of.now).fields (length t - length c.in_ok-rest.rest.now)) c.bytes-text.ensures.value) (c.in_ok-place.ensures.place text_of))
           c.in_ok-more.ensures.more few c.split_at.ensures.back c.in_ok-more.ensures.parts;
       within = omega (
         arith,
