@@ -10,8 +10,8 @@ use Rattle.load_meaning.specs.Cells.{Cell, Byte, Patch, parts_from, patched}
 use Rattle.load_meaning.specs.WrittenBody.{AreWritten, stored, with_stored, is_zero, data_records, lone_record, lone, supers_from, zeros_behind, written_cells, written_data, body_records, body_text}
 use Rattle.load_meaning.specs.laws.FormLaws.{length-stored}
 use Rattle.load_meaning.specs.laws.StoredLaws.{length-data, cells_size, zeros-le}
-use Rattle.omf_cells.specs.declared.written.Patch as kept
-use Rattle.omf_cells.specs.WrittenParts.{seen}
+use Rattle.written_bodies.specs.declared.written.Patch as kept
+use Rattle.written_bodies.specs.WrittenParts.{seen}
 use Rattle.link_content.specs.Holding.{Holding, AreInside, or_lent, or_before, last_of}
 use Rattle.link_content.proofs.ContentBytes.{last_two}
 

@@ -2,8 +2,8 @@
 use Rattle.std.specs.Prelude.{◌≡◌, ℕ, List, [], ◌++◌, length, map, replicate}
 use Rattle.load_meaning.specs.Cells.{Cell}
 use Rattle.link_meaning.specs.LinkWritten.{byte_under, patches_of_cells}
-use Rattle.omf_cells.specs.Joined.{joined}
-use Rattle.omf_cells.specs.WrittenParts.{seen}
+use Rattle.written_bodies.specs.Joined.{joined}
+use Rattle.written_bodies.specs.WrittenParts.{seen}
 use Rattle.link_content.specs.declared.content.Place.{Place}
 use Rattle.link_content.specs.declared.content.Place.TheVariants.{Lent, Own}
 use Rattle.link_content.specs.Holding.{Holding, AreInside}

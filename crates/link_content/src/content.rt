@@ -5,13 +5,13 @@ ghost use Rattle.omf_format.specs.Field.{is_count};
 ghost use Rattle.load_meaning.specs.Cells.{Cell, Byte};
 ghost use Rattle.link_meaning.specs.Fitting.{parts};
 ghost use Rattle.link_meaning.specs.LinkedCells.{zeros};
-ghost use Rattle.omf_cells.specs.Joined.{joined};
+ghost use Rattle.written_bodies.specs.Joined.{joined};
 ghost use Rattle.link_content.specs.Contents.{HoldsCells, IsPlaced};
 ghost use Rattle.link_content.specs.Holding.{Holding, or_lent, or_before, last_of};
 
-use omf_cells::Patch;
 use std::alloc::{AllocError, Global};
 use std::marker::Model;
+use written_bodies::Patch;
 
 /// The bytes of a load segment so far, and the patches over them. As long as they are constants of inputs, one behind another,
 /// none is copied, and zeros at the end are only counted. Contracts see the bytes and the patches.
@@ -30,7 +30,7 @@ pub struct Content<'a> {
 
 impl<'a> Model for Content<'a> {
     ghost use Rattle.std.specs.Prelude.{◌≡◌, ◌++◌, ◌<◌, ◌^◌, [], length, replicate};
-    ghost use Rattle.omf_cells.specs.Joined.{joined};
+    ghost use Rattle.written_bodies.specs.Joined.{joined};
     ghost use Rattle.link_content.specs.Holding.{Holding, AreInside, or_lent};
 
     ghost Value = { Holding };

@@ -25,7 +25,7 @@ use Rattle.link_meaning.specs.laws.LinkedRuns.{HasCells, MembersHave, members_ha
 use Rattle.link_meaning.specs.laws.ReadMembers.{IsRead, members_read, HasHeader, read_header, read_size, read_some}
 use Rattle.link_meaning.specs.laws.LinkWrittenLaws.{few_loads, short_loads, short_length, load_header_fits, in_at}
 use Rattle.link_meaning.specs.laws.ValueFits.{all_sound}
-use Rattle.omf_cells.specs.WrittenParts.{seen}
+use Rattle.written_bodies.specs.WrittenParts.{seen}
 use Rattle.link_content.specs.Holding.{Holding}
 use Rattle.link_content.specs.Contents.{HoldsCells}
 use Rattle.link_file.specs.Images.{image_in, images_in, images_behind, IsReady, AreReady, HoldLinked, AreLoads}

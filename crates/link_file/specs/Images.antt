@@ -14,7 +14,7 @@ use Rattle.link_meaning.specs.Layout.{load_names, load_headers}
 use Rattle.link_meaning.specs.LinkValues.{Told}
 use Rattle.link_meaning.specs.LinkedCells.{linked}
 use Rattle.link_meaning.specs.LinkWritten.{exports, exports_for, table_images, path_images}
-use Rattle.omf_cells.specs.WrittenParts.{seen}
+use Rattle.written_bodies.specs.WrittenParts.{seen}
 use Rattle.link_content.specs.Holding.{Holding}
 use Rattle.link_content.specs.Contents.{HoldsCells}
 

@@ -5,15 +5,15 @@ ghost use Rattle.omf_format.specs.Header.{IsWritable, header_bytes};
 ghost use Rattle.omf_header.specs.View.{fields};
 ghost use Rattle.load_meaning.specs.WrittenBody.{AreWritten, body_text, written_cells, zeros_behind};
 ghost use Rattle.load_meaning.specs.WrittenFile.{image_text, file_text};
-ghost use Rattle.omf_cells.specs.WrittenParts.{seen};
+ghost use Rattle.written_bodies.specs.WrittenParts.{seen};
 ghost use Rattle.omf_format.specs.Record.{Record};
 ghost use Rattle.link_file.specs.Images.{with_space, spelled, image_in, images_in, IsReady, AreReady};
 
 use link_content::{Content, Place};
 use omf_base::{Name, NameFault};
-use omf_cells::{BodyFault, put_body, put_plain_body};
 use omf_header::{Header, WriteHeaderFault, write_header};
 use std::alloc::{AllocError, AllocFailed, Global};
+use written_bodies::{BodyFault, put_body, put_plain_body};
 
 /// The most bytes that a load file has.
 pub const MOST_BYTES: usize = 0x100_0000;

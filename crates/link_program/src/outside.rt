@@ -3,7 +3,7 @@
 ghost use Rattle.std.specs.Prelude.{◌≡◌, ◌+◌, ◌<◌, ◌^◌, ◌++◌, ◌∷◌, [], List, ℕ, length, option_map, slice_get, OnOk};
 ghost use Rattle.std.specs.List.{filter_map};
 ghost use Rattle.load_meaning.specs.Exports.{exports_of};
-ghost use Rattle.omf_cells.specs.View.{seen_export};
+ghost use Rattle.load_tables.specs.View.{seen_export};
 ghost use Rattle.link_meaning.specs.Member.{RuntimeFile};
 ghost use Rattle.link_meaning.specs.Search.{Found, named, outside_of};
 ghost use Rattle.link_program.specs.Definitions.{Sees};

@@ -10,7 +10,8 @@ use Rattle.load_meaning.specs.declared.load.LoadCause.TheVariants.{Truncated, Ba
 use Rattle.load_meaning.specs.declared.load.LoadFault.{LoadFault}
 use Rattle.load_meaning.specs.Exports.{exports_of}
 use Rattle.load_meaning.specs.Runtime.{IsRuntime, IsFirstRuntimeFault}
-use Rattle.omf_cells.specs.Load.{UnlessMemory, IsRuntimeRefused}
+use Rattle.load_content.specs.Views.{UnlessMemory}
+use Rattle.omf_cells.specs.Load.{IsRuntimeRefused}
 use Rattle.lib_dict.specs.declared.member.Member.{Member}
 use Rattle.link_meaning.specs.declared.fault.LinkCause.{LinkCause}
 use Rattle.link_meaning.specs.declared.fault.LinkCause.TheVariants as causes

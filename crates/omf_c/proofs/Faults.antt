@@ -17,6 +17,7 @@ use Rattle.asm_meaning.specs.declared.faults.AsmCause.TheVariants as asm_causes
 use Rattle.asm_meaning.specs.declared.faults.AsmFault.{AsmFault}
 use Rattle.asm_meaning.specs.Object as asm
 use Rattle.omf_records.specs.Segments as records
+use Rattle.load_content.specs.Views.{UnlessMemory}
 use Rattle.omf_cells.specs.Load as cells
 use Rattle.link_file.specs.Answers.{IsLinkRefused}
 use Rattle.omf_c.specs.Causes.{cause_names, name_of}
@@ -35,7 +36,7 @@ first_file file_causes.Memory fault P other is = absurd (other refl)
 pub file_first : (fault : FileFault) (file : List ℕ) → fault.cause ≢ file_causes.Memory → records.IsRefused fault file → IsFirstFault file fault
 file_first fault file other refused = first_file fault.cause fault (IsFirstFault file fault) other refused
 
-first_load : (c : LoadCause) (fault : LoadFault) (P : Type 0) → (c ≡ load_causes.Memory → ⊥) → cells.UnlessMemory c fault P → P
+first_load : (c : LoadCause) (fault : LoadFault) (P : Type 0) → (c ≡ load_causes.Memory → ⊥) → UnlessMemory c fault P → P
 first_load load_causes.NotLoadFile fault P other is = is
 first_load load_causes.Truncated fault P other is = is
 first_load load_causes.BadHeader fault P other is = is

@@ -7,8 +7,8 @@ use Rattle.omf_format.specs.File.{Segment, segment_at}
 use Rattle.load_meaning.specs.Cells.{cells, byte_of, stands}
 use Rattle.load_meaning.specs.Loadable.{IsLoadable}
 use Rattle.load_meaning.specs.laws.CellLaws.{length-cells, loadable_has}
+use Rattle.load_content.specs.Places.{address_in, Stands}
 use Rattle.omf_cells.specs.Load.{HasFields}
-use Rattle.omf_cells.specs.Places.{address_in, Stands}
 use Rattle.omf_c.specs.declared.header.OmfHeader.{OmfHeader}
 use Rattle.omf_c.specs.declared.fault.OmfFault.{OmfFault}
 use Rattle.omf_c.specs.Handed.{Outcome, Made, Refused, NoMemory, Misused, Room, IsTold, IsHanded, done, small}

@@ -5,8 +5,8 @@ use Rattle.load_meaning.specs.declared.table.Target.{Target}
 use Rattle.omf_format.specs.Header.{Fields}
 use Rattle.omf_format.specs.File.{Segment, segment_at}
 use Rattle.load_meaning.specs.Loadable.{IsLoadable, IsFirstLoadFault}
+use Rattle.load_content.specs.Places.{Stands}
 use Rattle.omf_cells.specs.Load.{IsOutside, table_targets}
-use Rattle.omf_cells.specs.Places.{Stands}
 use Rattle.omf_c.specs.declared.header.OmfHeader.{OmfHeader}
 use Rattle.omf_c.specs.declared.target.OmfTarget.{OmfTarget}
 use Rattle.omf_c.specs.Faults.{padded, TellsLoad}

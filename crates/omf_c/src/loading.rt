@@ -3,8 +3,8 @@
 ghost use Rattle.std.specs.Prelude.{◌≡◌, ◌≢◌, ◌<◌, ◌≤◌, ◌^◌, ◌++◌, length, map, take, drop, Some, IfOk, IfErr, ℕ, List};
 ghost use Rattle.load_meaning.specs.declared.load.LoadCause.TheVariants as causes;
 ghost use Rattle.load_meaning.specs.Loadable.{IsLoadable};
+ghost use Rattle.load_content.specs.Places.{Stands};
 ghost use Rattle.omf_cells.specs.Load.{IsOutside, IsRefused, HasLength, table_targets};
-ghost use Rattle.omf_cells.specs.Places.{Stands};
 ghost use Rattle.omf_c.specs.Loaded.{CountsSegments, TellsHeader, Places, TellsEntries, IsUnread, told_target};
 ghost use Rattle.omf_c.specs.Handed.{Outcome, IsTold, IsHanded, IsPut};
 

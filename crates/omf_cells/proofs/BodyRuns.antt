@@ -7,7 +7,7 @@ use Rattle.omf_format.specs.Reading.{Reader, next_answer, after_next, HandsOut, 
 use Rattle.omf_format.specs.laws.FileLaws.{HandsOut-append, ended_at_none}
 use Rattle.omf_format.specs.laws.BodyLaws.{records_of-run}
 use Rattle.load_meaning.specs.Loadable.{record_refusal}
-use Rattle.omf_cells.specs.Walk.{IsLoadBody}
+use Rattle.load_content.specs.Walk.{IsLoadBody}
 
 abbrev IsAllowed : ℕ × Record → Type 0
 IsAllowed found = record_refusal found.1 ≡ None

@@ -6,13 +6,13 @@ use Rattle.std.proofs.lemmas.Bool.{cases_lt}
 use Rattle.std.proofs.lemmas.List.{take_more}
 use Rattle.load_meaning.specs.Cells.{Cell}
 use Rattle.load_meaning.specs.WrittenBody.{is_zero}
-use Rattle.omf_cells.specs.declared.pieces.Piece.{Piece}
-use Rattle.omf_cells.specs.declared.spots.Spot.{Spot}
-use Rattle.omf_cells.specs.Content.{ArePieces, IsAt, IsElsewhere, spread_spot, shown_spots, last_at}
-use Rattle.omf_cells.specs.WrittenParts.{IsKept}
+use Rattle.load_content.specs.declared.pieces.Piece.{Piece}
+use Rattle.load_content.specs.declared.spots.Spot.{Spot}
+use Rattle.load_content.specs.Content.{ArePieces, IsAt, IsElsewhere, spread_spot, shown_spots, last_at}
+use Rattle.written_bodies.specs.WrittenParts.{IsKept}
 use Rattle.omf_cells.specs.Ends.{IsEnd, EndsAt, HasReach, HaveReach}
-use Rattle.omf_cells.proofs.Splits.{within}
-use Rattle.omf_cells.proofs.SpotLists.{Covers, cell_in, shown-push, spot_here, spot_else, last_at-append}
+use Rattle.load_content.proofs.Splits.{within}
+use Rattle.load_content.proofs.SpotLists.{Covers, cell_in, shown-push, spot_here, spot_else, last_at-append}
 
 -- ---- spots
 

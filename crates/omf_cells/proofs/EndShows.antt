@@ -11,14 +11,14 @@ use Rattle.load_meaning.specs.laws.CellLaws.{length-cells, length-segment_bytes}
 use Rattle.load_meaning.specs.laws.StoredLaws.{HasPart, zeros_exact}
 use Rattle.omf_records.specs.Segments.{shown}
 use Rattle.omf_records.specs.declared.segment.SegmentView.{SegmentView}
-use Rattle.omf_cells.specs.declared.targets.Content.{Content}
-use Rattle.omf_cells.specs.Content.{shown_spots, last_at}
+use Rattle.load_content.specs.declared.targets.Content.{Content}
+use Rattle.load_content.specs.Content.{shown_spots, last_at}
+use Rattle.written_bodies.specs.WrittenParts.{IsKept}
 use Rattle.omf_cells.specs.Ends.{IsEnd}
 use Rattle.omf_cells.specs.Load.{Shows, ShowsContent}
 use Rattle.omf_cells.specs.Whole.{front_of, front_at, AreWhole, HasWhole}
-use Rattle.omf_cells.specs.WrittenParts.{IsKept}
-use Rattle.omf_cells.proofs.KeptLaws.{byte_is, other_byte}
-use Rattle.omf_cells.proofs.Contents.{below_at}
+use Rattle.load_content.proofs.Contents.{below_at}
+use Rattle.written_bodies.proofs.KeptLaws.{byte_is, other_byte}
 use Rattle.omf_cells.proofs.LoadShows.{cell_of, shown_below}
 
 -- ---- the front

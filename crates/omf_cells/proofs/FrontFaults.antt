@@ -6,7 +6,7 @@ use Rattle.omf_format.specs.declared.fault.HeaderFault.TheVariants as header
 use Rattle.omf_format.specs.declared.fault.RecordFault.{RecordFault}
 use Rattle.omf_format.specs.declared.fault.RecordFault.TheVariants as record_faults
 use Rattle.load_meaning.specs.declared.load.LoadCause.{LoadCause}
-use Rattle.load_meaning.specs.declared.load.LoadCause.TheVariants.{NotLoadFile, Truncated, BadHeader, Unsupported, BadRecord, Sequence, DataTooLong, PatchOutside, NoSuchTarget, DynamicTarget, BadTable, Memory}
+use Rattle.load_meaning.specs.declared.load.LoadCause.TheVariants.{Memory}
 use Rattle.load_meaning.specs.declared.load.LoadFault.{LoadFault}
 use Rattle.omf_format.specs.Header.{Fields, version_of, fields_of, header_fault}
 use Rattle.omf_format.specs.laws.HeaderLaws.{fault_fits}
@@ -16,8 +16,9 @@ use Rattle.load_meaning.specs.Loadable.{Fault, segment_refusal, as_load, front_f
 use Rattle.load_meaning.specs.laws.LoadableLaws.{header_fault-told}
 use Rattle.omf_header.specs.View.{IsRefused}
 use Rattle.omf_records.specs.Segments.{HasPlace}
-use Rattle.omf_cells.specs.Load.{UnlessMemory, IsReadRefused, IsHeaderFault}
-use Rattle.omf_cells.specs.Walk.{HasBodyFault}
+use Rattle.load_content.specs.Views.{UnlessMemory}
+use Rattle.load_content.specs.Walk.{HasBodyFault}
+use Rattle.omf_cells.specs.Load.{IsReadRefused, IsHeaderFault}
 
 -- the place of a header's fault fits 32 bits, as the file does
 pub has_place : (of : HeaderFault) (start : ℕ) (bytes file : List ℕ) → bytes ≡ drop start file → start < length file → length file < 2 ^ 32 → IsRefused of bytes → HasPlace of start
@@ -31,36 +32,6 @@ has_place (header.BadField field) start bytes file is inside short refused =
     let long : 44 ≤ length bytes = fault_fits bytes (header.BadField field) refused in
     omega (arith, ap length is, length-drop start file, long)
 has_place header.Memory start bytes file is inside short refused = tt
-
--- a fault with a cause other than memory
-pub unless : (c : LoadCause) (fault : LoadFault) (P : Type 0) → (c ≡ Memory → ⊥) → P → UnlessMemory c fault P
-unless NotLoadFile fault P named h = h
-unless Truncated fault P named h = h
-unless BadHeader fault P named h = h
-unless Unsupported fault P named h = h
-unless BadRecord fault P named h = h
-unless Sequence fault P named h = h
-unless DataTooLong fault P named h = h
-unless PatchOutside fault P named h = h
-unless NoSuchTarget fault P named h = h
-unless DynamicTarget fault P named h = h
-unless BadTable fault P named h = h
-unless Memory fault P named h = absurd (named refl)
-
--- a clause that follows from another one
-pub unless_then : (c : LoadCause) (fault : LoadFault) (P Q : Type 0) → (P → Q) → UnlessMemory c fault P → UnlessMemory c fault Q
-unless_then NotLoadFile fault P Q f h = f h
-unless_then Truncated fault P Q f h = f h
-unless_then BadHeader fault P Q f h = f h
-unless_then Unsupported fault P Q f h = f h
-unless_then BadRecord fault P Q f h = f h
-unless_then Sequence fault P Q f h = f h
-unless_then DataTooLong fault P Q f h = f h
-unless_then PatchOutside fault P Q f h = f h
-unless_then NoSuchTarget fault P Q f h = f h
-unless_then DynamicTarget fault P Q f h = f h
-unless_then BadTable fault P Q f h = f h
-unless_then Memory fault P Q f h = h
 
 -- a header at fault
 pub of_header : (of : HeaderFault) (start : ℕ) (bytes file : List ℕ) → bytes ≡ drop start file → header_fault bytes ≡ Some of → HasReadFault start file (as_load (told_header start (version_of bytes) of))

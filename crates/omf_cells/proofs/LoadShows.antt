@@ -19,15 +19,16 @@ use Rattle.load_meaning.specs.laws.LoadTableLaws.{length-targets_from, get-targe
 use Rattle.load_meaning.specs.Loadable.{patch_list, IsSoundSegment}
 use Rattle.omf_records.specs.declared.segment.SegmentView.{SegmentView}
 use Rattle.omf_records.specs.Segments.{placed, shown}
-use Rattle.omf_cells.specs.declared.targets.Content.{Content}
-use Rattle.omf_cells.specs.Walk.{content, gives_patch}
-use Rattle.omf_cells.specs.Content.{spread_all, last_at, shown_spots, AreBelow, with_cells}
-use Rattle.omf_cells.specs.Places.{address_in, Stands}
-use Rattle.omf_cells.specs.Load.{IsLoadView, AreLoadViews, Shows, ShowsContent, IsOutside, HasLength, HasPatches, HasBytes, table_targets}
-use Rattle.omf_cells.proofs.PatchRuns.{has_some, has_none}
-use Rattle.omf_cells.proofs.ShownBytes.{body_content, bytes-shown}
-use Rattle.omf_cells.proofs.SpotLists.{last_over-spread, length-slice_set}
-use Rattle.omf_cells.proofs.Contents.{contents_at, spots-below}
+use Rattle.load_content.specs.declared.targets.Content.{Content}
+use Rattle.load_content.specs.Walk.{content, gives_patch}
+use Rattle.load_content.specs.Content.{spread_all, last_at, shown_spots, AreBelow, with_cells}
+use Rattle.load_content.specs.Places.{address_in, Stands}
+use Rattle.load_content.specs.Views.{IsLoadView}
+use Rattle.omf_cells.specs.Load.{AreLoadViews, Shows, ShowsContent, IsOutside, HasLength, HasPatches, HasBytes, table_targets}
+use Rattle.load_content.proofs.PatchRuns.{has_some, has_none}
+use Rattle.load_content.proofs.ShownBytes.{body_content, bytes-shown}
+use Rattle.load_content.proofs.SpotLists.{last_over-spread, length-slice_set}
+use Rattle.load_content.proofs.Contents.{contents_at, spots-below}
 
 -- ---- the segments by their numbers
 

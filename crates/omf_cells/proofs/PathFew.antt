@@ -7,7 +7,7 @@ use Rattle.omf_format.specs.Number.{number_at}
 use Rattle.omf_format.specs.File.{Segment}
 use Rattle.load_meaning.specs.Cells.{segment_bytes}
 use Rattle.load_meaning.specs.Pathnames.{has_pathnames, most_paths, first_path, behind_path, paths_in, paths_of}
-use Rattle.omf_cells.specs.Load.{seen_paths}
+use Rattle.load_tables.specs.View.{seen_paths}
 
 few_in : (n : ℕ) (bytes : List ℕ) → length (paths_in n bytes) ≤ n
 few_in zero bytes = omega arith

@@ -9,8 +9,9 @@ use Rattle.omf_format.specs.laws.FileLaws.{LiesIn, header_lies, AreSegments-appe
 use Rattle.load_meaning.specs.Loadable.{HasReadFault, IsLoadSegment, later_fault, IsLoadable, IsFirstLoadFault, OfReading}
 use Rattle.omf_records.specs.declared.segment.SegmentView.{SegmentView}
 use Rattle.omf_records.specs.Segments.{placed, shown}
-use Rattle.omf_cells.specs.Load.{IsRefused, IsReadRefused, IsLoadView}
-use Rattle.omf_cells.proofs.FrontFaults.{unless_then}
+use Rattle.load_content.specs.Views.{IsLoadView}
+use Rattle.omf_cells.specs.Load.{IsRefused, IsReadRefused}
+use Rattle.load_content.proofs.NamedFaults.{unless_then}
 
 -- these views are the segments from the file's front up to this displacement, and pass phase 1
 pub record Read (file : List ℕ) (views : List SegmentView) (start number : ℕ) : Type 0 where

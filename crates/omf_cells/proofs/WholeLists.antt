@@ -13,15 +13,15 @@ use Rattle.load_meaning.specs.laws.LayingLaws.{Has, Fit, laid, same_list, same_l
 use Rattle.load_meaning.specs.laws.CellLaws.{patched-laid, length-segment_bytes}
 use Rattle.omf_records.specs.Segments.{shown}
 use Rattle.omf_records.specs.declared.segment.SegmentView.{SegmentView}
-use Rattle.omf_cells.specs.declared.spots.Spot.{Spot}
-use Rattle.omf_cells.specs.declared.targets.Content.{Content}
-use Rattle.omf_cells.specs.declared.written.Patch as code
-use Rattle.omf_cells.specs.Content.{spread_from, spread, spread_all, spot_patch, spread_spot, shown_spots, last_at}
+use Rattle.load_content.specs.declared.spots.Spot.{Spot}
+use Rattle.load_content.specs.declared.targets.Content.{Content}
+use Rattle.load_content.specs.Content.{spread_from, spread, spread_all, spot_patch, spread_spot, shown_spots, last_at}
+use Rattle.written_bodies.specs.declared.written.Patch as code
+use Rattle.written_bodies.specs.WrittenParts.{seen}
 use Rattle.omf_cells.specs.Load.{ShowsContent}
 use Rattle.omf_cells.specs.Whole.{AreSpaced, AreWhole}
-use Rattle.omf_cells.specs.WrittenParts.{seen}
 use Rattle.omf_cells.specs.SpacedLaws.{spaced_is, spaced_apart}
-use Rattle.omf_cells.proofs.SpotLists.{shown-push, last_over-spread}
+use Rattle.load_content.proofs.SpotLists.{shown-push, last_over-spread}
 use Rattle.omf_cells.proofs.LoadShows.{cell_of}
 
 -- ---- one patch for each spot

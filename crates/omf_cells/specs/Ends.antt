@@ -2,8 +2,8 @@
 use Rattle.std.specs.Prelude.{◌≡◌, ◌⊎◌, ℕ, suc, ◌+◌, ◌-◌, ◌<◌, ◌≤◌, false, List, length, Some, None, slice_get}
 use Rattle.load_meaning.specs.Cells.{Cell}
 use Rattle.load_meaning.specs.WrittenBody.{is_zero}
-use Rattle.omf_cells.specs.declared.pieces.Piece.{Piece}
-use Rattle.omf_cells.specs.Content.{last_at, IsAt}
+use Rattle.load_content.specs.declared.pieces.Piece.{Piece}
+use Rattle.load_content.specs.Content.{last_at, IsAt}
 
 -- no cell stands from this offset on, and one that isn't a byte 0 stands before it
 pub record IsEnd (founds : List (ℕ × Cell)) (end : ℕ) : Type 0 where

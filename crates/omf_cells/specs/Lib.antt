@@ -1,12 +1,5 @@
-pub mod View
-pub mod Walk
-pub mod Places
-pub mod Content
 pub mod Load
-pub mod Paths
 pub mod Laws
-pub mod WrittenParts
-pub mod Joined
 pub mod Whole
 pub mod Ends
 pub mod SpacedLaws

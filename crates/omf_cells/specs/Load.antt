@@ -1,15 +1,14 @@
 -- What a load file is seen as, and why a file isn't one.
-use Rattle.std.specs.Prelude.{◌≡◌, ◌≢◌, ◌⊎◌, ◌<◌, ◌+◌, ◌^◌, ℕ, List, [], length, map, All, Option, Some, None, IsSomeAnd, option_and_then}
+use Rattle.std.specs.Prelude.{◌≡◌, ◌≢◌, ◌⊎◌, ◌<◌, ◌^◌, ℕ, List, [], length, map, All, Some, None, IsSomeAnd, option_and_then}
 use Rattle.std.specs.Option.{option_map_or}
 use Rattle.omf_format.specs.declared.fault.HeaderFault.{HeaderFault}
 use Rattle.omf_format.specs.declared.fault.HeaderFault.TheVariants as header
-use Rattle.load_meaning.specs.declared.load.LoadCause.{LoadCause}
 use Rattle.load_meaning.specs.declared.load.LoadCause.TheVariants.{Memory}
 use Rattle.load_meaning.specs.declared.load.LoadFault.{LoadFault}
 use Rattle.omf_format.specs.Header.{Fields}
-use Rattle.omf_format.specs.File.{Segment, IsHeader, IsSegment, segment_at, told_header}
+use Rattle.omf_format.specs.File.{Segment, IsHeader, segment_at, told_header}
 use Rattle.load_meaning.specs.Cells.{Byte, patches_of, cells}
-use Rattle.load_meaning.specs.Loadable.{segment_refusal, as_load, in_segment, HasReadFault, IsLoadSegment, IsSoundSegment, IsLoadable, IsFirstLoadFault}
+use Rattle.load_meaning.specs.Loadable.{segment_refusal, as_load, in_segment, HasReadFault, IsSoundSegment, IsLoadable, IsFirstLoadFault}
 use Rattle.load_meaning.specs.Exports.{exports_of}
 use Rattle.load_meaning.specs.Pathnames.{paths_of}
 use Rattle.load_meaning.specs.LoadTable.{table_of, targets_of}
@@ -18,15 +17,11 @@ use Rattle.std.specs.Borrow.{Bor}
 use Rattle.load_meaning.specs.declared.table.Target.{Target}
 use Rattle.omf_records.specs.declared.segment.SegmentView.{SegmentView}
 use Rattle.omf_records.specs.Segments.{shown}
-use Rattle.omf_cells.specs.declared.targets.Content.{Content}
-use Rattle.omf_cells.specs.declared.exports.Export.{Export}
-use Rattle.omf_cells.specs.View.{seen_export}
-use Rattle.omf_cells.specs.Content.{IsContent, AreContents}
-
--- a fault of want of memory has no place, and every other one is this
-abbrev pub UnlessMemory : LoadCause → LoadFault → Type 0 → Type 0
-UnlessMemory Memory fault P = (fault.segment ≡ 0) × (fault.at ≡ 0)
-UnlessMemory _ _ P = P
+use Rattle.load_content.specs.declared.targets.Content.{Content}
+use Rattle.load_content.specs.Content.{IsContent, AreContents}
+use Rattle.load_content.specs.Views.{UnlessMemory, IsLoadView}
+use Rattle.load_tables.specs.declared.exports.Export.{Export}
+use Rattle.load_tables.specs.View.{seen_export, seen_paths}
 
 -- the fault is the first one of the file, unless memory ran out
 abbrev pub IsRefused : LoadFault → List ℕ → Type 0
@@ -40,10 +35,6 @@ IsRuntimeRefused fault file = UnlessMemory fault.cause fault (IsFirstRuntimeFaul
 abbrev pub IsReadRefused : LoadFault → ℕ → ℕ → List ℕ → Type 0
 IsReadRefused fault number start file = UnlessMemory fault.cause fault ((fault.segment ≡ number) × HasReadFault start file (fault.cause, fault.at))
 
--- the fault is this first one of the phases after phase 1, unless memory ran out
-abbrev pub IsLaterRefused : LoadFault → Option LoadFault → Type 0
-IsLaterRefused fault first = UnlessMemory fault.cause fault (first ≡ Some fault)
-
 -- a fault of a header of a version as one of the load file, in the segment with this number
 abbrev pub IsHeaderFault : HeaderFault → ℕ → ℕ → ℕ → LoadFault → Type 0
 IsHeaderFault (header.Truncated n) start version number fault = fault ≡ in_segment number (as_load (told_header start version (header.Truncated n)))
@@ -56,19 +47,6 @@ pub record IsLoadHeader (start : ℕ) (f : Fields) (file : List ℕ) : Type 0 wh
   pub header : IsHeader start f file
   pub front : segment_refusal f ≡ None
 
--- the view shows a segment of the file that phase 1 lets pass
-pub record IsLoadView (file : List ℕ) (v : SegmentView) : Type 0 where
-  pub file' : v.file.now ≡ file
-  pub segment : IsSegment (shown v) file
-  pub pass : IsLoadSegment (shown v)
-
--- the views show segments of one file, fewer than 2 ^ 32 - 1
-pub record AreShown (views : List SegmentView) : Type 0 where
-  pub file : List ℕ
-  pub short : length file < 2 ^ 32
-  pub few : length views + 1 < 2 ^ 32
-  pub each : All (IsLoadView file) views
-
 -- the views of a load file show its segments, and what is kept of them is theirs
 pub record AreLoadViews (views : List SegmentView) (contents : List Content) : Type 0 where
   pub file : List ℕ
@@ -76,10 +54,6 @@ pub record AreLoadViews (views : List SegmentView) (contents : List Content) : T
   pub each : All (IsLoadView file) views
   pub loadable : IsLoadable file (map shown views)
   pub contents' : AreContents views contents
-
--- paths without where they lie
-abbrev pub seen_paths : List (Bor (List ℕ)) → List (List ℕ)
-seen_paths paths = map (λ path. path.now) paths
 
 -- what a load file keeps: views of its segments and what is in them, fewer than 2 ^ 32 names that it exports, and its paths
 pub record IsKept (views : List SegmentView) (contents : List Content) (exports : List Export) (paths : List (Bor (List ℕ))) : Type 0 where

@@ -1,13 +1,12 @@
 //! Where a segment's cells end that aren't a byte 0.
 
 ghost use Rattle.std.specs.Prelude.{◌≡◌, ◌≤◌, ℕ, List, length};
-ghost use Rattle.omf_cells.specs.Content.{ArePieces, spread_spot, shown_spots};
-ghost use Rattle.omf_cells.specs.WrittenParts.{IsKept};
+ghost use Rattle.load_content.specs.Content.{ArePieces, spread_spot, shown_spots};
+ghost use Rattle.written_bodies.specs.WrittenParts.{IsKept};
 ghost use Rattle.omf_cells.specs.Ends.{IsEnd, HasReach};
 
-use crate::pieces::Piece;
-use crate::spots::{Spot, size_of};
-use crate::written_data::kept;
+use load_content::{Piece, Spot, size_of};
+use written_bodies::kept;
 
 /// Where a spot ends; 0 where it has no bytes.
 fn end_of(spot: &Spot) -> usize

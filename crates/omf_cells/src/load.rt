@@ -7,33 +7,27 @@ ghost use Rattle.load_meaning.specs.Pathnames.{paths_of, pathnames_of};
 ghost use Rattle.load_meaning.specs.LoadTable.{table_of};
 ghost use Rattle.load_meaning.specs.Runtime.{runtime_fault};
 ghost use Rattle.omf_header.specs.View.{fields};
-ghost use Rattle.omf_cells.specs.View.{view, seen_export};
+ghost use Rattle.load_content.specs.View.{view};
+ghost use Rattle.load_content.specs.Places.{Stands};
+ghost use Rattle.load_tables.specs.View.{seen_export};
+ghost use Rattle.written_bodies.specs.WrittenParts.{seen};
 ghost use Rattle.omf_cells.specs.Load.{IsOutside, HasFields, HasLength, HasPatches, HasBytes, table_targets, Shows, ShowsContent};
-ghost use Rattle.omf_cells.specs.Places.{Stands};
 ghost use Rattle.omf_cells.specs.Whole.{front_at, data_at, HasData, HasWhole};
-ghost use Rattle.omf_cells.specs.WrittenParts.{seen};
 
-use crate::body::write_body;
-use crate::cell::Cell;
 use crate::ends::{end_from, last_end};
-use crate::exports::Export;
-use crate::filled::{lone_piece, put_bytes};
-use crate::kinds::check_kinds;
-use crate::patches::gives_patches;
-use crate::pathnames::pathnames_of;
-use crate::pieces::byte_at;
-use crate::places::Places;
-use crate::spots::{spot_at, write_spots};
-use crate::table::{table_of, target_from};
-use crate::targets::Content;
 use crate::whole::{are_spaced, in_places, whole_patches};
-use crate::written::Patch;
 use jump_table::entry_count;
+use load_content::{
+    Cell, Content, Places, byte_at, gives_patches, lone_piece, put_bytes, spot_at, write_body,
+    write_spots,
+};
 use load_meaning::{LoadCause, LoadFault, Target};
+use load_tables::{Export, check_kinds, pathnames_of, table_of, target_from};
 use omf_header::Header;
 use omf_records::SegmentView;
 use std::alloc::{AllocError, Global};
 use std::marker::Model;
+use written_bodies::Patch;
 
 /// A load file. Contracts see the list of its segments. Beside the headers it keeps where the data of each segment stands
 /// in the file, and the bytes that patches give; and what the file exports, and its paths.

@@ -5,18 +5,18 @@ ghost use Rattle.load_meaning.specs.Pathnames.{paths_of};
 ghost use Rattle.load_meaning.specs.Loadable.{IsLoadable, later_fault};
 ghost use Rattle.load_meaning.specs.Runtime.{IsRuntime};
 ghost use Rattle.omf_records.specs.Segments.{shown};
-ghost use Rattle.omf_cells.specs.Load.{IsLoadView, AreShown, IsReadRefused, IsLaterRefused, IsRefused, IsRuntimeRefused, seen_paths};
-ghost use Rattle.omf_cells.specs.Content.{AreContents};
+ghost use Rattle.load_content.specs.Views.{IsLoadView, AreShown, IsLaterRefused};
+ghost use Rattle.load_content.specs.Content.{AreContents};
+ghost use Rattle.load_tables.specs.View.{seen_paths};
+ghost use Rattle.omf_cells.specs.Load.{IsReadRefused, IsRefused, IsRuntimeRefused};
 
-use crate::exports::add_exports;
 use crate::front::front_at;
 use crate::load::LoadFile;
-use crate::pathnames::check_pathnames;
 use crate::records::check_records;
 use crate::shape::check_shapes;
-use crate::table::check_tables;
-use crate::targets::{Content, contents_of};
+use load_content::{Content, contents_of};
 use load_meaning::{LoadCause, LoadFault};
+use load_tables::{add_exports, check_pathnames, check_tables};
 use omf_records::SegmentView;
 use std::alloc::Global;
 

@@ -4,7 +4,7 @@ ghost use Rattle.std.specs.Prelude.{◌≡◌, Some, OnOk, IfErr};
 ghost use Rattle.load_meaning.specs.Loadable.{record_refusal, as_load, in_segment};
 ghost use Rattle.omf_format.specs.File.{told_record};
 ghost use Rattle.omf_records.specs.View.{view};
-ghost use Rattle.omf_cells.specs.Walk.{IsLoadBody, HasBodyFault};
+ghost use Rattle.load_content.specs.Walk.{IsLoadBody, HasBodyFault};
 
 use crate::told::load_fault;
 use load_meaning::{LoadCause, LoadFault};

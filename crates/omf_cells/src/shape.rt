@@ -3,9 +3,9 @@
 ghost use Rattle.std.specs.Prelude.{◌≡◌, ◌<◌, ◌^◌, length, map, option_map, IfSome};
 ghost use Rattle.load_meaning.specs.Loadable.{shape_fault, in_segment, first_in};
 ghost use Rattle.omf_records.specs.Segments.{shown};
-ghost use Rattle.omf_cells.specs.Load.{IsLoadView, AreShown};
+ghost use Rattle.load_content.specs.Views.{IsLoadView, AreShown};
 
-use crate::body::is_longer;
+use load_content::is_longer;
 use load_meaning::{LoadCause, LoadFault};
 use omf_records::SegmentView;
 

@@ -2,13 +2,13 @@
 
 ghost use Rattle.std.specs.Prelude.{◌≡◌, ◌+◌, IsTrue, IfOk, IfSome, map};
 ghost use Rattle.std.specs.List.Sorted.{IsPermutation};
-ghost use Rattle.omf_cells.specs.Content.{spread_all, shown_spots};
+ghost use Rattle.load_content.specs.Content.{spread_all, shown_spots};
+ghost use Rattle.written_bodies.specs.WrittenParts.{seen};
 ghost use Rattle.omf_cells.specs.Whole.{AreSpaced};
-ghost use Rattle.omf_cells.specs.WrittenParts.{seen};
 
-use crate::spots::Spot;
-use crate::written::Patch;
+use load_content::Spot;
 use std::alloc::{AllocError, Global};
+use written_bodies::Patch;
 
 /// The patches that give the bytes of the spots, one for each, where each spot begins with the first byte of its place.
 pub fn whole_patches(alloc: Global, spots: &[Spot]) -> Result<Option<Vec<Patch>>, AllocError>

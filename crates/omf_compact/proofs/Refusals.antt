@@ -4,7 +4,7 @@ use Rattle.load_meaning.specs.declared.load.LoadCause.{LoadCause}
 use Rattle.load_meaning.specs.declared.load.LoadCause.TheVariants.{NotLoadFile, Truncated, BadHeader, Unsupported, BadRecord, Sequence, DataTooLong, PatchOutside, NoSuchTarget, DynamicTarget, BadTable, Memory}
 use Rattle.load_meaning.specs.declared.load.LoadFault.{LoadFault}
 use Rattle.load_meaning.specs.Loadable.{IsFirstLoadFault}
-use Rattle.omf_cells.specs.Load.{UnlessMemory}
+use Rattle.load_content.specs.Views.{UnlessMemory}
 use Rattle.omf_cells.specs.Load as cells
 use Rattle.omf_compact.specs.declared.fault.CompactFault.{CompactFault}
 use Rattle.omf_compact.specs.laws.Causes.{compact_cause, as_compact}

@@ -3,8 +3,8 @@
 ghost use Rattle.std.specs.Prelude.{◌≡◌, ◌≤◌, ◌<◌, ◌++◌, Some, true, false, length, map, take, IfOk, IfErr, OnOk, IsErrOf};
 ghost use Rattle.omf_format.specs.File.{Segment, segment_at};
 ghost use Rattle.omf_header.specs.View.{fields};
+ghost use Rattle.written_bodies.specs.WrittenParts.{seen};
 ghost use Rattle.omf_cells.specs.Whole.{front_at, data_at};
-ghost use Rattle.omf_cells.specs.WrittenParts.{seen};
 ghost use Rattle.omf_compact.specs.Canonical.{plain_of, is_pathname, canon_fields, canon_segment};
 ghost use Rattle.omf_compact.specs.laws.Writing.{IsKnown, HasSegment, HasStretches, first_text};
 

@@ -4,7 +4,7 @@ ghost use Rattle.std.specs.Prelude.{◌≡◌, ◌<◌, true, false, map, Some, 
 ghost use Rattle.std.specs.List.{AllByRecursion};
 ghost use Rattle.omf_format.specs.File.{Segment, segment_at};
 ghost use Rattle.load_meaning.specs.Cells.{cells, cell_at};
-ghost use Rattle.omf_cells.specs.WrittenParts.{seen};
+ghost use Rattle.written_bodies.specs.WrittenParts.{seen};
 ghost use Rattle.omf_compact.specs.Stretches.{IsWrittenCell};
 ghost use Rattle.omf_compact.specs.laws.Walk.{placed, goes_on, with_part, IsNoPart, IsPartAt, IsParted};
 

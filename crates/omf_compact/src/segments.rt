@@ -2,7 +2,7 @@
 
 ghost use Rattle.std.specs.Prelude.{◌≡◌, ◌≤◌, ◌+◌, ◌<◌, ◌++◌, [], ◌∷◌, Some, length, map, slice_get, IfOk, IfErr, OnOk, IsErrOf, MatchOption};
 ghost use Rattle.omf_format.specs.File.{Segment, segment_at};
-ghost use Rattle.omf_cells.specs.WrittenParts.{seen};
+ghost use Rattle.written_bodies.specs.WrittenParts.{seen};
 ghost use Rattle.omf_compact.specs.Canonical.{plain_of, plain, canon_segment, canon};
 ghost use Rattle.omf_compact.specs.laws.Writing.{IsKnown, HasSegment, HasStretches, AreStretches, AtExports};
 

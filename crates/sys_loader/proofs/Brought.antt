@@ -13,7 +13,7 @@ use Rattle.load_meaning.specs.declared.table.Target.{Target}
 use Rattle.load_meaning.specs.laws.CellLaws.{loadable_has}
 use Rattle.load_meaning.specs.Loadable.{IsLoadable}
 use Rattle.load_meaning.specs.LoadTable.{targets_of}
-use Rattle.omf_cells.specs.Places.{address_in}
+use Rattle.load_content.specs.Places.{address_in}
 use Rattle.iigs_meaning.specs.declared.handles.Handle.{Handle}
 use Rattle.iigs_meaning.specs.declared.wants.Block.{Block}
 use Rattle.iigs_meaning.specs.Slots.{get}

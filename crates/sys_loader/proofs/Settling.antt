@@ -16,8 +16,8 @@ use Rattle.load_meaning.specs.laws.CellLaws.{loadable_has, length-segment_bytes}
 use Rattle.load_meaning.specs.Table.{table_bytes, file_entry}
 use Rattle.load_meaning.specs.LoadTable.{is_table, targets_of}
 use Rattle.load_meaning.specs.Loadable.{IsSoundSegment, IsTarget, IsLoadable}
+use Rattle.load_content.specs.Places.{address_in}
 use Rattle.omf_cells.specs.Load.{table_targets}
-use Rattle.omf_cells.specs.Places.{address_in}
 use Rattle.iigs_meaning.specs.declared.handles.Handle.{Handle}
 use Rattle.iigs_meaning.specs.Fits.{Slots}
 use Rattle.loader_machine.specs.declared.seen.Head.{Head}

@@ -8,7 +8,7 @@ use Rattle.load_meaning.specs.declared.table.Target.{Target}
 use Rattle.load_meaning.specs.declared.table.Entry.{Entry}
 use Rattle.load_meaning.specs.Loadable.{IsSoundSegment}
 use Rattle.load_meaning.specs.LoadTable.{is_table, targets_of}
-use Rattle.omf_cells.specs.Places.{address_in}
+use Rattle.load_content.specs.Places.{address_in}
 use Rattle.iigs_meaning.specs.declared.handles.Handle.{Handle}
 use Rattle.iigs_meaning.specs.Slots.{get}
 use Rattle.iigs_meaning.specs.Memory.{Memory, bytes_at}

@@ -9,8 +9,8 @@ use Rattle.load_meaning.specs.Cells.{Cell, Byte, Part}
 use Rattle.load_meaning.specs.Cells as format
 use Rattle.omf_compact.specs.Stretches.{same_cell, broken_from, first_broken, run, stretches_from, stretches}
 use Rattle.omf_compact.specs.laws.StretchLaws.{is_same, same_is}
-use Rattle.omf_cells.specs.declared.written.Patch.{Patch}
-use Rattle.omf_cells.specs.WrittenParts.{seen}
+use Rattle.written_bodies.specs.declared.written.Patch.{Patch}
+use Rattle.written_bodies.specs.WrittenParts.{seen}
 use Rattle.omf_compact.specs.laws.Walk.{Found, parts_at, goes_on, longer, extended, with_part, or_broken, walk}
 
 -- ---- the last patch

@@ -1,6 +1,6 @@
 use Rattle.std.proofs.Common.{◌<◌, ℕ, List, [], Option, length, take, get_or, sym, ap, ◌∙◌, arith}
 use Rattle.std.specs.Borrow.{Bor}
-use Rattle.omf_cells.specs.Joined.{joined, joined_next}
+use Rattle.written_bodies.specs.Joined.{joined, joined_next}
 use Rattle.link_content.specs.Holding.{last_of, or_before}
 use Rattle.link_content.proofs.ContentBytes.{last_two}
 use Rattle.link_content.proofs.content.last_in.Goals as goal

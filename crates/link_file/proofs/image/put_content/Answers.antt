@@ -1,8 +1,8 @@
 use Rattle.std.proofs.Common.{◌≡◌, ◌++◌, [], List, ℕ, length, map, sym, ap, subst, ◌∙◌, arith}
 use Rattle.load_meaning.specs.Cells.{Patch}
 use Rattle.load_meaning.specs.WrittenBody.{AreWritten, zeros_behind, written_cells, body_text}
-use Rattle.omf_cells.specs.Joined.{joined}
-use Rattle.omf_cells.specs.WrittenParts.{seen}
+use Rattle.written_bodies.specs.Joined.{joined}
+use Rattle.written_bodies.specs.WrittenParts.{seen}
 use Rattle.link_content.specs.declared.content.Place.{Place}
 use Rattle.link_content.specs.Contents.{IsPlaced}
 use Rattle.link_content.proofs.ZerosBehind.{behind_by, behind_own}

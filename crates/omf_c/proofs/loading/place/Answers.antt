@@ -1,5 +1,5 @@
 use Rattle.std.proofs.Common.{List, ℕ, Option, Some, map, refl, subst, arith}
-use Rattle.omf_cells.specs.Places.{Stands}
+use Rattle.load_content.specs.Places.{Stands}
 use Rattle.omf_c.proofs.Unread.{stood_long, small_placed, all_placed}
 use Rattle.omf_c.proofs.loading.place.Goals as goal
 

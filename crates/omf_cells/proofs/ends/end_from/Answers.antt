@@ -1,6 +1,6 @@
 use Rattle.std.proofs.Common.{[], arith}
-use Rattle.omf_cells.specs.declared.pieces.Piece.{Piece}
-use Rattle.omf_cells.proofs.Splits.{get_there}
+use Rattle.load_content.specs.declared.pieces.Piece.{Piece}
+use Rattle.load_content.proofs.Splits.{get_there}
 use Rattle.omf_cells.proofs.EndLists.{is_max, have_more, all_kept}
 use Rattle.omf_cells.proofs.ends.end_from.Goals as goal
 

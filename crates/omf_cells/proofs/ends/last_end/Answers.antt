@@ -1,5 +1,5 @@
 use Rattle.std.specs.Prelude.{pos}
-use Rattle.omf_cells.specs.declared.spots.Spot.{Spot}
+use Rattle.load_content.specs.declared.spots.Spot.{Spot}
 use Rattle.omf_cells.proofs.EndLists.{last_more}
 use Rattle.omf_cells.proofs.ends.last_end.Goals as goal
 

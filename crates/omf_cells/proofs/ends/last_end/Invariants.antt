@@ -1,5 +1,5 @@
 use Rattle.std.proofs.Common.{take}
-use Rattle.omf_cells.specs.Content.{shown_spots}
+use Rattle.load_content.specs.Content.{shown_spots}
 use Rattle.omf_cells.specs.Ends.{IsEnd}
 use Rattle.omf_cells.proofs.ends.last_end.Given as goal
 

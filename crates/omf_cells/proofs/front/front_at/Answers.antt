@@ -3,7 +3,8 @@ use Rattle.omf_format.specs.Header.{header_fault, fields_of}
 use Rattle.load_meaning.specs.Loadable.{segment_refusal}
 use Rattle.omf_format.specs.File.{IsHeader}
 use Rattle.omf_header.specs.View.{fields}
-use Rattle.omf_cells.proofs.FrontFaults.{has_place, unless, of_kind, refused_header}
+use Rattle.load_content.proofs.NamedFaults.{unless}
+use Rattle.omf_cells.proofs.FrontFaults.{has_place, of_kind, refused_header}
 use Rattle.omf_cells.proofs.front.front_at.Goals as goal
 
 pub header_fault-requires : goal.header_fault-requires

@@ -5,12 +5,12 @@ use Rattle.load_meaning.specs.Cells.{segment_bytes}
 use Rattle.load_meaning.specs.laws.CellLaws.{length-segment_bytes}
 use Rattle.omf_records.specs.declared.segment.SegmentView.{SegmentView}
 use Rattle.omf_records.specs.Segments.{placed, shown}
-use Rattle.omf_cells.specs.declared.spots.Spot.{Spot}
-use Rattle.omf_cells.specs.Walk.{content}
-use Rattle.omf_cells.specs.Content.{shown_spots, AreBelow, with_cells}
+use Rattle.load_content.specs.declared.spots.Spot.{Spot}
+use Rattle.load_content.specs.Walk.{content}
+use Rattle.load_content.specs.Content.{shown_spots, AreBelow, with_cells}
+use Rattle.load_content.specs.Places.{address_in}
 use Rattle.omf_cells.specs.Load.{Shows, HasLength}
-use Rattle.omf_cells.specs.Places.{address_in}
-use Rattle.omf_cells.proofs.ShownBytes.{bytes-shown}
+use Rattle.load_content.proofs.ShownBytes.{bytes-shown}
 use Rattle.omf_cells.proofs.LoadShows.{content_fits, has_length, no_length, shown_below, stands-spots, stands-there}
 use Rattle.omf_cells.proofs.load.patch_into.Goals as goal
 

@@ -3,7 +3,7 @@ use Rattle.std.proofs.lemmas.List.{length-map}
 use Rattle.std.specs.Borrow.{Bor}
 use Rattle.load_meaning.specs.Loadable.{first_in, target_fault, pathnames_fault, table_fault}
 use Rattle.omf_records.specs.Segments.{shown}
-use Rattle.omf_cells.proofs.FrontFaults.{unless, unless_then}
+use Rattle.load_content.proofs.NamedFaults.{unless, unless_then}
 use Rattle.omf_cells.proofs.Phases.{later_is}
 use Rattle.omf_cells.proofs.PathFew.{few_kept}
 use Rattle.omf_cells.proofs.reading.check_later.Goals as goal

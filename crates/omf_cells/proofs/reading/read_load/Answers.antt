@@ -4,8 +4,8 @@ use Rattle.std.proofs.lemmas.List.{map-append}
 use Rattle.omf_format.specs.Reading.{Reader, records_of}
 use Rattle.omf_records.specs.Segments.{placed, shown}
 use Rattle.omf_records.specs.declared.segment.SegmentView.{SegmentView}
+use Rattle.load_tables.proofs.ExportWalks.{exported_all, exports_by, exports_by-one, exports_are, body_short}
 use Rattle.omf_cells.proofs.ReadSegments.{Read, view_lies, read_more, read_loadable, refused_in, few_read}
-use Rattle.omf_cells.proofs.ExportWalks.{exported_all, exports_by, exports_by-one, exports_are, body_short}
 use Rattle.omf_cells.proofs.reading.read_load.Goals as goal
 
 pub returns-in-Err-clause-refused : goal.returns-in-Err-clause-refused

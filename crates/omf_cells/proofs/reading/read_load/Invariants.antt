@@ -1,8 +1,8 @@
 use Rattle.std.proofs.Common.{◌≡◌, ◌-◌, ◌≤◌, length, map}
 use Rattle.omf_records.specs.Segments.{shown}
-use Rattle.omf_cells.specs.View.{seen_export}
+use Rattle.load_tables.specs.View.{seen_export}
+use Rattle.load_tables.proofs.ExportWalks.{exports_by}
 use Rattle.omf_cells.proofs.ReadSegments.{Read}
-use Rattle.omf_cells.proofs.ExportWalks.{exports_by}
 use Rattle.omf_cells.proofs.reading.read_load.Given as goal
 
 -- the segments so far stand one behind another up to the start of the next, and pass phase 1; what they export was kept

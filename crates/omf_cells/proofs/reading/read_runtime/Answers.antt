@@ -1,6 +1,6 @@
 use Rattle.std.proofs.Common.{sym, ◌∙◌}
 use Rattle.load_meaning.specs.Runtime.{OfLoading, OfKind}
-use Rattle.omf_cells.proofs.FrontFaults.{unless, unless_then}
+use Rattle.load_content.proofs.NamedFaults.{unless, unless_then}
 use Rattle.omf_cells.proofs.reading.read_runtime.Goals as goal
 
 pub returns-in-Err-clause-refused : goal.returns-in-Err-clause-refused

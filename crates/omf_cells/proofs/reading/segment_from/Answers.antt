@@ -1,5 +1,6 @@
 use Rattle.omf_header.specs.View.{fields}
-use Rattle.omf_cells.proofs.FrontFaults.{unless, of_body}
+use Rattle.load_content.proofs.NamedFaults.{unless}
+use Rattle.omf_cells.proofs.FrontFaults.{of_body}
 use Rattle.omf_cells.proofs.reading.segment_from.Goals as goal
 
 pub returns-clause-err : goal.returns-clause-err

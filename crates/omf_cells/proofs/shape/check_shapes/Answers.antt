@@ -1,7 +1,7 @@
 use Rattle.std.proofs.Common.{List, length, get_or, ap, ◌∙◌, arith}
 use Rattle.load_meaning.specs.Loadable.{shape_fault}
 use Rattle.omf_records.specs.declared.segment.SegmentView.{SegmentView}
-use Rattle.omf_cells.proofs.LoadViews.{passed_none, passed_more, passed_some, passed_all}
+use Rattle.load_content.proofs.LoadViews.{passed_none, passed_more, passed_some, passed_all}
 use Rattle.omf_cells.proofs.shape.check_shapes.Goals as goal
 
 pub views-init : goal.views-init

@@ -1,5 +1,5 @@
 use Rattle.load_meaning.specs.Loadable.{shape_fault}
-use Rattle.omf_cells.proofs.LoadViews.{Passed}
+use Rattle.load_content.proofs.LoadViews.{Passed}
 use Rattle.omf_cells.proofs.shape.check_shapes.Given as goal
 
 -- the views so far have no fault, so the first one is that of those that are left

@@ -1,8 +1,8 @@
 use Rattle.std.proofs.Common.{◌≡◌, false, true, eqb, length, refl, sym, ◌∙◌}
 use Rattle.std.specs.Prelude.{nat_lt}
 use Rattle.std.proofs.lemmas.Bool.{ne_eqb, eq-eqb}
-use Rattle.omf_cells.specs.Walk.{content}
-use Rattle.omf_cells.proofs.LoadViews.{shape_fault-of}
+use Rattle.load_content.specs.Walk.{content}
+use Rattle.load_content.proofs.LoadViews.{shape_fault-of}
 use Rattle.omf_cells.proofs.shape.fault_of.Goals as goal
 
 pub returns-then-from-number-clause-value : goal.returns-then-from-number-clause-value

@@ -1,6 +1,6 @@
 use Rattle.std.proofs.Common.{map, drop}
+use Rattle.written_bodies.specs.WrittenParts.{seen}
 use Rattle.omf_cells.specs.Whole.{AreSpaced}
-use Rattle.omf_cells.specs.WrittenParts.{seen}
 use Rattle.omf_cells.proofs.whole.are_spaced.Given as goal
 
 -- they all lie apart where those that are left do, from the end on

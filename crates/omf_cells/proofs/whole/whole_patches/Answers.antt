@@ -4,8 +4,8 @@ use Rattle.std.proofs.lemmas.Int.{to_z-of_z}
 use Rattle.std.proofs.Common.{◌≡◌, ℤ, get_or, refl, ap, ◌∙◌, arith}
 use Rattle.std.specs.Prelude.{pos}
 use Rattle.load_meaning.specs.Cells.{Patch}
-use Rattle.omf_cells.specs.declared.spots.Spot.{Spot}
-use Rattle.omf_cells.specs.Content.{spot_patch}
+use Rattle.load_content.specs.declared.spots.Spot.{Spot}
+use Rattle.load_content.specs.Content.{spot_patch}
 use Rattle.omf_cells.proofs.WholeLists.{whole_more}
 use Rattle.omf_cells.proofs.whole.whole_patches.Goals as goal
 

@@ -1,7 +1,7 @@
 use Rattle.std.proofs.Common.{◌≡◌, Some, sym, ap, ◌∙◌, arith}
 use Rattle.std.specs.Prelude.{option_map, slice_get}
 use Rattle.load_meaning.specs.Exports.{exports_of}
-use Rattle.omf_cells.specs.View.{seen_export}
+use Rattle.load_tables.specs.View.{seen_export}
 use Rattle.omf_compact.proofs.EntryLists.{left_first, left_more, left_spelled, left_none, not_none, some_within, other_holder}
 use Rattle.omf_compact.proofs.exports.put_exports.Goals as goal
 

@@ -1,9 +1,9 @@
 use Rattle.std.proofs.Common.{map}
 use Rattle.std.specs.Prelude.{Vec}
 use Rattle.std.specs.declared.alloc.Global.{Global}
-use Rattle.omf_cells.specs.declared.written.Patch.{Patch}
+use Rattle.written_bodies.specs.declared.written.Patch.{Patch}
+use Rattle.written_bodies.specs.WrittenParts.{seen}
 use Rattle.omf_cells.specs.Whole.{HasWhole}
-use Rattle.omf_cells.specs.WrittenParts.{seen}
 use Rattle.omf_compact.proofs.KnownLaws.{known_written}
 use Rattle.omf_compact.proofs.JudgeLaws.{whole_parted, of_some}
 use Rattle.omf_compact.proofs.judge.parted.Goals as goal

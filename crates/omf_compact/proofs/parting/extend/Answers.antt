@@ -1,7 +1,7 @@
 use Rattle.std.proofs.Common.{◌≡◌, ◌+◌, List, map, Some, refl, sym, subst, ◌∙◌}
 use Rattle.load_meaning.specs.Cells.{Part}
-use Rattle.omf_cells.specs.declared.written.Patch.{Patch}
-use Rattle.omf_cells.specs.WrittenParts.{seen}
+use Rattle.written_bodies.specs.declared.written.Patch.{Patch}
+use Rattle.written_bodies.specs.WrittenParts.{seen}
 use Rattle.omf_compact.specs.laws.Walk.{with_part}
 use Rattle.omf_compact.specs.laws.WalkLaws.{part-puts, part-breaks}
 use Rattle.omf_compact.proofs.parting.extend.Goals as goal

@@ -1,6 +1,6 @@
 use Rattle.std.proofs.Common.{◌≡◌, ◌+◌, List, map, sym, ap, subst, ◌∙◌, arith}
-use Rattle.omf_cells.specs.declared.written.Patch.{Patch}
-use Rattle.omf_cells.specs.WrittenParts.{seen}
+use Rattle.written_bodies.specs.declared.written.Patch.{Patch}
+use Rattle.written_bodies.specs.WrittenParts.{seen}
 use Rattle.omf_compact.proofs.KnownLaws.{written_there}
 use Rattle.omf_compact.proofs.PartWalks.{Walked, walked_more, walked_over, walked_broken, walked_all}
 use Rattle.omf_compact.proofs.parting.part_cells.Goals as goal

@@ -1,6 +1,6 @@
 use Rattle.std.proofs.Common.{List, map, sym, subst, arith}
-use Rattle.omf_cells.specs.declared.written.Patch.{Patch}
-use Rattle.omf_cells.specs.WrittenParts.{seen}
+use Rattle.written_bodies.specs.declared.written.Patch.{Patch}
+use Rattle.written_bodies.specs.WrittenParts.{seen}
 use Rattle.omf_compact.specs.laws.Writing.{HasStretches}
 use Rattle.omf_compact.proofs.SegmentLaws.{segment_there, place_of, written_none, written_more, written_long, written_all, err_moved}
 use Rattle.omf_compact.proofs.segments.put_segments.Goals as goal

@@ -1,7 +1,7 @@
 use Rattle.std.specs.Prelude.{drop}
 use Rattle.load_meaning.specs.Cells as cells
 use Rattle.omf_format.specs.File.{segment_at}
-use Rattle.omf_cells.specs.Places.{address_in}
+use Rattle.load_content.specs.Places.{address_in}
 use Rattle.sys_loader.proofs.Settling.{front_of}
 use Rattle.sys_loader.proofs.fill.fill_plain.Goals as goal
 

@@ -1,6 +1,6 @@
 use Rattle.std.proofs.Common.{◌≡◌, ◌++◌, ◌+◌, List, ℕ, replicate, ap, subst, arith}
 use Rattle.std.specs.Borrow.{Bor}
-use Rattle.omf_cells.specs.Joined.{joined}
+use Rattle.written_bodies.specs.Joined.{joined}
 use Rattle.link_content.specs.Holding.{Holding, or_lent}
 use Rattle.link_content.proofs.ZerosBehind.{settled_bytes, settled_patches, settled_some, on_ok}
 use Rattle.link_content.proofs.content.Content.append_patched.Goals as goal

@@ -1,5 +1,5 @@
 use Rattle.std.proofs.Common.{ap, arith}
-use Rattle.omf_cells.specs.Joined.{joined}
+use Rattle.written_bodies.specs.Joined.{joined}
 use Rattle.link_content.specs.Holding.{Holding, or_lent}
 use Rattle.link_content.proofs.ZerosBehind.{last_zero}
 use Rattle.link_content.proofs.content.Content.last.Goals as goal

@@ -1,7 +1,7 @@
 use Rattle.std.proofs.Common.{replicate, subst, ◌≡◌, ◌++◌, ◌∷◌, [], ℕ, ℤ, w8, to_z, of_z, arith}
 use Rattle.std.specs.Prelude.{OnOk}
 use Rattle.std.proofs.Math.Facts.{to_z-of_z}
-use Rattle.omf_cells.specs.declared.written.Patch.{Patch}
+use Rattle.written_bodies.specs.declared.written.Patch.{Patch}
 use Rattle.link_content.proofs.ContentLaws.{grow_place}
 use Rattle.link_content.proofs.content.Content.put_place.Goals as goal
 

@@ -1,5 +1,5 @@
 use Rattle.std.proofs.Common.{ap}
-use Rattle.omf_cells.specs.Joined.{joined}
+use Rattle.written_bodies.specs.Joined.{joined}
 use Rattle.link_content.specs.Holding.{Holding, or_lent}
 use Rattle.link_content.proofs.ContentLaws.{grow_zeros}
 use Rattle.link_content.proofs.ZerosBehind.{zeros_longer}

@@ -1,6 +1,6 @@
 use Rattle.std.proofs.Common.{ℕ, List, map, ap, ◌∙◌, sym, append-nil}
-use Rattle.omf_cells.specs.Joined.{joined}
-use Rattle.omf_cells.specs.WrittenParts.{seen}
+use Rattle.written_bodies.specs.Joined.{joined}
+use Rattle.written_bodies.specs.WrittenParts.{seen}
 use Rattle.link_content.specs.Holding.{or_lent}
 use Rattle.link_content.proofs.ContentLaws.{no_cells}
 use Rattle.link_content.proofs.content.Content.with_room.Goals as goal

@@ -3,7 +3,7 @@ use Rattle.std.specs.Prelude.{slice_get}
 use Rattle.std.specs.List.{filter_map}
 use Rattle.omf_format.specs.File.{Segment}
 use Rattle.load_meaning.specs.Exports.{Export, exports_of}
-use Rattle.omf_cells.specs.View.{seen_export}
+use Rattle.load_tables.specs.View.{seen_export}
 use Rattle.link_meaning.specs.Search.{outside_of}
 use Rattle.link_program.specs.Outside.{AreOutside}
 use Rattle.link_program.proofs.Lists.{take_all}

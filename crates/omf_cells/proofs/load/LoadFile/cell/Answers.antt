@@ -6,10 +6,10 @@ use Rattle.std.specs.Prelude.{option_map}
 use Rattle.std.specs.List.Sorted.{IsNonDecreasingBy}
 use Rattle.load_meaning.specs.Cells.{Part, segment_bytes}
 use Rattle.omf_records.specs.Segments.{shown}
-use Rattle.omf_cells.specs.declared.pieces.Piece.{Piece}
-use Rattle.omf_cells.specs.declared.spots.Spot.{Spot}
-use Rattle.omf_cells.specs.Content.{ArePieces, start_of, last_at, part_of, shown_spots}
-use Rattle.omf_cells.proofs.PieceLists.{rising}
+use Rattle.load_content.specs.declared.pieces.Piece.{Piece}
+use Rattle.load_content.specs.declared.spots.Spot.{Spot}
+use Rattle.load_content.specs.Content.{ArePieces, start_of, last_at, part_of, shown_spots}
+use Rattle.load_content.proofs.PieceLists.{rising}
 use Rattle.omf_cells.proofs.LoadShows.{cell_past, cell_part, cell_byte}
 use Rattle.omf_cells.proofs.load.LoadFile.cell.Goals as goal
 

@@ -3,7 +3,7 @@ use Rattle.std.specs.Prelude.{slice_get}
 use Rattle.std.proofs.lemmas.Option.{slice_get_read}
 use Rattle.omf_format.specs.File.{Segment}
 use Rattle.omf_cells.specs.Load.{ShowsContent}
-use Rattle.omf_cells.proofs.Contents.{contents_count}
+use Rattle.load_content.proofs.Contents.{contents_count}
 use Rattle.omf_cells.proofs.LoadShows.{shows_content}
 use Rattle.omf_cells.proofs.load.LoadFile.content.Goals as goal
 

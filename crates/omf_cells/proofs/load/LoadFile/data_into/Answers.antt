@@ -1,5 +1,5 @@
 use Rattle.std.proofs.Common.{◌-◌, ℕ, length, ◌++◌, replicate, sym, ap, ◌∙◌, arith}
-use Rattle.omf_cells.specs.Walk.{content}
+use Rattle.load_content.specs.Walk.{content}
 use Rattle.omf_cells.proofs.LoadShows.{content_fits, has_length, has_bytes, no_length}
 use Rattle.omf_cells.proofs.load.LoadFile.data_into.Goals as goal
 

@@ -3,14 +3,14 @@ use Rattle.load_meaning.specs.Cells.{segment_bytes}
 use Rattle.omf_records.specs.Segments.{shown}
 use Rattle.omf_records.specs.declared.segment.SegmentView.{SegmentView}
 use Rattle.omf_format.specs.File.{Segment}
-use Rattle.omf_cells.specs.declared.pieces.Piece.{Piece}
-use Rattle.omf_cells.specs.declared.spots.Spot.{Spot}
-use Rattle.omf_cells.specs.declared.targets.Content.{Content}
-use Rattle.omf_cells.specs.Content.{ArePieces, shown_spots}
+use Rattle.load_content.specs.declared.pieces.Piece.{Piece}
+use Rattle.load_content.specs.declared.spots.Spot.{Spot}
+use Rattle.load_content.specs.declared.targets.Content.{Content}
+use Rattle.load_content.specs.Content.{ArePieces, shown_spots}
+use Rattle.written_bodies.specs.WrittenParts.{IsKept}
 use Rattle.omf_cells.specs.Ends.{IsEnd}
 use Rattle.omf_cells.specs.Load.{ShowsContent}
 use Rattle.omf_cells.specs.Whole.{front_at}
-use Rattle.omf_cells.specs.WrittenParts.{IsKept}
 use Rattle.omf_cells.proofs.EndShows.{end_fits, front_there}
 use Rattle.omf_cells.proofs.load.LoadFile.front.Goals as goal
 

@@ -1,11 +1,11 @@
 use Rattle.std.proofs.Common.{◌≡◌, List, map, Option, Some, None, subst, sym, ◌∙◌, ap}
 use Rattle.std.specs.Prelude.{IfSome, Vec}
 use Rattle.std.specs.declared.alloc.Global.{Global}
-use Rattle.omf_cells.specs.declared.written.Patch.{Patch}
-use Rattle.omf_cells.specs.declared.spots.Spot.{Spot}
-use Rattle.omf_cells.specs.Content.{spread_all, shown_spots}
+use Rattle.load_content.specs.declared.spots.Spot.{Spot}
+use Rattle.load_content.specs.Content.{spread_all, shown_spots}
+use Rattle.written_bodies.specs.declared.written.Patch.{Patch}
+use Rattle.written_bodies.specs.WrittenParts.{seen}
 use Rattle.omf_cells.specs.Whole.{AreSpaced}
-use Rattle.omf_cells.specs.WrittenParts.{seen}
 use Rattle.omf_cells.proofs.WholeLists.{whole_there}
 use Rattle.omf_cells.proofs.EndShows.{has_whole}
 use Rattle.omf_cells.proofs.load.LoadFile.patches.Goals as goal

@@ -1,0 +1,16 @@
+pub mod Walks
+pub mod Splits
+pub mod PieceLists
+pub mod SpotLists
+pub mod RunLists
+pub mod Numbers
+pub mod PatchWalks
+pub mod SuperPatches
+pub mod Searches
+pub mod PatchRuns
+pub mod ShownBytes
+pub mod Causes
+pub mod Contents
+pub mod LoadViews
+pub mod FilledLists
+pub mod NamedFaults

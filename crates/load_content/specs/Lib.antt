@@ -1,0 +1,5 @@
+pub mod View
+pub mod Views
+pub mod Walk
+pub mod Places
+pub mod Content

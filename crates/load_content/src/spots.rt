@@ -1,0 +1,183 @@
+//! The bytes of a segment that patches give.
+
+ghost use Rattle.std.specs.Prelude.{◌≡◌, ◌+◌, ◌-◌, ◌<◌, ◌≤◌, ◌/◌, ◌^◌, ◌++◌, length, nat_lt, OnOk, option_map};
+ghost use Rattle.std.specs.List.Sorted.{IsNonDecreasingBy};
+ghost use Rattle.omf_format.specs.Value.{wrapped, shifted};
+ghost use Rattle.load_content.specs.Content.{IsSplit, patch_of, spread, offset_of, part_of, spread_spot, shown_spots, last_at, AreBelow, AreRising, AreRuns, with_cells};
+ghost use Rattle.load_content.specs.Places.{address_in};
+
+use crate::places::Places;
+use std::alloc::AllocError;
+
+/// A patch as a record gives it. The location of a SUPER may lie above 32 bits.
+#[derive(Clone, Copy)]
+pub struct Relocation {
+    pub location: u64,
+    pub count: u8,
+    pub file: u16,
+    pub segment: u16,
+    pub offset: u32,
+    pub shift: i8,
+}
+
+/// Bytes of a segment that a patch gives: some, one after another, of the place in a segment of the same file.
+#[derive(Clone, Copy)]
+pub struct Spot {
+    /// The offset of the first one in the segment.
+    pub at: u32,
+    pub offset: u32,
+    pub segment: u16,
+    pub shift: i8,
+    /// Which byte of the place the first one is.
+    pub first: u8,
+    /// The byte of the place behind the last one.
+    pub end: u8,
+}
+
+/// Whether a patch of so many bytes reaches past LENGTH.
+#[inline(always)]
+pub fn is_outside(location: u64, count: u8, length: u32) -> bool
+    ensures { result ≡ nat_lt length (location + count) }
+{
+    let length = u64::from(length);
+    length < location || length - location < u64::from(count)
+}
+
+/// Adds the bytes that a patch gives.
+#[inline(always)]
+pub fn add_spot(spots: &mut Vec<Spot>, patch: &Relocation) -> Result<(), AllocError>
+    requires file { patch.now.file ≡ 1 }
+    requires short { patch.now.location < 2 ^ 32 }
+    ensures { OnOk result (shown_spots spots.new.items ≡ shown_spots spots.old.items ++ spread (patch_of patch.now)) }
+{
+    spots.push(Spot {
+        at: patch.location as u32,
+        offset: patch.offset,
+        segment: patch.segment,
+        shift: patch.shift,
+        first: 0,
+        end: patch.count,
+    })?;
+    Ok(())
+}
+
+/// How many bytes a spot has.
+#[inline(always)]
+pub fn size_of(spot: &Spot) -> u8
+    ensures value { result ≡ spot.now.end - spot.now.first }
+    ensures small { spot.now.first + result < 2 ^ 8 }
+{
+    spot.end.saturating_sub(spot.first)
+}
+
+/// How many spots begin at most at this offset.
+fn count_up_to(spots: &[Spot], at: u32) -> usize
+    requires { IsNonDecreasingBy offset_of spots.now }
+    ensures split { IsSplit offset_of spots.now at result }
+    ensures bound { result ≤ length spots.now }
+{
+    spots.partition_point(|spot| spot.at <= at)
+}
+
+/// The byte at an offset that a spot of a run gives, and that of the last where several do.
+fn spot_in(spots: &[Spot], at: u32) -> Option<Spot>
+    requires { AreRising spots.now }
+    ensures { option_map part_of result ≡ last_at (shown_spots spots.now) at }
+{
+    let count = count_up_to(spots, at);
+    if count == 0 {
+        return None;
+    }
+    let spot = spots[count - 1];
+    let passed = at - spot.at;
+    if passed < u32::from(size_of(&spot)) {
+        Some(Spot {
+            at,
+            first: spot.first + passed as u8,
+            ..spot
+        })
+    } else {
+        None
+    }
+}
+
+/// The byte at an offset that a spot gives, and that of the last where several do, where the spots come in runs of so many.
+pub fn spot_at(spots: &[Spot], runs: &[usize], at: u32) -> Option<Spot>
+    requires { AreRuns runs.now spots.now }
+    ensures { option_map part_of result ≡ last_at (shown_spots spots.now) at }
+{
+    let mut left = spots;
+    let mut found = None;
+    'runs: for count in runs {
+        let (run, behind) = left.split_at(*count);
+        found = spot_in(run, at).or(found);
+        left = behind;
+    }
+    found
+}
+
+/// The bits shifted left by so many, or right where the count is negative, with zeros coming in.
+#[inline(always)]
+fn shifted(bits: u32, count: i8) -> u32
+    ensures { result ≡ shifted bits count }
+{
+    let count = i32::from(count);
+    if count < 0 {
+        bits.unbounded_shr(count.unsigned_abs())
+    } else {
+        bits.unbounded_shl(count as u32)
+    }
+}
+
+/// A number without so many of its bytes, lowest first.
+#[inline(always)]
+fn without_bytes(number: u32, count: u8) -> u32
+    ensures { result ≡ number / 256 ^ count }
+{
+    match count {
+        0 => number,
+        1 => number / 0x100,
+        2 => number / 0x1_0000,
+        3 => number / 0x100_0000,
+        _ => 0,
+    }
+}
+
+/// The number that a spot has bytes of, where the segments lie at these addresses.
+#[inline(always)]
+fn number_of(spot: &Spot, places: &Places) -> u32
+    ensures { result ≡ shifted (wrapped (address_in places.now spot.now.segment + spot.now.offset)) spot.now.shift }
+{
+    let address = match places.get(u32::from(spot.segment)) {
+        Some(address) => address,
+        None => 0,
+    };
+    shifted(address.wrapping_add(spot.offset), spot.shift)
+}
+
+/// Writes the bytes that a spot stands for.
+#[inline(always)]
+fn write_spot(spot: &Spot, places: &Places, out: &mut [u8])
+    requires { AreBelow (length out.old) (spread_spot spot.now) }
+    ensures { out.new ≡ with_cells (address_in places.now) (spread_spot spot.now) out.old }
+{
+    let mut left = without_bytes(number_of(spot, places), spot.first);
+    let mut at = spot.at as usize;
+    let mut index = spot.first;
+    'bytes: while index < spot.end {
+        out[at] = (left % 0x100) as u8;
+        left /= 0x100;
+        at += 1;
+        index += 1;
+    }
+}
+
+/// Writes the bytes that the spots stand for, in order.
+pub fn write_spots(spots: &[Spot], places: &Places, out: &mut [u8])
+    requires { AreBelow (length out.old) (shown_spots spots.now) }
+    ensures { out.new ≡ with_cells (address_in places.now) (shown_spots spots.now) out.old }
+{
+    'spots: for spot in spots {
+        write_spot(spot, places, out);
+    }
+}
