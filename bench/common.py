@@ -63,6 +63,15 @@ def instructions(command, folder=None):
     return instructions_told(command, folder)[0]
 
 
+def memory(command, folder):
+    """The most bytes that the command held, and what it printed. Of a child of this script the system would tell no less than the
+    script held when the child began; /usr/bin/time holds little."""
+    told = os.path.join(folder, "held")
+    answer = subprocess.run(["/usr/bin/time", "-f", "%M", "-o", told] + command, check=True, capture_output=True, text=True).stdout
+    with open(told) as file:
+        return int(file.read()) * 1024, answer.strip()
+
+
 def exponent(sizes, counts):
     """The exponent with which the counts grow from the first size to the last."""
     return math.log(counts[-1] / counts[0]) / math.log(sizes[-1] / sizes[0])

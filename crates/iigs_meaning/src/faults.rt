@@ -20,7 +20,7 @@ pub enum PlaceFault {
     NotEmpty,
     /// Fewer slots are free than are needed.
     NoHandle,
-    /// The want at this place, from 0, has no room, whatever may be purged.
+    /// The want at this place, from 0, has no room, whatever may be purged and, where movable blocks slide, slid down.
     NoRoom(u32),
     /// Memory ran out. No call answers this, since placement takes none.
     Memory,

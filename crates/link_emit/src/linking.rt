@@ -25,16 +25,10 @@ pub fn link_with(
     ensures linked { IfOk result (λ output. IsLinkedTo (given_of inputs.now.items runtimes.now.items form) output.items) }
     ensures refused { IfErr result (λ fault. IsLinkRefused (given_of inputs.now.items runtimes.now.items form) fault) }
 {
-    let program = match resolve_with(alloc, inputs, runtimes, form) {
-        Ok(program) => program,
-        Err(fault) => return Err(fault),
-    };
+    let program = resolve_with(alloc, inputs, runtimes, form)?;
     let emitted = emit(alloc, &program);
     drop(program);
-    match emitted {
-        Ok(output) => Ok(output),
-        Err(fault) => Err(fault),
-    }
+    emitted
 }
 
 /// The load file of files, which are objects and libraries in any order. Otherwise the first fault of all, with its place.
@@ -44,8 +38,5 @@ pub fn link(alloc: Global, inputs: &Vec<Vec<u8>>) -> Result<Vec<u8>, LinkFault>
     ensures refused { IfErr result (λ fault. IsLinkRefused (plain (all_bytes inputs.now.items)) fault) }
 {
     let none = Vec::new(alloc);
-    match link_with(alloc, inputs, &none, LinkForm::Program) {
-        Ok(output) => Ok(output),
-        Err(fault) => Err(fault),
-    }
+    link_with(alloc, inputs, &none, LinkForm::Program)
 }

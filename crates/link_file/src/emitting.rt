@@ -67,10 +67,7 @@ pub fn emit(alloc: Global, program: &Program) -> Result<Vec<u8>, LinkFault>
     ensures refused { IfErr result (λ fault. IsEmitRefused program.now fault) }
 {
     program.know_files();
-    let slots = match values_of(alloc, program) {
-        Ok(slots) => slots,
-        Err(fault) => return Err(fault),
-    };
+    let slots = values_of(alloc, program)?;
     let headers = program.load_headers();
     let loads = match loads_of(alloc, headers) {
         Ok(loads) => loads,

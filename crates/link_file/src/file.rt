@@ -107,10 +107,7 @@ fn put_rest(
     ensures too_long { IsErrOf result ImageFault.TooLong
         → 0x1000000 < length out.old.items + length (file_text (images_behind number table.now (setting_in program.now).runtimes)) }
 {
-    match put_table(alloc, out, number, table) {
-        Ok(()) => {}
-        Err(fault) => return Err(fault),
-    }
+    put_table(alloc, out, number, table)?;
     put_pathnames(alloc, out, number_behind(number, table), program)
 }
 
@@ -134,12 +131,7 @@ pub fn write_linked(
         → exports.now ≡ linked_exports program.now told → table.now ≡ targets program.now told → most_bytes < length (written_file program.now told) }
 {
     let mut file = Vec::new(alloc);
-    match put_images(alloc, &mut file, headers, contents, exports) {
-        Ok(()) => {}
-        Err(fault) => return Err(fault),
-    }
-    match put_rest(alloc, &mut file, headers.len() as u16 + 1, table, program) {
-        Ok(()) => Ok(file),
-        Err(fault) => Err(fault),
-    }
+    put_images(alloc, &mut file, headers, contents, exports)?;
+    put_rest(alloc, &mut file, headers.len() as u16 + 1, table, program)?;
+    Ok(file)
 }

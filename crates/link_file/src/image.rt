@@ -172,10 +172,7 @@ fn put_behind(
     ensures zeros { IfOk result (λ zeros. zeros ≡ zeros_behind (written_cells (content.now).bytes (map seen (content.now).patches))) }
     ensures memory_alone { IfErr result (λ fault. fault ≡ ImageFault.Memory) }
 {
-    match put_room(out, room) {
-        Ok(()) => {}
-        Err(fault) => return Err(fault),
-    }
+    put_room(out, room)?;
     let zeros = put_content(alloc, out, own, content)?;
     out.extend_from_slice(exports)?;
     Ok(zeros)
@@ -232,15 +229,9 @@ pub fn put_image(
         return Err(ImageFault::TooLong);
     }
     let room = head_size(header);
-    let zeros = match put_behind(alloc, out, room, header.seg_num, content, exports) {
-        Ok(zeros) => zeros,
-        Err(fault) => return Err(fault),
-    };
+    let zeros = put_behind(alloc, out, room, header.seg_num, content, exports)?;
     let size = out.as_slice().len() - start - room;
-    let front = match front_of(alloc, header, zeros, size) {
-        Ok(front) => front,
-        Err(fault) => return Err(fault),
-    };
+    let front = front_of(alloc, header, zeros, size)?;
     close(out, start, front.as_slice())
 }
 
@@ -282,10 +273,7 @@ pub fn put_images(
         let Some(content) = content_at(contents, place) else {
             unreachable!()
         };
-        match put_image(alloc, out, header, content, own) {
-            Ok(()) => {}
-            Err(fault) => return Err(fault),
-        }
+        put_image(alloc, out, header, content, own)?;
         own = &[];
         place += 1;
     }

@@ -107,10 +107,7 @@ fn put_parts(out: &mut Vec<u8>, front: &[u8], bytes: &[u8]) -> Result<(), ImageF
     ensures memory_alone { IfErr result (λ fault. fault ≡ ImageFault.Memory) }
 {
     out.extend_from_slice(front)?;
-    match put_long(out, bytes) {
-        Ok(()) => {}
-        Err(fault) => return Err(fault),
-    }
+    put_long(out, bytes)?;
     out.push(0)?;
     Ok(())
 }
@@ -141,10 +138,7 @@ fn put_whole(
     if start + head_size(header) + size >= MOST_BYTES {
         return Err(ImageFault::TooLong);
     }
-    let front = match front_of(alloc, header, 0, size) {
-        Ok(front) => front,
-        Err(fault) => return Err(fault),
-    };
+    let front = front_of(alloc, header, 0, size)?;
     put_parts(out, front.as_slice(), bytes)
 }
 

@@ -49,10 +49,8 @@ impl<'e, 'a> Values<'e, 'a> {
         ensures refused { IfErr result (λ fault. IsEmitRefused program.now fault) }
     {
         program.know_files();
-        match values_of(alloc, program) {
-            Ok(slots) => Ok(Values { program, slots }),
-            Err(fault) => Err(fault),
-        }
+        let slots = values_of(alloc, program)?;
+        Ok(Values { program, slots })
     }
 
     /// The program.

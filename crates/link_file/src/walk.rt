@@ -152,10 +152,7 @@ fn put_segment<'a>(
 {
     let gap = seat.offset as usize - content.len();
     content.put_zeros(gap);
-    match put_records(whole, seat, segment, content, table) {
-        Ok(()) => {}
-        Err(fault) => return Err(fault),
-    }
+    put_records(whole, seat, segment, content, table)?;
     content.put_zeros(segment.header.res_spc as usize);
     Ok(())
 }
@@ -287,10 +284,7 @@ pub fn fill<'a>(
     let mut place = 0;
     'members: while place < whole.program.members() {
         place += 1;
-        match put_member(whole, place, &mut contents, table) {
-            Ok(()) => {}
-            Err(fault) => return Err(fault),
-        }
+        put_member(whole, place, &mut contents, table)?;
     }
     Ok(contents)
 }

@@ -35,10 +35,7 @@ fn map_values(alloc: Global, values: &Values) -> Result<Line, LinkFault>
     ensures drawn { IfOk result (λ text. text ≡ map_text values.now.list values.now.table) }
     ensures refused { IfErr result (λ fault. IsEmitRefused values.now.list fault) }
 {
-    let table = match values.targets(alloc) {
-        Ok(table) => table,
-        Err(fault) => return Err(fault),
-    };
+    let table = values.targets(alloc)?;
     match map_with(alloc, values, &table) {
         Ok(line) => Ok(line),
         Err(_) => Err(memory_fault()),
@@ -50,14 +47,8 @@ fn map_program(alloc: Global, program: &Program) -> Result<Line, LinkFault>
     ensures drawn { IfOk result (λ text. IsDrawn program.now text) }
     ensures refused { IfErr result (λ fault. IsEmitRefused program.now fault) }
 {
-    match emit(alloc, program) {
-        Ok(output) => drop(output),
-        Err(fault) => return Err(fault),
-    }
-    let values = match Values::of(alloc, program) {
-        Ok(values) => values,
-        Err(fault) => return Err(fault),
-    };
+    drop(emit(alloc, program)?);
+    let values = Values::of(alloc, program)?;
     map_values(alloc, &values)
 }
 
@@ -67,14 +58,8 @@ pub fn map_files(alloc: Global, inputs: &Vec<Vec<u8>>) -> Result<Line, LinkFault
     ensures mapped { IfOk result (λ text. IsMapOf (plain (all_bytes inputs.now.items)) text) }
     ensures refused { IfErr result (λ fault. IsLinkRefused (plain (all_bytes inputs.now.items)) fault) }
 {
-    let program = match resolve(alloc, inputs) {
-        Ok(program) => program,
-        Err(fault) => return Err(fault),
-    };
+    let program = resolve(alloc, inputs)?;
     let drawn = map_program(alloc, &program);
     drop(program);
-    match drawn {
-        Ok(line) => Ok(line),
-        Err(fault) => Err(fault),
-    }
+    drawn
 }

@@ -2,7 +2,6 @@ pub mod Lists
 pub mod OnOks
 pub mod ShortNames
 pub mod NameTables
-pub mod EmptyTables
 pub mod ComingLaws
 pub mod Grown
 pub mod FirstLeft

@@ -1,68 +1,38 @@
 -- Tables of names: a look-up finds what the rows have, and one more row goes behind the others.
-use Rattle.std.proofs.Common.{◌≡◌, ℕ, Bool, true, false, List, [], ◌∷◌, ◌++◌, Option, Some, refl, sym, ap, subst, ◌∙◌}
-use Rattle.std.specs.Prelude.{filter, if◌then◌else◌, ◌==◌}
+use Rattle.std.proofs.Common.{◌≡◌, ◌⊎◌, inl, inr, ℕ, Bool, true, false, List, [], ◌∷◌, ◌++◌, Some, refl, sym, ap, subst, ◌∙◌}
+use Rattle.std.specs.Prelude.{filter, if◌then◌else◌, ◌==◌, ◌&&◌}
 use Rattle.std.proofs.lemmas.Bool.{and_parts, eqb-true}
 use Rattle.std.specs.Str.{bytes_eq}
 use Rattle.std.specs.Map.{lookup}
 use Rattle.indexmap.specs.IndexMap.{IndexMap, get_by, Updates}
 use Rattle.link_meaning.specs.Search.{is_step}
-use Rattle.link_program.specs.contracts.names.KeyPartialEq.TheImpl as test
-use Rattle.link_program.specs.contracts.names.PublicPartialEq.TheImpl as test_public
+use Rattle.link_program.specs.contracts.names.PublicNamePartialEq.TheImpl as test_public
+use Rattle.link_program.specs.contracts.names.OwnNamePartialEq.TheImpl as test_own
+use Rattle.link_program.specs.contracts.names.UnitNamePartialEq.TheImpl as test_unit
 use Rattle.link_meaning.specs.declared.search.Step.{Step}
 use Rattle.link_meaning.specs.declared.search.Step.TheVariants.{Within, OfUnit, Everyone}
-use Rattle.link_program.specs.declared.names.Key.{Key}
-use Rattle.link_program.specs.declared.names.Public.{Public}
+use Rattle.link_program.specs.declared.names.PublicName.{PublicName}
+use Rattle.link_program.specs.declared.names.OwnName.{OwnName}
+use Rattle.link_program.specs.declared.names.UnitName.{UnitName}
 use Rattle.link_program.specs.declared.names.Outcome.{Outcome}
+use Rattle.link_program.specs.declared.names.Outcome.TheVariants.{One, Several}
 use Rattle.link_program.specs.declared.names.Names.{Names}
-use Rattle.link_program.specs.Names.{Named, Row, key_of, is_key, is_row, seen_of, added, outcome, found_or, kept_under, Keeps, Indexes}
+use Rattle.link_program.specs.Names.{Named, Row, is_key, is_row, seen_of, added, outcome, found_or, kept_under, Keeps, Indexes}
 
-by_steps : (a b : Key) (s t : Step) → (test.ghosts).eq (record a { step = s }) (record b { step = t }) ≡ is_key (key_of (record a { step = s })) (key_of (record b { step = t }))
-by_steps a b (Within p) (Within q) = refl
-by_steps a b (Within p) (OfUnit file from) = refl
-by_steps a b (Within p) Everyone = refl
-by_steps a b (OfUnit file from) (Within q) = refl
-by_steps a b (OfUnit file from) (OfUnit file' from') = refl
-by_steps a b (OfUnit file from) Everyone = refl
-by_steps a b Everyone (Within q) = refl
-by_steps a b Everyone (OfUnit file from) = refl
-by_steps a b Everyone Everyone = refl
-
--- two keys are one where their steps and the bytes of their names are
-pub same_test : (a b : Key) → (test.ghosts).eq a b ≡ is_key (key_of a) (key_of b)
-same_test a b = by_steps a b a.step b.step
-
--- the same of two names that all see
-pub same_public : (a b : Public) → (test_public.ghosts).eq a b ≡ bytes_eq a.name.now b.name.now
-same_public a b = refl
-
-abbrev named_as : Step → List ℕ → Named
+abbrev pub named_as : Step → List ℕ → Named
 named_as step name = record { step = step; name = name }
 
 pub looked : (rows : List Row) (names : Names) (k : Named) (s : Step) → Indexes rows names → k.step ≡ s → found_or (kept_under s k.name names) ≡ outcome rows k
 looked rows names k s ix is = ap (λ (t : Step). found_or (kept_under t k.name names)) (sym is) ∙ ix k
 
-pub looked_within : (rows : List Row) (names : Names) (k : Named) (place : ℕ) → Indexes rows names → k.step ≡ Within place → found_or (get_by (λ x. is_key k (key_of x)) names.others) ≡ outcome rows k
-looked_within rows names k place ix is =
-    ap (λ (t : Step). found_or (get_by (λ x. is_key (named_as t k.name) (key_of x)) names.others)) is ∙ looked rows names k (Within place) ix is
-
-pub looked_unit : (rows : List Row) (names : Names) (k : Named) (file from : ℕ) → Indexes rows names → k.step ≡ OfUnit file from → found_or (get_by (λ x. is_key k (key_of x)) names.others) ≡ outcome rows k
-looked_unit rows names k file from ix is =
-    ap (λ (t : Step). found_or (get_by (λ x. is_key (named_as t k.name) (key_of x)) names.others)) is ∙ looked rows names k (OfUnit file from) ix is
-
-pub other_found : (names : Names) (key : Key) (found : Option Outcome) → found ≡ get_by ((test.ghosts).eq key) names.others → found_or found ≡ found_or (get_by (λ k. is_key (key_of key) (key_of k)) names.others)
-other_found names key found at = ap found_or (at ∙ ap (λ (t : Key → Bool). get_by t names.others) (λ i k. same_test key k i))
-
-pub public_found : (names : Names) (k : Public) (found : Option Outcome) → found ≡ get_by ((test_public.ghosts).eq k) names.public → found_or found ≡ found_or (kept_under Everyone k.name.now names)
-public_found names k found at = ap found_or (at ∙ ap (λ (t : Public → Bool). get_by t names.public) (λ i x. same_public k x i))
-
 -- a table with the same entries
-pub same_entries : (rows : List Row) (old new : Names) → new.public.entries ≡ old.public.entries → new.others ≡ old.others → Indexes rows old → Indexes rows new
-same_entries rows old new same others ix = λ key. settle key.step key.name ∙ ix key
+pub same_entries : (rows : List Row) (old new : Names) → new.public.entries ≡ old.public.entries → new.own ≡ old.own → new.units ≡ old.units → Indexes rows old → Indexes rows new
+same_entries rows old new same own units ix = λ key. settle key.step key.name ∙ ix key
   where
     settle : (s : Step) (name : List ℕ) → found_or (kept_under s name new) ≡ found_or (kept_under s name old)
-    settle (Within place) name = ap (λ (m : IndexMap Key Outcome _). found_or (get_by (λ k. is_key (named_as (Within place) name) (key_of k)) m)) others
-    settle (OfUnit file from) name = ap (λ (m : IndexMap Key Outcome _). found_or (get_by (λ k. is_key (named_as (OfUnit file from) name) (key_of k)) m)) others
-    settle Everyone name = ap (λ (es : List (Public × Outcome)). found_or (lookup (λ k. bytes_eq name k.name.now) es)) same
+    settle (Within place) name = ap (λ (m : IndexMap OwnName Outcome _). found_or (get_by (λ k. place == k.place && bytes_eq name k.name.now) m)) own
+    settle (OfUnit file from) name = ap (λ (m : IndexMap UnitName Outcome _). found_or (get_by (λ k. file == k.file && (from == k.from && bytes_eq name k.name.now)) m)) units
+    settle Everyone name = ap (λ (es : List (PublicName × Outcome)). found_or (lookup (λ k. bytes_eq name k.name.now) es)) same
 
 -- ---- one key, and one more row
 
@@ -116,41 +86,66 @@ filter-snoc test (x ∷ rows) row = settle (test x) (test row) (filter-snoc test
     settle false true e = e
     settle false false e = e
 
-pub keeps_public : (old new : Names) (key : Key) (now : Outcome) → key.step ≡ Everyone → Updates (test_public.ghosts).eq old.public new.public (record { name = key.name }) (Some now)
-    → new.others ≡ old.others → Keeps old new (key_of key) now
-keeps_public old new key now is updates others = λ at. subst (λ (s : Step). kept_under at.step at.name new ≡ (if is_key (named_as s key.name.now) at then Some now else kept_under at.step at.name old)) (sym is) (settle at.step at.name)
+abbrev IsKept : Names → Names → Named → Outcome → Step → List ℕ → Type 0
+IsKept old new k now s name = kept_under s name new ≡ (if is_key k (named_as s name) then Some now else kept_under s name old)
+
+pub keeps_public : (old new : Names) (k : PublicName) (now : Outcome) → Updates (test_public.ghosts).eq old.public new.public k (Some now)
+    → new.own ≡ old.own → new.units ≡ old.units → Keeps old new (named_as Everyone k.name.now) now
+keeps_public old new k now updates own units = λ at. settle at.step at.name
   where
-    settle : (s : Step) (name : List ℕ) → kept_under s name new ≡ (if is_key (named_as Everyone key.name.now) (named_as s name) then Some now else kept_under s name old)
-    settle (Within place) name = ap (λ (m : IndexMap Key Outcome _). get_by (λ x. is_key (named_as (Within place) name) (key_of x)) m) others
-    settle (OfUnit file from) name = ap (λ (m : IndexMap Key Outcome _). get_by (λ x. is_key (named_as (OfUnit file from) name) (key_of x)) m) others
-    settle Everyone name = updates.0 (record { name = record key.name { now = name } })
+    settle : (s : Step) (name : List ℕ) → IsKept old new (named_as Everyone k.name.now) now s name
+    settle (Within place) name = ap (λ (m : IndexMap OwnName Outcome _). get_by (λ x. place == x.place && bytes_eq name x.name.now) m) own
+    settle (OfUnit file from) name = ap (λ (m : IndexMap UnitName Outcome _). get_by (λ x. file == x.file && (from == x.from && bytes_eq name x.name.now)) m) units
+    settle Everyone name = updates.0 (record { name = record k.name { now = name } })
 
-abbrev pub IsOwn : Step → Type 0
-IsOwn (Within place) = Unit {0}
-IsOwn (OfUnit file from) = Unit {0}
-IsOwn Everyone = ⊥
-
-pub keeps_other : (old new : Names) (k : Key) (now : Outcome) → IsOwn k.step → Updates (test.ghosts).eq old.others new.others k (Some now) → new.public ≡ old.public → Keeps old new (key_of k) now
-keeps_other old new k now own updates public = λ key. settle key.step key.name k.step refl own
+pub keeps_own : (old new : Names) (k : OwnName) (now : Outcome) → Updates (test_own.ghosts).eq old.own new.own k (Some now)
+    → new.public ≡ old.public → new.units ≡ old.units → Keeps old new (named_as (Within k.place) k.name.now) now
+keeps_own old new k now updates public units = λ at. settle at.step at.name
   where
-    there : (s : Step) (name : List ℕ) → get_by (λ x. is_key (named_as s name) (key_of x)) new.others ≡ (if is_key (key_of k) (named_as s name) then Some now else get_by (λ x. is_key (named_as s name) (key_of x)) old.others)
-    there s name =
-        let q : Key = record { step = s; name = record k.name { now = name } } in
-        ap (λ (t : Key → Bool). get_by t new.others) (λ i x. sym (same_test q x) i)
-        ∙ updates.0 q
-        ∙ ap (λ (b : Bool). if b then Some now else get_by ((test.ghosts).eq q) old.others) (same_test k q)
-        ∙ ap (λ (t : Key → Bool). if is_key (key_of k) (named_as s name) then Some now else get_by t old.others) (λ i x. same_test q x i)
+    settle : (s : Step) (name : List ℕ) → IsKept old new (named_as (Within k.place) k.name.now) now s name
+    settle (Within place) name = updates.0 (record { place = place; name = record k.name { now = name } })
+    settle (OfUnit file from) name = ap (λ (m : IndexMap UnitName Outcome _). get_by (λ x. file == x.file && (from == x.from && bytes_eq name x.name.now)) m) units
+    settle Everyone name = ap (λ (m : IndexMap PublicName Outcome _). get_by (λ x. bytes_eq name x.name.now) m) public
 
-    settle : (s : Step) (name : List ℕ) (t : Step) → k.step ≡ t → IsOwn t → kept_under s name new ≡ (if is_key (key_of k) (named_as s name) then Some now else kept_under s name old)
-    settle (Within place) name t is own = there (Within place) name
-    settle (OfUnit file from) name t is own = there (OfUnit file from) name
-    settle Everyone name (Within place) is own =
-        ap (λ (m : IndexMap Public Outcome _). get_by (λ x. bytes_eq name x.name.now) m) public
-        ∙ ap (λ (u : Step). if is_key (named_as u k.name.now) (named_as Everyone name) then Some now else get_by (λ x. bytes_eq name x.name.now) old.public) (sym is)
-    settle Everyone name (OfUnit file from) is own =
-        ap (λ (m : IndexMap Public Outcome _). get_by (λ x. bytes_eq name x.name.now) m) public
-        ∙ ap (λ (u : Step). if is_key (named_as u k.name.now) (named_as Everyone name) then Some now else get_by (λ x. bytes_eq name x.name.now) old.public) (sym is)
-    settle Everyone name Everyone is own = absurd own
+-- the test of a unit and a name, which a key has in two parts
+unit_key : (file from : ℕ) (name : List ℕ) (file' from' : ℕ) (name' : List ℕ)
+    → (file == file' && (from == from' && bytes_eq name name')) ≡ is_key (named_as (OfUnit file from) name) (named_as (OfUnit file' from') name')
+unit_key file from name file' from' name' = settle (file == file')
+  where
+    settle : (b : Bool) → (b && (from == from' && bytes_eq name name')) ≡ ((b && from == from') && bytes_eq name name')
+    settle true = refl
+    settle false = refl
+
+pub keeps_unit : (old new : Names) (k : UnitName) (now : Outcome) → Updates (test_unit.ghosts).eq old.units new.units k (Some now)
+    → new.public ≡ old.public → new.own ≡ old.own → Keeps old new (named_as (OfUnit k.file k.from) k.name.now) now
+keeps_unit old new k now updates public own = λ at. settle at.step at.name
+  where
+    settle : (s : Step) (name : List ℕ) → IsKept old new (named_as (OfUnit k.file k.from) k.name.now) now s name
+    settle (Within place) name = ap (λ (m : IndexMap OwnName Outcome _). get_by (λ x. place == x.place && bytes_eq name x.name.now) m) own
+    settle (OfUnit file from) name =
+        updates.0 (record { file = file; from = from; name = record k.name { now = name } })
+        ∙ ap (λ (b : Bool). if b then Some now else kept_under (OfUnit file from) name old) (unit_key k.file k.from k.name.now file from name)
+    settle Everyone name = ap (λ (m : IndexMap PublicName Outcome _). get_by (λ x. bytes_eq name x.name.now) m) public
+
+-- what is kept under the same key once more lies in the place of the first
+pub keeps_again : (old mid new : Names) (k : Named) (first now : Outcome) → Keeps old mid k first → Keeps mid new k now → Keeps old new k now
+keeps_again old mid new k first now once again = λ key. again key ∙ settle key (is_key k key) refl
+  where
+    settle : (key : Named) (b : Bool) → is_key k key ≡ b
+        → (if is_key k key then Some now else kept_under key.step key.name mid) ≡ (if is_key k key then Some now else kept_under key.step key.name old)
+    settle key true e =
+        ap (λ (b : Bool). if b then Some now else kept_under key.step key.name mid) e
+        ∙ sym (ap (λ (b : Bool). if b then Some now else kept_under key.step key.name old) e)
+    settle key false e =
+        ap (λ (b : Bool). if b then Some now else kept_under key.step key.name mid) e
+        ∙ once key
+        ∙ ap (λ (b : Bool). if b then Some first else kept_under key.step key.name old) e
+        ∙ sym (ap (λ (b : Bool). if b then Some now else kept_under key.step key.name old) e)
+
+-- behind one that was found, or the first of several, one more is no first one
+pub one_more : (before : Outcome) (first number : ℕ) → (before ≡ One first) ⊎ (before ≡ Several first) → Several first ≡ added before number
+one_more before first number (inl one) = ap (λ (o : Outcome). added o number) (sym one)
+one_more before first number (inr several) = ap (λ (o : Outcome). added o number) (sym several)
 
 pub added_row : (rows : List Row) (old new : Names) (k : Named) (number : ℕ) (so_far now : Outcome) → Indexes rows old → so_far ≡ outcome rows k → now ≡ added so_far number
     → Keeps old new k now → Indexes (rows ++ (k, number) ∷ []) new

@@ -1,12 +1,12 @@
 -- What a table of definitions holds of those of the linked list.
 pub use Rattle.link_program.specs.Listed.{ToldDefinition, definition_of}
-use Rattle.std.specs.Prelude.{◌≡◌, ℕ, ◌+◌, Bool, List, [], ◌∷◌, Some, map, slice_get}
+use Rattle.std.specs.Prelude.{◌≡◌, ℕ, ◌+◌, Bool, List, [], ◌∷◌, Some, map, filter, slice_get}
 use Rattle.std.specs.List.{flat_map}
 use Rattle.link_meaning.specs.declared.search.Step.{Step}
 use Rattle.link_meaning.specs.declared.search.Step.TheVariants.{Within, OfUnit, Everyone}
 use Rattle.link_meaning.specs.Member.{Member}
 use Rattle.link_meaning.specs.Defines.{Definition}
-use Rattle.link_meaning.specs.Search.{Found, step_of}
+use Rattle.link_meaning.specs.Search.{Found, step_of, named, sees}
 use Rattle.link_program.specs.declared.names.Outcome.{Outcome}
 use Rattle.link_program.specs.declared.names.Outcome.TheVariants.{Nothing, One, Several}
 use Rattle.link_program.specs.declared.definitions.Definitions.{Definitions}
@@ -59,6 +59,10 @@ abbrev pub IsElsewhere : ℕ → Outcome → Type 0
 IsElsewhere place Nothing = Unit {0}
 IsElsewhere place (One other) = other ≡ place → ⊥
 IsElsewhere place (Several first) = ⊥
+
+-- a member that this doesn't tell has nothing of that name for itself
+abbrev pub AreHolders : List Found → List ℕ → Outcome → Type 0
+AreHolders fs name answer = (place : ℕ) → IsElsewhere place answer → filter (sees (Within place)) (named name fs) ≡ []
 
 -- the member comes from there
 abbrev pub IsOf : Member → Origin → Type 0

@@ -1,5 +1,5 @@
 -- Tables of names: what each step of a search finds.
-use Rattle.std.specs.Prelude.{◌≡◌, ℕ, Bool, ◌&&◌, List, [], ◌∷◌, Option, Some, None, filter, if◌then◌else◌}
+use Rattle.std.specs.Prelude.{◌≡◌, ◌==◌, ℕ, Bool, ◌&&◌, List, [], ◌∷◌, Option, Some, None, filter, if◌then◌else◌}
 use Rattle.std.specs.Str.{bytes_eq}
 use Rattle.indexmap.specs.IndexMap.{get_by}
 use Rattle.link_meaning.specs.declared.search.Step.{Step}
@@ -50,8 +50,8 @@ found_or (Some found) = found
 
 -- what a table keeps under a name that a step sees
 abbrev pub kept_under : Step → List ℕ → Names → Option Outcome
-kept_under (Within place) name names = get_by (λ k. is_key (record { step = Within place; name = name }) (key_of k)) names.others
-kept_under (OfUnit file from) name names = get_by (λ k. is_key (record { step = OfUnit file from; name = name }) (key_of k)) names.others
+kept_under (Within place) name names = get_by (λ k. place == k.place && bytes_eq name k.name.now) names.own
+kept_under (OfUnit file from) name names = get_by (λ k. file == k.file && (from == k.from && bytes_eq name k.name.now)) names.units
 kept_under Everyone name names = get_by (λ k. bytes_eq name k.name.now) names.public
 
 -- a table keeps this under a key, and all else as before

@@ -5,10 +5,9 @@ ghost use Rattle.omf_records.specs.Segments.{IsSound, shown};
 ghost use Rattle.omf_records.specs.View.{view};
 ghost use Rattle.link_meaning.specs.Member.{Member};
 ghost use Rattle.link_meaning.specs.Defines.{scope_of, title_of, defined_by};
-ghost use Rattle.link_meaning.specs.declared.search.Step.TheVariants.{Within};
-ghost use Rattle.link_meaning.specs.Search.{Found, named, sees, step_for};
+ghost use Rattle.link_meaning.specs.Search.{Found, step_for};
 ghost use Rattle.link_program.specs.Names.{Row, Indexes, key_of};
-ghost use Rattle.link_program.specs.Definitions.{AreDefinitions, Sees, IsElsewhere, IsOf, local_under, is_found, key_of_found, told_definition, founds_in};
+ghost use Rattle.link_program.specs.Definitions.{AreDefinitions, AreHolders, Sees, IsOf, local_under, is_found, key_of_found, told_definition, founds_in};
 ghost use Rattle.link_program.specs.Listed.{definition_of};
 
 use crate::listed::Listed;
@@ -71,7 +70,7 @@ impl<'a> Definitions<'a> {
 
     /// The members whose segments have the name for themselves, by their places in the list, each as often as it has it.
     pub fn holders(&self, name: &[u8]) -> Outcome
-        ensures { (fs : List Found) (place : ℕ) → AreDefinitions fs self.now → IsElsewhere place result → filter (sees (Within place)) (named name.now fs) ≡ [] }
+        ensures { (fs : List Found) → AreDefinitions fs self.now → AreHolders fs name.now result }
     {
         self.locals.look(Key {
             step: Step::Everyone,

@@ -13,7 +13,7 @@ ghost use Rattle.link_meaning.specs.LinkedList.{asked, found_for, wanted_by};
 ghost use Rattle.link_program.specs.Names.{Row, Indexes, key_of};
 ghost use Rattle.link_program.specs.Finding.{IsFirstOf, found_in};
 ghost use Rattle.link_program.specs.Resolving.{IsShape, IsHeld, FailsToResolve, IsFirstUse, cause_of};
-ghost use Rattle.link_program.specs.Definitions.{AreDefinitions, IsOf, Sees, founds_in, told_definition};
+ghost use Rattle.link_program.specs.Definitions.{AreDefinitions, AreHolders, IsOf, Sees, founds_in, told_definition};
 ghost use Rattle.link_program.specs.Listed.{definition_of};
 ghost use Rattle.link_program.specs.Uses.{use_of};
 ghost use Rattle.link_program.specs.Offers.{AreOffers, IsRow};
@@ -320,12 +320,13 @@ impl<'a> Linked<'a> {
 
     /// What a name finds in the first data segment that has it, of those that the member at this place names by USING. Where only
     /// one segment has the name, that is all there is to look at, however many are named.
-    fn find_by_usings(&self, place: u32, origin: Origin, name: &[u8]) -> Outcome
+    fn find_by_usings(&self, holders: Outcome, place: u32, origin: Origin, name: &[u8]) -> Outcome
         requires { 0 < place }
-        ensures { (list : List Member) (m : Member) → Holds list self.now → slice_get list (place - 1) ≡ Some m → IsOf m origin
+        ensures { (list : List Member) (m : Member) → Holds list self.now → AreHolders (entries list) name.now holders
+            → slice_get list (place - 1) ≡ Some m → IsOf m origin
             → Sees (entries list) (decided (map Within (used_places list m (usings_of m.segment))) (named name.now (entries list))) result }
     {
-        match self.definitions.holders(name) {
+        match holders {
             Outcome::Nothing => Outcome::Nothing,
             Outcome::One(data) => {
                 if !self.uses_data(place, origin, data) {
@@ -343,6 +344,23 @@ impl<'a> Linked<'a> {
         }
     }
 
+    /// What the member at a place has for itself under a name that these members have for themselves: where it isn't one of them,
+    /// the name needn't be looked for.
+    fn find_own(&self, holders: Outcome, place: u32, name: &[u8]) -> Outcome
+        ensures { (fs : List Found) → AreDefinitions fs self.now.definitions → AreHolders fs name.now holders
+            → Sees fs (filter (sees (Within place)) (named name.now fs)) result }
+    {
+        match holders {
+            Outcome::Nothing => return Outcome::Nothing,
+            Outcome::One(other) if other != place as usize => return Outcome::Nothing,
+            Outcome::One(_) | Outcome::Several(_) => {}
+        }
+        self.definitions.look(Key {
+            step: Step::Within(place as usize),
+            name,
+        })
+    }
+
     /// What the members define by a name that is used in the member at this place, from 1.
     fn find_inside(&self, place: u32, name: &[u8]) -> Outcome
         requires positive { 0 < place }
@@ -351,16 +369,13 @@ impl<'a> Linked<'a> {
             → Sees (entries list) (finds_inside list place m name.now) result }
     {
         let origin = self.members[place as usize - 1];
-        let own = Key {
-            step: Step::Within(place as usize),
-            name,
-        };
-        match self.definitions.look(own) {
+        let holders = self.definitions.holders(name);
+        match self.find_own(holders, place, name) {
             Outcome::Nothing => {}
             Outcome::One(first) => return Outcome::One(first),
             Outcome::Several(first) => return Outcome::Several(first),
         }
-        match self.find_by_usings(place, origin, name) {
+        match self.find_by_usings(holders, place, origin, name) {
             Outcome::Nothing => self.find_outer(origin, name),
             Outcome::One(first) => Outcome::One(first),
             Outcome::Several(first) => Outcome::Several(first),

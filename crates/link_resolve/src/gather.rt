@@ -149,10 +149,7 @@ impl<'a> Gathered<'a> {
     {
         let file = self.files.as_slice().len() as u32 + 1;
         let list = read_segments(alloc, bytes, file)?;
-        match self.add_segments(alloc, &list, file) {
-            Ok(()) => {}
-            Err(fault) => return Err(fault),
-        }
+        self.add_segments(alloc, &list, file)?;
         match self.files.push(list) {
             Ok(()) => Ok(()),
             Err(_) => Err(memory_fault()),

@@ -92,10 +92,7 @@ fn read_all<'a>(
     ensures read { IfOk result (λ read. IsReadAll (given_of inputs.now.items given.now form) read) }
     ensures refused { IfErr result (λ fault. IsRefused (given_of inputs.now.items given.now form) fault) }
 {
-    let gathered = match gather(alloc, inputs) {
-        Ok(gathered) => gathered,
-        Err(fault) => return Err(fault),
-    };
+    let gathered = gather(alloc, inputs)?;
     let runtimes = match read_runtimes(alloc, given, inputs.len() as u32) {
         Ok(runtimes) => runtimes,
         Err(fault) => {
@@ -217,10 +214,7 @@ fn lay_out_sound<'a>(alloc: Global, grown: &Grown<'a>) -> Result<Layout<'a>, Lin
     ensures laid { IfOk result (λ layout. (given : Given) (of : IsListOf given grown.now) → IsLaidOut given of.grown.list layout) }
     ensures refused { IfErr result (λ fault. (given : Given) → IsListOf given grown.now → IsRefused given fault) }
 {
-    match check_names(alloc, &grown.linked, &grown.runtimes.outside) {
-        Ok(()) => {}
-        Err(fault) => return Err(fault),
-    }
+    check_names(alloc, &grown.linked, &grown.runtimes.outside)?;
     let layout = match lay_out(alloc, grown.files.as_slice(), &grown.linked) {
         Ok(layout) => layout,
         Err(_) => return Err(memory_fault()),
@@ -286,10 +280,7 @@ fn resolve_all<'a>(
 {
     know_bytes(inputs);
     know_members(given);
-    let read = match read_all(alloc, inputs, given, form) {
-        Ok(read) => read,
-        Err(fault) => return Err(fault),
-    };
+    let read = read_all(alloc, inputs, given, form)?;
     match grow_whole(alloc, read) {
         Ok(grown) => finish(alloc, grown),
         Err(_) => Err(memory_fault()),

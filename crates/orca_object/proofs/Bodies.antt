@@ -1,5 +1,5 @@
 -- One more record.
-use Rattle.std.proofs.Common.{◌≡◌, ℕ, ◌+◌, List, [], ◌∷◌, ◌++◌, refl, sym, ap, ◌∙◌}
+use Rattle.std.proofs.Common.{◌≡◌, ℕ, ◌+◌, List, [], ◌∷◌, ◌++◌, sym, ap, ◌∙◌, arith}
 use Rattle.std.proofs.lemmas.List.Concat.{flat_map-append}
 use Rattle.omf_format.specs.Field.{written_layout}
 use Rattle.omf_format.specs.Record.{Record, spelling}
@@ -7,7 +7,8 @@ use Rattle.link_meaning.specs.Sizes.{size_at}
 use Rattle.asm_meaning.specs.Object.{records_text}
 use Rattle.asm_meaning.specs.Pieces.{place_behind}
 use Rattle.asm_meaning.specs.laws.PieceLaws.{place_behind-append}
-use Rattle.orca_object.specs.declared.text.Body.{Body}
+use Rattle.orca_object.specs.declared.state.Body.{Body}
+use Rattle.orca_object.specs.declared.text.Text.{Text}
 use Rattle.orca_object.specs.TextView.{limited, kept_text}
 use Rattle.orca_object.specs.BodyView.{ShowsBody}
 
@@ -15,7 +16,7 @@ pub records_text-append : (a b : List Record) → records_text (a ++ b) ≡ reco
 unfolding records_text
 records_text-append a b = flat_map-append (spelling written_layout) a b
 
-one_text : (r : Record) → records_text (r ∷ []) ≡ spelling written_layout r
+pub one_text : (r : Record) → records_text (r ∷ []) ≡ spelling written_layout r
 unfolding records_text
 one_text r = Rattle.std.proofs.Common.append-nil (spelling written_layout r)
 
@@ -26,20 +27,15 @@ pub cells-one : (at : ℕ) (records : List Record) (r : Record) → place_behind
 unfolding place_behind
 cells-one at records r = place_behind-append at records (r ∷ [])
 
-no_text : limited (records_text []) ≡ limited []
-unfolding records_text
-no_text = refl
+-- records that give no cells
+pub begins : (b : Body) (text : Text) (records : List Record) → b.writer.text ≡ text → b.cells ≡ 0 → kept_text text ≡ limited (records_text records) → place_behind 0 records ≡ 0 → ShowsBody records b
+begins b text records same cells kept none = record { text = ap kept_text same ∙ kept; cells = cells ∙ sym none }
 
-no_cells : place_behind 0 [] ≡ 0
-unfolding place_behind
-no_cells = refl
-
-pub no_records : (b : Body) → kept_text b.text ≡ limited [] → b.cells ≡ 0 → ShowsBody [] b
-no_records b text cells = record { text = text ∙ sym no_text; cells = cells ∙ sym no_cells }
-
-pub one_more : (old new : Body) (r : Record) (size : ℕ) → ((text : List ℕ) → kept_text old.text ≡ limited text → kept_text new.text ≡ limited (text ++ spelling written_layout r))
-    → new.cells ≡ old.cells + size → size ≡ size_at old.cells r → (records : List Record) → ShowsBody records old → ShowsBody (records ++ r ∷ []) new
-one_more old new r size text cells is records shows = record {
-  text = text (records_text records) shows.text ∙ ap limited (sym (records_text-one records r));
-  cells = cells ∙ ap (λ (k : ℕ). old.cells + k) is ∙ ap (λ (k : ℕ). k + size_at k r) shows.cells ∙ sym (cells-one 0 records r);
-}
+pub one_more : (old new : Body) (r : Record) → ((text : List ℕ) → kept_text old.writer.text ≡ limited text → kept_text new.writer.text ≡ limited (text ++ spelling written_layout r))
+    → new.cells ≡ old.cells → size_at old.cells r ≡ 0 → (records : List Record) → ShowsBody records old → ShowsBody (records ++ r ∷ []) new
+one_more old new r text cells none records shows =
+    let nothing : size_at (place_behind 0 records) r ≡ 0 = sym (ap (λ (k : ℕ). size_at k r) shows.cells) ∙ none in
+    record {
+      text = text (records_text records) shows.text ∙ ap limited (sym (records_text-one records r));
+      cells = omega (arith, cells, shows.cells, cells-one 0 records r, nothing);
+    }

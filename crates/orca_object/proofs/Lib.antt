@@ -31,6 +31,7 @@ pub mod Elementing
 pub mod Stating
 pub mod Sizes
 pub mod Putting
+pub mod Growing
 pub mod FewLaws
 pub mod MarkLaws
 pub mod StepLaws

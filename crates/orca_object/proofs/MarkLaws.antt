@@ -1,55 +1,29 @@
 -- Statements of instructions and DC, with their labels.
-use Rattle.std.proofs.Common.{◌≡◌, ℕ, ◌≤◌, min, Bool, true, cond, List, length, Option, Some, None, Result, Ok, Err, refl, sym, ap, subst, ◌∙◌, arith}
-use Rattle.std.proofs.lemmas.Bool.{lt-ltb}
-use Rattle.std.specs.Option.{option_map}
+use Rattle.std.proofs.Common.{◌≡◌, ℕ, ◌≤◌, Bool, List, length, Result, Ok, Err, refl, sym, ap, subst, ◌∙◌}
 use Rattle.omf_format.specs.Field.{◌>>=◌}
-use Rattle.omf_format.specs.Record.{Record}
 use Rattle.orca_meaning.specs.declared.mnemonics.Mnemonic.{Mnemonic}
 use Rattle.orca_meaning.specs.Line.{Line}
 use Rattle.orca_meaning.specs.Operand.{Meaning}
-use Rattle.asm_meaning.specs.declared.directives.Class.{Class}
-use Rattle.asm_meaning.specs.declared.directives.Class.TheVariants as classes
 use Rattle.asm_meaning.specs.declared.directives.Directive.TheVariants as directives
 use Rattle.asm_meaning.specs.declared.directives.Operation.TheVariants.{Instruct, Direct}
 use Rattle.asm_meaning.specs.declared.faults.AsmCause.{AsmCause}
-use Rattle.asm_meaning.specs.declared.faults.AsmCause.TheVariants.{BadOperand, BadNumber, SegmentTooLong}
+use Rattle.asm_meaning.specs.declared.faults.AsmCause.TheVariants.{BadOperand, BadNumber}
 use Rattle.asm_meaning.specs.Answer.{Answer}
 use Rattle.asm_meaning.specs.laws.AmountLaws.{AreSmall}
 use Rattle.asm_meaning.specs.Constant.{Constants}
 use Rattle.asm_meaning.specs.Elements.{list_pieces}
 use Rattle.asm_meaning.specs.laws.GivenLaws.{instruction_plain, list_plain}
 use Rattle.asm_meaning.specs.Instruction.{Widths, instruction}
-use Rattle.asm_meaning.specs.laws.LabelProofs.{lengths_add}
 use Rattle.asm_meaning.specs.laws.PieceLaws.{ArePlainPieces}
-use Rattle.asm_meaning.specs.Pieces.{Piece, length_at, records_of}
-use Rattle.asm_meaning.specs.State.{State, Segment, cells_of, marked, in_segment, within_length, greatest_length, is_too_long}
+use Rattle.asm_meaning.specs.Pieces.{Piece, records_of}
+use Rattle.asm_meaning.specs.State.{State}
 use Rattle.asm_meaning.specs.Statement.{IsDone, IsOperandOf, Good, Bad, Large, constants_of, marking}
 use Rattle.orca_object.specs.declared.given.Given.{Given}
 use Rattle.orca_object.specs.declared.state.Kept.{Kept}
-use Rattle.orca_object.specs.declared.state.Open.{Open}
 use Rattle.orca_object.specs.GivenBy.{IsByInstruction, IsByList}
 use Rattle.orca_object.specs.GivenView.{given_pieces, given_answer}
 use Rattle.orca_object.specs.MarkView.{giving, IsPlainAnswer}
-use Rattle.orca_object.specs.StateView.{Leaves, IsLeft, ShowsOption}
-
-greatest-le : (c : Class) → greatest_length c ≤ 0xFFFFFF
-greatest-le classes.Code = omega arith
-greatest-le classes.PrivateCode = omega arith
-greatest-le classes.Data = omega arith
-greatest-le classes.PrivateData = omega arith
-
-abbrev too_long : Answer State
-too_long = Err SegmentTooLong
-
--- a statement with 16,777,216 cells or more is too long in any segment
-pub given_too_long : (state : State) (k : Option Open) (o : Open) (label : List ℕ) (form size : ℕ) (records : List Record) → ShowsOption state.segment k → k ≡ Some o
-    → ((at : ℕ) → size ≡ min (length_at at records) 0x1000000) → 0x1000000 ≤ size → within_length (in_segment (marked label form records) state) ≡ too_long
-given_too_long state k o label form size records shown is cells many =
-    ap (λ (b : Bool). cond b too_long (Ok (in_segment (marked label form records) state))) (by_segment state.segment (subst (ShowsOption state.segment) is shown))
-  where
-    by_segment : (found : Option Segment) → ShowsOption found (Some o) → is_too_long (option_map (marked label form records) found) ≡ true
-    by_segment None shows = absurd shows
-    by_segment (Some s) shows = lt-ltb (greatest_length s.class) (cells_of (marked label form records s)) (omega (arith, greatest-le s.class, lengths_add label form records s, cells (cells_of s), many))
+use Rattle.orca_object.specs.StateView.{Leaves, IsLeft}
 
 abbrev pieces_ok : List Piece → Answer (List Piece)
 pieces_ok pieces = Ok pieces

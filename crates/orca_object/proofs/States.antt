@@ -92,7 +92,7 @@ header_begun state class name load_name kind org align number k o a n =
 -- ---- a segment ends
 
 pub ended_shows : (state : State) (change : Segment → Segment) (k : Option Open) (o last : Open) (number next : ℕ) (object new text : Text) (f : Fields) → ShowsOption state.segment k → k ≡ Some o
-    → ((s : Segment) → ShowsSegment s o → ShowsSegment (change s) last) → f ≡ ended_header last → text ≡ last.body.text
+    → ((s : Segment) → ShowsSegment s o → ShowsSegment (change s) last) → f ≡ ended_header last → text ≡ last.body.writer.text
     → ((segments : List Ended) (e : Ended) → e.header ≡ f → kept_text text ≡ limited (records_text e.body) → kept_text object ≡ limited (object_text segments) → kept_text new ≡ limited (object_text (segments ++ e ∷ [])))
     → kept_text object ≡ limited (object_text state.ended) → number ≡ (length state.ended + 1) % 0x10000 → next ≡ (number + 1) % 0x10000
     → (next ≡ (length (closed (in_segment change state)).ended + 1) % 0x10000) × (kept_text new ≡ limited (object_text (closed (in_segment change state)).ended))

@@ -160,6 +160,3 @@ by_nothing cs msb text none = record { found = None; is = none; gives = refl }
 
 pub with_answer : (cs : Constants) (msb : Bool) (text : List ℕ) (r s : Result (Vec Part) AsmCause) → HasElements cs msb text (parts_answer r) → r ≡ s → HasElements cs msb text (parts_answer s)
 with_answer cs msb text r s h is = subst (λ (x : Result (Vec Part) AsmCause). HasElements cs msb text (parts_answer x)) is h
-
-pub shorter : (a b : List ℕ) → a ≡ b → length a ≤ 255 → length b ≤ 255
-shorter a b same short = subst (λ (l : List ℕ). length l ≤ 255) same short

@@ -1,21 +1,10 @@
 -- What directives leave, by the number that their operand is.
-use Rattle.std.specs.Prelude.{ℕ, ◌≤◌, length, List, [], ◌∷◌, Result, Ok, Err}
+use Rattle.std.specs.Prelude.{ℕ, ◌≤◌, length, List, [], ◌∷◌, Ok, Err}
 use Rattle.omf_format.specs.Field.{◌>>=◌}
-use Rattle.omf_format.specs.Record.{Record, Space, Using}
-use Rattle.asm_meaning.specs.declared.faults.AsmCause.{AsmCause}
+use Rattle.omf_format.specs.Record.{Space, Using}
 use Rattle.asm_meaning.specs.Answer.{Answer, both}
 use Rattle.asm_meaning.specs.State.{State, in_segment, marked}
 use Rattle.asm_meaning.specs.Statement.{marking, alignment_in, aligned, distance_in, moved, listed_kind, with_kind}
-use Rattle.orca_object.specs.declared.state.Content.{Content}
-use Rattle.orca_object.specs.ContentView.{content_records, IsContent}
-
-abbrev pub content_answer : Result Content AsmCause → Answer (List Record)
-content_answer (Ok content) = Ok (content_records content)
-content_answer (Err cause) = Err cause
-
-abbrev pub IsContentAnswer : Result Content AsmCause → Type 0
-IsContentAnswer (Ok content) = IsContent content
-IsContentAnswer (Err cause) = Unit {0}
 
 -- a name that isn't empty
 abbrev pub IsSome : Answer (List ℕ) → Type 0

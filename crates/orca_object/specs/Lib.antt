@@ -11,7 +11,6 @@ pub mod TextView
 pub mod ElementView
 pub mod BodyView
 pub mod StateView
-pub mod ContentView
 pub mod NumberView
 pub mod DoneView
 pub mod ActView

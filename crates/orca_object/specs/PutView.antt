@@ -6,7 +6,8 @@ use Rattle.asm_meaning.specs.Pieces.{records_behind}
 use Rattle.orca_object.specs.declared.given.Part.{Part}
 use Rattle.orca_object.specs.declared.piece.Piece as piece_type
 use Rattle.orca_object.specs.declared.piece.Piece.TheVariants.{Bytes, Formula, Strong}
-use Rattle.orca_object.specs.TextView.{limited}
+use Rattle.orca_object.specs.declared.writer.Writer.{Writer}
+use Rattle.orca_object.specs.TextView.{limited, kept_text}
 
 -- how many cells a piece gives
 abbrev pub piece_size : piece_type.Piece → ℕ
@@ -27,3 +28,7 @@ pub record Wrote (whole : List ℕ) (kept : Option (List ℕ)) (pending : List �
   pub text : List ℕ
   pub kept_is : kept ≡ limited text
   pub whole_is : text ++ records_text (records_behind pending rest) ≡ whole
+
+-- the same of a writer
+abbrev pub HasWritten : List ℕ → Writer → List meaning.Piece → Type 0
+HasWritten whole w rest = Wrote whole (kept_text w.text) w.waiting.items rest

@@ -1,15 +1,16 @@
 -- How what lines leave is kept: the bytes of records in place of records, and maps in place of the names and constants.
-use Rattle.std.specs.Prelude.{◌≡◌, ℕ, ◌+◌, ◌%◌, ◌≤◌, List, ◌++◌, length, Option, Some, None, Result, Ok, Err}
+use Rattle.std.specs.Prelude.{◌≡◌, ℕ, ◌+◌, ◌%◌, ◌<◌, List, ◌++◌, length, Option, Some, None, Result, Ok, Err}
 use Rattle.omf_format.specs.Header.{Fields}
 use Rattle.omf_format.specs.Record.{Record}
 use Rattle.asm_meaning.specs.Answer.{Answer}
 use Rattle.asm_meaning.specs.declared.faults.AsmCause.{AsmCause}
+use Rattle.asm_meaning.specs.declared.faults.AsmCause.TheVariants.{SegmentTooLong}
 use Rattle.asm_meaning.specs.Object.{records_text, object_text}
 use Rattle.asm_meaning.specs.Pieces.{place_behind}
 use Rattle.omf_format.specs.Field.{◌>>=◌}
 use Rattle.orca_meaning.specs.Line.{Line}
 use Rattle.asm_meaning.specs.declared.directives.Operation.{Operation}
-use Rattle.asm_meaning.specs.State.{Segment, State, bank_size_of, with_label, local_of, within_length}
+use Rattle.asm_meaning.specs.State.{Segment, State, bank_size_of, cells_of, with_label, local_of, within_length}
 use Rattle.asm_meaning.specs.Statement.{IsDone}
 use Rattle.orca_object.specs.declared.state.Open.{Open}
 use Rattle.orca_object.specs.declared.state.Kept.{Kept}
@@ -66,11 +67,6 @@ pub record ShowsState (state : State) (k : Kept) : Type 0 where
   pub number : k.number ≡ (length state.ended + 1) % 0x10000
   pub object : kept_text k.object ≡ limited (object_text state.ended)
 
--- the open segment has so few cells
-abbrev pub IsShortOption : Option Open → Type 0
-IsShortOption None = Unit {0}
-IsShortOption (Some o) = o.body.cells ≤ 0xFFFFFF
-
 -- ---- changes of a segment
 
 -- one more name
@@ -86,6 +82,11 @@ abbrev pub labelled : List ℕ → ℕ → ℕ → Segment → Segment
 labelled label form size s = with_records (local_of label form size) (named label None s)
 
 -- ---- answers
+
+-- a segment is kept so, or is longer than a segment of any class may be
+abbrev pub ShowsGrown : {U : Type 0} → Result U AsmCause → Segment → Open → Type 0
+ShowsGrown (Ok done) s o = ShowsSegment s o
+ShowsGrown (Err cause) s o = (cause ≡ SegmentTooLong) × (0xFFFFFF < cells_of s)
 
 -- a statement leaves this, or has this fault, which may be that its segment is then too long
 abbrev pub Leaves : {U : Type 0} → Result U AsmCause → Kept → Answer State → Type 0

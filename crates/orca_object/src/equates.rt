@@ -12,7 +12,7 @@ ghost use Rattle.orca_meaning.specs.Line.{Line};
 ghost use Rattle.asm_meaning.specs.declared.directives.Operation.TheVariants.{Direct};
 ghost use Rattle.asm_meaning.specs.declared.directives.Directive.TheVariants as directives;
 ghost use Rattle.asm_meaning.specs.State.{State};
-ghost use Rattle.orca_object.specs.StateView.{ShowsState, IsShortOption, IsLeft};
+ghost use Rattle.orca_object.specs.StateView.{ShowsState, IsLeft};
 ghost use Rattle.orca_object.specs.DoneView.{IsSome};
 ghost use Rattle.orca_object.specs.DoingView.{IsEquated, IsConstant};
 
@@ -65,7 +65,7 @@ impl Kept {
     ghost use Rattle.orca_object.specs.FineView.{IsFineAmount};
     ghost use Rattle.asm_meaning.specs.State.{State, in_segment};
     ghost use Rattle.asm_meaning.specs.Statement.{equated};
-    ghost use Rattle.orca_object.specs.StateView.{ShowsState, IsShortOption};
+    ghost use Rattle.orca_object.specs.StateView.{ShowsState};
     ghost use Rattle.orca_object.specs.EquateView.{with_constant};
 
     /// EQU and GEQU in a segment.
@@ -78,7 +78,6 @@ impl Kept {
     ) -> Result<(), AllocError>
         requires some { 1 ≤ length label.now }
         requires fine { IsFineAmount amount }
-        requires short { IsShortOption self.old.segment }
         ensures { OnOk result ((state : State) (meant : meaning.Amount) → ShowsState state self.old → kept_view amount ≡ kept_of 0 meant → ShowsState (in_segment (equated global label.now meant) state) self.new) }
     {
         let value = value_of(&amount);
@@ -128,7 +127,6 @@ fn do_equate(
     text: LinePart<'_>,
 ) -> Result<Result<(), AsmCause>, AllocError>
     requires some { IsSome label }
-    requires short { IsShortOption kept.old.segment }
     ensures { IfOk result (λ done. (state : State) → ShowsState state kept.old → IsEquated state global label text.entry.bytes.now done kept.new) }
 {
     let amount = amount_in(alloc, kept.known(), text)?;
@@ -169,7 +167,6 @@ pub(crate) fn do_equ(
     text: LinePart<'_>,
 ) -> Result<Result<(), AsmCause>, AllocError>
     requires some { IsSome label }
-    requires short { IsShortOption kept.old.segment }
     ensures { IfOk result (λ done. (state : State) (l : Line) → ShowsState state kept.old → IsLeft state l (Direct directives.Equ) label text.entry.bytes.now done kept.new) }
 {
     do_equate(alloc, kept, false, label, text)
@@ -183,7 +180,6 @@ pub(crate) fn do_gequ(
     text: LinePart<'_>,
 ) -> Result<Result<(), AsmCause>, AllocError>
     requires some { IsSome label }
-    requires short { IsShortOption kept.old.segment }
     ensures { IfOk result (λ done. (state : State) (l : Line) → ShowsState state kept.old → IsLeft state l (Direct directives.Gequ) label text.entry.bytes.now done kept.new) }
 {
     if kept.is_open() {

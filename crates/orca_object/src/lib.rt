@@ -28,5 +28,6 @@ mod statement;
 mod step;
 mod switches;
 mod text;
+mod writer;
 
 pub use step::assembled;

@@ -4,7 +4,7 @@ ghost use Rattle.std.specs.Prelude.{◌≡◌, IfOk};
 ghost use Rattle.omf_format.specs.Header.{alignment_of};
 ghost use Rattle.orca_meaning.specs.Line.{Line};
 ghost use Rattle.asm_meaning.specs.State.{State};
-ghost use Rattle.orca_object.specs.StateView.{ShowsState, IsShortOption, Leaves, IsLeft};
+ghost use Rattle.orca_object.specs.StateView.{ShowsState, Leaves, IsLeft};
 ghost use Rattle.orca_object.specs.DoneView.{aligned_by, moved_by};
 ghost use Rattle.asm_meaning.specs.declared.directives.Operation.TheVariants.{Direct};
 ghost use Rattle.asm_meaning.specs.declared.directives.Directive.TheVariants as directives;
@@ -13,9 +13,10 @@ ghost use Rattle.orca_object.specs.DoingView.{HasDistance};
 use crate::amount::number_in;
 use crate::causes::both;
 use crate::operand::behind_here;
-use crate::state::{Content, Kept};
+use crate::state::Kept;
 use asm_meaning::AsmCause;
-use omf_base::Name;
+use omf_base::{Name, padding};
+use omf_records::Rec;
 use orca_text::LinePart;
 use std::alloc::{AllocError, Global};
 
@@ -31,10 +32,10 @@ fn alignment_of(align: u32) -> u32
 }
 
 impl Kept {
-    ghost use Rattle.std.specs.Prelude.{◌≡◌, ◌≤◌, OnOk, IfOk};
+    ghost use Rattle.std.specs.Prelude.{◌≡◌, ◌≤◌, Ok, IfOk};
     ghost use Rattle.asm_meaning.specs.State.{State};
     ghost use Rattle.asm_meaning.specs.Statement.{alignment_in, aligned, distance_in, moved};
-    ghost use Rattle.orca_object.specs.StateView.{ShowsState, IsShortOption};
+    ghost use Rattle.orca_object.specs.StateView.{ShowsState, Leaves};
     ghost use Rattle.orca_object.specs.ActView.{IsNear};
 
     /// An alignment: a power of two up to $10000, and in a segment up to its own.
@@ -53,17 +54,21 @@ impl Kept {
     }
 
     /// ALIGN.
-    fn align(&mut self, alloc: Global, label: &Name, n: u32) -> Result<(), AllocError>
+    fn align(
+        &mut self,
+        alloc: Global,
+        label: &Name,
+        n: u32,
+    ) -> Result<Result<(), AsmCause>, AllocError>
         requires some { 1 ≤ n }
-        requires short { IsShortOption self.old.segment }
-        ensures { OnOk result ((state : State) → ShowsState state self.old → ShowsState (aligned state state.segment label.now n) self.new) }
+        ensures { IfOk result (λ done. (state : State) → ShowsState state self.old → Leaves done self.new (Ok (aligned state state.segment label.now n))) }
     {
         if let Some(open) = &mut self.segment {
-            open.give(alloc, label, Content::Align(n))?;
-            return Ok(());
+            let size = u64::from(padding(n, open.body.cells as u32));
+            return open.give_record(alloc, label, &Rec::Align { n }, size);
         }
         self.align = n;
-        Ok(())
+        Ok(Ok(()))
     }
 
     /// A distance of ORG: in a segment one below $80000000.
@@ -78,17 +83,20 @@ impl Kept {
     }
 
     /// ORG.
-    fn org(&mut self, alloc: Global, label: &Name, n: u32) -> Result<(), AllocError>
+    fn org(
+        &mut self,
+        alloc: Global,
+        label: &Name,
+        n: u32,
+    ) -> Result<Result<(), AsmCause>, AllocError>
         requires near { IsNear self.old.segment n }
-        requires short { IsShortOption self.old.segment }
-        ensures { OnOk result ((state : State) → ShowsState state self.old → ShowsState (moved state state.segment label.now n) self.new) }
+        ensures { IfOk result (λ done. (state : State) → ShowsState state self.old → Leaves done self.new (Ok (moved state state.segment label.now n))) }
     {
         if let Some(open) = &mut self.segment {
-            open.give(alloc, label, Content::Org(n))?;
-            return Ok(());
+            return open.give_record(alloc, label, &Rec::Org { n }, u64::from(n));
         }
         self.org = n;
-        Ok(())
+        Ok(Ok(()))
     }
 }
 
@@ -99,7 +107,6 @@ fn aligning(
     label: Result<Name, AsmCause>,
     number: Result<u32, AsmCause>,
 ) -> Result<Result<(), AsmCause>, AllocError>
-    requires { IsShortOption kept.old.segment }
     ensures { IfOk result (λ done. (state : State) → ShowsState state kept.old → Leaves done kept.new (aligned_by state label number)) }
 {
     let step = match number {
@@ -107,10 +114,7 @@ fn aligning(
         Err(cause) => Err(cause),
     };
     match both(label, step) {
-        Ok((name, n)) => {
-            kept.align(alloc, &name, n)?;
-            Ok(Ok(()))
-        }
+        Ok((name, n)) => kept.align(alloc, &name, n),
         Err(cause) => Ok(Err(cause)),
     }
 }
@@ -122,7 +126,6 @@ pub(crate) fn do_align(
     label: Result<Name, AsmCause>,
     text: LinePart<'_>,
 ) -> Result<Result<(), AsmCause>, AllocError>
-    requires short { IsShortOption kept.old.segment }
     ensures { IfOk result (λ done. (state : State) (line : Line) → ShowsState state kept.old → IsLeft state line (Direct directives.Align) label text.entry.bytes.now done kept.new) }
 {
     let number = number_in(alloc, kept.known(), text)?;
@@ -153,7 +156,6 @@ fn moving(
     label: Result<Name, AsmCause>,
     number: Result<u32, AsmCause>,
 ) -> Result<Result<(), AsmCause>, AllocError>
-    requires { IsShortOption kept.old.segment }
     ensures { IfOk result (λ done. (state : State) → ShowsState state kept.old → Leaves done kept.new (moved_by state label number)) }
 {
     let distance = match number {
@@ -161,10 +163,7 @@ fn moving(
         Err(cause) => Err(cause),
     };
     match both(label, distance) {
-        Ok((name, n)) => {
-            kept.org(alloc, &name, n)?;
-            Ok(Ok(()))
-        }
+        Ok((name, n)) => kept.org(alloc, &name, n),
         Err(cause) => Ok(Err(cause)),
     }
 }
@@ -176,7 +175,6 @@ pub(crate) fn do_org(
     label: Result<Name, AsmCause>,
     text: LinePart<'_>,
 ) -> Result<Result<(), AsmCause>, AllocError>
-    requires short { IsShortOption kept.old.segment }
     ensures { IfOk result (λ done. (state : State) (line : Line) → ShowsState state kept.old → IsLeft state line (Direct directives.Org) label text.entry.bytes.now done kept.new) }
 {
     let number = distance_in(alloc, kept, text)?;

@@ -11,18 +11,17 @@ ghost use Rattle.asm_meaning.specs.Statement.{load_name_of, listed_kind, enterin
 ghost use Rattle.orca_meaning.specs.Line.{Line};
 ghost use Rattle.asm_meaning.specs.declared.directives.Operation.TheVariants.{Direct};
 ghost use Rattle.asm_meaning.specs.declared.directives.Directive.TheVariants as directives;
-ghost use Rattle.orca_object.specs.StateView.{ShowsState, IsShortOption, IsLeft, Leaves};
+ghost use Rattle.orca_object.specs.StateView.{ShowsState, IsLeft, Leaves};
 ghost use Rattle.orca_object.specs.DoneView.{IsSome, kinded_by, using_by};
 ghost use Rattle.orca_object.specs.DoingView.{ending};
 
 use crate::amount::number_in;
 use crate::causes::{both, earlier};
-use crate::data::given;
 use crate::names::Names;
 use crate::object::put_segment;
 use crate::operand::{is_name, name_of};
-use crate::state::{Content, Kept, Open};
-use crate::text::{Body, Text};
+use crate::state::{Body, Kept, Open};
+use crate::text::Text;
 use asm_meaning::{AsmCause, Class};
 use omf_base::Name;
 use omf_header::{Header, Kind};
@@ -57,16 +56,16 @@ fn bank_size_of(class: Class) -> u32
 
 /// The header of a segment that ends.
 fn header_of(segment: Open) -> (Header, Text)
-    requires { segment.body.cells ≤ 0xFFFFFF }
     ensures header { fields result.0 ≡ ended_header segment }
     ensures writable { IsWritable (fields result.0) }
-    ensures text { result.1 ≡ segment.body.text }
+    ensures text { result.1 ≡ segment.body.writer.text }
 {
     let load_name = segment.load_name;
+    let body = segment.body;
     let header = Header {
         byte_count: 0,
         res_spc: 0,
-        length: segment.body.cells as u32,
+        length: body.cells as u32,
         lab_len: 0,
         version: 2,
         bank_size: bank_size_of(segment.class),
@@ -80,7 +79,8 @@ fn header_of(segment: Open) -> (Header, Text)
         load_name,
         name: segment.name,
     };
-    (header, segment.body.text)
+    let writer = body.writer;
+    (header, writer.text)
 }
 
 /// The bytes of a LOADNAME.
@@ -136,9 +136,9 @@ fn listed_kind(n: u32) -> Result<u16, AsmCause>
 impl Kept {
     ghost use Rattle.std.specs.Prelude.{◌≡◌, ◌≤◌, ◌∷◌, [], length, OnOk, true, None};
     ghost use Rattle.orca_meaning.specs.Line.{Line};
-    ghost use Rattle.omf_format.specs.Record.{End, Label};
+    ghost use Rattle.omf_format.specs.Record.{End, Label, Using};
     ghost use Rattle.asm_meaning.specs.State.{State, in_segment, marked, begun, closed, grown};
-    ghost use Rattle.orca_object.specs.StateView.{ShowsState, IsShortOption};
+    ghost use Rattle.orca_object.specs.StateView.{ShowsState};
     ghost use Rattle.omf_format.specs.Header.{is_listed, form_of};
     ghost use Rattle.asm_meaning.specs.Statement.{with_kind};
 
@@ -157,7 +157,6 @@ impl Kept {
         let mut names = Names::new(alloc);
         names.set(alloc, name.bytes(), None)?;
         let front = mem::replace(&mut self.front, Text::new(alloc));
-        let pending = Vec::new(alloc);
         let open = Open {
             file,
             line,
@@ -169,11 +168,7 @@ impl Kept {
             load_name,
             name,
             names,
-            body: Body {
-                text: front,
-                cells: 0,
-            },
-            pending,
+            body: Body::new(alloc, front),
         };
         self.segment = Some(open);
         self.org = 0;
@@ -183,14 +178,13 @@ impl Kept {
 
     /// END.
     fn end(&mut self, alloc: Global, label: &Name) -> Result<(), AllocError>
-        requires short { IsShortOption self.old.segment }
         ensures { OnOk result ((state : State) → ShowsState state self.old → ShowsState (closed (in_segment (marked label.now 0x4E (End ∷ [])) state)) self.new) }
     {
         let mut open = match mem::replace(&mut self.segment, None) {
             Some(open) => open,
             None => return Ok(()),
         };
-        open.give_record(alloc, label, &Rec::End, 0)?;
+        open.mark_record(alloc, label, &Rec::End)?;
         let (header, text) = header_of(open);
         put_segment(alloc, &mut self.object, &header, &text)?;
         self.number = ((u32::from(self.number) + 1) % 0x10000) as u16;
@@ -200,12 +194,24 @@ impl Kept {
     /// KIND.
     fn kind(&mut self, alloc: Global, label: &Name, n: u16) -> Result<(), AllocError>
         requires listed { is_listed (form_of n) ≡ true }
-        requires short { IsShortOption self.old.segment }
         ensures { OnOk result ((state : State) → ShowsState state self.old → ShowsState (in_segment (λ s. with_kind n (marked label.now 0x4E [] s)) state) self.new) }
     {
         if let Some(open) = &mut self.segment {
-            open.give(alloc, label, Content::Nothing)?;
+            open.mark_alone(alloc, label)?;
             open.kind = n;
+            return Ok(());
+        }
+        Ok(())
+    }
+
+    /// USING.
+    fn using(&mut self, alloc: Global, label: &Name, name: &Name) -> Result<(), AllocError>
+        requires some { 1 ≤ length name.now }
+        ensures { OnOk result ((state : State) → ShowsState state self.old → ShowsState (in_segment (marked label.now 0x4E (Using name.now ∷ [])) state) self.new) }
+    {
+        let using = Rec::Using { name: name.bytes() };
+        if let Some(open) = &mut self.segment {
+            open.mark_record(alloc, label, &using)?;
             return Ok(());
         }
         Ok(())
@@ -214,7 +220,6 @@ impl Kept {
     /// ENTRY.
     fn entry(&mut self, alloc: Global, label: &Name) -> Result<(), AllocError>
         requires some { 1 ≤ length label.now }
-        requires short { IsShortOption self.old.segment }
         ensures { OnOk result ((state : State) → ShowsState state self.old → ShowsState (in_segment (grown label.now None (Label true label.now 0 0x4E 0 ∷ []) []) state) self.new) }
     {
         let global = Rec::Label {
@@ -265,7 +270,6 @@ pub(crate) fn do_end(
     kept: &mut Kept,
     label: Result<Name, AsmCause>,
 ) -> Result<Result<(), AsmCause>, AllocError>
-    requires { IsShortOption kept.old.segment }
     ensures { IfOk result (λ done. (state : State) → ShowsState state kept.old → Leaves done kept.new (ending state label)) }
 {
     match label {
@@ -284,7 +288,6 @@ fn entering(
     label: Result<Name, AsmCause>,
 ) -> Result<Result<(), AsmCause>, AllocError>
     requires some { IsSome label }
-    requires short { IsShortOption kept.old.segment }
     ensures { IfOk result (λ done. (state : State) → ShowsState state kept.old → Leaves done kept.new (entering state label)) }
 {
     match label {
@@ -303,7 +306,6 @@ pub(crate) fn do_entry(
     label: Result<Name, AsmCause>,
 ) -> Result<Result<(), AsmCause>, AllocError>
     requires some { IsSome label }
-    requires short { IsShortOption kept.old.segment }
     ensures { IfOk result (λ done. (state : State) (l : Line) (text : List ℕ) → ShowsState state kept.old → IsLeft state l (Direct directives.Entry) label text done kept.new) }
 {
     entering(alloc, kept, label)
@@ -317,12 +319,14 @@ fn using(
     found: Result<Name, AsmCause>,
 ) -> Result<Result<(), AsmCause>, AllocError>
     requires found { IsSome found }
-    requires short { IsShortOption kept.old.segment }
     ensures { IfOk result (λ done. (state : State) → ShowsState state kept.old → Leaves done kept.new (using_by state label found)) }
 {
-    match found {
-        Ok(name) => given(alloc, kept, label, Ok(Content::Using(name.bytes()))),
-        Err(cause) => given(alloc, kept, label, Err(cause)),
+    match both(label, found) {
+        Ok((name, found)) => {
+            kept.using(alloc, &name, &found)?;
+            Ok(Ok(()))
+        }
+        Err(cause) => Ok(Err(cause)),
     }
 }
 
@@ -333,7 +337,6 @@ pub(crate) fn do_using(
     label: Result<Name, AsmCause>,
     text: LinePart<'_>,
 ) -> Result<Result<(), AsmCause>, AllocError>
-    requires short { IsShortOption kept.old.segment }
     ensures { IfOk result (λ done. (state : State) (line : Line) → ShowsState state kept.old → IsLeft state line (Direct directives.Using) label text.entry.bytes.now done kept.new) }
 {
     let found = name_of(alloc, text)?;
@@ -347,7 +350,6 @@ fn kinding(
     label: Result<Name, AsmCause>,
     number: Result<u32, AsmCause>,
 ) -> Result<Result<(), AsmCause>, AllocError>
-    requires { IsShortOption kept.old.segment }
     ensures { IfOk result (λ done. (state : State) → ShowsState state kept.old → Leaves done kept.new (kinded_by state label number)) }
 {
     let kind = match number {
@@ -370,7 +372,6 @@ pub(crate) fn do_kind(
     label: Result<Name, AsmCause>,
     text: LinePart<'_>,
 ) -> Result<Result<(), AsmCause>, AllocError>
-    requires short { IsShortOption kept.old.segment }
     ensures { IfOk result (λ done. (state : State) (line : Line) → ShowsState state kept.old → IsLeft state line (Direct directives.Kind) label text.entry.bytes.now done kept.new) }
 {
     let number = number_in(alloc, kept.known(), text)?;

@@ -1,17 +1,29 @@
 //! What lines leave for the lines behind them, with the segment that is open (ORCA/M reference manual, "Assembler directives";
 //! GS/OS Reference, appendix F).
 
-ghost use Rattle.std.specs.Prelude.{◌≡◌, true};
+ghost use Rattle.std.specs.Prelude.{◌≡◌, ◌≤◌, true};
 ghost use Rattle.omf_format.specs.Header.{is_listed, form_of};
 ghost use Rattle.asm_meaning.specs.State.{greatest_length};
 
 use crate::mode::Widths;
 use crate::names::{Known, Names, Outside};
-use crate::text::{Body, Text};
-use asm_meaning::Class;
-use omf_base::{Name, padding};
+use crate::text::Text;
+use crate::writer::Writer;
+use asm_meaning::{AsmCause, Class};
+use omf_base::Name;
 use omf_records::Rec;
 use std::alloc::{AllocError, Global};
+
+/// The most cells that a segment may have, whatever its class.
+const MOST_CELLS: u64 = 0xFF_FFFF;
+
+/// The records of a segment, and how many cells they give, which are no more than a segment may have.
+#[derive(Drop)]
+pub(crate) struct Body {
+    pub(crate) writer: Writer,
+    pub(crate) cells: u64,
+    ghost short: { cells ≤ 0xFFFFFF },
+}
 
 /// A segment that hasn't ended.
 #[derive(Drop)]
@@ -31,26 +43,7 @@ pub(crate) struct Open {
     /// The names that it defines.
     pub(crate) names: Names,
     pub(crate) body: Body,
-    /// Where constant bytes of one statement wait for their record. Between statements it says nothing.
-    pub(crate) pending: Vec<u8>,
     ghost listed: { is_listed (form_of kind) ≡ true },
-}
-
-/// What a directive gives besides the LOCAL of its label.
-#[derive(Clone, Copy)]
-pub(crate) enum Content<'a> {
-    /// Nothing.
-    Nothing,
-    /// END.
-    End,
-    /// USING.
-    Using(&'a [u8]),
-    /// DS.
-    Space(u32),
-    /// ALIGN.
-    Align(u32),
-    /// ORG.
-    Org(u32),
 }
 
 /// The widths of the registers, whether MSB is on, the constants from outside segments, what waits for the next segment,
@@ -80,15 +73,62 @@ fn greatest_length(class: Class) -> u64
     }
 }
 
+impl Body {
+    ghost use Rattle.std.specs.Prelude.{◌≡◌, ◌+◌, ◌<◌, ◌++◌, ◌∷◌, [], List, OnOk, OnErr, IfErr};
+    ghost use Rattle.omf_format.specs.Field.{written_layout};
+    ghost use Rattle.omf_format.specs.Record.{Record, IsRecord};
+    ghost use Rattle.omf_records.specs.View.{view};
+    ghost use Rattle.link_meaning.specs.Sizes.{size_at};
+    ghost use Rattle.asm_meaning.specs.declared.faults.AsmCause.TheVariants.{SegmentTooLong};
+    ghost use Rattle.asm_meaning.specs.Object.{records_text};
+    ghost use Rattle.asm_meaning.specs.Pieces.{place_behind};
+    ghost use Rattle.orca_object.specs.BodyView.{ShowsBody};
+    ghost use Rattle.orca_object.specs.TextView.{limited, kept_text};
+
+    /// Records that give no cells.
+    #[tactic(auto, using(crate::proofs::Bodies::begins))]
+    pub(crate) fn new(alloc: Global, text: Text) -> Body
+        ensures { (records : List Record) → kept_text text ≡ limited (records_text records) → place_behind 0 records ≡ 0 → ShowsBody records result }
+    {
+        Body {
+            writer: Writer::new(alloc, text),
+            cells: 0,
+        }
+    }
+
+    /// One more record, which gives no cells.
+    pub(crate) fn put(&mut self, rec: &Rec) -> Result<(), AllocError>
+        requires record { IsRecord written_layout (view rec.now) }
+        requires none { size_at self.old.cells (view rec.now) ≡ 0 }
+        ensures body { OnOk result ((records : List Record) → ShowsBody records self.old → ShowsBody (records ++ view rec.now ∷ []) self.new) }
+        ensures cells { OnOk result (self.new.cells ≡ self.old.cells) }
+    {
+        self.writer.text.put(rec)
+    }
+
+    /// So many more cells, unless there are then more than a segment may have.
+    pub(crate) fn grow(&mut self, size: u64) -> Result<(), AsmCause>
+        ensures cells { OnOk result (self.new.cells ≡ self.old.cells + size) }
+        ensures writer { OnOk result (self.new.writer ≡ self.old.writer) }
+        ensures cause { IfErr result (λ cause. cause ≡ SegmentTooLong) }
+        ensures long { OnErr result (0xFFFFFF < self.old.cells + size) }
+    {
+        if size > MOST_CELLS - self.cells {
+            return Err(AsmCause::SegmentTooLong);
+        }
+        self.cells += size;
+        Ok(())
+    }
+}
+
 impl Open {
-    ghost use Rattle.std.specs.Prelude.{◌≡◌, ◌+◌, ◌≤◌, ◌<◌, ◌^◌, ◌∷◌, [], OnOk};
+    ghost use Rattle.std.specs.Prelude.{◌≡◌, ◌∷◌, [], OnOk, IfOk};
     ghost use Rattle.omf_format.specs.Field.{written_layout};
     ghost use Rattle.omf_format.specs.Record.{IsRecord};
     ghost use Rattle.omf_records.specs.View.{view};
     ghost use Rattle.link_meaning.specs.Sizes.{size_at};
     ghost use Rattle.asm_meaning.specs.State.{Segment, local_of, marked};
-    ghost use Rattle.orca_object.specs.StateView.{ShowsSegment, named, with_records, labelled};
-    ghost use Rattle.orca_object.specs.ContentView.{content_records, IsContent};
+    ghost use Rattle.orca_object.specs.StateView.{ShowsSegment, ShowsGrown, named, with_records, labelled};
 
     /// One more name, where the statement has a label.
     fn define(&mut self, alloc: Global, label: &Name, value: Option<u32>) -> Result<(), AllocError>
@@ -102,15 +142,14 @@ impl Open {
         self.names.set(alloc, name, value)
     }
 
-    /// One more record, which gives so many cells.
-    pub(crate) fn put(&mut self, rec: &Rec, size: u64) -> Result<(), AllocError>
+    /// One more record, which gives no cells.
+    fn put(&mut self, rec: &Rec) -> Result<(), AllocError>
         requires record { IsRecord written_layout (view rec.now) }
-        requires size { size ≡ size_at self.old.body.cells (view rec.now) }
-        requires room { self.old.body.cells + size < 2 ^ 64 }
+        requires none { size_at self.old.body.cells (view rec.now) ≡ 0 }
         ensures segment { OnOk result ((s : Segment) → ShowsSegment s self.old → ShowsSegment (with_records (view rec.now ∷ []) s) self.new) }
-        ensures cells { OnOk result (self.new.body.cells ≡ self.old.body.cells + size) }
+        ensures cells { OnOk result (self.new.body.cells ≡ self.old.body.cells) }
     {
-        self.body.put(rec, size)
+        self.body.put(rec)
     }
 
     /// A name with a record that gives no cells.
@@ -123,16 +162,14 @@ impl Open {
     ) -> Result<(), AllocError>
         requires record { IsRecord written_layout (view rec.now) }
         requires none { size_at self.old.body.cells (view rec.now) ≡ 0 }
-        requires short { self.old.body.cells ≤ 0xFFFFFF }
         ensures segment { OnOk result ((s : Segment) → ShowsSegment s self.old → ShowsSegment (with_records (view rec.now ∷ []) (named label.now value s)) self.new) }
     {
         self.define(alloc, label, value)?;
-        self.put(rec, 0)
+        self.put(rec)
     }
 
     /// LOCAL of a label, where the statement has one: its length, as far as two bytes hold it, and its type.
     fn put_local(&mut self, label: &Name, form: u8, size: u64) -> Result<(), AllocError>
-        requires short { self.old.body.cells ≤ 0xFFFFFF }
         ensures segment { OnOk result ((s : Segment) → ShowsSegment s self.old → ShowsSegment (with_records (local_of label.now form size) s) self.new) }
         ensures cells { OnOk result (self.new.body.cells ≡ self.old.body.cells) }
     {
@@ -147,7 +184,7 @@ impl Open {
             form,
             private: 0,
         };
-        self.put(&local, 0)
+        self.put(&local)
     }
 
     /// A label, with its LOCAL.
@@ -158,7 +195,6 @@ impl Open {
         form: u8,
         size: u64,
     ) -> Result<(), AllocError>
-        requires short { self.old.body.cells ≤ 0xFFFFFF }
         ensures segment { OnOk result ((s : Segment) → ShowsSegment s self.old → ShowsSegment (labelled label.now form size s) self.new) }
         ensures cells { OnOk result (self.new.body.cells ≡ self.old.body.cells) }
     {
@@ -166,58 +202,58 @@ impl Open {
         self.put_local(label, form, size)
     }
 
-    /// A directive with its label.
-    pub(crate) fn give(
+    /// The label of a directive that gives no records.
+    pub(crate) fn mark_alone(&mut self, alloc: Global, label: &Name) -> Result<(), AllocError>
+        ensures { OnOk result ((s : Segment) → ShowsSegment s self.old → ShowsSegment (marked label.now 0x4E [] s) self.new) }
+    {
+        self.mark(alloc, label, 0x4E, 0)
+    }
+
+    /// A record that gives no cells, with the label of its directive.
+    pub(crate) fn mark_record(
         &mut self,
         alloc: Global,
         label: &Name,
-        content: Content<'_>,
+        rec: &Rec,
     ) -> Result<(), AllocError>
-        requires content { IsContent content }
-        requires short { self.old.body.cells ≤ 0xFFFFFF }
-        ensures segment { OnOk result ((s : Segment) → ShowsSegment s self.old → ShowsSegment (marked label.now 0x4E (content_records content.entry) s) self.new) }
+        requires record { IsRecord written_layout (view rec.now) }
+        requires none { size_at self.old.body.cells (view rec.now) ≡ 0 }
+        ensures { OnOk result ((s : Segment) → ShowsSegment s self.old → ShowsSegment (marked label.now 0x4E (view rec.now ∷ []) s) self.new) }
     {
-        match content {
-            Content::Nothing => self.mark(alloc, label, 0x4E, 0),
-            Content::End => self.give_record(alloc, label, &Rec::End, 0),
-            Content::Using(name) => self.give_record(alloc, label, &Rec::Using { name }, 0),
-            Content::Space(n) => self.give_record(alloc, label, &Rec::Space { n }, u64::from(n)),
-            Content::Align(n) => {
-                let size = u64::from(padding(n, self.body.cells as u32));
-                self.give_record(alloc, label, &Rec::Align { n }, size)
-            }
-            Content::Org(n) => self.give_record(alloc, label, &Rec::Org { n }, u64::from(n)),
-        }
+        self.mark(alloc, label, 0x4E, 0)?;
+        self.put(rec)
     }
 
-    /// A record with the label of its statement.
+    /// A record that gives so many cells, with the label of its directive.
     pub(crate) fn give_record(
         &mut self,
         alloc: Global,
         label: &Name,
         rec: &Rec,
         size: u64,
-    ) -> Result<(), AllocError>
-        requires short { self.old.body.cells ≤ 0xFFFFFF }
+    ) -> Result<Result<(), AsmCause>, AllocError>
         requires record { IsRecord written_layout (view rec.now) }
         requires size { size ≡ size_at self.old.body.cells (view rec.now) }
-        requires room { self.old.body.cells + size < 2 ^ 64 }
-        ensures segment { OnOk result ((s : Segment) → ShowsSegment s self.old → ShowsSegment (marked label.now 0x4E (view rec.now ∷ []) s) self.new) }
-        ensures cells { OnOk result (self.new.body.cells ≡ self.old.body.cells + size) }
+        ensures { IfOk result (λ done. (s : Segment) → ShowsSegment s self.old → ShowsGrown done (marked label.now 0x4E (view rec.now ∷ []) s) self.new) }
     {
         self.mark(alloc, label, 0x4E, size)?;
-        self.put(rec, size)
+        match self.body.grow(size) {
+            Ok(()) => {
+                self.body.writer.text.put(rec)?;
+                Ok(Ok(()))
+            }
+            Err(cause) => Ok(Err(cause)),
+        }
     }
 }
 
 impl Kept {
-    ghost use Rattle.std.specs.Prelude.{◌≡◌, false, is_some, None, OnOk};
+    ghost use Rattle.std.specs.Prelude.{◌≡◌, [], is_some, None, OnOk};
     ghost use Rattle.asm_meaning.specs.State.{State, start, in_segment, marked, is_too_long};
     ghost use Rattle.asm_meaning.specs.declared.directives.Operation.{Operation};
     ghost use Rattle.asm_meaning.specs.Statement.{constants_of, is_taken, begins_segment};
     ghost use Rattle.orca_object.specs.NamesView.{constants};
-    ghost use Rattle.orca_object.specs.StateView.{ShowsState, IsShortOption};
-    ghost use Rattle.orca_object.specs.ContentView.{content_records, IsContent};
+    ghost use Rattle.orca_object.specs.StateView.{ShowsState};
 
     /// Before the first line.
     pub(crate) fn new(alloc: Global) -> Kept
@@ -279,8 +315,7 @@ impl Kept {
 
     /// Whether the open segment has more cells than its class may have.
     pub(crate) fn is_too_long(&self) -> bool
-        ensures value { (state : State) → ShowsState state self.now → result ≡ is_too_long state.segment }
-        ensures short { result ≡ false → IsShortOption self.now.segment }
+        ensures { (state : State) → ShowsState state self.now → result ≡ is_too_long state.segment }
     {
         match &self.segment {
             Some(open) => open.body.cells > greatest_length(open.class),
@@ -288,19 +323,12 @@ impl Kept {
         }
     }
 
-    /// A directive with its label in the open segment.
-    pub(crate) fn give(
-        &mut self,
-        alloc: Global,
-        label: &Name,
-        content: Content<'_>,
-    ) -> Result<(), AllocError>
-        requires content { IsContent content }
-        requires short { IsShortOption self.old.segment }
-        ensures { OnOk result ((state : State) → ShowsState state self.old → ShowsState (in_segment (marked label.now 0x4E (content_records content.entry)) state) self.new) }
+    /// The label of a directive that gives no records.
+    pub(crate) fn mark_alone(&mut self, alloc: Global, label: &Name) -> Result<(), AllocError>
+        ensures { OnOk result ((state : State) → ShowsState state self.old → ShowsState (in_segment (marked label.now 0x4E []) state) self.new) }
     {
         if let Some(open) = &mut self.segment {
-            open.give(alloc, label, content)?;
+            open.mark_alone(alloc, label)?;
             return Ok(());
         }
         Ok(())

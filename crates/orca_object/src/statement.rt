@@ -1,7 +1,7 @@
 //! What the operands of instructions and of DC give (WDC 65C816 data sheet, addressing modes; ORCA/M reference manual, "Declare
 //! Constant").
 
-ghost use Rattle.std.specs.Prelude.{◌≡◌, List, ℕ, Some, None, IfOk, IfSome, IfNone};
+ghost use Rattle.std.specs.Prelude.{◌≡◌, ◌≤◌, List, ℕ, length, Some, None, IfOk, IfSome, IfNone};
 ghost use Rattle.orca_meaning.specs.Line.{LiesIn};
 ghost use Rattle.orca_text.specs.OperandView.{line_mnemonic, line_operand};
 ghost use Rattle.asm_meaning.specs.Elements.{Element, AreElements};
@@ -21,6 +21,14 @@ use asm_meaning::AsmCause;
 use orca_text::{LinePart, Mnemonic, SourceLine, TextCause, behind_byte, read_operand};
 use std::alloc::{AllocError, Global};
 
+/// The operand of a line has at most 255 bytes.
+fn know_short(line: &SourceLine)
+    requires { LiesIn line.now.text line.now.operand }
+    ensures { length (line_operand line.now) ≤ 255 }
+{
+    let _text = line.part(line.operand);
+}
+
 /// What an instruction's line gives, or the first fault of its operand.
 pub(crate) fn instruction_given(
     alloc: Global,
@@ -35,7 +43,7 @@ pub(crate) fn instruction_given(
     ensures given { IfOk result (λ answer. IsByInstruction (constants known.entry) (widths of) mnemonic (line_operand line.now) (given_answer answer)) }
     ensures plain { IfOk result IsPlainAnswer }
 {
-    let _text = line.part(line.operand);
+    know_short(line);
     known.know_small();
     match read_operand(alloc, line) {
         Ok(operand) => {

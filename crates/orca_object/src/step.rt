@@ -10,7 +10,7 @@ ghost use Rattle.asm_meaning.specs.Operations.{operation_of};
 ghost use Rattle.asm_meaning.specs.State.{State};
 ghost use Rattle.asm_meaning.specs.Statement.{needs_label, is_misplaced};
 ghost use Rattle.orca_object.specs.DoneView.{IsSome};
-ghost use Rattle.orca_object.specs.StateView.{ShowsState, IsShortOption, IsLeft};
+ghost use Rattle.orca_object.specs.StateView.{ShowsState, IsLeft};
 ghost use Rattle.orca_object.specs.StepView.{Steps, IsPlacedAs};
 ghost use Rattle.orca_object.specs.AssembleView.{HasStepped, IsLast, IsAssembled};
 
@@ -35,7 +35,6 @@ fn do_unlabelled(
     text: LinePart<'_>,
 ) -> Result<Result<(), AsmCause>, AllocError>
     requires unlabelled { needs_label (Direct directive) ≡ false }
-    requires short { IsShortOption kept.old.segment }
     ensures { IfOk result (λ done. (state : State) (l : Line) → ShowsState state kept.old → IsLeft state l (Direct directive) label text.entry.bytes.now done kept.new) }
 {
     match directive {
@@ -65,7 +64,6 @@ fn do_operation(
     requires operand { LiesIn of.now.text of.now.operand }
     requires is { operation_of (part of.now.text of.now.operation) ≡ Some operation }
     requires some { needs_label operation ≡ true → IsSome label }
-    requires short { IsShortOption kept.old.segment }
     ensures { IfOk result (λ done. (state : State) → ShowsState state kept.old → IsLeft state (line of.now) operation label (line_operand of.now) done kept.new) }
 {
     let text = of.part(of.operand);
@@ -105,9 +103,7 @@ fn finish(
     requires operand { LiesIn of.now.text of.now.operand }
     requires is { operation_of (part of.now.text of.now.operation) ≡ Some operation }
     requires some { needs_label operation ≡ true → IsSome label }
-    requires short { IsShortOption kept.old.segment }
-    ensures placed { IfOk result (λ done. (state : State) → ShowsState state kept.old → IsPlacedAs state (line of.now) operation label (line_operand of.now) done kept.new) }
-    ensures short { IfOk result (λ done. OnOk done (IsShortOption kept.new.segment)) }
+    ensures { IfOk result (λ done. (state : State) → ShowsState state kept.old → IsPlacedAs state (line of.now) operation label (line_operand of.now) done kept.new) }
 {
     let done = do_operation(alloc, kept, operation, label, of)?;
     match done {
@@ -124,9 +120,7 @@ fn finish(
 /// What a line leaves, or its first fault.
 fn step(alloc: Global, kept: &mut Kept, of: &SourceLine) -> Result<Result<(), AsmCause>, AllocError>
     requires fields { HaveFields of.now.text (line of.now).fields }
-    requires short { IsShortOption kept.old.segment }
-    ensures step { IfOk result (λ done. (state : State) → ShowsState state kept.old → Steps state (line of.now) done kept.new) }
-    ensures short { IfOk result (λ done. OnOk done (IsShortOption kept.new.segment)) }
+    ensures { IfOk result (λ done. (state : State) → ShowsState state kept.old → Steps state (line of.now) done kept.new) }
 {
     let Some(operation) = operation_of(of.part(of.operation).bytes) else {
         return Ok(Err(AsmCause::UnknownOperation));

@@ -3,10 +3,10 @@
 ghost use Rattle.std.specs.Prelude.{◌≡◌, IfOk};
 ghost use Rattle.asm_meaning.specs.Statement.{switch_of, turning};
 ghost use Rattle.asm_meaning.specs.State.{State};
-ghost use Rattle.orca_object.specs.StateView.{ShowsState, IsShortOption, Leaves};
+ghost use Rattle.orca_object.specs.StateView.{ShowsState, Leaves};
 
 use crate::causes::both;
-use crate::state::{Content, Kept};
+use crate::state::Kept;
 use asm_meaning::{AsmCause, Switch};
 use omf_base::Name;
 use orca_text::is_spelled;
@@ -28,7 +28,7 @@ fn switch_of(text: &[u8]) -> Result<bool, AsmCause>
 impl Kept {
     ghost use Rattle.std.specs.Prelude.{[], OnOk};
     ghost use Rattle.asm_meaning.specs.State.{State, in_segment, marked, turned};
-    ghost use Rattle.orca_object.specs.StateView.{ShowsState, IsShortOption};
+    ghost use Rattle.orca_object.specs.StateView.{ShowsState};
 
     /// LONGA, LONGI and MSB, with a label.
     fn turn(
@@ -38,10 +38,9 @@ impl Kept {
         switch: Switch,
         on: bool,
     ) -> Result<(), AllocError>
-        requires short { IsShortOption self.old.segment }
         ensures { OnOk result ((state : State) → ShowsState state self.old → ShowsState (turned switch on (in_segment (marked label.now 0x4E []) state)) self.new) }
     {
-        self.give(alloc, label, Content::Nothing)?;
+        self.mark_alone(alloc, label)?;
         match switch {
             Switch::LongA => self.widths.long_a = on,
             Switch::LongI => self.widths.long_i = on,
@@ -59,7 +58,6 @@ pub(crate) fn turning(
     label: Result<Name, AsmCause>,
     text: &[u8],
 ) -> Result<Result<(), AsmCause>, AllocError>
-    requires short { IsShortOption kept.old.segment }
     ensures { IfOk result (λ done. (state : State) → ShowsState state kept.old → Leaves done kept.new (turning state switch label text.now)) }
 {
     match both(label, switch_of(text)) {

@@ -1,5 +1,4 @@
-//! The bytes of records, as far as a file may have them, and how many cells they give (GS/OS Reference, appendix F, "Segment
-//! body").
+//! The bytes of records, as far as a file may have them (GS/OS Reference, appendix F, "Segment body").
 
 ghost use Rattle.std.specs.Prelude.{◌≡◌, ◌∷◌};
 ghost use Rattle.byteorder.specs.Endian.{little_bytes};
@@ -29,7 +28,7 @@ fn with_distance(opcode: u8, code: u8, count: u8, n: u32) -> [u8; 8]
 }
 
 impl Text {
-    ghost use Rattle.std.specs.Prelude.{◌≡◌, ◌++◌, ◌∷◌, [], List, ℕ, None, OnOk};
+    ghost use Rattle.std.specs.Prelude.{◌≡◌, ◌≤◌, ◌++◌, ◌∷◌, [], List, ℕ, length, None, OnOk};
     ghost use Rattle.omf_format.specs.Field.{written_layout};
     ghost use Rattle.omf_format.specs.Record.{Const, Formula, spelling, IsRecord};
     ghost use Rattle.omf_records.specs.View.{view};
@@ -88,6 +87,23 @@ impl Text {
         Ok(())
     }
 
+    /// Appends the record of constant bytes: CONST of 1 to 223, and LCONST of more.
+    pub(crate) fn put_constant(&mut self, bytes: &[u8]) -> Result<(), AllocError>
+        requires { 1 ≤ length bytes.now }
+        ensures { OnOk result ((text : List ℕ) → kept_text self.old ≡ limited text → kept_text self.new ≡ limited (text ++ records_text (constant_records bytes.now))) }
+    {
+        if bytes.len() <= 223 {
+            self.put(&Rec::Const { bytes })?;
+            return Ok(());
+        }
+        if bytes.len() > MAX_FILE {
+            self.give_up();
+            return Ok(());
+        }
+        self.put(&Rec::LongConst { bytes })?;
+        Ok(())
+    }
+
     /// Appends CONST of few bytes.
     #[tactic(auto, using(crate::proofs::FewLaws::few_record))]
     pub(crate) fn put_few(&mut self, few: Few) -> Result<(), AllocError>
@@ -118,52 +134,10 @@ impl Text {
     }
 
     /// Keeps nothing any more: there are more bytes than a file may have.
-    pub(crate) fn give_up(&mut self)
+    fn give_up(&mut self)
         ensures { kept_text self.new ≡ None }
     {
         self.bytes.clear();
         self.long = true;
-    }
-}
-
-/// The bytes of records, and how many cells they give.
-#[derive(Drop)]
-pub(crate) struct Body {
-    pub(crate) text: Text,
-    pub(crate) cells: u64,
-}
-
-impl Body {
-    ghost use Rattle.std.specs.Prelude.{◌≡◌, ◌+◌, ◌<◌, ◌^◌, ◌++◌, ◌∷◌, [], List, OnOk};
-    ghost use Rattle.omf_format.specs.Field.{written_layout};
-    ghost use Rattle.omf_format.specs.Record.{Record, IsRecord};
-    ghost use Rattle.omf_records.specs.View.{view};
-    ghost use Rattle.link_meaning.specs.Sizes.{size_at};
-    ghost use Rattle.orca_object.specs.BodyView.{ShowsBody};
-
-    /// No records.
-    #[tactic(auto, using(crate::proofs::Bodies::no_records))]
-    pub(crate) fn new(alloc: Global) -> Body
-        ensures body { ShowsBody [] result }
-        ensures cells { result.cells ≡ 0 }
-    {
-        Body {
-            text: Text::new(alloc),
-            cells: 0,
-        }
-    }
-
-    /// One more record, which gives so many cells.
-    #[tactic(auto, using(crate::proofs::Bodies::one_more))]
-    pub(crate) fn put(&mut self, rec: &Rec, size: u64) -> Result<(), AllocError>
-        requires record { IsRecord written_layout (view rec.now) }
-        requires size { size ≡ size_at self.old.cells (view rec.now) }
-        requires room { self.old.cells + size < 2 ^ 64 }
-        ensures body { OnOk result ((records : List Record) → ShowsBody records self.old → ShowsBody (records ++ view rec.now ∷ []) self.new) }
-        ensures cells { OnOk result (self.new.cells ≡ self.old.cells + size) }
-    {
-        self.text.put(rec)?;
-        self.cells += size;
-        Ok(())
     }
 }

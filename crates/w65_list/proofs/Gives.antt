@@ -9,11 +9,11 @@ use Rattle.link_meaning.specs.laws.TreeInLaws.{tree_in-again}
 use Rattle.list_meaning.specs.Listed.{Said, Wanted}
 use Rattle.list_meaning.specs.Listing as listing
 use Rattle.list_meaning.specs.Listing.{Given, are_short, if_short, then_said, flushed, split_last, behind_byte, is_held, held_back, apart, weak_of, simple_of, number_of, formula_given, formula_listable, expr_listable, term_listable, term_may_stand, is_open, is_some_name, is_some_wanted, follows_opcode, equate_given, on_tree, given_by}
-use Rattle.w65_list.specs.declared.output.Output.{Output}
+use Rattle.list_lines.specs.declared.output.Output.{Output}
 use Rattle.w65_list.specs.declared.records.Before.{Before}
 use Rattle.w65_list.specs.Giving.{Gave, IsGiven, held_by, held_with, equate_by}
-use Rattle.w65_list.specs.LineView.{Wrote, WroteAll}
-use Rattle.w65_list.proofs.Written.{wrote_one, wrote_both}
+use Rattle.list_lines.specs.LineView.{Wrote, WroteAll}
+use Rattle.list_lines.proofs.Written.{wrote_one, wrote_both}
 
 -- ---- the last byte of a run
 

@@ -5,7 +5,7 @@ use Rattle.std.specs.List.{flat_map}
 use Rattle.std.proofs.lemmas.Bool.{le-leb, lt-leb, leb-false, ltb-true, ltb-false}
 use Rattle.std.proofs.lemmas.List.Concat.{flat_map-cons, flat_map-append}
 use Rattle.list_meaning.specs.Listed.{Said, said_text, line_text, listing_text}
-use Rattle.w65_list.specs.Kept.{Kept, so_far, with_line, with_lines}
+use Rattle.list_lines.specs.Kept.{Kept, so_far, with_line, with_lines}
 
 same_test : (a b : ℕ) → ltb a b ≡ leb (a + 1) b
 same_test a b = by (ltb a b) refl

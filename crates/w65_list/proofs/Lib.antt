@@ -1,11 +1,5 @@
-pub mod Ended
-pub mod Written
-pub mod Formulas
 pub mod KeptLaws
 pub mod Gives
-pub mod NameLaws
-pub mod TermLaws
-pub mod PartLaws
 pub mod RecordRuns
 pub mod FrontLaws
 pub mod SourceLaws

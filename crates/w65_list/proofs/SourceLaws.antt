@@ -19,23 +19,23 @@ use Rattle.list_meaning.specs.declared.faults.ListFault.{ListFault}
 use Rattle.list_meaning.specs.Answer.{IsListing, IsListFault, OutOfMemory, InFile, InSegment, InSize, cause_of}
 use Rattle.list_meaning.specs.Listed.{Said, listing_text}
 use Rattle.list_meaning.specs.Listing.{Before, Given, is_among, equate_name, equates_of, given_by, or_record, said_from, at_front, front_of, has_listable_header, is_short, listing_of, in_segment, listing_from, is_small}
-use Rattle.w65_list.specs.declared.names.Names.{Names}
-use Rattle.w65_list.specs.declared.output.Output.{Output}
+use Rattle.list_lines.specs.declared.names.Names.{Names}
+use Rattle.list_lines.specs.declared.output.Output.{Output}
 use Rattle.w65_list.specs.declared.records.Before as kept_before
 use Rattle.w65_list.specs.declared.source.Refusal.{Refusal}
 use Rattle.w65_list.specs.declared.source.Refusal.TheVariants as refusals
-use Rattle.w65_list.specs.declared.stop.Stop.{Stop}
-use Rattle.w65_list.specs.declared.stop.Stop.TheVariants as stops
+use Rattle.list_lines.specs.declared.stop.Stop.{Stop}
+use Rattle.list_lines.specs.declared.stop.Stop.TheVariants as stops
 use Rattle.w65_list.specs.BeforeView.{IsBefore}
 use Rattle.w65_list.specs.Giving.{IsGiven, HasExpression}
-use Rattle.w65_list.specs.Kept.{with_lines}
-use Rattle.w65_list.specs.LineView.{WroteAll}
-use Rattle.w65_list.specs.NamesView.{AreNames}
-use Rattle.w65_list.specs.OutputView.{kept, open_line}
+use Rattle.list_lines.specs.Kept.{with_lines}
+use Rattle.list_lines.specs.LineView.{WroteAll}
+use Rattle.list_lines.specs.NamesView.{AreNames}
+use Rattle.list_lines.specs.OutputView.{kept, open_line}
 use Rattle.w65_list.specs.SourceView.{WroteRecords, WroteSegment, WroteFile, equates_in, IsStop, IsRefusal, IsSegmentFault, IsTold, EquatesOn, RecordsOn, SegmentsOn}
 use Rattle.w65_list.proofs.KeptLaws.{kept_all}
 use Rattle.w65_list.proofs.RecordRuns.{rest_of, layout_same}
-use Rattle.w65_list.proofs.Written.{wrote_both, with_lines-append}
+use Rattle.list_lines.proofs.Written.{wrote_both, with_lines-append}
 
 -- ---- equates
 

@@ -2,8 +2,8 @@
 use Rattle.std.specs.Prelude.{◌≡◌}
 use Rattle.list_meaning.specs.Listing as listing
 use Rattle.w65_list.specs.declared.records.Before.{Before}
-use Rattle.w65_list.specs.LineView.{widths_view}
-use Rattle.w65_list.specs.NamesView.{AreNames}
+use Rattle.list_lines.specs.LineView.{widths_view}
+use Rattle.list_lines.specs.NamesView.{AreNames}
 
 pub record IsBefore (before : Before) (b : listing.Before) : Type 0 where
   pub widths : widths_view before.widths ≡ b.widths

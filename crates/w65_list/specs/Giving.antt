@@ -5,11 +5,11 @@ use Rattle.omf_format.specs.Record.{Record, Equate, Formula}
 use Rattle.list_meaning.specs.Listed.{Wanted}
 use Rattle.list_meaning.specs.Listing as listing
 use Rattle.list_meaning.specs.Listing.{Given, is_held}
-use Rattle.w65_list.specs.declared.output.Output.{Output}
+use Rattle.list_lines.specs.declared.output.Output.{Output}
 use Rattle.w65_list.specs.declared.records.Before.{Before}
 use Rattle.w65_list.specs.declared.records.Formula as declared
 use Rattle.w65_list.specs.BeforeView.{IsBefore}
-use Rattle.w65_list.specs.LineView.{WroteAll}
+use Rattle.list_lines.specs.LineView.{WroteAll}
 
 -- these lines were written, and this is left
 pub record Gave (all : Given) (old new : Output) (after : Before) : Type 0 where

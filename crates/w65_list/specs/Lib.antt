@@ -1,10 +1,4 @@
-pub mod OutputView
-pub mod Kept
-pub mod LineView
-pub mod RunView
-pub mod NamesView
 pub mod BeforeView
-pub mod FormulaView
 pub mod Giving
 pub mod FrontView
 pub mod SourceView

@@ -10,18 +10,18 @@ use Rattle.list_meaning.specs.declared.faults.ListCause.TheVariants.{NotListable
 use Rattle.list_meaning.specs.declared.faults.ListFault.{ListFault}
 use Rattle.list_meaning.specs.Listed.{Said}
 use Rattle.list_meaning.specs.Listing.{Before, equate_name, said_from, listing_of, listing_from}
-use Rattle.w65_list.specs.declared.names.Names.{Names}
-use Rattle.w65_list.specs.declared.output.Output.{Output}
+use Rattle.list_lines.specs.declared.names.Names.{Names}
+use Rattle.list_lines.specs.declared.output.Output.{Output}
 use Rattle.w65_list.specs.declared.records.Before as kept_before
 use Rattle.w65_list.specs.declared.source.Refusal.{Refusal}
 use Rattle.w65_list.specs.declared.source.Refusal.TheVariants as refusals
-use Rattle.w65_list.specs.declared.stop.Stop.{Stop}
-use Rattle.w65_list.specs.declared.stop.Stop.TheVariants as stops
+use Rattle.list_lines.specs.declared.stop.Stop.{Stop}
+use Rattle.list_lines.specs.declared.stop.Stop.TheVariants as stops
 use Rattle.w65_list.specs.BeforeView.{IsBefore}
-use Rattle.w65_list.specs.Kept.{with_lines}
-use Rattle.w65_list.specs.LineView.{WroteAll}
-use Rattle.w65_list.specs.NamesView.{AreNames}
-use Rattle.w65_list.specs.OutputView.{kept, open_line}
+use Rattle.list_lines.specs.Kept.{with_lines}
+use Rattle.list_lines.specs.LineView.{WroteAll}
+use Rattle.list_lines.specs.NamesView.{AreNames}
+use Rattle.list_lines.specs.OutputView.{kept, open_line}
 
 -- the lines of these records were written
 pub record WroteRecords (f : Fields) (equates : List (List ℕ)) (b : Before) (founds : List (ℕ × Record)) (old new : Output) : Type 0 where

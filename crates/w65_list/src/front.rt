@@ -12,15 +12,13 @@ ghost use Rattle.asm_meaning.specs.declared.directives.Switch.TheVariants.{LongA
 ghost use Rattle.list_meaning.specs.Listed.{NextAlign, NextOrg, Begins, Kinds, Turns};
 ghost use Rattle.list_meaning.specs.Listing.{greatest_length, is_lost, has_lost_place, has_listable_header, unpadded, is_listable_load_name, unless_zero, front_of, is_short, is_listable};
 ghost use Rattle.w65_list.specs.FrontView.{can_align, has_listable_fields, has_listable_length, HaveCells, AreOver};
-ghost use Rattle.w65_list.specs.LineView.{WroteAll};
-ghost use Rattle.w65_list.specs.OutputView.{open_line};
+ghost use Rattle.list_lines.specs.LineView.{WroteAll};
+ghost use Rattle.list_lines.specs.OutputView.{open_line};
 
-use crate::formula::first_bytes;
-use crate::lines::{begins, kinds, next_align, next_org, turns};
-use crate::names::is_listable;
-use crate::output::Output;
-use crate::stop::Stop;
 use asm_meaning::Switch;
+use list_lines::{
+    Output, Stop, begins, first_bytes, is_listable, kinds, next_align, next_org, turns,
+};
 use omf_base::padding;
 use omf_header::Header;
 use omf_records::{Rec, Records, SegmentView};
@@ -193,7 +191,7 @@ fn has_listable_fields(header: &Header) -> bool
 }
 
 /// The lines before START.
-#[tactic(auto, using(crate::proofs::Written::wrote_one, crate::proofs::Written::wrote_none, crate::proofs::Written::wrote_both, crate::proofs::Written::long_one, crate::proofs::Written::long_first, crate::proofs::Written::long_second))]
+#[tactic(auto, using(list_lines::proofs::Written::wrote_one, list_lines::proofs::Written::wrote_none, list_lines::proofs::Written::wrote_both, list_lines::proofs::Written::long_one, list_lines::proofs::Written::long_first, list_lines::proofs::Written::long_second))]
 fn put_align(out: &mut Output, align: u32) -> Result<(), Stop>
     requires { open_line out.old ≡ [] }
     ensures wrote { OnOk result (WroteAll (unless_zero NextAlign align) out.old out.new) }
@@ -206,7 +204,7 @@ fn put_align(out: &mut Output, align: u32) -> Result<(), Stop>
 }
 
 /// The lines before START.
-#[tactic(auto, using(crate::proofs::Written::wrote_one, crate::proofs::Written::wrote_none, crate::proofs::Written::wrote_both, crate::proofs::Written::long_one, crate::proofs::Written::long_first, crate::proofs::Written::long_second))]
+#[tactic(auto, using(list_lines::proofs::Written::wrote_one, list_lines::proofs::Written::wrote_none, list_lines::proofs::Written::wrote_both, list_lines::proofs::Written::long_one, list_lines::proofs::Written::long_first, list_lines::proofs::Written::long_second))]
 fn put_org(out: &mut Output, org: u32) -> Result<(), Stop>
     requires { open_line out.old ≡ [] }
     ensures wrote { OnOk result (WroteAll (unless_zero NextOrg org) out.old out.new) }
@@ -219,7 +217,7 @@ fn put_org(out: &mut Output, org: u32) -> Result<(), Stop>
 }
 
 /// START or DATA, and KIND.
-#[tactic(auto, using(crate::proofs::Written::wrote_two, crate::proofs::Written::long_front, crate::proofs::Written::long_behind))]
+#[tactic(auto, using(list_lines::proofs::Written::wrote_two, list_lines::proofs::Written::long_front, list_lines::proofs::Written::long_behind))]
 fn put_begin(out: &mut Output, header: &Header) -> Result<(), Stop>
     requires { open_line out.old ≡ [] }
     ensures wrote { OnOk result (WroteAll (Begins (header.now.bank_size == 0) header.now.name (unpadded header.now.load_name) ∷ Kinds header.now.kind.bits ∷ []) out.old out.new) }
@@ -235,7 +233,7 @@ fn put_begin(out: &mut Output, header: &Header) -> Result<(), Stop>
 }
 
 /// LONGA and LONGI, which are on.
-#[tactic(auto, using(crate::proofs::Written::wrote_two, crate::proofs::Written::long_front, crate::proofs::Written::long_behind))]
+#[tactic(auto, using(list_lines::proofs::Written::wrote_two, list_lines::proofs::Written::long_front, list_lines::proofs::Written::long_behind))]
 fn put_widths(out: &mut Output) -> Result<(), Stop>
     requires { open_line out.old ≡ [] }
     ensures wrote { OnOk result (WroteAll (Turns LongA true ∷ Turns LongI true ∷ []) out.old out.new) }
@@ -246,7 +244,7 @@ fn put_widths(out: &mut Output) -> Result<(), Stop>
 }
 
 /// The lines from START or DATA on.
-#[tactic(auto, using(crate::proofs::Written::wrote_both, crate::proofs::Written::long_first, crate::proofs::Written::long_second))]
+#[tactic(auto, using(list_lines::proofs::Written::wrote_both, list_lines::proofs::Written::long_first, list_lines::proofs::Written::long_second))]
 fn put_open(out: &mut Output, header: &Header) -> Result<(), Stop>
     requires { open_line out.old ≡ [] }
     ensures wrote { OnOk result (WroteAll ((Begins (header.now.bank_size == 0) header.now.name (unpadded header.now.load_name) ∷ Kinds header.now.kind.bits ∷ []) ++ (Turns LongA true ∷ Turns LongI true ∷ [])) out.old out.new) }
@@ -257,7 +255,7 @@ fn put_open(out: &mut Output, header: &Header) -> Result<(), Stop>
 }
 
 /// The lines from ORG on.
-#[tactic(auto, using(crate::proofs::Written::wrote_both, crate::proofs::Written::long_first, crate::proofs::Written::long_second))]
+#[tactic(auto, using(list_lines::proofs::Written::wrote_both, list_lines::proofs::Written::long_first, list_lines::proofs::Written::long_second))]
 fn put_from_org(out: &mut Output, header: &Header) -> Result<(), Stop>
     requires { open_line out.old ≡ [] }
     ensures wrote { OnOk result (WroteAll (unless_zero NextOrg header.now.org ++ ((Begins (header.now.bank_size == 0) header.now.name (unpadded header.now.load_name) ∷ Kinds header.now.kind.bits ∷ []) ++ (Turns LongA true ∷ Turns LongI true ∷ []))) out.old out.new) }
@@ -268,7 +266,7 @@ fn put_from_org(out: &mut Output, header: &Header) -> Result<(), Stop>
 }
 
 /// The lines before those of the records.
-#[tactic(auto, using(crate::proofs::Written::wrote_both, crate::proofs::Written::long_first, crate::proofs::Written::long_second), unfolding(list_meaning::specs::Listing::front_of))]
+#[tactic(auto, using(list_lines::proofs::Written::wrote_both, list_lines::proofs::Written::long_first, list_lines::proofs::Written::long_second), unfolding(list_meaning::specs::Listing::front_of))]
 fn put_lines(out: &mut Output, header: &Header) -> Result<(), Stop>
     requires { open_line out.old ≡ [] }
     ensures wrote { OnOk result (WroteAll (front_of (fields header.now)) out.old out.new) }

@@ -2,16 +2,9 @@
 //! directives"; WDC 65C816 data sheet, addressing modes). Which segments can be listed, and how, is this project's own.
 #![tactic(auto)]
 
-mod formula;
 mod front;
-mod lines;
-mod names;
-mod output;
 mod records;
-mod run;
 mod source;
-mod spellings;
-mod stop;
 
 pub use list_meaning::{ListCause, ListFault};
 pub use source::list_source;

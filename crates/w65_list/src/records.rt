@@ -15,20 +15,17 @@ ghost use Rattle.list_meaning.specs.Listed.{Said, Aligns, Moves, Spaces, Uses, A
 ghost use Rattle.list_meaning.specs.Listing as listing;
 ghost use Rattle.list_meaning.specs.Listing.{Given, is_record, record_by, record_of_opcode, flushed, then_said, with_name, is_among, is_listable, is_short, are_short, if_short, unless_zero, equate_given, number_of, both_long, follows_opcode, is_some_name, is_some_wanted, apart, weak_of, simple_of, split_last, is_held, held_back, formula_listable, formula_given, given_by};
 ghost use Rattle.w65_list.specs.BeforeView.{IsBefore};
-ghost use Rattle.w65_list.specs.FormulaView.{IsFront, simple_four, weak_two};
+ghost use Rattle.list_lines.specs.FormulaView.{IsFront, simple_four, weak_two};
 ghost use Rattle.w65_list.specs.Giving.{Gave, IsGiven, formula_seen, held_by, held_with, equate_by, HasExpression};
-ghost use Rattle.w65_list.specs.LineView.{HasSize, widths_view, operand_view, Wrote, WroteAll};
-ghost use Rattle.w65_list.specs.NamesView.{AreNames};
-ghost use Rattle.w65_list.specs.OutputView.{open_line};
+ghost use Rattle.list_lines.specs.LineView.{HasSize, widths_view, operand_view, Wrote, WroteAll};
+ghost use Rattle.list_lines.specs.NamesView.{AreNames};
+ghost use Rattle.list_lines.specs.OutputView.{open_line};
 
-use crate::formula::{Facts, Front, facts_of, first_bytes, front_of, text_of};
-use crate::lines::{
-    Wanted, aligns, asks, ends, equates, instructs, labels, moves, spaces, sums, uses, weakly,
+use list_lines::{
+    Facts, Front, Names, Output, Stop, Wanted, Widths, aligns, asks, ends, equates, facts_of,
+    first_bytes, front_of, instruction_of, instructs, is_listable, labels, moves, operand_size,
+    put_rest, spaces, sums, text_of, uses, weakly, widths_behind,
 };
-use crate::names::{Names, is_listable};
-use crate::output::Output;
-use crate::run::{Widths, instruction_of, operand_size, put_rest, widths_behind};
-use crate::stop::Stop;
 use omf_expr::Expr;
 use omf_header::Header;
 use omf_records::Rec;
@@ -227,7 +224,7 @@ fn is_formula_listable(
 }
 
 /// The lines of END, with DS for RESSPC.
-#[tactic(auto, using(crate::proofs::Written::wrote_one, crate::proofs::Written::wrote_both, crate::proofs::Written::long_one, crate::proofs::Written::long_first, crate::proofs::Written::long_second))]
+#[tactic(auto, using(list_lines::proofs::Written::wrote_one, list_lines::proofs::Written::wrote_both, list_lines::proofs::Written::long_one, list_lines::proofs::Written::long_first, list_lines::proofs::Written::long_second))]
 fn put_end(out: &mut Output, res_spc: u32) -> Result<(), Stop>
     requires { open_line out.old ≡ [] }
     ensures wrote { OnOk result (WroteAll (unless_zero Spaces res_spc ++ Ends ∷ []) out.old out.new) }

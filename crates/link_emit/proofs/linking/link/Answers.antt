@@ -1,4 +1,5 @@
 use Rattle.std.proofs.Common.{List, sym, subst, arith}
+use Rattle.std.specs.Prelude.{IfOk, IfErr}
 use Rattle.lib_dict.specs.declared.member.Member.{Member}
 use Rattle.link_meaning.specs.declared.form.LinkForm.TheVariants.{Program}
 use Rattle.link_meaning.specs.EmitFaults.{IsLinkedTo}
@@ -14,8 +15,10 @@ link_with-requires-clause-few c =
 pub link_with-requires-clause-paths : goal.link_with-requires-clause-paths
 link_with-requires-clause-paths c = subst (λ (ms : List Member). HavePaths (given_of c.args.inputs.now.items ms Program)) (sym c.new-none.ensures.items) (tt, omega arith)
 
-pub returns-in-Ok-clause-linked : goal.returns-in-Ok-clause-linked
-returns-in-Ok-clause-linked c = subst (λ (ms : List Member). IsLinkedTo (given_of c.args.inputs.now.items ms Program) c.in-Ok.output.items) c.new-none.ensures.items c.in-Ok.ensures.linked
+pub returns-clause-linked : goal.returns-clause-linked
+returns-clause-linked c =
+    subst (λ (ms : List Member). IfOk c.link_with.result (λ output. IsLinkedTo (given_of c.args.inputs.now.items ms Program) output.items)) c.new-none.ensures.items c.link_with.ensures.linked
 
 pub returns-clause-refused : goal.returns-clause-refused
-returns-clause-refused c = subst (λ (ms : List Member). IsLinkRefused (given_of c.args.inputs.now.items ms Program) c.in-Err.fault) c.new-none.ensures.items c.in-Err.ensures.refused
+returns-clause-refused c =
+    subst (λ (ms : List Member). IfErr c.link_with.result (λ fault. IsLinkRefused (given_of c.args.inputs.now.items ms Program) fault)) c.new-none.ensures.items c.link_with.ensures.refused

@@ -1,20 +1,29 @@
 use Rattle.std.proofs.Common.{inl, inr, Ok}
+use Rattle.std.proofs.lemmas.Result.{err_from_is_err_and, IfOk-weaker, IfErr-weaker}
 use Rattle.link_meaning.specs.EmitFaults.{OfResolving, OfEmitting}
 use Rattle.link_meaning.specs.laws.EmitFaultLaws.{link_answers_as_emit}
 use Rattle.link_resolve.specs.Resolved.{given_of}
 use Rattle.link_emit.proofs.linking.link_with.Goals as goal
 
-pub returns-in-Err-clause-refused : goal.returns-in-Err-clause-refused
-returns-in-Err-clause-refused c = elim c.in-Err.ensures.refused [
-  | inl memory ↦ inl memory
-  | inr first ↦ inr (OfResolving first)
-]
+pub returns-in_err-program-clause-refused : goal.returns-in_err-program-clause-refused
+returns-in_err-program-clause-refused c =
+    let p = err_from_is_err_and c.from_residual.result c.from_residual.ensures.1 in
+    rw (p.1, p.2) (elim c.in_err-program.ensures.refused [
+      | inl memory ↦ inl memory
+      | inr first ↦ inr (OfResolving first)
+    ])
 
-pub returns-in-Ok-emitted-clause-linked : goal.returns-in-Ok-emitted-clause-linked
-returns-in-Ok-emitted-clause-linked c = link_answers_as_emit (given_of c.args.inputs.now.items c.args.runtimes.now.items c.args.form) c.in-Ok.program (Ok c.in-Ok-emitted.output.items) c.in-Ok.ensures.resolved c.in-Ok-emitted.ensures.written
+pub returns-clause-linked : goal.returns-clause-linked
+returns-clause-linked c =
+    IfOk-weaker c.emit-emitted.result _ _
+    (λ output is. link_answers_as_emit (given_of c.args.inputs.now.items c.args.runtimes.now.items c.args.form) c.in_ok-program.program (Ok output.items) c.in_ok-program.ensures.resolved is)
+    c.emit-emitted.ensures.written
 
-pub returns-in-Err-emitted-clause-refused : goal.returns-in-Err-emitted-clause-refused
-returns-in-Err-emitted-clause-refused c = elim c.in-Err-emitted.ensures.refused [
-  | inl memory ↦ inl memory
-  | inr first ↦ inr (OfEmitting c.in-Ok.program c.in-Ok.ensures.resolved first)
-]
+pub returns-clause-refused : goal.returns-clause-refused
+returns-clause-refused c =
+    IfErr-weaker c.emit-emitted.result _ _
+    (λ fault refused. elim refused [
+      | inl memory ↦ inl memory
+      | inr first ↦ inr (OfEmitting c.in_ok-program.program c.in_ok-program.ensures.resolved first)
+    ])
+    c.emit-emitted.ensures.refused

@@ -1,4 +1,5 @@
 use Rattle.std.proofs.Common.{◌+◌, ℕ, Vec, Global, Result, Err, map, sym, ap, subst, ◌∙◌, arith}
+use Rattle.std.proofs.lemmas.Result.{err_from_is_err_and}
 use Rattle.link_program.specs.Outside.{all_found}
 use Rattle.link_file.specs.declared.image.ImageFault.{ImageFault}
 use Rattle.link_file.specs.Answers.{IsEmitRefused}
@@ -14,8 +15,10 @@ use Rattle.link_file.proofs.emitting.emit.Goals as goal
 abbrev failed : ImageFault → Result (Vec ℕ Global) ImageFault
 failed fault = Err fault
 
-pub returns-in-Err-clause-refused : goal.returns-in-Err-clause-refused
-returns-in-Err-clause-refused c = refused_ring c.args.program.now c.in-Err.fault c.in-Err.ensures.refused
+pub returns-in_err-slots-clause-refused : goal.returns-in_err-slots-clause-refused
+returns-in_err-slots-clause-refused c =
+    let p = err_from_is_err_and c.from_residual.result c.from_residual.ensures.1 in
+    rw (p.1, p.2) (refused_ring c.args.program.now c.in_err-slots.field-0.0 c.in_err-slots.ensures.refused)
 
 pub overflow_cast-whole : goal.overflow_cast-whole
 overflow_cast-whole c = omega (arith, few_of c.args.program.now c.know_files.ensures, headers_size c.args.program.now c.load_headers-headers.result.now c.load_headers-headers.ensures)
@@ -26,29 +29,29 @@ overflow_add-whole c = omega (arith, few_of c.args.program.now c.know_files.ensu
 pub fill-requires-clause-whole : goal.fill-requires-clause-whole
 fill-requires-clause-whole c =
     let list = c.args.program.now in
-    let values = subst (AreValues list) (sym c.as_slice.ensures.value) c.in-Ok.ensures.valued in
+    let values = subst (AreValues list) (sym c.as_slice.ensures.value) c.in_ok-slots.ensures.valued in
     record {
       files = c.know_files.ensures;
       known = values.known;
-      loads' = c.as_slice-2.ensures.value ∙ c.in-Ok-loads_of.ensures ∙ ap (map told_load) c.load_headers-headers.ensures;
+      loads' = c.as_slice-2.ensures.value ∙ c.in-Ok.ensures ∙ ap (map told_load) c.load_headers-headers.ensures;
       table' = ap (λ (n : ℕ). n + 1) (headers_size list c.load_headers-headers.result.now c.load_headers-headers.ensures);
     }
 
 pub exports_text-requires : goal.exports_text-requires
 exports_text-requires c =
     let list = c.args.program.now in
-    let values = subst (AreValues list) (sym c.as_slice.ensures.value) c.in-Ok.ensures.valued in
+    let values = subst (AreValues list) (sym c.as_slice.ensures.value) c.in_ok-slots.ensures.valued in
     record {
       files = c.know_files.ensures;
       known = values.known;
-      loads' = c.as_slice-2.ensures.value ∙ c.in-Ok-loads_of.ensures ∙ ap (map told_load) c.load_headers-headers.ensures;
+      loads' = c.as_slice-2.ensures.value ∙ c.in-Ok.ensures ∙ ap (map told_load) c.load_headers-headers.ensures;
       table' = ap (λ (n : ℕ). n + 1) (headers_size list c.load_headers-headers.result.now c.load_headers-headers.ensures);
     }
 
 pub returns-in-Err-fill-clause-refused : goal.returns-in-Err-fill-clause-refused
 returns-in-Err-fill-clause-refused c =
     let list = c.args.program.now in
-    let values = subst (AreValues list) (sym c.as_slice.ensures.value) c.in-Ok.ensures.valued in
+    let values = subst (AreValues list) (sym c.as_slice.ensures.value) c.in_ok-slots.ensures.valued in
     refused_value list (rows_of (all_found list) c.as_slice.result.now) values.table c.in-Err-fill.fault c.in-Err-fill.ensures.err
 
 pub write_linked-requires-clause-ready : goal.write_linked-requires-clause-ready
@@ -56,7 +59,7 @@ write_linked-requires-clause-ready c =
     let list = c.args.program.now in
     let told = rows_of (all_found list) c.as_slice.result.now in
     let headers = c.load_headers-headers.result.now in
-    let values = subst (AreValues list) (sym c.as_slice.ensures.value) c.in-Ok.ensures.valued in
+    let values = subst (AreValues list) (sym c.as_slice.ensures.value) c.in_ok-slots.ensures.valued in
     let filled = c.in-Ok-fill.ensures.ok in
     let loads : AreLoads list told headers c.in-Ok-fill.contents.items = record { headers' = c.load_headers-headers.ensures; contents' = filled.holds } in
     subst (AreReady headers) (sym c.as_slice-3.ensures.value) (loads_ready c.know_files.ensures.given list told headers c.in-Ok-fill.contents.items c.know_files.ensures.bytes c.know_files.ensures.resolved values.table filled.made' loads)
@@ -69,7 +72,7 @@ returns-in-Ok-write_linked-clause-written c =
     let list = c.args.program.now in
     let told = rows_of (all_found list) c.as_slice.result.now in
     let headers = c.load_headers-headers.result.now in
-    let values = subst (AreValues list) (sym c.as_slice.ensures.value) c.in-Ok.ensures.valued in
+    let values = subst (AreValues list) (sym c.as_slice.ensures.value) c.in_ok-slots.ensures.valued in
     let filled = c.in-Ok-fill.ensures.ok in
     let loads : AreLoads list told headers c.as_slice-3.result.now =
     subst (AreLoads list told headers) (sym c.as_slice-3.ensures.value) (record { headers' = c.load_headers-headers.ensures; contents' = filled.holds }) in
@@ -81,7 +84,7 @@ returns-in-Err-TooLong-clause-refused c =
     let list = c.args.program.now in
     let told = rows_of (all_found list) c.as_slice.result.now in
     let headers = c.load_headers-headers.result.now in
-    let values = subst (AreValues list) (sym c.as_slice.ensures.value) c.in-Ok.ensures.valued in
+    let values = subst (AreValues list) (sym c.as_slice.ensures.value) c.in_ok-slots.ensures.valued in
     let filled = c.in-Ok-fill.ensures.ok in
     let loads : AreLoads list told headers c.as_slice-3.result.now =
     subst (AreLoads list told headers) (sym c.as_slice-3.ensures.value) (record { headers' = c.load_headers-headers.ensures; contents' = filled.holds }) in

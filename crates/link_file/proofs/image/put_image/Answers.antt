@@ -1,4 +1,5 @@
 use Rattle.std.proofs.Common.{◌≡◌, ◌+◌, ◌-◌, ◌++◌, ◌∙◌, ℕ, List, refl, ap, length, map, arith}
+use Rattle.std.proofs.lemmas.Result.{err_from_is_err_and}
 use Rattle.omf_format.specs.Header.{header_bytes}
 use Rattle.omf_format.specs.laws.WrittenHeaderLaws.{length-header}
 use Rattle.omf_header.specs.View.{fields}
@@ -16,26 +17,28 @@ put_behind-requires-clause-room c = omega (arith, ap length c.as_slice-start.ens
 pub front_of-requires : goal.front_of-requires
 front_of-requires c =
     let content = c.args.content.now in
-    space_writable (fields c.args.header.now) c.in-Ok.zeros c.requires.writable (omega (arith, c.in-Ok.ensures.zeros, zeros_fit content.bytes (map seen content.patches) c.requires.patches', c.requires.length'))
+    space_writable (fields c.args.header.now) c.in_ok-zeros.zeros c.requires.writable (omega (arith, c.in_ok-zeros.ensures.zeros, zeros_fit content.bytes (map seen content.patches) c.requires.patches', c.requires.length'))
 
-pub returns-in-Err-front_of-clause-too_long : goal.returns-in-Err-front_of-clause-too_long
-returns-in-Err-front_of-clause-too_long c = λ e records same.
+pub returns-in_err-front-clause-too_long : goal.returns-in_err-front-clause-too_long
+returns-in_err-front-clause-too_long c =
+    let p = err_from_is_err_and c.from_residual-in_err-front.result c.from_residual-in_err-front.ensures.1 in
+    rw (p.1, p.2) (λ e records same.
     let content = c.args.content.now in
     let patches = map seen content.patches in
     let f = fields c.args.header.now in
     let text = body_text f.seg_num content.bytes patches in
     let body = text ++ c.args.exports.now in
     let size : length (image_text (image_in f content records)) ≡ 0x37 + length f.name + (length body + 1) = text_size f content.bytes patches records body c.know_size.ensures (ap (λ (l : List ℕ). text ++ l) same) in
-    let behind = behind_size c.args.out.now.items body c.put_behind.new.out.items c.as_slice-start.result.now c.as_slice.result.now c.head_size-room.result c.as_slice-start.ensures.value c.as_slice.ensures.value c.in-Ok.ensures.bytes in
-    omega (arith, size, behind, c.in-Err-front_of.ensures.too_long (err_moved _ _ e))
+    let behind = behind_size c.args.out.now.items body c.put_behind.new.out.items c.as_slice-start.result.now c.as_slice.result.now c.head_size-room.result c.as_slice-start.ensures.value c.as_slice.ensures.value c.in_ok-zeros.ensures.bytes in
+    omega (arith, size, behind, c.in_err-front.ensures.too_long (err_moved _ _ e)))
 
 pub close-requires : goal.close-requires
 close-requires c =
     let content = c.args.content.now in
     let f = fields c.args.header.now in
     let body = body_text f.seg_num content.bytes (map seen content.patches) ++ c.args.exports.now in
-    let behind = behind_size c.args.out.now.items body c.put_behind.new.out.items c.as_slice-start.result.now c.put_behind.new.out.items c.head_size-room.result c.as_slice-start.ensures.value refl c.in-Ok.ensures.bytes in
-    let front = ap length (c.as_slice-2.ensures.value ∙ c.in-Ok-front_of.ensures.ok) ∙ length-header (with_space f c.in-Ok.zeros) _ c.know_size.ensures in
+    let behind = behind_size c.args.out.now.items body c.put_behind.new.out.items c.as_slice-start.result.now c.put_behind.new.out.items c.head_size-room.result c.as_slice-start.ensures.value refl c.in_ok-zeros.ensures.bytes in
+    let front = ap length (c.as_slice-2.ensures.value ∙ c.in_ok-front.ensures.ok) ∙ length-header (with_space f c.in_ok-zeros.zeros) _ c.know_size.ensures in
     omega (arith, behind, front, c.head_size-room.ensures.value)
 
 pub returns-clause-ok : goal.returns-clause-ok
@@ -46,17 +49,17 @@ returns-clause-ok c =
     let text = body_text f.seg_num content.bytes patches in
     let body = text ++ c.args.exports.now in
     let zeros = zeros_behind (written_cells content.bytes patches) in
-    let behind = behind_size c.args.out.now.items body c.put_behind.new.out.items c.as_slice-start.result.now c.as_slice.result.now c.head_size-room.result c.as_slice-start.ensures.value c.as_slice.ensures.value c.in-Ok.ensures.bytes in
-    let told = c.as_slice-2.ensures.value ∙ c.in-Ok-front_of.ensures.ok in
-    let size = ap length told ∙ length-header (with_space f c.in-Ok.zeros) _ c.know_size.ensures in
+    let behind = behind_size c.args.out.now.items body c.put_behind.new.out.items c.as_slice-start.result.now c.as_slice.result.now c.head_size-room.result c.as_slice-start.ensures.value c.as_slice.ensures.value c.in_ok-zeros.ensures.bytes in
+    let told = c.as_slice-2.ensures.value ∙ c.in_ok-front.ensures.ok in
+    let size = ap length told ∙ length-header (with_space f c.in_ok-zeros.zeros) _ c.know_size.ensures in
     let room : length c.as_slice-2.result.now ≡ c.head_size-room.result = omega (arith, size, c.head_size-room.ensures.value) in
     let same : length c.as_slice.result.now - length c.as_slice-start.result.now - c.head_size-room.result ≡ length body = omega (arith, behind) in
     let front : c.as_slice-2.result.now ≡ header_bytes (with_space f zeros) (length body + 1) =
-    told ∙ ap (λ (z : ℕ). header_bytes (with_space f z) (length c.as_slice.result.now - length c.as_slice-start.result.now - c.head_size-room.result + 1)) c.in-Ok.ensures.zeros
+    told ∙ ap (λ (z : ℕ). header_bytes (with_space f z) (length c.as_slice.result.now - length c.as_slice-start.result.now - c.head_size-room.result + 1)) c.in_ok-zeros.ensures.zeros
     ∙ ap (λ (k : ℕ). header_bytes (with_space f zeros) (k + 1)) same in
     on_ok c.close.result _ _
     (λ closes records spells.
-    closed c.args.out.now.items c.as_slice-2.result.now body c.put_behind.new.out.items c.as_slice-start.result.now c.close.new.out.items c.head_size-room.result c.as_slice-start.ensures.value c.in-Ok.ensures.bytes room closes
+    closed c.args.out.now.items c.as_slice-2.result.now body c.put_behind.new.out.items c.as_slice-start.result.now c.close.new.out.items c.head_size-room.result c.as_slice-start.ensures.value c.in_ok-zeros.ensures.bytes room closes
     ∙ ap (λ (l : List ℕ). c.args.out.now.items ++ l) (text_is f content.bytes patches records c.as_slice-2.result.now body (ap (λ (l : List ℕ). text ++ l) spells) front))
     c.close.ensures.ok
 
@@ -68,5 +71,5 @@ returns-clause-too_long c = λ e records same.
     let text = body_text f.seg_num content.bytes patches in
     let body = text ++ c.args.exports.now in
     let size : length (image_text (image_in f content records)) ≡ 0x37 + length f.name + (length body + 1) = text_size f content.bytes patches records body c.know_size.ensures (ap (λ (l : List ℕ). text ++ l) same) in
-    let behind = behind_size c.args.out.now.items body c.put_behind.new.out.items c.as_slice-start.result.now c.put_behind.new.out.items c.head_size-room.result c.as_slice-start.ensures.value refl c.in-Ok.ensures.bytes in
+    let behind = behind_size c.args.out.now.items body c.put_behind.new.out.items c.as_slice-start.result.now c.put_behind.new.out.items c.head_size-room.result c.as_slice-start.ensures.value refl c.in_ok-zeros.ensures.bytes in
     omega (arith, size, behind, ap length c.as_slice-start.ensures.value, c.head_size-room.ensures.value, c.close.ensures.too_long e)

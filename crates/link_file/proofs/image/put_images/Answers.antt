@@ -1,4 +1,5 @@
 use Rattle.std.proofs.Common.{◌+◌, ◌++◌, List, drop, refl, sym, ap, ◌∙◌, arith}
+use Rattle.std.proofs.lemmas.Result.{err_from_is_err_and}
 use Rattle.omf_format.specs.Record.{Record}
 use Rattle.std.proofs.lemmas.List.{length-append}
 use Rattle.load_meaning.specs.WrittenFile.{file_text}
@@ -25,8 +26,10 @@ loads-init c = record {
   left = c.requires;
 }
 
-pub returns-in-Err-clause-too_long : goal.returns-in-Err-clause-too_long
-returns-in-Err-clause-too_long c = λ e records same.
+pub returns-in_err-put_image-clause-too_long : goal.returns-in_err-put_image-clause-too_long
+returns-in_err-put_image-clause-too_long c =
+    let p = err_from_is_err_and c.from_residual.result c.from_residual.ensures.1 in
+    rw (p.1, p.2) (λ e records same.
     let k = c.loads.place in
     let headers = c.args.headers.now in
     let contents = c.args.contents.now in
@@ -34,8 +37,8 @@ returns-in-Err-clause-too_long c = λ e records same.
     let text = file_text (images_in records headers contents) in
     let long = long_image left c.loads.out.items (c.args.out.now.items ++ text) 0x1000000 (drop k headers) (drop (k + 1) headers) (drop k contents) (drop (k + 1) contents)
     c.in-Some.header.now c.in-Some-content_at.content.now (drop_next headers k c.in-Some.header.now c.in-Some.ensures) (drop_next contents k c.in-Some-content_at.content.now c.in-Some-content_at.ensures)
-    (c.loads.invariant.whole records same) (c.in-Err.ensures.too_long e left (c.loads.invariant.own records same)) in
-    omega (arith, long, length-append c.args.out.now.items text)
+    (c.loads.invariant.whole records same) (c.in_err-put_image.ensures.too_long e left (c.loads.invariant.own records same)) in
+    omega (arith, long, length-append c.args.out.now.items text))
 
 pub loads-preserved : goal.loads-preserved
 loads-preserved c =
@@ -50,8 +53,8 @@ loads-preserved c =
           let left = left_from k records in
           ap (λ (l : List Record). c.put_image.new.out.items ++ file_text (images_in l (drop (k + 1) headers) (drop (k + 1) contents))) (none_behind k records)
           ∙ one_image left c.loads.out.items c.put_image.new.out.items (c.args.out.now.items ++ file_text (images_in records headers contents)) (drop k headers) (drop (k + 1) headers)
-          (drop k contents) (drop (k + 1) contents) c.in-Some.header.now c.in-Some-content_at.content.now hs cs (c.in-Ok.ensures.ok left (c.loads.invariant.own records same)) (c.loads.invariant.whole records same);
-      short = λ _. c.in-Ok.ensures.short;
+          (drop k contents) (drop (k + 1) contents) c.in-Some.header.now c.in-Some-content_at.content.now hs cs (c.in_ok-put_image.ensures.ok left (c.loads.invariant.own records same)) (c.loads.invariant.whole records same);
+      short = λ _. c.in_ok-put_image.ensures.short;
       left = (more_ready (drop k headers) (drop (k + 1) headers) (drop k contents) (drop (k + 1) contents) c.in-Some.header.now c.in-Some-content_at.content.now hs cs c.loads.invariant.left).1;
     }
 

@@ -18,7 +18,7 @@ returns-clause-ok c =
     let f = fields c.args.header.now in
     let bytes = c.args.bytes.now in
     on_ok c.put_parts.result _ _
-    (λ more. more ∙ ap (λ (l : List ℕ). c.args.out.now.items ++ l) (whole_text f bytes c.as_slice.result.now c.requires.some (c.as_slice.ensures.value ∙ c.in-Ok.ensures.ok)))
+    (λ more. more ∙ ap (λ (l : List ℕ). c.args.out.now.items ++ l) (whole_text f bytes c.as_slice.result.now c.requires.some (c.as_slice.ensures.value ∙ c.in_ok-front.ensures.ok)))
     c.put_parts.ensures.ok
 
 pub returns-clause-short : goal.returns-clause-short
@@ -30,6 +30,6 @@ returns-clause-short c =
     let size = whole_size f bytes c.requires.some c.know_size.ensures in
     on_ok c.put_parts.result _ _
     (λ more.
-    let whole : c.put_parts.new.out.items ≡ old ++ text = more ∙ ap (λ (l : List ℕ). old ++ l) (whole_text f bytes c.as_slice.result.now c.requires.some (c.as_slice.ensures.value ∙ c.in-Ok.ensures.ok)) in
+    let whole : c.put_parts.new.out.items ≡ old ++ text = more ∙ ap (λ (l : List ℕ). old ++ l) (whole_text f bytes c.as_slice.result.now c.requires.some (c.as_slice.ensures.value ∙ c.in_ok-front.ensures.ok)) in
     omega (arith, ap length whole, length-append old text, size, c.if-start-head_size-ge-MOST_BYTES.false, c.head_size.ensures.value, ap length c.as_slice-start.ensures.value))
     c.put_parts.ensures.ok

@@ -1,21 +1,30 @@
 use Rattle.std.proofs.Common.{inl, inr}
+use Rattle.std.proofs.lemmas.Result.{err_from_is_err_and, IfOk-weaker, IfErr-weaker}
 use Rattle.link_meaning.specs.LinkFaults.{plain}
 use Rattle.link_meaning.specs.EmitFaults.{OfResolving, OfEmitting}
 use Rattle.link_resolve.specs.Resolved.{all_bytes}
 use Rattle.link_map.proofs.MapLaws.{mapped_is}
 use Rattle.link_map.proofs.mapping.map_files.Goals as goal
 
-pub returns-in-Err-clause-refused : goal.returns-in-Err-clause-refused
-returns-in-Err-clause-refused c = elim c.in-Err.ensures.refused [
-  | inl memory ↦ inl memory
-  | inr first ↦ inr (OfResolving first)
-]
+pub returns-in_err-program-clause-refused : goal.returns-in_err-program-clause-refused
+returns-in_err-program-clause-refused c =
+    let p = err_from_is_err_and c.from_residual.result c.from_residual.ensures.1 in
+    rw (p.1, p.2) (elim c.in_err-program.ensures.refused [
+      | inl memory ↦ inl memory
+      | inr first ↦ inr (OfResolving first)
+    ])
 
-pub returns-in-Ok-drawn-clause-mapped : goal.returns-in-Ok-drawn-clause-mapped
-returns-in-Ok-drawn-clause-mapped c = mapped_is (plain (all_bytes c.args.inputs.now.items)) c.in-Ok.program c.in-Ok-drawn.line c.in-Ok.ensures.resolved c.in-Ok-drawn.ensures.drawn
+pub returns-clause-mapped : goal.returns-clause-mapped
+returns-clause-mapped c =
+    IfOk-weaker c.map_program-drawn.result _ _
+    (λ line drawn. mapped_is (plain (all_bytes c.args.inputs.now.items)) c.in_ok-program.program line c.in_ok-program.ensures.resolved drawn)
+    c.map_program-drawn.ensures.drawn
 
-pub returns-in-Err-drawn-clause-refused : goal.returns-in-Err-drawn-clause-refused
-returns-in-Err-drawn-clause-refused c = elim c.in-Err-drawn.ensures.refused [
-  | inl memory ↦ inl memory
-  | inr first ↦ inr (OfEmitting c.in-Ok.program c.in-Ok.ensures.resolved first)
-]
+pub returns-clause-refused : goal.returns-clause-refused
+returns-clause-refused c =
+    IfErr-weaker c.map_program-drawn.result _ _
+    (λ fault refused. elim refused [
+      | inl memory ↦ inl memory
+      | inr first ↦ inr (OfEmitting c.in_ok-program.program c.in_ok-program.ensures.resolved first)
+    ])
+    c.map_program-drawn.ensures.refused

@@ -3,22 +3,22 @@ use Rattle.link_resolve.specs.Resolved.{given_of}
 use Rattle.link_resolve.proofs.resolving.resolve_all.Goals as goal
 
 pub grow_whole-requires : goal.grow_whole-requires
-grow_whole-requires c = (given_of c.args.inputs.now.items c.args.given.now c.args.form, c.requires.few, c.in-Ok.ensures.read)
+grow_whole-requires c = (given_of c.args.inputs.now.items c.args.given.now c.args.form, c.requires.few, c.in_ok-read.ensures.read)
 
 pub finish-requires : goal.finish-requires
 finish-requires c =
     let given = given_of c.args.inputs.now.items c.args.given.now c.args.form in
-    (given, (c.know_bytes.ensures, c.know_members.ensures, c.requires.paths.0, c.requires.paths.1), c.in-Ok-grow_whole.ensures given c.requires.few c.in-Ok.ensures.read)
+    (given, (c.know_bytes.ensures, c.know_members.ensures, c.requires.paths.0, c.requires.paths.1), c.in-Ok.ensures given c.requires.few c.in_ok-read.ensures.read)
 
-pub returns-in-Ok-grow_whole-clause-resolved : goal.returns-in-Ok-grow_whole-clause-resolved
-returns-in-Ok-grow_whole-clause-resolved c =
+pub returns-in-Ok-clause-resolved : goal.returns-in-Ok-clause-resolved
+returns-in-Ok-clause-resolved c =
     let given = given_of c.args.inputs.now.items c.args.given.now c.args.form in
-    c.finish.ensures.resolved given (c.know_bytes.ensures, c.know_members.ensures, c.requires.paths.0, c.requires.paths.1) (c.in-Ok-grow_whole.ensures given c.requires.few c.in-Ok.ensures.read)
+    c.finish.ensures.resolved given (c.know_bytes.ensures, c.know_members.ensures, c.requires.paths.0, c.requires.paths.1) (c.in-Ok.ensures given c.requires.few c.in_ok-read.ensures.read)
 
-pub returns-in-Ok-grow_whole-clause-refused : goal.returns-in-Ok-grow_whole-clause-refused
-returns-in-Ok-grow_whole-clause-refused c =
+pub returns-in-Ok-clause-refused : goal.returns-in-Ok-clause-refused
+returns-in-Ok-clause-refused c =
     let given = given_of c.args.inputs.now.items c.args.given.now c.args.form in
-    c.finish.ensures.refused given (c.in-Ok-grow_whole.ensures given c.requires.few c.in-Ok.ensures.read)
+    c.finish.ensures.refused given (c.in-Ok.ensures given c.requires.few c.in_ok-read.ensures.read)
 
-pub returns-in-Err-grow_whole-clause-refused : goal.returns-in-Err-grow_whole-clause-refused
-returns-in-Err-grow_whole-clause-refused c = inl c.memory_fault.ensures
+pub returns-in-Err-clause-refused : goal.returns-in-Err-clause-refused
+returns-in-Err-clause-refused c = inl c.memory_fault.ensures

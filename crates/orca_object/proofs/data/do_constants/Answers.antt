@@ -3,8 +3,8 @@ use Rattle.orca_object.proofs.MarkLaws.{constants_plain, constants_left}
 use Rattle.orca_object.proofs.After.{then_if}
 use Rattle.orca_object.proofs.data.do_constants.Goals as goal
 
-pub give_statement-requires-clause-plain : goal.give_statement-requires-clause-plain
-give_statement-requires-clause-plain c = constants_plain (constants c.known-known.result) c.args.kept.now.msb c.args.text.bytes.now c.in_ok-given.given c.know_small.ensures c.args.text.short c.in_ok-given.ensures
+pub give_statement-requires : goal.give_statement-requires
+give_statement-requires c = record { plain = constants_plain (constants c.known-known.result) c.args.kept.now.msb c.args.text.bytes.now c.in_ok-given.given c.know_small.ensures c.args.text.short c.in_ok-given.ensures }
 
 pub returns : goal.returns
 returns c =

@@ -4,8 +4,8 @@ use Rattle.orca_object.proofs.Lefts.{using_left, some_named}
 use Rattle.orca_object.proofs.After.{then_if}
 use Rattle.orca_object.proofs.segments.do_using.Goals as goal
 
-pub using-requires-clause-found : goal.using-requires-clause-found
-using-requires-clause-found c = subst IsSome (sym c.in_ok-found.ensures) (some_named c.args.text.bytes.now)
+pub using-requires : goal.using-requires
+using-requires c = record { found = subst IsSome (sym c.in_ok-found.ensures) (some_named c.args.text.bytes.now) }
 
 pub returns : goal.returns
 returns c =

@@ -3,18 +3,18 @@ use Rattle.orca_object.specs.GivenView.{given_answer}
 use Rattle.orca_object.specs.ModeView.{widths}
 use Rattle.orca_object.specs.NamesView.{constants}
 use Rattle.orca_object.proofs.MarkLaws.{instruct_plain}
-use Rattle.orca_object.proofs.Stating.{first_is_fine, second_is_fine, by_instruction, bad_operand, bad_number, shorter}
+use Rattle.orca_object.proofs.Stating.{first_is_fine, second_is_fine, by_instruction, bad_operand, bad_number}
 use Rattle.orca_object.proofs.statement.instruction_given.Goals as goal
 
 pub instruct-requires-clause-first : goal.instruct-requires-clause-first
-instruct-requires-clause-first c = first_is_fine (widths c.args.of) c.args.line.now c.args.mnemonic c.in-Ok.operand c.requires.mnemonic (shorter _ _ c.part-text.ensures c.part-text.result.short) (rw c.in-Ok.is at c.read_operand.ensures.operand)
+instruct-requires-clause-first c = first_is_fine (widths c.args.of) c.args.line.now c.args.mnemonic c.in-Ok.operand c.requires.mnemonic c.know_short.ensures (rw c.in-Ok.is at c.read_operand.ensures.operand)
 
 pub instruct-requires-clause-second : goal.instruct-requires-clause-second
-instruct-requires-clause-second c = second_is_fine (widths c.args.of) c.args.line.now c.args.mnemonic c.in-Ok.operand c.requires.mnemonic (shorter _ _ c.part-text.ensures c.part-text.result.short) (rw c.in-Ok.is at c.read_operand.ensures.operand)
+instruct-requires-clause-second c = second_is_fine (widths c.args.of) c.args.line.now c.args.mnemonic c.in-Ok.operand c.requires.mnemonic c.know_short.ensures (rw c.in-Ok.is at c.read_operand.ensures.operand)
 
 pub returns-in_ok-answer-in-Ok : goal.returns-in_ok-answer-in-Ok
 returns-in_ok-answer-in-Ok c =
-    let short = shorter _ _ c.part-text.ensures c.part-text.result.short in
+    let short = c.know_short.ensures in
     let by = by_instruction (constants c.args.known) (widths c.args.of) c.args.line.now c.args.mnemonic c.in-Ok.operand (given_answer c.in_ok-answer-in-Ok.answer) c.requires.mnemonic short
     (rw c.in-Ok.is at c.read_operand.ensures.operand) c.in_ok-answer-in-Ok.ensures in
     record {

@@ -1,10 +1,9 @@
 use Rattle.std.proofs.Common.{◌-◌}
-use Rattle.orca_object.specs.StateView.{IsShortOption}
 use Rattle.orca_object.proofs.Assembling.{UnderWay}
 use Rattle.orca_object.proofs.step.step_all.Given as goal
 
 abbrev pub invariant-lines : goal.invariant-lines
-invariant-lines l = record { under_way : UnderWay l.lines l.place l.kept; short : IsShortOption l.kept.segment }
+invariant-lines l = UnderWay l.lines l.place l.kept
 
 abbrev pub decreases-lines : goal.decreases-lines
 decreases-lines l = l.count - l.place

@@ -2,9 +2,9 @@ use Rattle.std.proofs.Common.{◌≡◌, Bool, true, false, refl, sym, ap, ◌�
 use Rattle.std.specs.Prelude.{◌&&◌, option_map}
 use Rattle.omf_expr.specs.View.{view}
 use Rattle.list_meaning.specs.Listing.{is_open, term_listable, term_may_stand}
-use Rattle.w65_list.specs.FormulaView.{simple_four, weak_two}
+use Rattle.list_lines.specs.FormulaView.{simple_four, weak_two}
 use Rattle.w65_list.proofs.Gives.{listable_same}
-use Rattle.w65_list.proofs.TermLaws.{all_are, any_is, weak_read, simple_read}
+use Rattle.list_lines.proofs.TermLaws.{all_are, any_is, weak_read, simple_read}
 use Rattle.w65_list.proofs.records.is_formula_listable.Goals as goal
 
 pub returns-then-known : goal.returns-then-known

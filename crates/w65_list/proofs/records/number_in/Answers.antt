@@ -2,7 +2,7 @@ use Rattle.std.proofs.Common.{subst, sym, ◌∙◌}
 use Rattle.std.specs.Prelude.{option_map}
 use Rattle.omf_format.specs.Expression.{Expression, Spells}
 use Rattle.omf_expr.specs.View.{view}
-use Rattle.w65_list.proofs.TermLaws.{number_read}
+use Rattle.list_lines.proofs.TermLaws.{number_read}
 use Rattle.w65_list.proofs.records.number_in.Goals as goal
 
 pub returns : goal.returns

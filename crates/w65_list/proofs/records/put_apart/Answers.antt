@@ -5,8 +5,8 @@ use Rattle.omf_expr.specs.View.{view}
 use Rattle.link_meaning.specs.laws.TreeInLaws.{tree_in-again}
 use Rattle.list_meaning.specs.Listed.{Sums}
 use Rattle.list_meaning.specs.Listing.{apart, is_short}
-use Rattle.w65_list.specs.LineView.{Wrote}
-use Rattle.w65_list.proofs.TermLaws.{weak_read}
+use Rattle.list_lines.specs.LineView.{Wrote}
+use Rattle.list_lines.proofs.TermLaws.{weak_read}
 use Rattle.w65_list.proofs.records.put_apart.Goals as goal
 
 pub returns-in-Some-clause-wrote : goal.returns-in-Some-clause-wrote

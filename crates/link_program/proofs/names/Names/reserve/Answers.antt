@@ -6,5 +6,5 @@ use Rattle.link_program.proofs.names.Names.reserve.Goals as goal
 pub returns : goal.returns
 returns c = λ rows ix.
     let old = c.args.self.now in
-    let new : Names = record { public = c.reserve.new.self; others = old.others } in
-    same_entries rows old new c.reserve.ensures.entries refl ix
+    let new : Names = record { public = c.reserve.new.self; own = old.own; units = old.units } in
+    same_entries rows old new c.reserve.ensures.entries refl refl ix

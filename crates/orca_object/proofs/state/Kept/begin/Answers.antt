@@ -20,7 +20,7 @@ returns c = λ state l shows f n. record {
     class = refl;
     header = header_begun state c.args.class c.args.name c.args.load_name c.kind_of.result c.args.self.now.org c.args.self.now.align c.args.self.now.number c.kind_of.ensures.kind shows.org shows.align shows.number;
     names = c.in_ok-set.ensures ∙ ap (λ (m : Names). with_name c.bytes.result.now None m) c.new-names.ensures ∙ ap (λ (b : List ℕ). with_name b None no_names) c.bytes.ensures.value;
-    body = record { text = ap kept_text c.replace-front.ensures.value ∙ shows.front; cells = sym shows.waiting };
+    body = c.new-2.ensures state.front (ap kept_text c.replace-front.ensures.value ∙ shows.front) shows.waiting;
   };
   number = shows.number;
   object = shows.object;

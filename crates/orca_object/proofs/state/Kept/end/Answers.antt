@@ -10,8 +10,8 @@ use Rattle.orca_object.proofs.state.Kept.end.Goals as goal
 pub returns : goal.returns
 returns c = λ state shows.
     let made = c.header_of-header.result in
-    let done = ended_shows state (marked c.args.label.now 0x4E (End ∷ [])) c.args.self.now.segment c.in-Some.open c.give_record.new.self c.args.self.now.number ((c.from.result + 1) % 0x10000) c.args.self.now.object c.put_segment.new.object
-    made.1 (fields made.0) shows.segment (sym c.replace.ensures.value ∙ c.in-Some.is) c.in_ok-give_record.ensures.segment c.header_of-header.ensures.header c.header_of-header.ensures.text c.in_ok-put_segment.ensures shows.object shows.number
+    let done = ended_shows state (marked c.args.label.now 0x4E (End ∷ [])) c.args.self.now.segment c.in-Some.open c.mark_record.new.self c.args.self.now.number ((c.from.result + 1) % 0x10000) c.args.self.now.object c.put_segment.new.object
+    made.1 (fields made.0) shows.segment (sym c.replace.ensures.value ∙ c.in-Some.is) c.in_ok-mark_record.ensures c.header_of-header.ensures.header c.header_of-header.ensures.text c.in_ok-put_segment.ensures shows.object shows.number
     (ap (λ (k : ℕ). (k + 1) % 0x10000) c.from.ensures) in
     record {
       widths = shows.widths;

@@ -4,11 +4,11 @@ use Rattle.std.proofs.lemmas.Result.{on_ok_weaker}
 use Rattle.omf_expr.specs.View.{view}
 use Rattle.list_meaning.specs.Listed.{Wanted}
 use Rattle.list_meaning.specs.Listing.{Given, are_short, simple_of, split_last}
-use Rattle.w65_list.specs.FormulaView.{simple_four}
+use Rattle.list_lines.specs.FormulaView.{simple_four}
 use Rattle.w65_list.specs.Giving.{Gave, held_by, held_with}
-use Rattle.w65_list.specs.LineView.{operand_view}
+use Rattle.list_lines.specs.LineView.{operand_view}
 use Rattle.w65_list.proofs.Gives.{held_both, held_some, held_is, split_back, formula_beside}
-use Rattle.w65_list.proofs.TermLaws.{simple_read}
+use Rattle.list_lines.proofs.TermLaws.{simple_read}
 use Rattle.w65_list.proofs.records.Before.put_formula.Goals as goal
 
 pub returns-in-Some-clause-gave : goal.returns-in-Some-clause-gave

@@ -3,7 +3,7 @@ use Rattle.std.proofs.lemmas.Result.{on_ok_weaker}
 use Rattle.orca_meaning.specs.Matrix.{Instruction}
 use Rattle.list_meaning.specs.Listed.{Instructs}
 use Rattle.list_meaning.specs.Listing.{flushed, decoded}
-use Rattle.w65_list.specs.LineView.{Wrote, operand_view}
+use Rattle.list_lines.specs.LineView.{Wrote, operand_view}
 use Rattle.w65_list.proofs.Gives.{line_gave}
 use Rattle.w65_list.proofs.records.Before.put_held.Goals as goal
 

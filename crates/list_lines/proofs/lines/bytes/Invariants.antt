@@ -1,0 +1,10 @@
+use Rattle.std.proofs.Common.{◌≡◌, ◌++◌, take}
+use Rattle.std.specs.Prelude.{codes}
+use Rattle.std.specs.List.{flat_map}
+use Rattle.omf_base.specs.Digits.{hexadecimal}
+use Rattle.list_lines.specs.OutputView.{kept, open_line}
+use Rattle.list_lines.proofs.lines.bytes.Given as goal
+
+-- the digits of the bytes so far stand there
+abbrev pub invariant-bytes : goal.invariant-bytes
+invariant-bytes l = (open_line l.out ≡ codes " DC H'" ++ flat_map (hexadecimal 2) (take l.place l.bytes)) × (kept l.out ≡ kept l.fn.out)

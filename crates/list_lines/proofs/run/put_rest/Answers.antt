@@ -1,0 +1,11 @@
+use Rattle.std.proofs.Common.{ℕ, List, sym, subst}
+use Rattle.list_lines.specs.LineView.{widths_view}
+use Rattle.list_lines.specs.RunView.{IsOn}
+use Rattle.list_lines.proofs.Written.{on_step, some_left}
+use Rattle.list_lines.proofs.run.put_rest.Goals as goal
+
+pub instructions-preserved : goal.instructions-preserved
+instructions-preserved c =
+    subst (λ (l : List ℕ). IsOn (widths_view c.args.widths) c.args.run.now c.args.out.now (widths_view c.in_ok-widths.widths) l c.put_instruction.new.out) (sym c.behind-left.ensures)
+    (on_step (widths_view c.args.widths) c.args.run.now c.args.out.now (widths_view c.instructions.widths) (widths_view c.in_ok-widths.widths) c.instructions.left.now c.front_of-front.result.now c.instructions.out c.put_instruction.new.out
+    c.instructions.invariant (some_left c.instructions.left.now c.is_empty.result c.is_empty.ensures c.instructions-test.true) c.front_of-front.ensures.value c.in_ok-widths.ensures.wrote c.in_ok-widths.ensures.widths)

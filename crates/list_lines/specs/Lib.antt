@@ -1,0 +1,6 @@
+pub mod OutputView
+pub mod Kept
+pub mod LineView
+pub mod RunView
+pub mod NamesView
+pub mod FormulaView

@@ -1,0 +1,356 @@
+//! The lines of a listing, each of which is written whole.
+
+ghost use Rattle.std.specs.Prelude.{◌≡◌, ◌++◌, ◌∷◌, ◌≤◌, ◌<◌, ◌*◌, [], codes, false, length, take, OnOk, IsErrOf, if◌then◌else◌};
+ghost use Rattle.omf_base.specs.Digits.{hexadecimal};
+ghost use Rattle.omf_format.specs.Expression.{Tree};
+ghost use Rattle.list_meaning.specs.Listed.{NextAlign, NextOrg, Begins, Kinds, Turns, Spaces, Aligns, Moves, Uses, Asks, Labels, Equates, Instructs, Bytes, Weakly, Sums, Ends, spaced, number_text, wanted_text, operand_text, formula_text, switch_text, on_text};
+ghost use Rattle.list_meaning.specs.Listing.{is_short};
+ghost use Rattle.list_lines.specs.LineView.{Wrote, HasSize, has_no_text, operand_view};
+ghost use Rattle.list_lines.specs.OutputView.{kept, open_line};
+
+use crate::output::Output;
+use crate::spellings::{shape, spelling};
+use crate::stop::Stop;
+use asm_meaning::Switch;
+use omf_base::LineFault;
+use orca_meaning::{Mnemonic, Mode};
+
+/// The operand of an instruction.
+#[derive(Clone, Copy)]
+pub enum Wanted<'a> {
+    /// None.
+    Missing,
+    /// A number of so many bytes, 1 to 3.
+    Number(u32, u32),
+    /// Two banks, the source first.
+    Banks(u8, u8),
+    /// A name.
+    Label(&'a [u8]),
+    /// A name, and a number that is added to it or taken from it.
+    Moved(&'a [u8], bool, u32),
+}
+
+/// Writes a label and an operation.
+fn statement(out: &mut Output, label: &[u8], operation: &str) -> Result<(), LineFault>
+    requires { open_line out.old ≡ [] }
+    ensures line { OnOk result (open_line out.new ≡ label.now ++ (0x20 ∷ operation.now)) }
+    ensures kept { OnOk result (kept out.new ≡ kept out.old) }
+{
+    out.put(label)?;
+    out.word(" ")?;
+    out.word(operation)
+}
+
+/// Writes an operand behind a space, or nothing where there is none.
+fn operand(out: &mut Output, text: &[u8]) -> Result<(), LineFault>
+    ensures line { OnOk result (open_line out.new ≡ open_line out.old ++ spaced text.now) }
+    ensures kept { OnOk result (kept out.new ≡ kept out.old) }
+{
+    if text.is_empty() {
+        return Ok(());
+    }
+    out.word(" ")?;
+    out.put(text)
+}
+
+/// Writes `$` and so many digits.
+fn number(out: &mut Output, n: u32, digits: u32) -> Result<(), LineFault>
+    requires { digits ≤ 8 }
+    ensures line { OnOk result (open_line out.new ≡ open_line out.old ++ number_text digits n) }
+    ensures kept { OnOk result (kept out.new ≡ kept out.old) }
+{
+    out.word("$")?;
+    out.digits(n, digits)
+}
+
+/// ALIGN before START.
+#[tactic(auto, using(crate::proofs::Written::wrote_of, crate::proofs::Written::long_of), unfolding(list_meaning::specs::Listed::said_text))]
+pub fn next_align(out: &mut Output, n: u32) -> Result<(), Stop>
+    requires { open_line out.old ≡ [] }
+    ensures wrote { OnOk result (Wrote (NextAlign n) out.old out.new) }
+    ensures long { IsErrOf result Stop.NotListable → is_short (NextAlign n) ≡ false }
+{
+    statement(out, b"", "ALIGN ")?;
+    number(out, n, 8)?;
+    out.finish()
+}
+
+/// ORG before START.
+#[tactic(auto, using(crate::proofs::Written::wrote_of, crate::proofs::Written::long_of), unfolding(list_meaning::specs::Listed::said_text))]
+pub fn next_org(out: &mut Output, n: u32) -> Result<(), Stop>
+    requires { open_line out.old ≡ [] }
+    ensures wrote { OnOk result (Wrote (NextOrg n) out.old out.new) }
+    ensures long { IsErrOf result Stop.NotListable → is_short (NextOrg n) ≡ false }
+{
+    statement(out, b"", "ORG ")?;
+    number(out, n, 8)?;
+    out.finish()
+}
+
+/// START, or DATA where the segment may cross banks.
+#[tactic(auto, using(crate::proofs::Written::wrote_of, crate::proofs::Written::long_of), unfolding(list_meaning::specs::Listed::said_text))]
+pub fn begins(out: &mut Output, crosses: bool, name: &[u8], load_name: &[u8]) -> Result<(), Stop>
+    requires { open_line out.old ≡ [] }
+    ensures wrote { OnOk result (Wrote (Begins crosses name.now load_name.now) out.old out.new) }
+    ensures long { IsErrOf result Stop.NotListable → is_short (Begins crosses name.now load_name.now) ≡ false }
+{
+    statement(out, name, if crosses { "DATA" } else { "START" })?;
+    operand(out, load_name)?;
+    out.finish()
+}
+
+/// KIND.
+#[tactic(auto, using(crate::proofs::Written::wrote_of, crate::proofs::Written::long_of), unfolding(list_meaning::specs::Listed::said_text))]
+pub fn kinds(out: &mut Output, n: u16) -> Result<(), Stop>
+    requires { open_line out.old ≡ [] }
+    ensures wrote { OnOk result (Wrote (Kinds n) out.old out.new) }
+    ensures long { IsErrOf result Stop.NotListable → is_short (Kinds n) ≡ false }
+{
+    statement(out, b"", "KIND ")?;
+    number(out, u32::from(n), 4)?;
+    out.finish()
+}
+
+/// The operation of a switch.
+fn switch_word(switch: Switch) -> &'static str
+    ensures { result.now ≡ switch_text switch }
+{
+    match switch {
+        Switch::LongA => "LONGA",
+        Switch::LongI => "LONGI",
+        Switch::Msb => "MSB",
+    }
+}
+
+/// LONGA or LONGI.
+#[tactic(auto, using(crate::proofs::Written::wrote_of, crate::proofs::Written::long_of), unfolding(list_meaning::specs::Listed::said_text))]
+pub fn turns(out: &mut Output, switch: Switch, on: bool) -> Result<(), Stop>
+    requires { open_line out.old ≡ [] }
+    ensures wrote { OnOk result (Wrote (Turns switch on) out.old out.new) }
+    ensures long { IsErrOf result Stop.NotListable → is_short (Turns switch on) ≡ false }
+{
+    statement(out, b"", switch_word(switch))?;
+    out.word(if on { " ON" } else { " OFF" })?;
+    out.finish()
+}
+
+/// DS.
+#[tactic(auto, using(crate::proofs::Written::wrote_of, crate::proofs::Written::long_of), unfolding(list_meaning::specs::Listed::said_text))]
+pub fn spaces(out: &mut Output, n: u32) -> Result<(), Stop>
+    requires { open_line out.old ≡ [] }
+    ensures wrote { OnOk result (Wrote (Spaces n) out.old out.new) }
+    ensures long { IsErrOf result Stop.NotListable → is_short (Spaces n) ≡ false }
+{
+    statement(out, b"", "DS ")?;
+    number(out, n, 8)?;
+    out.finish()
+}
+
+/// ALIGN in a segment.
+#[tactic(auto, using(crate::proofs::Written::wrote_of, crate::proofs::Written::long_of), unfolding(list_meaning::specs::Listed::said_text))]
+pub fn aligns(out: &mut Output, n: u32) -> Result<(), Stop>
+    requires { open_line out.old ≡ [] }
+    ensures wrote { OnOk result (Wrote (Aligns n) out.old out.new) }
+    ensures long { IsErrOf result Stop.NotListable → is_short (Aligns n) ≡ false }
+{
+    statement(out, b"", "ALIGN ")?;
+    number(out, n, 8)?;
+    out.finish()
+}
+
+/// ORG in a segment.
+#[tactic(auto, using(crate::proofs::Written::wrote_of, crate::proofs::Written::long_of), unfolding(list_meaning::specs::Listed::said_text))]
+pub fn moves(out: &mut Output, n: u32) -> Result<(), Stop>
+    requires { open_line out.old ≡ [] }
+    ensures wrote { OnOk result (Wrote (Moves n) out.old out.new) }
+    ensures long { IsErrOf result Stop.NotListable → is_short (Moves n) ≡ false }
+{
+    statement(out, b"", "ORG *+")?;
+    number(out, n, 8)?;
+    out.finish()
+}
+
+/// USING.
+#[tactic(auto, using(crate::proofs::Written::wrote_of, crate::proofs::Written::long_of), unfolding(list_meaning::specs::Listed::said_text))]
+pub fn uses(out: &mut Output, name: &[u8]) -> Result<(), Stop>
+    requires { open_line out.old ≡ [] }
+    ensures wrote { OnOk result (Wrote (Uses name.now) out.old out.new) }
+    ensures long { IsErrOf result Stop.NotListable → is_short (Uses name.now) ≡ false }
+{
+    statement(out, b"", "USING")?;
+    operand(out, name)?;
+    out.finish()
+}
+
+/// DC R.
+#[tactic(auto, using(crate::proofs::Written::wrote_of, crate::proofs::Written::long_of), unfolding(list_meaning::specs::Listed::said_text))]
+pub fn asks(out: &mut Output, name: &[u8]) -> Result<(), Stop>
+    requires { open_line out.old ≡ [] }
+    ensures wrote { OnOk result (Wrote (Asks name.now) out.old out.new) }
+    ensures long { IsErrOf result Stop.NotListable → is_short (Asks name.now) ≡ false }
+{
+    statement(out, b"", "DC R'")?;
+    out.put(name)?;
+    out.word("'")?;
+    out.finish()
+}
+
+/// ENTRY or ANOP.
+#[tactic(auto, using(crate::proofs::Written::wrote_of, crate::proofs::Written::long_of), unfolding(list_meaning::specs::Listed::said_text))]
+pub fn labels(out: &mut Output, global: bool, name: &[u8]) -> Result<(), Stop>
+    requires { open_line out.old ≡ [] }
+    ensures wrote { OnOk result (Wrote (Labels global name.now) out.old out.new) }
+    ensures long { IsErrOf result Stop.NotListable → is_short (Labels global name.now) ≡ false }
+{
+    statement(out, name, if global { "ENTRY" } else { "ANOP" })?;
+    out.finish()
+}
+
+/// GEQU or EQU.
+#[tactic(auto, using(crate::proofs::Written::wrote_of, crate::proofs::Written::long_of), unfolding(list_meaning::specs::Listed::said_text))]
+pub fn equates(out: &mut Output, global: bool, name: &[u8], n: u32) -> Result<(), Stop>
+    requires { open_line out.old ≡ [] }
+    ensures wrote { OnOk result (Wrote (Equates global name.now n) out.old out.new) }
+    ensures long { IsErrOf result Stop.NotListable → is_short (Equates global name.now n) ≡ false }
+{
+    statement(out, name, if global { "GEQU " } else { "EQU " })?;
+    number(out, n, 8)?;
+    out.finish()
+}
+
+/// The formula of an operand.
+fn formula(out: &mut Output, wanted: Wanted) -> Result<(), LineFault>
+    requires { HasSize (operand_view wanted) }
+    ensures line { OnOk result (open_line out.new ≡ open_line out.old ++ wanted_text (operand_view wanted.entry)) }
+    ensures kept { OnOk result (kept out.new ≡ kept out.old) }
+{
+    match wanted {
+        Wanted::Missing => Ok(()),
+        Wanted::Number(bytes, n) => number(out, n, 2 * bytes),
+        Wanted::Banks(source, destination) => {
+            number(out, u32::from(source), 2)?;
+            out.word(",")?;
+            number(out, u32::from(destination), 2)
+        }
+        Wanted::Label(name) => out.put(name),
+        Wanted::Moved(name, adds, n) => {
+            out.put(name)?;
+            out.word(if adds { "+" } else { "-" })?;
+            number(out, n, 8)
+        }
+    }
+}
+
+/// Whether an operand has no formula.
+fn is_nothing(wanted: Wanted) -> bool
+    ensures { result ≡ has_no_text (operand_view wanted.entry) }
+{
+    match wanted {
+        Wanted::Missing => true,
+        Wanted::Label(name) => name.is_empty(),
+        Wanted::Number(_, _) | Wanted::Banks(_, _) | Wanted::Moved(_, _, _) => false,
+    }
+}
+
+/// Writes an operand with what stands before and behind its formula.
+fn whole_operand(out: &mut Output, front: &str, wanted: Wanted, back: &str) -> Result<(), LineFault>
+    requires { HasSize (operand_view wanted) }
+    ensures line { OnOk result (open_line out.new ≡ open_line out.old ++ (front.now ++ (wanted_text (operand_view wanted.entry) ++ back.now))) }
+    ensures kept { OnOk result (kept out.new ≡ kept out.old) }
+{
+    out.word(front)?;
+    formula(out, wanted)?;
+    out.word(back)
+}
+
+/// Writes the operand of an instruction behind a space, or nothing where there is none.
+#[tactic(auto, using(crate::proofs::Formulas::spaced_none, crate::proofs::Formulas::spaced_some))]
+fn spaced_operand(
+    out: &mut Output,
+    front: &str,
+    wanted: Wanted,
+    back: &str,
+) -> Result<(), LineFault>
+    requires { HasSize (operand_view wanted) }
+    ensures line { OnOk result (open_line out.new ≡ open_line out.old ++ spaced (front.now ++ (wanted_text (operand_view wanted.entry) ++ back.now))) }
+    ensures kept { OnOk result (kept out.new ≡ kept out.old) }
+{
+    if front.is_empty() && is_nothing(wanted) && back.is_empty() {
+        return Ok(());
+    }
+    out.word(" ")?;
+    whole_operand(out, front, wanted, back)
+}
+
+/// An instruction.
+#[tactic(auto, using(crate::proofs::Written::wrote_of, crate::proofs::Written::long_of), unfolding(list_meaning::specs::Listed::said_text))]
+pub fn instructs(
+    out: &mut Output,
+    mnemonic: Mnemonic,
+    mode: Mode,
+    wanted: Wanted,
+) -> Result<(), Stop>
+    requires line { open_line out.old ≡ [] }
+    requires size { HasSize (operand_view wanted) }
+    ensures wrote { OnOk result (Wrote (Instructs mnemonic mode (operand_view wanted.entry)) out.old out.new) }
+    ensures long { IsErrOf result Stop.NotListable → is_short (Instructs mnemonic mode (operand_view wanted.entry)) ≡ false }
+{
+    statement(out, b"", spelling(mnemonic))?;
+    let (front, back) = shape(mode);
+    spaced_operand(out, front, wanted, back)?;
+    out.finish()
+}
+
+/// DC H.
+#[tactic(auto, using(crate::proofs::Written::wrote_of, crate::proofs::Written::long_of), unfolding(list_meaning::specs::Listed::said_text))]
+pub(crate) fn bytes(out: &mut Output, bytes: &[u8]) -> Result<(), Stop>
+    requires { open_line out.old ≡ [] }
+    ensures wrote { OnOk result (Wrote (Bytes bytes.now) out.old out.new) }
+    ensures long { IsErrOf result Stop.NotListable → is_short (Bytes bytes.now) ≡ false }
+{
+    statement(out, b"", "DC H'")?;
+    'bytes: for place in 0..bytes.len() {
+        out.digits(u32::from(bytes[place]), 2)?;
+    }
+    out.word("'")?;
+    out.finish()
+}
+
+/// DC A with a formula, of which the first 256 bytes are enough.
+#[tactic(auto, using(crate::proofs::Formulas::sum_wrote, crate::proofs::Formulas::sum_long))]
+pub fn sums(out: &mut Output, count: u32, formula: &[u8]) -> Result<(), Stop>
+    requires { open_line out.old ≡ [] }
+    ensures wrote { OnOk result ((tree : Tree) → formula.now ≡ take 256 (formula_text tree) → Wrote (Sums count tree) out.old out.new) }
+    ensures long { IsErrOf result Stop.NotListable → (tree : Tree) → formula.now ≡ take 256 (formula_text tree) → is_short (Sums count tree) ≡ false }
+{
+    statement(out, b"", "DC A")?;
+    out.digits(count, 1)?;
+    out.word("'")?;
+    out.put(formula)?;
+    out.word("'")?;
+    out.finish()
+}
+
+/// DC S.
+#[tactic(auto, using(crate::proofs::Written::wrote_of, crate::proofs::Written::long_of), unfolding(list_meaning::specs::Listed::said_text))]
+pub fn weakly(out: &mut Output, name: &[u8]) -> Result<(), Stop>
+    requires { open_line out.old ≡ [] }
+    ensures wrote { OnOk result (Wrote (Weakly name.now) out.old out.new) }
+    ensures long { IsErrOf result Stop.NotListable → is_short (Weakly name.now) ≡ false }
+{
+    statement(out, b"", "DC S'")?;
+    out.put(name)?;
+    out.word("'")?;
+    out.finish()
+}
+
+/// END.
+#[tactic(auto, using(crate::proofs::Written::wrote_of, crate::proofs::Written::long_of), unfolding(list_meaning::specs::Listed::said_text))]
+pub fn ends(out: &mut Output) -> Result<(), Stop>
+    requires { open_line out.old ≡ [] }
+    ensures wrote { OnOk result (Wrote Ends out.old out.new) }
+    ensures long { IsErrOf result Stop.NotListable → is_short Ends ≡ false }
+{
+    statement(out, b"", "END")?;
+    out.finish()
+}
