@@ -57,10 +57,7 @@ pub fn expand_text(alloc: Global, source: &[u8], macros: &Vec<Vec<u8>>) -> Resul
     ensures expanded { IfOk result (λ text. IsTextOf source.now (texts_of_files macros.now.items) text) }
     ensures refused { IfErr result (λ fault. IsMacroFault source.now (texts_of_files macros.now.items) fault) }
 {
-    let lines = match expand(alloc, source, macros) {
-        Ok(lines) => lines,
-        Err(fault) => return Err(fault),
-    };
+    let lines = expand(alloc, source, macros)?;
     let told = text_of(alloc, &lines);
     drop(lines);
     match told {

@@ -57,27 +57,18 @@ impl CompactBanks {
         ensures made { IfOk result (IsNew banks.now) }
         ensures refused { IfErr result (IsBanksRefusal banks.now) }
     {
-        let plan = match Places::new(alloc, banks) {
-            Ok(places) => places,
-            Err(fault) => return Err(fault),
-        };
-        let trial = match Places::new(alloc, banks) {
-            Ok(places) => places,
-            Err(fault) => return Err(fault),
-        };
+        let plan = Places::new(alloc, banks)?;
+        let trial = Places::new(alloc, banks)?;
         let handles = match Vec::with_capacity(alloc, 4096) {
             Ok(handles) => handles,
             Err(_) => return Err(BanksFault::Memory),
         };
-        match Banks::new(alloc, banks) {
-            Ok(banks) => Ok(CompactBanks {
-                banks,
-                plan,
-                trial,
-                handles,
-            }),
-            Err(fault) => Err(fault),
-        }
+        Ok(CompactBanks {
+            banks: Banks::new(alloc, banks)?,
+            plan,
+            trial,
+            handles,
+        })
     }
 
     /// No two blocks share a byte, and each lies in free memory of the banks.
@@ -267,10 +258,7 @@ impl CompactBanks {
     {
         self.plan.start_from(self.banks.places(), user, fresh);
         self.plan.know_arranged();
-        match plan_all(&mut self.plan, &mut self.trial, user, wants) {
-            Ok(()) => {}
-            Err(fault) => return Err(fault),
-        }
+        plan_all(&mut self.plan, &mut self.trial, user, wants)?;
         release(&mut self.banks, user, fresh);
         place_each(
             &mut self.banks,

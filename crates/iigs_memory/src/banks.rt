@@ -101,14 +101,8 @@ impl Banks {
         ensures made { IfOk result (IsNew banks.now) }
         ensures refused { IfErr result (IsBanksRefusal banks.now) }
     {
-        let places = match Places::new(alloc, banks) {
-            Ok(places) => places,
-            Err(fault) => return Err(fault),
-        };
-        let plan = match Places::new(alloc, banks) {
-            Ok(plan) => plan,
-            Err(fault) => return Err(fault),
-        };
+        let places = Places::new(alloc, banks)?;
+        let plan = Places::new(alloc, banks)?;
         match parts(alloc, places, plan) {
             Ok(banks) => Ok(banks),
             Err(_) => Err(BanksFault::Memory),
@@ -331,10 +325,7 @@ impl Banks {
         ensures err { OnErr result (self.new ≡ self.old) }
     {
         self.places.know_arranged();
-        let put = match self.places.place(want, user, locked, level, movable) {
-            Ok(put) => put,
-            Err(fault) => return Err(fault),
-        };
+        let put = self.places.place(want, user, locked, level, movable)?;
         clear(
             &mut self.bytes,
             self.blank,
@@ -353,10 +344,7 @@ impl Banks {
         ensures err { OnErr result (self.new ≡ self.old) }
     {
         self.places.know_arranged();
-        let at = match self.places.replace(h, want) {
-            Ok(at) => at,
-            Err(fault) => return Err(fault),
-        };
+        let at = self.places.replace(h, want)?;
         clear(
             &mut self.bytes,
             self.blank,
@@ -386,10 +374,7 @@ impl Banks {
         if (self.plan.left() as usize) < wants.len() {
             return Err(PlaceFault::NoHandle);
         }
-        match self.plan.place_all(user, wants, &mut self.made) {
-            Ok(()) => {}
-            Err(fault) => return Err(fault),
-        }
+        self.plan.place_all(user, wants, &mut self.made)?;
         mem::swap(&mut self.places, &mut self.plan);
         clear_all(&self.places, &mut self.bytes, self.blank, wants, &self.made);
         give(&self.made, handles);
@@ -435,11 +420,7 @@ impl Banks {
         ensures err { OnErr result (self.new ≡ self.old) }
     {
         self.places.know_arranged();
-        match self.places.empty(h) {
-            Ok(()) => {}
-            Err(fault) => return Err(fault),
-        }
-        Ok(())
+        self.places.empty(h)
     }
 
     /// Purges the first so many purgeable blocks, whose handles stay.
@@ -457,10 +438,7 @@ impl Banks {
         ensures err { OnErr result (self.new ≡ self.old) }
     {
         self.places.know_arranged();
-        let block = match self.places.shift(h, to) {
-            Ok(block) => block,
-            Err(fault) => return Err(fault),
-        };
+        let block = self.places.shift(h, to)?;
         let Some(at) = block.at else {
             unreachable!();
         };

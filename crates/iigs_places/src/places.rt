@@ -103,10 +103,7 @@ impl Places {
         ensures distinct { OnOk result (AreDistinctTo (length banks.now) banks.now) }
         ensures refused { IfErr result (IsBanksRefusal banks.now) }
     {
-        let map = match BankMap::new(alloc, banks) {
-            Ok(map) => map,
-            Err(fault) => return Err(fault),
-        };
+        let map = BankMap::new(alloc, banks)?;
         match parts(alloc, map) {
             Ok(places) => Ok(places),
             Err(_) => Err(BanksFault::Memory),

@@ -1,6 +1,5 @@
 pub mod OutputView
 pub mod Kept
 pub mod LineView
-pub mod RunView
 pub mod NamesView
 pub mod FormulaView

@@ -1,15 +1,12 @@
--- How a line is written, and how an operand and the widths are seen.
-use Rattle.std.specs.Prelude.{◌≡◌, ◌≤◌, ℕ, Bool, true, false, List, [], ◌∷◌, if◌then◌else◌}
+-- How a line is written, and how an operand is seen.
+use Rattle.std.specs.Prelude.{◌≡◌, ◌≤◌, ℕ, Bool, true, false, List, [], ◌∷◌}
 use Rattle.std.specs.List.{list_all}
-use Rattle.asm_meaning.specs.declared.directives.Switch.{Switch}
-use Rattle.asm_meaning.specs.Instruction as meaning
 use Rattle.list_meaning.specs.Listed as listed
-use Rattle.list_meaning.specs.Listed.{Said, Turns, said_text}
-use Rattle.list_meaning.specs.Listing.{is_short, same_bool}
+use Rattle.list_meaning.specs.Listed.{Said, said_text}
+use Rattle.list_meaning.specs.Listing.{is_short}
 use Rattle.list_lines.specs.declared.lines.Wanted.{Wanted}
 use Rattle.list_lines.specs.declared.lines.Wanted.TheVariants as wanted
 use Rattle.list_lines.specs.declared.output.Output.{Output}
-use Rattle.list_lines.specs.declared.run.Widths.{Widths}
 use Rattle.list_lines.specs.Kept.{with_line, with_lines}
 use Rattle.list_lines.specs.OutputView.{kept, open_line}
 
@@ -43,16 +40,8 @@ has_no_text listed.None' = true
 has_no_text (listed.Label name) = is_nothing name
 has_no_text _ = false
 
--- the widths of the registers
-abbrev pub widths_view : Widths → meaning.Widths
-widths_view w = record { long_a = w.long_a; long_i = w.long_i }
-
 -- these lines were written, and are no longer than 255 bytes
 pub record WroteAll (lines : List Said) (old new : Output) : Type 0 where
   pub whole : kept new ≡ with_lines lines (kept old)
   pub line : open_line new ≡ []
   pub short : list_all is_short lines ≡ true
-
--- LONGA or LONGI where the width changed
-abbrev pub turned_between : Switch → Bool → Bool → List Said
-turned_between switch old new = if same_bool old new then [] else Turns switch new ∷ []

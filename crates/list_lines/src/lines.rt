@@ -303,7 +303,7 @@ pub fn instructs(
 
 /// DC H.
 #[tactic(auto, using(crate::proofs::Written::wrote_of, crate::proofs::Written::long_of), unfolding(list_meaning::specs::Listed::said_text))]
-pub(crate) fn bytes(out: &mut Output, bytes: &[u8]) -> Result<(), Stop>
+pub fn bytes(out: &mut Output, bytes: &[u8]) -> Result<(), Stop>
     requires { open_line out.old ≡ [] }
     ensures wrote { OnOk result (Wrote (Bytes bytes.now) out.old out.new) }
     ensures long { IsErrOf result Stop.NotListable → is_short (Bytes bytes.now) ≡ false }

@@ -5,7 +5,6 @@ pub mod Seeing
 pub mod Apart
 pub mod Begun
 pub mod Purged
-pub mod Checks
 pub mod Reads
 pub mod Slotted
 pub mod EntryBytes

@@ -29,13 +29,16 @@ use Rattle.loader_machine.specs.Replies.{reply_line}
 use Rattle.loader_agrees.specs.Agrees.{Kept, Loaded, kept_outlines, seen_by, Agrees, Meets, MeetsReads, ReadsNeeded}
 use Rattle.sys_loader.specs.declared.answers.Started.{Started}
 use Rattle.sys_loader.specs.declared.answers.Entered.{Entered}
-use Rattle.sys_loader.specs.Calls.{IsBadFile, IsBeginRefusal}
+use Rattle.loader_users.specs.Taken.{IsBadFile}
+use Rattle.sys_loader.specs.Calls.{IsBeginRefusal}
 use Rattle.sys_loader.specs.Replies.{load_reply}
-use Rattle.sys_loader.specs.Activating.{IsChanged, IsBringRefusal, IsComeRefusal, IsReadRefusal, CantRead, LacksMemory, CantCome, DidCome, HasActivated, DidActivate, segment_reads}
+use Rattle.loader_users.specs.Changed.{IsChanged}
+use Rattle.sys_loader.specs.Activating.{IsBringRefusal, IsComeRefusal, IsReadRefusal, CantRead, LacksMemory, CantCome, DidCome, HasActivated, DidActivate, segment_reads}
 use Rattle.sys_loader.specs.Following as following
 use Rattle.sys_loader.specs.Following.{jsl_reply, IsJslRefusal, NoBytes, NoJsl, NoPlace, NoEntry, entered_at, HasAsked, DidJsl}
 use Rattle.sys_loader.specs.Restarting as restarting
-use Rattle.sys_loader.specs.Restarting.{restart_reads, kept_heads, IsAgainRefusal, IsRestartRefusal, DidRestart}
+use Rattle.sys_loader.specs.Restarting.{restart_reads, IsAgainRefusal, IsRestartRefusal, DidRestart}
+use Rattle.loader_users.specs.Users.{kept_heads}
 use Rattle.loader_script.specs.Replied.{is_unread_fault, is_full_fault, unread, MayRead, OnceAtMost, ReadsAtMost, IsUnanswered}
 use Rattle.loader_script.specs.Running.{HasLine}
 use Rattle.loader_script.proofs.Transcripts.{unread_once, unread_untold, meets_reads, read_line, good_text, bad_text, bytes_safe, segment_safe, restart_safe}

@@ -465,19 +465,13 @@ fn run_commands<F: Files, S: Sink>(
         Ok(loader) => loader,
         Err(AllocError) => return Err(Stop::Memory),
     };
-    match print(okay_line(alloc), out) {
-        Ok(()) => {}
-        Err(stop) => return Err(stop),
-    }
+    print(okay_line(alloc), out)?;
     'commands: for place in 1..script.count() {
         let command = match script.get(place) {
             Some(command) => command,
             None => unreachable!(),
         };
-        match run_command(alloc, command, &mut loader, files, out) {
-            Ok(()) => {}
-            Err(stop) => return Err(stop),
-        }
+        run_command(alloc, command, &mut loader, files, out)?;
     }
     Ok(Some(loader))
 }

@@ -31,10 +31,7 @@ pub fn canonical(alloc: Global, file: &[u8]) -> Result<Vec<u8>, CompactFault>
         Ok(load) => load,
         Err(fault) => return Err(of_load(fault)),
     };
-    let lists = match judged(alloc, &load) {
-        Ok(lists) => lists,
-        Err(fault) => return Err(fault),
-    };
+    let lists = judged(alloc, &load)?;
     let mut out = Vec::new(alloc);
     // As much as the file has is mostly enough. Where there isn't so much, it is asked for piece by piece.
     let _ = out.reserve(file.len());

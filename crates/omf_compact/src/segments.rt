@@ -41,20 +41,12 @@ fn put_segment(
     let start = out.as_slice().len();
     let room = head_size(header);
     put_room(out, room)?;
-    let zeros = match put_content(alloc, out, load, header, patches) {
-        Ok(zeros) => zeros,
-        Err(fault) => return Err(fault),
-    };
+    let zeros = put_content(alloc, out, load, header, patches)?;
     let next = put_exports(out, load, header.seg_num, place)?;
     let size = out.as_slice().len() - start - room;
-    let front = match front_of(alloc, header, zeros, size) {
-        Ok(front) => front,
-        Err(fault) => return Err(fault),
-    };
-    match close(out, start, front.as_slice()) {
-        Ok(()) => Ok(next),
-        Err(fault) => Err(fault),
-    }
+    let front = front_of(alloc, header, zeros, size)?;
+    close(out, start, front.as_slice())?;
+    Ok(next)
 }
 
 /// The patches at a place.
@@ -83,10 +75,7 @@ pub fn put_segments(
         let Some(patches) = patches_at(lists, index as usize) else {
             unreachable!()
         };
-        place = match put_segment(alloc, out, load, index + 1, patches.as_slice(), place) {
-            Ok(next) => next,
-            Err(fault) => return Err(fault),
-        };
+        place = put_segment(alloc, out, load, index + 1, patches.as_slice(), place)?;
     }
     Ok(())
 }

@@ -1,5 +1,5 @@
 -- Files that are read one behind another.
-use Rattle.std.proofs.Common.{◌≡◌, ℕ, zero, suc, ◌+◌, true, false, List, [], ◌∷◌, ◌++◌, length, map, Option, Some, None, refl, sym, ap, subst, ◌∙◌, arith, append_assoc, append-nil}
+use Rattle.std.proofs.Common.{◌≡◌, ℕ, zero, suc, ◌+◌, ◌<◌, ◌≤◌, true, false, List, [], ◌∷◌, ◌++◌, length, get_or, drop, map, Option, Some, None, refl, sym, ap, subst, ◌∙◌, arith, append_assoc, append-nil}
 use Rattle.std.specs.Prelude.{Result, Ok, Err, IfOk, IfErr}
 use Rattle.std.specs.Global.{Vec}
 use Rattle.std.proofs.lemmas.List.{length-map}
@@ -17,6 +17,7 @@ use Rattle.orca_meaning.specs.declared.lines.TextCause.{TextCause}
 use Rattle.orca_meaning.specs.declared.lines.TextCause.TheVariants as texts
 use Rattle.orca_meaning.specs.declared.lines.TextFault.{TextFault}
 use Rattle.orca_text.specs.Refusals.{IsRefusedFor, IsRefused}
+use Rattle.orca_symbols.proofs.Parted.{drop_read, drop_all}
 use Rattle.orca_macro.specs.Files.{texts_of_files, CanRead, lines_from, AllOwn, IsTextFaultFor, IsTextFault, first_part_in, definitions_of, IsProgram, HasVisited}
 
 -- ---- lines
@@ -115,15 +116,13 @@ unfolding first_part_in
 scan_bad lines more left whole fault first so bad =
     sym so ∙ ap first_part_in first ∙ comes_first (line_fault_of (first_part_fault (parts_of None lines))) (first_part_in more) fault bad
 
-pub scan_end : (out : List Definition) (left : List (List Line)) (whole : List Definition) → length left ≡ 0 → out ++ definitions_of left ≡ whole → out ≡ whole
+pub scan_end : (out : List Definition) (macros : List (List Line)) (i : ℕ) (whole : List Definition) → length macros ≤ i → out ++ definitions_of (drop i macros) ≡ whole → out ≡ whole
 unfolding definitions_of
-scan_end out [] whole none so = sym (append-nil out) ∙ so
-scan_end out (lines ∷ more) whole none so = absurd (omega (arith, none))
+scan_end out macros i whole end so = sym (append-nil out) ∙ sym (ap (λ (left : List (List Line)). out ++ definitions_of left) (drop_all macros i end)) ∙ so
 
-pub scan_all_good : (left : List (List Line)) (whole : Option MacroFault) → length left ≡ 0 → first_part_in left ≡ whole → whole ≡ None
+pub scan_all_good : (macros : List (List Line)) (i : ℕ) (whole : Option MacroFault) → length macros ≤ i → first_part_in (drop i macros) ≡ whole → whole ≡ None
 unfolding first_part_in
-scan_all_good [] whole none so = sym so
-scan_all_good (lines ∷ more) whole none so = absurd (omega (arith, none))
+scan_all_good macros i whole end so = sym so ∙ ap first_part_in (drop_all macros i end)
 
 -- ---- the program
 
@@ -242,5 +241,11 @@ can_read file source fault is = by_cause fault.cause is.cause_is
     by_cause texts.BadNumber is = is
     by_cause texts.Memory is = tt
 
-pub none_left : (files : List (Vec ℕ)) → length files ≡ 0 → length (texts_of_files files) ≡ 0
-none_left files none = length-map files (λ (file : Vec ℕ). file.items) ∙ none
+-- the bytes of a file that was read stand before those of the files behind it
+pub next_text : (files : List (Vec ℕ)) (i : ℕ) (file : Vec ℕ) (bytes : List ℕ) → i < length files → file ≡ get_or files i file → bytes ≡ file.items
+    → texts_of_files (drop i files) ≡ bytes ∷ texts_of_files (drop (i + 1) files)
+next_text files i file bytes less is bytes_are =
+    ap texts_of_files (drop_read files i file less is).1 ∙ ap (λ (b : List ℕ). b ∷ texts_of_files (drop (i + 1) files)) (sym bytes_are)
+
+pub none_left : (files : List (Vec ℕ)) (i : ℕ) → length files ≤ i → length (texts_of_files (drop i files)) ≡ 0
+none_left files i end = ap (λ (left : List (Vec ℕ)). length (texts_of_files left)) (drop_all files i end)

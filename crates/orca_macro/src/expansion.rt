@@ -87,18 +87,13 @@ fn read_all(alloc: Global, macros: &[Vec<u8>]) -> Result<Vec<Lines>, MacroFault>
 {
     let mut found = Vec::new(alloc);
     let mut file: u32 = 1;
-    let mut left = macros;
-    'files: while let Some((bytes, behind)) = left.split_first() {
-        let lines = match read_file(alloc, file, bytes.as_slice()) {
-            Ok(lines) => lines,
-            Err(fault) => return Err(fault),
-        };
+    'files: for bytes in macros {
+        let lines = read_file(alloc, file, bytes.as_slice())?;
         match found.push(lines) {
             Ok(()) => {}
             Err(_) => return Err(no_memory()),
         }
         file = file.saturating_add(1);
-        left = behind;
     }
     Ok(found)
 }
@@ -115,13 +110,11 @@ fn scan_all(
         ((first_part_in macros.now ≡ None) × (map definition definitions.new.items ≡ map definition definitions.old.items ++ definitions_of macros.now))
         (λ fault. first_part_in macros.now ≡ Some fault)) }
 {
-    let mut left = macros;
-    'files: while let Some((lines, behind)) = left.split_first() {
+    'files: for lines in macros {
         match scan_file(alloc, false, lines, definitions)? {
             Ok(_) => {}
             Err(fault) => return Ok(Some(fault)),
         }
-        left = behind;
     }
     Ok(None)
 }
@@ -380,10 +373,7 @@ pub fn expand(alloc: Global, source: &[u8], macros: &Vec<Vec<u8>>) -> Result<Lin
     ensures refused { IfErr result (λ fault. IsMacroFault source.now (texts_of_files macros.now.items) fault) }
 {
     let texts = macros.as_slice();
-    let files = match read_all(alloc, texts) {
-        Ok(files) => files,
-        Err(fault) => return Err(fault),
-    };
+    let files = read_all(alloc, texts)?;
     let mut lines = match read_file(alloc, 0, source) {
         Ok(lines) => lines,
         Err(fault) => {

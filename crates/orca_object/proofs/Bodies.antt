@@ -1,5 +1,5 @@
 -- One more record.
-use Rattle.std.proofs.Common.{◌≡◌, ℕ, ◌+◌, List, [], ◌∷◌, ◌++◌, sym, ap, ◌∙◌, arith}
+use Rattle.std.proofs.Common.{◌≡◌, ℕ, ◌+◌, List, [], ◌∷◌, ◌++◌, replicate, append_assoc, sym, ap, ◌∙◌, arith}
 use Rattle.std.proofs.lemmas.List.Concat.{flat_map-append}
 use Rattle.omf_format.specs.Field.{written_layout}
 use Rattle.omf_format.specs.Record.{Record, spelling}
@@ -28,14 +28,16 @@ unfolding place_behind
 cells-one at records r = place_behind-append at records (r ∷ [])
 
 -- records that give no cells
-pub begins : (b : Body) (text : Text) (records : List Record) → b.writer.text ≡ text → b.cells ≡ 0 → kept_text text ≡ limited (records_text records) → place_behind 0 records ≡ 0 → ShowsBody records b
-begins b text records same cells kept none = record { text = ap kept_text same ∙ kept; cells = cells ∙ sym none }
+pub begins : (b : Body) (text : Text) (room : ℕ) (records : List Record) → b.writer.text ≡ text → b.cells ≡ 0 → kept_text text ≡ limited (replicate room 0 ++ records_text records) → place_behind 0 records ≡ 0 → ShowsBody room records b
+begins b text room records same cells kept none = record { text = ap kept_text same ∙ kept; cells = cells ∙ sym none }
 
 pub one_more : (old new : Body) (r : Record) → ((text : List ℕ) → kept_text old.writer.text ≡ limited text → kept_text new.writer.text ≡ limited (text ++ spelling written_layout r))
-    → new.cells ≡ old.cells → size_at old.cells r ≡ 0 → (records : List Record) → ShowsBody records old → ShowsBody (records ++ r ∷ []) new
-one_more old new r text cells none records shows =
+    → new.cells ≡ old.cells → size_at old.cells r ≡ 0 → (room : ℕ) (records : List Record) → ShowsBody room records old → ShowsBody room (records ++ r ∷ []) new
+one_more old new r text cells none room records shows =
+    let front = replicate room 0 in
     let nothing : size_at (place_behind 0 records) r ≡ 0 = sym (ap (λ (k : ℕ). size_at k r) shows.cells) ∙ none in
     record {
-      text = text (records_text records) shows.text ∙ ap limited (sym (records_text-one records r));
+      text = text (front ++ records_text records) shows.text
+          ∙ ap limited (append_assoc front (records_text records) (spelling written_layout r) ∙ ap (λ (l : List ℕ). front ++ l) (sym (records_text-one records r)));
       cells = omega (arith, cells, shows.cells, cells-one 0 records r, nothing);
     }

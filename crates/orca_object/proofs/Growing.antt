@@ -1,5 +1,5 @@
 -- Statements that give cells to the segment that is open.
-use Rattle.std.proofs.Common.{◌≡◌, ℕ, ◌+◌, ◌<◌, ◌≤◌, List, [], ◌∷◌, ◌++◌, Option, sym, ap, ◌∙◌, append_assoc, arith}
+use Rattle.std.proofs.Common.{◌≡◌, ℕ, ◌+◌, ◌<◌, ◌≤◌, List, [], ◌∷◌, ◌++◌, length, replicate, Option, sym, ap, ◌∙◌, append_assoc, arith}
 use Rattle.omf_format.specs.Field.{written_layout}
 use Rattle.omf_format.specs.Record.{Record, spelling}
 use Rattle.link_meaning.specs.Sizes.{size_at}
@@ -18,13 +18,16 @@ use Rattle.orca_object.proofs.Putting.{Grows}
 
 -- a label with its LOCAL, and behind it records that give so many cells
 pub marked_grown : (label : List ℕ) (form size : ℕ) (contents : List Record) (s : Segment) (o : Open) (b : Body) → ShowsSegment (labelled label form size s) o → o.body.cells ≡ cells_of s → size ≡ length_at (cells_of s) contents
-    → b.cells ≡ o.body.cells + size → Grows (kept_text o.body.writer.text) (kept_text b.writer.text) (records_text contents) → ShowsBody (marked label form contents s).body b
+    → b.cells ≡ o.body.cells + size → Grows (kept_text o.body.writer.text) (kept_text b.writer.text) (records_text contents) → ShowsBody (0x37 + length s.header.name) (marked label form contents s).body b
 marked_grown label form size contents s o b shown cells is more grows =
     let local = local_of label form size in
     let same : s.body ++ (local ++ contents) ≡ s.body ++ (local_of label form (length_at (cells_of s) contents) ++ contents) =
     ap (λ (k : ℕ). s.body ++ (local_of label form k ++ contents)) is in
+    let front = replicate (0x37 + length s.header.name) 0 in
     record {
-      text = grows (records_text (s.body ++ local)) shown.body.text ∙ ap limited (sym (records_text-append (s.body ++ local) contents) ∙ ap records_text (append_assoc s.body local contents ∙ same));
+      text = grows (front ++ records_text (s.body ++ local)) shown.body.text
+          ∙ ap limited (append_assoc front (records_text (s.body ++ local)) (records_text contents)
+          ∙ ap (λ (l : List ℕ). front ++ l) (sym (records_text-append (s.body ++ local) contents) ∙ ap records_text (append_assoc s.body local contents ∙ same)));
       cells = omega (arith, cells, is, more, lengths_add label form contents s);
     }
 

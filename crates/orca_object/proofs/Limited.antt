@@ -1,14 +1,14 @@
 -- Bytes that are kept as long as a file may have them.
-use Rattle.std.proofs.Common.{◌≡◌, ℕ, ◌<◌, ◌≤◌, Bool, true, false, cond, leb, List, [], ◌++◌, length, Some, None, refl, sym, ap, ◌∙◌, arith}
+use Rattle.std.proofs.Common.{◌≡◌, ℕ, ◌<◌, ◌≤◌, Bool, true, false, cond, leb, List, [], ◌++◌, length, replicate, Option, Some, None, refl, sym, ap, ◌∙◌, arith}
 use Rattle.std.proofs.lemmas.Bool.{leb-true, leb-false, le-leb}
-use Rattle.std.proofs.lemmas.List.{length-append}
+use Rattle.std.proofs.lemmas.List.{length-append, length-replicate}
 use Rattle.asm_meaning.specs.Object.{most_bytes}
 use Rattle.orca_object.specs.TextView.{limited}
 
 pub limited_nothing : limited [] ≡ Some []
 limited_nothing = refl
 
-is_limited : (text : List ℕ) → length text ≤ most_bytes → limited text ≡ Some text
+pub is_limited : (text : List ℕ) → length text ≤ most_bytes → limited text ≡ Some text
 is_limited text few = by_size (leb (length text) most_bytes) (le-leb (length text) most_bytes few)
   where
     by_size : (b : Bool) → b ≡ true → cond b (Some text) None ≡ Some text
@@ -52,3 +52,19 @@ pub grows : (text bytes new more : List ℕ) → Some bytes ≡ limited text →
 grows text bytes new more e put few =
     let same : new ≡ text ++ more = put ∙ ap (λ (l : List ℕ). l ++ more) (sym (same_text text bytes e)) in
     sym (ap limited (sym same) ∙ is_limited new few)
+
+-- room for a header
+pub limited_room : (bytes : List ℕ) (size : ℕ) → bytes ≡ replicate size 0 → size ≤ most_bytes → Some bytes ≡ limited (replicate size 0)
+limited_room bytes size is few = ap Some is ∙ sym (is_limited (replicate size 0) (omega (arith, length-replicate {A = ℕ} size 0, few)))
+
+-- what stands behind may be too long by itself
+pub long_behind : (text more : List ℕ) → None ≡ limited more → None ≡ limited (text ++ more)
+long_behind text more e = sym (is_too_long (text ++ more) (omega (arith, length-append text more, long_text more e)))
+
+-- one text in the place of none
+pub joins_first : (text more bytes : List ℕ) (kept : Option (List ℕ)) → Some bytes ≡ limited text → bytes ≡ [] → kept ≡ limited more → kept ≡ limited (text ++ more)
+joins_first text more bytes kept shows none is = is ∙ ap (λ (l : List ℕ). limited (l ++ more)) (sym (same_text text bytes shows ∙ none))
+
+-- one text behind another
+pub joins : (text more bytes : List ℕ) (old new : Option (List ℕ)) → ((before : List ℕ) → old ≡ limited before → new ≡ limited (before ++ bytes)) → old ≡ limited text → Some bytes ≡ limited more → new ≡ limited (text ++ more)
+joins text more bytes old new put shows is = put text shows ∙ ap (λ (l : List ℕ). limited (text ++ l)) (sym (same_text more bytes is))

@@ -1,6 +1,7 @@
 -- The modes that a mnemonic offers.
-use Rattle.std.proofs.Common.{◌≡◌, ℕ, Bool, true, cond, List, [], ◌∷◌, Some, Ok, sym, ap, ◌∙◌}
-use Rattle.std.specs.Prelude.{find}
+use Rattle.std.proofs.Common.{◌≡◌, ℕ, ◌+◌, ◌<◌, Bool, true, false, cond, List, [], ◌∷◌, length, get_or, drop, Some, Ok, refl, sym, ap, ◌∙◌}
+use Rattle.std.specs.Prelude.{filter, find}
+use Rattle.std.proofs.lemmas.List.{at_drop_more}
 use Rattle.orca_meaning.specs.declared.forms.Prefix.{Prefix}
 use Rattle.orca_meaning.specs.declared.mnemonics.Mnemonic.{Mnemonic}
 use Rattle.orca_meaning.specs.declared.modes.Mode.{Mode}
@@ -17,6 +18,15 @@ first_found test first [] found passes = absurd cc
 first_found test first (x ∷ modes) found passes =
     let one : x ≡ first = same x first found in
     ap (λ (b : Bool). cond b (Some x) (find test modes)) (ap test one ∙ passes) ∙ found
+
+-- a mode that doesn't pass isn't found
+pub passed_over : (test other : Mode → Bool) (modes : List Mode) (i : ℕ) (d : Mode) → i < length modes → test (get_or modes i d) ≡ false → find test (filter other (drop i modes)) ≡ find test (filter other (drop (i + 1) modes))
+passed_over test other modes i d less fails =
+    at_drop_more (λ (ms : List Mode). find test (filter other ms)) modes i d less ∙ by_other (other (get_or modes i d)) (filter other (drop (i + 1) modes))
+  where
+    by_other : (b : Bool) (rest : List Mode) → find test (cond b (get_or modes i d ∷ rest) rest) ≡ find test rest
+    by_other true rest = ap (λ (b : Bool). cond b (Some (get_or modes i d)) (find test rest)) fails
+    by_other false rest = refl
 
 abbrev chosen : Mode → Answer Mode
 chosen mode = Ok mode

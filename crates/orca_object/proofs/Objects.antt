@@ -1,7 +1,8 @@
--- One more segment behind those that have ended.
-use Rattle.std.proofs.Common.{◌≡◌, ℕ, ◌+◌, ◌<◌, Bool, true, false, List, [], ◌∷◌, ◌++◌, length, Option, sym, ap, ◌∙◌, append-nil, append_assoc, arith}
+-- A segment that ends behind those that have ended.
+use Rattle.std.proofs.Common.{◌≡◌, ℕ, ◌+◌, ◌<◌, ◌≤◌, Bool, true, false, List, [], ◌∷◌, ◌++◌, length, drop, replicate, Some, None, sym, ap, ◌∙◌, append-nil, arith}
 use Rattle.std.specs.List.{flat_map}
-use Rattle.std.proofs.lemmas.List.{length-append}
+use Rattle.std.proofs.Math.Seq.{drop-append_seam}
+use Rattle.std.proofs.lemmas.List.{length-append, length-replicate}
 use Rattle.std.proofs.lemmas.List.Concat.{flat_map-append}
 use Rattle.omf_format.specs.Header.{Fields, header_bytes}
 use Rattle.omf_format.specs.laws.WrittenHeaderLaws.{length-header}
@@ -9,52 +10,62 @@ use Rattle.asm_meaning.specs.Object.{records_text, segment_text, object_text, mo
 use Rattle.asm_meaning.specs.State.{Ended}
 use Rattle.orca_object.specs.declared.text.Text.{Text}
 use Rattle.orca_object.specs.TextView.{limited, kept_text, kept_by}
-use Rattle.orca_object.proofs.Limited.{long_text, same_text}
+use Rattle.orca_object.proofs.Limited.{is_limited, is_too_long, long_text, same_text}
 
 pub object_more : (segments : List Ended) (e : Ended) → object_text (segments ++ e ∷ []) ≡ object_text segments ++ segment_text e
 unfolding object_text
 object_more segments e = flat_map-append segment_text segments (e ∷ []) ∙ ap (λ (l : List ℕ). flat_map segment_text segments ++ l) (append-nil (segment_text e))
 
-segment_length : (e : Ended) → length (segment_text e) ≡ length (header_bytes e.header (length (records_text e.body))) + length (records_text e.body)
-unfolding segment_text
-segment_length e = length-append (header_bytes e.header (length (records_text e.body))) (records_text e.body)
+-- room for its header, and its records
+abbrev open_text : Ended → List ℕ
+open_text e = replicate (0x37 + length e.header.name) 0 ++ records_text e.body
 
-is_long : (t : Text) (text : List ℕ) → t.long ≡ true → kept_text t ≡ limited text → most_bytes < length text
-is_long t text long e = long_text text (sym (ap (λ (b : Bool). kept_by b t.bytes.items) long) ∙ e)
+open_length : (e : Ended) → length (open_text e) ≡ 0x37 + length e.header.name + length (records_text e.body)
+open_length e = omega (arith, length-append (replicate (0x37 + length e.header.name) 0) (records_text e.body), length-replicate {A = ℕ} (0x37 + length e.header.name) 0)
+
+-- its header is as long as the room for it
+same_length : (e : Ended) → length e.header.load_name ≡ 10 → length (segment_text e) ≡ length (open_text e)
+unfolding segment_text
+same_length e ten =
+    let n = length (records_text e.body) in
+    omega (arith, open_length e, length-append (header_bytes e.header n) (records_text e.body), length-header e.header n ten)
+
+abbrev has_ten : (e : Ended) (f : Fields) → e.header ≡ f → length f.load_name ≡ 10 → length e.header.load_name ≡ 10
+has_ten e f is ten = ap (λ (h : Fields). length h.load_name) is ∙ ten
 
 is_bytes : (t : Text) (text : List ℕ) → t.long ≡ false → kept_text t ≡ limited text → text ≡ t.bytes.items
 is_bytes t text short e = same_text text t.bytes.items (sym (ap (λ (b : Bool). kept_by b t.bytes.items) short) ∙ e)
 
--- the records are too long
-pub body_long : (t : Text) (segments : List Ended) (e : Ended) (new : Option (List ℕ)) → t.long ≡ true → kept_text t ≡ limited (records_text e.body)
-    → ((text more : List ℕ) → most_bytes < length more → new ≡ limited (text ++ more)) → new ≡ limited (object_text (segments ++ e ∷ []))
-body_long t segments e new long shows ends =
-    ends (object_text segments) (segment_text e) (omega (arith, segment_length e, is_long t (records_text e.body) long shows)) ∙ ap limited (sym (object_more segments e))
+-- it was too long before
+pub long_closed : (t : Text) (e : Ended) (f : Fields) → e.header ≡ f → length f.load_name ≡ 10 → t.long ≡ true → kept_text t ≡ limited (open_text e) → kept_text t ≡ limited (segment_text e)
+long_closed t e f is ten long shows =
+    let none = ap (λ (b : Bool). kept_by b t.bytes.items) long in
+    none ∙ sym (is_too_long (segment_text e) (omega (arith, same_length e (has_ten e f is ten), long_text (open_text e) (sym none ∙ shows))))
 
-pub body_many : (t : Text) (segments : List Ended) (e : Ended) (new : Option (List ℕ)) → t.long ≡ false → kept_text t ≡ limited (records_text e.body) → most_bytes < length t.bytes.items
-    → ((text more : List ℕ) → most_bytes < length more → new ≡ limited (text ++ more)) → new ≡ limited (object_text (segments ++ e ∷ []))
-body_many t segments e new short shows many ends =
-    ends (object_text segments) (segment_text e) (omega (arith, segment_length e, ap length (is_bytes t (records_text e.body) short shows), many)) ∙ ap limited (sym (object_more segments e))
+-- it has more bytes than a file
+pub many_closed : (t new : Text) (e : Ended) (f : Fields) → e.header ≡ f → length f.load_name ≡ 10 → t.long ≡ false → kept_text t ≡ limited (open_text e) → most_bytes < length t.bytes.items → kept_text new ≡ None
+    → kept_text new ≡ limited (segment_text e)
+many_closed t new e f is ten short shows many none =
+    none ∙ sym (is_too_long (segment_text e) (omega (arith, same_length e (has_ten e f is ten), ap length (is_bytes t (open_text e) short shows), many)))
 
--- the header and the records are
-pub segment_long : (t : Text) (segments : List Ended) (e : Ended) (f : Fields) (count : ℕ) (new : Option (List ℕ)) → t.long ≡ false → kept_text t ≡ limited (records_text e.body) → e.header ≡ f → count ≡ length t.bytes.items
-    → length f.load_name ≡ 10 → most_bytes < 0x37 + length f.name + count → ((text more : List ℕ) → most_bytes < length more → new ≡ limited (text ++ more)) → new ≡ limited (object_text (segments ++ e ∷ []))
-segment_long t segments e f count new short shows is n ten many ends =
-    let size : length (header_bytes e.header (length (records_text e.body))) ≡ 0x37 + length f.name =
-    ap (λ (h : Fields). length (header_bytes h (length (records_text e.body)))) is ∙ length-header f (length (records_text e.body)) ten in
-    ends (object_text segments) (segment_text e) (omega (arith, segment_length e, size, ap length (is_bytes t (records_text e.body) short shows), many, n)) ∙ ap limited (sym (object_more segments e))
-
-whole_text : (e : Ended) (f : Fields) (bytes : List ℕ) → e.header ≡ f → records_text e.body ≡ bytes → segment_text e ≡ header_bytes f (length bytes) ++ bytes
+-- the header in the place of the room
+pub put_closed : (t : Text) (e : Ended) (f : Fields) (count : ℕ) (front new : List ℕ) → e.header ≡ f → length f.load_name ≡ 10 → t.long ≡ false → kept_text t ≡ limited (open_text e) → length t.bytes.items ≤ most_bytes
+    → count + (0x37 + length f.name) ≡ length t.bytes.items → front ≡ header_bytes f count → new ≡ front ++ drop (length front) t.bytes.items → kept_by t.long new ≡ limited (segment_text e)
 unfolding segment_text
-whole_text e f bytes is same =
-    ap (λ (h : Fields). header_bytes h (length (records_text e.body)) ++ records_text e.body) is ∙ ap (λ (b : List ℕ). header_bytes f (length b) ++ b) same
+put_closed t e f count front new is ten short shows few n written put =
+    let records = records_text e.body in
+    let room : List ℕ = replicate (0x37 + length e.header.name) 0 in
+    let bytes = is_bytes t (open_text e) short shows in
+    let name : length e.header.name ≡ length f.name = ap (λ (h : Fields). length h.name) is in
+    let size : length front ≡ length room = omega (arith, ap length written, length-header f count ten, length-replicate {A = ℕ} (0x37 + length e.header.name) 0, name) in
+    let number : count ≡ length records = omega (arith, n, open_length e, ap length bytes, name) in
+    let behind : drop (length front) t.bytes.items ≡ records =
+    ap (λ (l : List ℕ). drop (length front) l) (sym bytes) ∙ ap (λ (k : ℕ). drop k (room ++ records)) size ∙ drop-append_seam room records in
+    let whole : new ≡ segment_text e =
+    put ∙ ap (λ (l : List ℕ). front ++ l) behind ∙ ap (λ (l : List ℕ). l ++ records) (written ∙ ap (header_bytes f) number ∙ ap (λ (h : Fields). header_bytes h (length records)) (sym is)) in
+    ap (λ (b : Bool). kept_by b new) short ∙ ap Some whole
+    ∙ sym (is_limited (segment_text e) (omega (arith, same_length e (has_ten e f is ten), ap length bytes, few)))
 
--- both are appended
-pub segment_put : (t : Text) (segments : List Ended) (e : Ended) (f : Fields) (count : ℕ) (header bytes : List ℕ) (middle new : Text) → t.long ≡ false → kept_text t ≡ limited (records_text e.body) → e.header ≡ f
-    → count ≡ length t.bytes.items → header ≡ header_bytes f count → bytes ≡ t.bytes.items → kept_text middle ≡ limited (object_text segments ++ header)
-    → ((text : List ℕ) → kept_text middle ≡ limited text → kept_text new ≡ limited (text ++ bytes)) → kept_text new ≡ limited (object_text (segments ++ e ∷ []))
-segment_put t segments e f count header bytes middle new short shows is n written same first second =
-    let whole : header ++ bytes ≡ segment_text e =
-    ap (λ (h : List ℕ). h ++ bytes) (written ∙ ap (header_bytes f) n) ∙ ap (λ (b : List ℕ). header_bytes f (length t.bytes.items) ++ b) same
-    ∙ sym (whole_text e f t.bytes.items is (is_bytes t (records_text e.body) short shows)) in
-    second (object_text segments ++ header) first ∙ ap limited (append_assoc (object_text segments) header bytes ∙ ap (λ (l : List ℕ). object_text segments ++ l) whole ∙ sym (object_more segments e))
+-- behind those that have ended
+pub one_behind : (segments : List Ended) (e : Ended) → limited (object_text segments ++ segment_text e) ≡ limited (object_text (segments ++ e ∷ []))
+one_behind segments e = ap limited (sym (object_more segments e))

@@ -1,5 +1,5 @@
 -- How the records of statements are written.
-use Rattle.std.proofs.Common.{◌≡◌, ℕ, zero, suc, replicate, slice_index_or, ◌+◌, ◌<◌, ◌≤◌, Bool, true, false, cond, leb, List, [], ◌∷◌, ◌++◌, length, Option, Some, None, refl, sym, ap, subst, ◌∙◌, append_assoc, append-nil, arith}
+use Rattle.std.proofs.Common.{◌≡◌, ℕ, zero, suc, replicate, slice_index_or, ◌+◌, ◌<◌, ◌≤◌, Bool, true, false, cond, leb, List, [], ◌∷◌, ◌++◌, length, get_or, drop, Option, Some, None, refl, sym, ap, subst, ◌∙◌, append_assoc, append-nil, arith}
 use Rattle.std.specs.List.{repeat}
 use Rattle.std.proofs.lemmas.Bool.{leb-true, le-leb, lt-leb}
 use Rattle.std.proofs.lemmas.List.{length-append}
@@ -19,6 +19,7 @@ use Rattle.orca_object.specs.PieceView.{piece}
 use Rattle.orca_object.specs.GivenView.{part_pieces, all_pieces}
 use Rattle.orca_object.specs.PutView.{Wrote}
 use Rattle.orca_object.specs.TextView.{limited}
+use Rattle.orca_object.proofs.Listed.{next_is}
 
 -- what a text is where bytes were appended to it
 abbrev pub Grows : Option (List ℕ) → Option (List ℕ) → List ℕ → Type 0
@@ -124,8 +125,12 @@ plain_append (p ∷ a) b all = let both = plain_append a b all.1 in ((all.0, bot
 pub copies_next : (count less : ℕ) (l : List Piece) → count ≡ less + 1 → copies count l ≡ l ++ copies less l
 copies_next count less l is = let next : count ≡ suc less = omega (arith, is) in ap (λ (n : ℕ). copies n l) next
 
-pub parts_split : (p : Part) (parts : List Part) → all_pieces (p ∷ parts) ≡ part_pieces p ++ all_pieces parts
-parts_split p parts = flat_map-cons part_pieces p parts
+-- the next part of those that are left
+pub parts_next : (parts : List Part) (i : ℕ) (part : Part) → i < length parts → part ≡ get_or parts i part → all_pieces (drop i parts) ≡ part_pieces part ++ all_pieces (drop (i + 1) parts)
+parts_next parts i part less is = next_is all_pieces parts i part less is ∙ flat_map-cons part_pieces part (drop (i + 1) parts)
+
+pub plain_part : (parts : List Part) (i : ℕ) (part : Part) → i < length parts → part ≡ get_or parts i part → ArePlainPieces (all_pieces (drop i parts)) → ArePlainPieces (part_pieces part)
+plain_part parts i part less is plain = (plain_append (part_pieces part) (all_pieces (drop (i + 1) parts)) (subst ArePlainPieces (parts_next parts i part less is) plain)).0
 
 pub repeat_one : (count byte : ℕ) → replicate count byte ≡ repeat count (byte ∷ [])
 repeat_one zero byte = refl

@@ -1,7 +1,8 @@
 -- Quotes that close.
-use Rattle.std.proofs.Common.{◌≡◌, ◌≢◌, ℕ, ◌+◌, ◌≤◌, Bool, true, false, cond, eqb, ltb, List, [], ◌∷◌, ◌++◌, append-nil, length, take, drop, Some, None, refl, sym, ap, ◌∙◌, arith}
+use Rattle.std.proofs.Common.{◌≡◌, ◌≢◌, ℕ, ◌+◌, Bool, true, false, cond, eqb, ltb, List, [], ◌∷◌, ◌++◌, append-nil, length, take, drop, Some, None, refl, sym, ap, ◌∙◌, arith}
+use Rattle.std.specs.Prelude.{position}
 use Rattle.std.specs.List.{position_or_len}
-use Rattle.std.proofs.lemmas.Bool.{lt-ltb, le-ltb, eq-eqb, eqb-true}
+use Rattle.std.proofs.lemmas.Bool.{eq-eqb, eqb-true}
 use Rattle.orca_meaning.specs.Token.{Found}
 use Rattle.asm_meaning.specs.Elements.{closed_at, text_at, with_byte}
 use Rattle.orca_object.specs.ElementView.{with_bytes}
@@ -9,20 +10,27 @@ use Rattle.orca_object.specs.ElementView.{with_bytes}
 abbrev found : List ℕ → List ℕ → Found (List ℕ)
 found a b = Some (a, b)
 
--- where a quote stands
-pub closes : (text inner rest : List ℕ) (n : ℕ) → n ≡ position_or_len (λ b. eqb b 0x27) text → n ≤ length text → n ≢ length text → inner ≡ take n text → rest ≡ drop (n + 1) text → closed_at text ≡ Some (inner, rest)
-unfolding closed_at
-closes text inner rest n n_is few some inner_is rest_is =
-    let k = position_or_len (λ b. eqb b 0x27) text in
-    let less : ltb k (length text) ≡ true = lt-ltb k (length text) (omega (arith, n_is, few, some)) in
-    rw less (ap (λ (m : ℕ). found (take m text) (drop (m + 1) text)) (sym n_is) ∙ ap (λ (t : List ℕ). found t (drop (n + 1) text)) (sym inner_is) ∙ ap (found inner) (sym rest_is))
+by_found : (b : Bool) (n i : ℕ) → cond b (Some n) None ≡ Some i → (b ≡ true) × (n ≡ i)
+by_found true n i e = (refl, cc)
+by_found false n i e = absurd cc
 
-pub never_closes : (text : List ℕ) (n : ℕ) → n ≡ position_or_len (λ b. eqb b 0x27) text → n ≡ length text → closed_at text ≡ None
+none_found : (b : Bool) (n : ℕ) → cond b (Some n) None ≡ None → b ≡ false
+none_found true n e = absurd cc
+none_found false n e = refl
+
+-- where a quote stands
+pub closes : (text inner rest : List ℕ) (n : ℕ) → Some n ≡ position (λ b. eqb b 0x27) text → inner ≡ take n text → rest ≡ drop (n + 1) text → closed_at text ≡ Some (inner, rest)
 unfolding closed_at
-never_closes text n n_is none =
+closes text inner rest n at inner_is rest_is =
     let k = position_or_len (λ b. eqb b 0x27) text in
-    let less : ltb k (length text) ≡ false = le-ltb k (length text) (omega (arith, n_is, none)) in
-    rw less refl
+    let is = by_found (ltb k (length text)) k n (sym at) in
+    rw is.0 (ap (λ (m : ℕ). found (take m text) (drop (m + 1) text)) is.1 ∙ ap (λ (t : List ℕ). found t (drop (n + 1) text)) (sym inner_is) ∙ ap (found inner) (sym rest_is))
+
+pub never_closes : (text : List ℕ) → position (λ b. eqb b 0x27) text ≡ None → closed_at text ≡ None
+unfolding closed_at
+never_closes text none =
+    let k = position_or_len (λ b. eqb b 0x27) text in
+    rw (none_found (ltb k (length text)) k none) refl
 
 -- ---- the text of C
 

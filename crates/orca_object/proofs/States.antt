@@ -1,5 +1,5 @@
 -- What lines leave, as it is kept.
-use Rattle.std.proofs.Common.{◌≡◌, ℕ, ◌+◌, subst, List, [], ◌∷◌, ◌++◌, length, true, false, Option, Some, None, refl, sym, ap, ◌∙◌, arith}
+use Rattle.std.proofs.Common.{◌≡◌, ℕ, ◌+◌, subst, List, [], ◌∷◌, ◌++◌, length, replicate, true, false, Option, Some, None, refl, sym, ap, ◌∙◌, arith}
 use Rattle.std.specs.Prelude.{◌%◌}
 use Rattle.omf_format.specs.Expression.{Leaf, Constant}
 use Rattle.omf_format.specs.Field.{written_layout}
@@ -93,7 +93,7 @@ header_begun state class name load_name kind org align number k o a n =
 
 pub ended_shows : (state : State) (change : Segment → Segment) (k : Option Open) (o last : Open) (number next : ℕ) (object new text : Text) (f : Fields) → ShowsOption state.segment k → k ≡ Some o
     → ((s : Segment) → ShowsSegment s o → ShowsSegment (change s) last) → f ≡ ended_header last → text ≡ last.body.writer.text
-    → ((segments : List Ended) (e : Ended) → e.header ≡ f → kept_text text ≡ limited (records_text e.body) → kept_text object ≡ limited (object_text segments) → kept_text new ≡ limited (object_text (segments ++ e ∷ [])))
+    → ((segments : List Ended) (e : Ended) → e.header ≡ f → kept_text text ≡ limited (replicate (0x37 + length e.header.name) 0 ++ records_text e.body) → kept_text object ≡ limited (object_text segments) → kept_text new ≡ limited (object_text (segments ++ e ∷ [])))
     → kept_text object ≡ limited (object_text state.ended) → number ≡ (length state.ended + 1) % 0x10000 → next ≡ (number + 1) % 0x10000
     → (next ≡ (length (closed (in_segment change state)).ended + 1) % 0x10000) × (kept_text new ≡ limited (object_text (closed (in_segment change state)).ended))
 ended_shows state change k o last number next object new text f shown is changes header same put before n m = by_segment state.segment (subst (ShowsOption state.segment) is shown)

@@ -46,7 +46,7 @@ pub record ShowsSegment (s : Segment) (o : Open) : Type 0 where
   pub class : o.class ≡ s.class
   pub header : s.header ≡ header_view o
   pub names : names_of o.names ≡ s.names
-  pub body : ShowsBody s.body o.body
+  pub body : ShowsBody (0x37 + length s.header.name) s.body o.body
 
 abbrev pub ShowsOption : Option Segment → Option Open → Type 0
 ShowsOption None None = Unit {0}

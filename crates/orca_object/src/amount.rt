@@ -139,14 +139,12 @@ fn put_terms(
     ensures fine { OnOk result (AreTerms 0 (with_terms (constants known.entry) (map term terms.now))) }
 {
     let mut all = true;
-    let mut left = terms;
-    'terms: while let Some((first, others)) = left.split_first() {
-        let next = with_value(known, first);
+    'terms: for term in terms {
+        let next = with_value(known, term);
         if !is_number_term(next) {
             all = false;
         }
         put_placed(out, back, next)?;
-        left = others;
     }
     Ok(all)
 }

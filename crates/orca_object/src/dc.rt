@@ -107,10 +107,8 @@ fn marked_bytes(alloc: Global, msb: bool, bytes: &[u8]) -> Result<Vec<u8>, Alloc
     ensures { IfOk result (λ v. v.items ≡ map (text_byte msb) bytes.now) }
 {
     let mut out = Vec::with_capacity(alloc, bytes.len())?;
-    let mut left = bytes;
-    'bytes: while let Some((byte, others)) = left.split_first() {
+    'bytes: for byte in bytes {
         out.push(text_byte(msb, *byte))?;
-        left = others;
     }
     Ok(out)
 }
@@ -151,11 +149,9 @@ fn strong_pieces(alloc: Global, names: &[Name]) -> Result<Vec<Piece>, AllocError
     ensures { IfOk result (λ v. map piece v.items ≡ map strong_piece names.now) }
 {
     let mut out = Vec::with_capacity(alloc, names.len())?;
-    let mut left = names;
-    'names: while let Some((name, others)) = left.split_first() {
+    'names: for name in names {
         let copy = same_name(alloc, name)?;
         out.push(Piece::Strong(copy))?;
-        left = others;
     }
     Ok(out)
 }
@@ -180,8 +176,7 @@ fn weak_pieces(alloc: Global, names: &[Name]) -> Result<Vec<Piece>, AllocError>
     ensures { IfOk result (λ v. map piece v.items ≡ map weak_piece names.now) }
 {
     let mut out = Vec::with_capacity(alloc, names.len())?;
-    let mut left = names;
-    'names: while let Some((name, others)) = left.split_first() {
+    'names: for name in names {
         let expr = weak_text(alloc, name.bytes())?;
         out.push(Piece::Formula {
             code: 0xEB,
@@ -189,7 +184,6 @@ fn weak_pieces(alloc: Global, names: &[Name]) -> Result<Vec<Piece>, AllocError>
             n: 0,
             expr,
         })?;
-        left = others;
     }
     Ok(out)
 }

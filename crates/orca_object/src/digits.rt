@@ -17,9 +17,7 @@ fn digits_in(alloc: Global, base: u32, text: &[u8]) -> Result<Option<Vec<u8>>, A
         (λ v. (v.items ≡ without_spaces text.now) × (are_digits base v.items ≡ true) × (1 ≤ length v.items))) }
 {
     let mut out = Vec::new(alloc);
-    let mut left = text;
-    'bytes: while let Some((byte, behind)) = left.split_first() {
-        left = behind;
+    'bytes: for byte in text {
         if *byte == b' ' {
             continue;
         }

@@ -1,7 +1,6 @@
 //! The parts of DC's elements (ORCA/M reference manual, "Declare Constant").
 
-ghost use Rattle.std.specs.Prelude.{◌≡◌, ◌≢◌, ◌≤◌, ◌<◌, ◌+◌, ◌∷◌, ◌++◌, ◌&&◌, ◌||◌, ◌==◌, [], List, ℕ, length, take, drop, map, Some, None, IfOk, IfSome, MatchOption};
-ghost use Rattle.std.specs.List.{position_or_len};
+ghost use Rattle.std.specs.Prelude.{◌≡◌, ◌≢◌, ◌≤◌, ◌<◌, ◌+◌, ◌∷◌, ◌++◌, ◌&&◌, ◌||◌, ◌==◌, [], List, ℕ, length, take, drop, map, position, Some, None, IfOk, IfSome, MatchOption};
 ghost use Rattle.asm_meaning.specs.Elements.{behind_parenthesis, closed_at, text_at, width_at, kind_at, text_byte, in_range};
 ghost use Rattle.orca_object.specs.ElementView.{element_kind, with_bytes};
 
@@ -38,32 +37,20 @@ pub(crate) fn behind_parenthesis(text: &[u8]) -> Option<&[u8]>
     None
 }
 
-/// How many bytes stand before the first `'`.
-fn quote_len(text: &[u8]) -> usize
-    ensures value { result ≡ position_or_len (λ byte. byte == 0x27) text.now }
-    ensures bound { result ≤ length text.now }
+/// Where the first `'` stands.
+fn first_quote(text: &[u8]) -> Option<usize>
+    ensures bound { IfSome result (λ at. at < length text.now) }
+    ensures value { result ≡ position (λ byte. byte == 0x27) text.now }
 {
-    let mut count = 0;
-    let mut left = text;
-    'bytes: while let Some((byte, behind)) = left.split_first() {
-        if *byte == b'\'' {
-            return count;
-        }
-        count += 1;
-        left = behind;
-    }
-    count
+    text.iter().position(|byte| *byte == b'\'')
 }
 
 /// The text up to the next `'`, and what stands behind that.
-#[tactic(auto, using(crate::proofs::Quoted::closes, crate::proofs::Quoted::never_closes))]
+#[tactic(auto, using(crate::proofs::Quoted::never_closes))]
 pub(crate) fn closed_at(text: &[u8]) -> Option<(&[u8], &[u8])>
     ensures text { MatchOption result (closed_at text.now ≡ None) (λ x. closed_at text.now ≡ Some (x.0.now, x.1.now)) }
 {
-    let count = quote_len(text);
-    if count == text.len() {
-        return None;
-    }
+    let count = first_quote(text)?;
     let (inner, _) = text.split_at(count);
     let (_, rest) = text.split_at(count + 1);
     Some((inner, rest))

@@ -78,10 +78,8 @@ fn pieces_cells(pieces: &[Piece]) -> u32
     ensures { result ≡ min (pieces_size pieces.now) 0x1000000 }
 {
     let mut total: u32 = 0;
-    let mut left = pieces;
-    'pieces: while let Some((first, others)) = left.split_first() {
-        total = capped(total + piece_cells(first));
-        left = others;
+    'pieces: for piece in pieces {
+        total = capped(total + piece_cells(piece));
     }
     total
 }
@@ -105,10 +103,8 @@ fn parts_cells(parts: &[Part]) -> u32
     ensures { result ≡ min (parts_size parts.now) 0x1000000 }
 {
     let mut total: u32 = 0;
-    let mut left = parts;
-    'parts: while let Some((first, others)) = left.split_first() {
-        total = capped(total + part_cells(first));
-        left = others;
+    'parts: for part in parts {
+        total = capped(total + part_cells(part));
     }
     total
 }

@@ -315,15 +315,13 @@ fn first_holding(
 ) -> Option<Mode>
     ensures { result ≡ find (number_test (widths of) mnemonic prefix n) (filter (offered_test mnemonic prefix) modes.now) }
 {
-    let mut left = modes;
-    'modes: while let Some((mode, behind)) = left.split_first() {
+    'modes: for mode in modes {
         if is_offered(mnemonic, prefix, *mode) {
             let width = operand_bytes(of, mnemonic, *mode);
             if holds(prefix, kind_of(*mode), width, n) {
                 return Some(*mode);
             }
         }
-        left = behind;
     }
     None
 }
@@ -333,12 +331,10 @@ fn first_holding(
 fn first_offered(mnemonic: Mnemonic, prefix: Prefix, modes: &[Mode]) -> Option<Mode>
     ensures { result ≡ find (λ m. true) (filter (offered_test mnemonic prefix) modes.now) }
 {
-    let mut left = modes;
-    'modes: while let Some((mode, behind)) = left.split_first() {
+    'modes: for mode in modes {
         if is_offered(mnemonic, prefix, *mode) {
             return Some(*mode);
         }
-        left = behind;
     }
     None
 }
@@ -348,14 +344,12 @@ fn first_offered(mnemonic: Mnemonic, prefix: Prefix, modes: &[Mode]) -> Option<M
 fn first_of_two(mnemonic: Mnemonic, prefix: Prefix, modes: &[Mode]) -> Option<Mode>
     ensures { result ≡ find two_test (filter (offered_test mnemonic prefix) modes.now) }
 {
-    let mut left = modes;
-    'modes: while let Some((mode, behind)) = left.split_first() {
+    'modes: for mode in modes {
         if is_address(kind_of(*mode), 2) {
             if is_offered(mnemonic, prefix, *mode) {
                 return Some(*mode);
             }
         }
-        left = behind;
     }
     None
 }

@@ -1,22 +1,23 @@
 //! The bytes of the segments that have ended (GS/OS Reference, appendix F).
 
-ghost use Rattle.std.specs.Prelude.{◌≡◌, ◌≤◌, ◌<◌, ◌++◌, ◌∷◌, [], List, ℕ, length, OnOk, IfOk};
+ghost use Rattle.std.specs.Prelude.{◌≡◌, ◌≤◌, ◌+◌, ◌++◌, ◌∷◌, [], List, length, drop, replicate, OnOk};
 ghost use Rattle.omf_format.specs.Header.{IsWritable};
 ghost use Rattle.omf_header.specs.View.{fields};
 ghost use Rattle.asm_meaning.specs.State.{Ended};
-ghost use Rattle.asm_meaning.specs.Object.{records_text, segment_text, object_text, most_bytes};
+ghost use Rattle.asm_meaning.specs.Object.{records_text, segment_text, object_text};
 ghost use Rattle.orca_object.specs.TextView.{limited, kept_text};
 
 use crate::text::{MAX_FILE, Text};
+use omf_base::Name;
 use omf_header::{Header, WriteHeaderFault, write_header};
 use std::alloc::{AllocError, Global};
 
-/// Keeps no more bytes, since too many come.
-fn end_long(object: &mut Text)
-    ensures { (text more : List ℕ) → most_bytes < length more → kept_text object.new ≡ limited (text ++ more) }
+/// How many bytes a header with this name has.
+pub(crate) fn head_size(name: &Name) -> usize
+    ensures value { result ≡ 0x37 + length name.now }
+    ensures few { result ≤ 0x136 }
 {
-    object.bytes.clear();
-    object.long = true;
+    0x37 + name.bytes().len()
 }
 
 /// It has ten bytes.
@@ -24,35 +25,56 @@ fn know_size(load_name: &[u8; 10])
     ensures { length load_name.now ≡ 10 }
 {}
 
-/// Appends a segment with this header and the records whose bytes these are.
-pub(crate) fn put_segment(
-    alloc: Global,
-    object: &mut Text,
-    header: &Header,
-    body: &Text,
-) -> Result<(), AllocError>
-    requires { IsWritable (fields header.now) }
-    ensures { OnOk result ((segments : List Ended) (e : Ended) → e.header ≡ fields header.now → kept_text body.now ≡ limited (records_text e.body) → kept_text object.old ≡ limited (object_text segments)
-        → kept_text object.new ≡ limited (object_text (segments ++ e ∷ []))) }
+/// Writes bytes over those at the front.
+fn put_front(text: &mut [u8], front: &[u8])
+    requires { length front.now ≤ length text.old }
+    ensures { text.new ≡ front.now ++ drop (length front.now) text.old }
 {
-    if body.long {
-        end_long(object);
-        return Ok(());
-    }
-    if body.bytes.len() > MAX_FILE {
-        end_long(object);
-        return Ok(());
-    }
+    text[..front.len()].copy_from_slice(front);
+}
+
+/// Writes its header into the room before the records of a segment.
+fn close(alloc: Global, header: &Header, segment: &mut Text) -> Result<(), AllocError>
+    requires { IsWritable (fields header.now) }
+    ensures { OnOk result ((e : Ended) → e.header ≡ fields header.now → kept_text segment.old ≡ limited (replicate (0x37 + length e.header.name) 0 ++ records_text e.body)
+        → kept_text segment.new ≡ limited (segment_text e)) }
+{
     know_size(&header.load_name);
-    match write_header(alloc, header, body.bytes.len() as u32) {
-        Ok(written) => {
-            object.append(written.as_slice())?;
-            object.append(body.bytes.as_slice())
+    if segment.long {
+        return Ok(());
+    }
+    if segment.bytes.len() > MAX_FILE {
+        segment.give_up();
+        return Ok(());
+    }
+    let Some(size) = segment.bytes.len().checked_sub(head_size(&header.name)) else {
+        return Ok(());
+    };
+    match write_header(alloc, header, size as u32) {
+        Ok(front) => {
+            put_front(segment.bytes.as_mut_slice(), front.as_slice());
+            Ok(())
         }
         Err(WriteHeaderFault::TooLong) => {
-            end_long(object);
+            segment.give_up();
             Ok(())
         }
         Err(WriteHeaderFault::Memory) => Err(AllocError),
     }
+}
+
+/// Appends a segment with this header: room for it, and then the records.
+pub(crate) fn put_segment(
+    alloc: Global,
+    object: &mut Text,
+    header: &Header,
+    segment: Text,
+) -> Result<(), AllocError>
+    requires { IsWritable (fields header.now) }
+    ensures { OnOk result ((segments : List Ended) (e : Ended) → e.header ≡ fields header.now → kept_text segment ≡ limited (replicate (0x37 + length e.header.name) 0 ++ records_text e.body)
+        → kept_text object.old ≡ limited (object_text segments) → kept_text object.new ≡ limited (object_text (segments ++ e ∷ []))) }
+{
+    let mut segment = segment;
+    close(alloc, header, &mut segment)?;
+    object.join(segment)
 }

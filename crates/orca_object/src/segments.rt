@@ -18,7 +18,7 @@ ghost use Rattle.orca_object.specs.DoingView.{ending};
 use crate::amount::number_in;
 use crate::causes::{both, earlier};
 use crate::names::Names;
-use crate::object::put_segment;
+use crate::object::{head_size, put_segment};
 use crate::operand::{is_name, name_of};
 use crate::state::{Body, Kept, Open};
 use crate::text::Text;
@@ -157,6 +157,8 @@ impl Kept {
         let mut names = Names::new(alloc);
         names.set(alloc, name.bytes(), None)?;
         let front = mem::replace(&mut self.front, Text::new(alloc));
+        let mut text = Text::room(alloc, head_size(&name))?;
+        text.join(front)?;
         let open = Open {
             file,
             line,
@@ -168,7 +170,7 @@ impl Kept {
             load_name,
             name,
             names,
-            body: Body::new(alloc, front),
+            body: Body::new(alloc, text),
         };
         self.segment = Some(open);
         self.org = 0;
@@ -186,7 +188,7 @@ impl Kept {
         };
         open.mark_record(alloc, label, &Rec::End)?;
         let (header, text) = header_of(open);
-        put_segment(alloc, &mut self.object, &header, &text)?;
+        put_segment(alloc, &mut self.object, &header, text)?;
         self.number = ((u32::from(self.number) + 1) % 0x10000) as u16;
         Ok(())
     }

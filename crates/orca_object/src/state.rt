@@ -17,7 +17,7 @@ use std::alloc::{AllocError, Global};
 /// The most cells that a segment may have, whatever its class.
 const MOST_CELLS: u64 = 0xFF_FFFF;
 
-/// The records of a segment, and how many cells they give, which are no more than a segment may have.
+/// Room for a segment's header, its records, and how many cells they give, which are no more than a segment may have.
 #[derive(Drop)]
 pub(crate) struct Body {
     pub(crate) writer: Writer,
@@ -74,7 +74,7 @@ fn greatest_length(class: Class) -> u64
 }
 
 impl Body {
-    ghost use Rattle.std.specs.Prelude.{◌≡◌, ◌+◌, ◌<◌, ◌++◌, ◌∷◌, [], List, OnOk, OnErr, IfErr};
+    ghost use Rattle.std.specs.Prelude.{◌≡◌, ◌+◌, ◌<◌, ◌++◌, ◌∷◌, [], List, ℕ, replicate, OnOk, OnErr, IfErr};
     ghost use Rattle.omf_format.specs.Field.{written_layout};
     ghost use Rattle.omf_format.specs.Record.{Record, IsRecord};
     ghost use Rattle.omf_records.specs.View.{view};
@@ -85,10 +85,10 @@ impl Body {
     ghost use Rattle.orca_object.specs.BodyView.{ShowsBody};
     ghost use Rattle.orca_object.specs.TextView.{limited, kept_text};
 
-    /// Records that give no cells.
+    /// Records that give no cells, behind room for a header.
     #[tactic(auto, using(crate::proofs::Bodies::begins))]
     pub(crate) fn new(alloc: Global, text: Text) -> Body
-        ensures { (records : List Record) → kept_text text ≡ limited (records_text records) → place_behind 0 records ≡ 0 → ShowsBody records result }
+        ensures { (room : ℕ) (records : List Record) → kept_text text ≡ limited (replicate room 0 ++ records_text records) → place_behind 0 records ≡ 0 → ShowsBody room records result }
     {
         Body {
             writer: Writer::new(alloc, text),
@@ -100,7 +100,7 @@ impl Body {
     pub(crate) fn put(&mut self, rec: &Rec) -> Result<(), AllocError>
         requires record { IsRecord written_layout (view rec.now) }
         requires none { size_at self.old.cells (view rec.now) ≡ 0 }
-        ensures body { OnOk result ((records : List Record) → ShowsBody records self.old → ShowsBody (records ++ view rec.now ∷ []) self.new) }
+        ensures body { OnOk result ((room : ℕ) (records : List Record) → ShowsBody room records self.old → ShowsBody room (records ++ view rec.now ∷ []) self.new) }
         ensures cells { OnOk result (self.new.cells ≡ self.old.cells) }
     {
         self.writer.text.put(rec)

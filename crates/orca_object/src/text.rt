@@ -28,11 +28,11 @@ fn with_distance(opcode: u8, code: u8, count: u8, n: u32) -> [u8; 8]
 }
 
 impl Text {
-    ghost use Rattle.std.specs.Prelude.{◌≡◌, ◌≤◌, ◌++◌, ◌∷◌, [], List, ℕ, length, None, OnOk};
+    ghost use Rattle.std.specs.Prelude.{◌≡◌, ◌≤◌, ◌++◌, ◌∷◌, [], List, ℕ, length, replicate, None, OnOk, IfOk};
     ghost use Rattle.omf_format.specs.Field.{written_layout};
     ghost use Rattle.omf_format.specs.Record.{Const, Formula, spelling, IsRecord};
     ghost use Rattle.omf_records.specs.View.{view};
-    ghost use Rattle.asm_meaning.specs.Object.{records_text};
+    ghost use Rattle.asm_meaning.specs.Object.{records_text, most_bytes};
     ghost use Rattle.asm_meaning.specs.Pieces.{constant_records};
     ghost use Rattle.orca_object.specs.FewView.{few_bytes};
     ghost use Rattle.orca_object.specs.TextView.{limited, kept_text};
@@ -46,6 +46,17 @@ impl Text {
             bytes: Vec::new(alloc),
             long: false,
         }
+    }
+
+    /// Room for so many bytes.
+    #[tactic(auto, using(crate::proofs::Limited::limited_room))]
+    pub(crate) fn room(alloc: Global, size: usize) -> Result<Text, AllocError>
+        requires { size ≤ most_bytes }
+        ensures { IfOk result (λ text. kept_text text ≡ limited (replicate size 0)) }
+    {
+        let mut bytes = Vec::new(alloc);
+        bytes.resize(size, 0)?;
+        Ok(Text { bytes, long: false })
     }
 
     /// Appends a record.
@@ -133,8 +144,24 @@ impl Text {
         self.append(expr)
     }
 
+    /// Appends another, which is all where nothing stands before it.
+    #[tactic(auto, using(crate::proofs::Limited::long_behind, crate::proofs::Limited::joins_first, crate::proofs::Limited::joins))]
+    pub(crate) fn join(&mut self, other: Text) -> Result<(), AllocError>
+        ensures { OnOk result ((text more : List ℕ) → kept_text self.old ≡ limited text → kept_text other ≡ limited more → kept_text self.new ≡ limited (text ++ more)) }
+    {
+        if other.long {
+            self.give_up();
+            return Ok(());
+        }
+        if self.bytes.is_empty() && !self.long {
+            *self = other;
+            return Ok(());
+        }
+        self.append(other.bytes.as_slice())
+    }
+
     /// Keeps nothing any more: there are more bytes than a file may have.
-    fn give_up(&mut self)
+    pub(crate) fn give_up(&mut self)
         ensures { kept_text self.new ≡ None }
     {
         self.bytes.clear();

@@ -152,10 +152,8 @@ impl Writer {
         requires { ArePlainPieces (map piece pieces.now) }
         ensures { OnOk result ((whole : List ℕ) (rest : List meaning.Piece) → HasWritten whole self.old (map piece pieces.now ++ rest) → HasWritten whole self.new rest) }
     {
-        let mut left = pieces;
-        'pieces: while let Some((first, others)) = left.split_first() {
-            self.put_piece(first)?;
-            left = others;
+        'pieces: for piece in pieces {
+            self.put_piece(piece)?;
         }
         Ok(())
     }
@@ -193,10 +191,8 @@ impl Writer {
         requires { ArePlainPieces (all_pieces parts.now) }
         ensures { OnOk result ((whole : List ℕ) (rest : List meaning.Piece) → HasWritten whole self.old (all_pieces parts.now ++ rest) → HasWritten whole self.new rest) }
     {
-        let mut left = parts;
-        'parts: while let Some((first, others)) = left.split_first() {
-            self.put_part(first)?;
-            left = others;
+        'parts: for part in parts {
+            self.put_part(part)?;
         }
         Ok(())
     }

@@ -1,9 +1,10 @@
 -- Operands that are bound one behind another.
-use Rattle.std.proofs.Common.{◌≡◌, ◌≤◌, ◌+◌, ℕ, Bool, true, false, cond, List, [], ◌∷◌, length, take, drop, Option, Some, None, refl, sym, ap, subst, ◌∙◌, inl, inr, zero, suc, eqb, arith}
+use Rattle.std.proofs.Common.{◌≡◌, ◌≤◌, ◌+◌, ℕ, Bool, true, false, cond, List, [], ◌∷◌, length, get_or, take, drop, Option, Some, None, refl, sym, ap, subst, ◌∙◌, inl, inr, zero, suc, eqb, arith}
 use Rattle.std.specs.Prelude.{◌≢◌, ◌<◌, ◌⊎◌, slice_get, bytes_eq, is_none, is_some}
 use Rattle.std.specs.Cmp.Lexicographic.{bytes_decides}
 use Rattle.std.proofs.Math.Nat.{eq-or-lt_of_le}
 use Rattle.std.proofs.lemmas.Bool.{ne_eqb}
+use Rattle.std.proofs.lemmas.List.Folds.{list_any_at}
 use Rattle.macro_meaning.specs.declared.statements.Kind.TheVariants.{Text}
 use Rattle.macro_meaning.specs.Symbol.{Symbol, Own, Symbols, with_name}
 use Rattle.macro_meaning.specs.Call.{is_among, Binding, binding, keyword_from, by_place, or_place, bound, bound_once, bound_all, with_missing, complete, all_names, arguments, label_bound}
@@ -216,17 +217,6 @@ no_equals parameters place piece behind name rest first n is starts n_is name_is
 
 -- ---- a name among others
 
-pub is_first : (names left others : List (List ℕ)) (first name : List ℕ) → left ≡ first ∷ others → bytes_eq name first ≡ true → is_among left name ≡ is_among names name
-    → (is_among names name ≡ true) × (first ≡ name)
-is_first names left others first name is same so =
-    let here : is_among left name ≡ true = rw (is, same) refl in
-    (sym so ∙ here, sym ((bytes_decides name first).0 same))
-
-pub is_later : (names left others : List (List ℕ)) (first name : List ℕ) → left ≡ first ∷ others → bytes_eq name first ≡ false → is_among left name ≡ is_among names name → is_among others name ≡ is_among names name
-is_later names left others first name is other so =
-    let more : is_among left name ≡ is_among others name = rw (is, other) refl in
-    sym more ∙ so
-
-pub is_nowhere : (names left : List (List ℕ)) (name : List ℕ) → length left ≡ 0 → is_among left name ≡ is_among names name → is_among names name ≡ false
-is_nowhere names [] name none so = sym so
-is_nowhere names (x ∷ left) name none so = absurd (omega (arith, none))
+pub is_here : (names : List (List ℕ)) (i : ℕ) (first name : List ℕ) → i < length names → first ≡ get_or names i first → bytes_eq name first ≡ true → (is_among names name ≡ true) × (first ≡ name)
+is_here names i first name less is same =
+    (list_any_at (bytes_eq name) names i first less (subst (λ (x : List ℕ). bytes_eq name x ≡ true) is same), sym ((bytes_decides name first).0 same))

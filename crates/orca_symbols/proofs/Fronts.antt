@@ -1,8 +1,9 @@
 -- What stands before a text that may be none.
-use Rattle.std.proofs.lemmas.Bool.{eqb-true}
+use Rattle.std.proofs.lemmas.Bool.{eqb-true, and_parts}
 use Rattle.orca_symbols.specs.Plain.{plain_len}
 use Rattle.std.proofs.Common.{◌≡◌, ℕ, zero, suc, ◌+◌, ◌-◌, ◌≤◌, Bool, true, false, cond, eqb, take, drop, subst, length-drop, List, [], ◌∷◌, ◌++◌, Option, Some, None, refl, sym, ap, ◌∙◌, length, arith, append_assoc, append-nil}
 use Rattle.std.specs.Char.{to_ascii_uppercase}
+use Rattle.std.specs.List.{list_all}
 use Rattle.orca_meaning.specs.Characters.{folded}
 use Rattle.macro_meaning.specs.Substitution.{Naming, with_front, in_place, substituted}
 
@@ -35,14 +36,15 @@ put_none text_of naming at byte behind old whole ampersand none so =
     let front : substituted text_of naming at 0 (0x26 ∷ behind) ≡ None = rw none refl in
     sym so ∙ ap (λ (b : ℕ). with_front old (substituted text_of naming at 0 (b ∷ behind))) ampersand ∙ ap (with_front old) front
 
--- one more byte of a name in upper case
-pub folded_next : (byte : ℕ) (behind left name : List ℕ) → left ≡ byte ∷ behind → to_ascii_uppercase byte ≡ byte → (folded left ≡ left → folded name ≡ name) → folded behind ≡ behind → folded name ≡ name
-folded_next byte behind left name is upper so more =
-    so (ap folded is ∙ ap (λ (b : ℕ). b ∷ folded behind) upper ∙ ap (λ (l : List ℕ). byte ∷ l) more ∙ sym is)
+-- a byte that is no small letter
+abbrev pub is_upper : ℕ → Bool
+is_upper byte = eqb (to_ascii_uppercase byte) byte
 
-pub folded_end : (left name : List ℕ) → length left ≡ 0 → (folded left ≡ left → folded name ≡ name) → folded name ≡ name
-folded_end [] name none so = so refl
-folded_end (byte ∷ left) name none so = absurd (omega (arith, none))
+pub folded_all : (name : List ℕ) → list_all is_upper name ≡ true → folded name ≡ name
+folded_all [] all = refl
+folded_all (byte ∷ behind) all =
+    let both = and_parts (is_upper byte) (list_all is_upper behind) all in
+    ap (λ (b : ℕ). b ∷ folded behind) (eqb-true (to_ascii_uppercase byte) byte both.0) ∙ ap (λ (l : List ℕ). byte ∷ l) (folded_all behind both.1)
 
 -- ---- runs without `&`
 

@@ -3,7 +3,6 @@ pub mod Maps
 pub mod Parted
 pub mod Fronts
 pub mod Signed
-pub mod Terms
 pub mod Models
 pub mod Numbers
 pub mod Binds

@@ -1,7 +1,8 @@
 -- Pieces from the front on, and quotes that close.
-use Rattle.std.proofs.Common.{◌≡◌, ℕ, zero, suc, ◌+◌, ◌<◌, ◌≤◌, Bool, true, false, cond, eqb, ltb, List, [], ◌∷◌, ◌++◌, length, take, drop, Option, Some, None, refl, sym, ap, subst, ◌∙◌, append_assoc, append-nil, length-drop, arith}
+use Rattle.std.proofs.Common.{◌≡◌, ℕ, zero, suc, ◌+◌, ◌<◌, ◌≤◌, Bool, true, false, cond, eqb, ltb, List, [], ◌∷◌, ◌++◌, length, get_or, take, drop, Option, Some, None, refl, sym, ap, subst, ◌∙◌, append_assoc, append-nil, length-drop, arith}
 use Rattle.std.specs.Prelude.{position, slice_get}
 use Rattle.std.specs.List.{position_or_len}
+use Rattle.std.proofs.lemmas.List.{drop_more}
 use Rattle.orca_meaning.specs.Quotes.{quote_behind}
 use Rattle.macro_meaning.specs.Pieces.{parts, open_behind, with_byte, pieces_from, pieces, closed_at, quoted, appended, joined}
 use Rattle.orca_symbols.specs.Piece.{piece_len, AreNotTwo}
@@ -18,6 +19,10 @@ drop_all [] zero end = refl
 drop_all [] (suc i) end = refl
 drop_all (y ∷ l) zero end = absurd (omega (arith, end))
 drop_all (y ∷ l) (suc i) end = drop_all l i (omega (arith, end))
+
+-- an element that was read; the first part shows `grind` the call to match
+pub drop_read : {A : Type 0} (l : List A) (i : ℕ) (x : A) → i < length l → x ≡ get_or l i x → (get_or l i x ≡ get_or l i x) × (drop i l ≡ x ∷ drop (i + 1) l)
+drop_read {A = A} l i x less is = (refl, drop_more l i x less ∙ ap (λ (y : A). y ∷ drop (i + 1) l) (sym is))
 
 -- the first piece, and the pieces of what stands behind its separator
 after_first : ℕ → List ℕ → List (List ℕ)

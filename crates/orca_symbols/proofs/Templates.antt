@@ -124,32 +124,6 @@ parts_end naming text left rest run copied old new within so rest_is copied_is n
     closed text_of (Some []) ∙ ap (followed text_of old) (ap (λ (t : List ℕ). Some t) (append-nil copied) ∙ sym (nothing_left text_of naming (length text - length rest) rest copied none))
     ∙ parts_run naming text left rest run copied old within so rest_is copied_is text_of
 
--- ---- what comes of parts
-
-pub fill_start : (text_of : List ℕ → Option (List ℕ)) (parts : List Part) (out : List ℕ) → out ≡ [] → with_front out (followed text_of parts (Some [])) ≡ followed text_of parts (Some [])
-fill_start text_of parts out empty = front_start out (followed text_of parts (Some [])) empty
-
-pub fill_next : (text_of : List ℕ → Option (List ℕ)) (parts left behind : List Part) (first : Part) (text old new : List ℕ) → left ≡ first ∷ behind → part_text text_of first ≡ Some text → new ≡ old ++ text
-    → with_front old (followed text_of left (Some [])) ≡ followed text_of parts (Some []) → with_front new (followed text_of behind (Some [])) ≡ followed text_of parts (Some [])
-fill_next text_of parts left behind first text old new is text_is push so =
-    ap (λ (n : List ℕ). with_front n (followed text_of behind (Some []))) push ∙ front_more old text (followed text_of behind (Some []))
-    ∙ ap (λ (o : Option (List ℕ)). with_front old (join o (followed text_of behind (Some [])))) (sym text_is) ∙ ap (λ (l : List Part). with_front old (followed text_of l (Some []))) (sym is) ∙ so
-
-pub fill_empty : (text_of : List ℕ → Option (List ℕ)) (parts left behind : List Part) (first : Part) (text out : List ℕ) → left ≡ first ∷ behind → part_text text_of first ≡ Some text → text ≡ []
-    → with_front out (followed text_of left (Some [])) ≡ followed text_of parts (Some []) → with_front out (followed text_of behind (Some [])) ≡ followed text_of parts (Some [])
-fill_empty text_of parts left behind first text out is text_is empty =
-    fill_next text_of parts left behind first text out out is text_is (sym (ap (λ (t : List ℕ). out ++ t) empty ∙ append-nil out))
-
-pub fill_none : (text_of : List ℕ → Option (List ℕ)) (parts left behind : List Part) (first : Part) (old : List ℕ) → left ≡ first ∷ behind → part_text text_of first ≡ None
-    → with_front old (followed text_of left (Some [])) ≡ followed text_of parts (Some []) → followed text_of parts (Some []) ≡ None
-fill_none text_of parts left behind first old is none so =
-    sym so ∙ ap (λ (l : List Part). with_front old (followed text_of l (Some []))) is ∙ ap (λ (o : Option (List ℕ)). with_front old (join o (followed text_of behind (Some [])))) none
-
-pub fill_end : (text_of : List ℕ → Option (List ℕ)) (parts left : List Part) (out : List ℕ) → length left ≡ 0
-    → with_front out (followed text_of left (Some [])) ≡ followed text_of parts (Some []) → followed text_of parts (Some []) ≡ Some out
-fill_end text_of parts [] out none so = sym so ∙ ap (λ (t : List ℕ). Some t) (append-nil out)
-fill_end text_of parts (first ∷ left) out none so = absurd (omega (arith, none))
-
 -- ---- with what all begins that comes of parts
 
 -- what comes of the parts comes of those that are left

@@ -30,17 +30,14 @@ struct Bind<'a> {
 }
 
 /// The name among others that a text spells, in upper or lower case.
-#[tactic(auto, using(crate::proofs::Binds::is_first, crate::proofs::Binds::is_later, crate::proofs::Binds::is_nowhere))]
 fn spelled_among<'a>(names: &'a [Name], text: &[u8]) -> Option<&'a [u8]>
     ensures { MatchOption result (is_among names.now (folded text.now) ≡ false)
         (λ found. (is_among names.now (folded text.now) ≡ true) × (found.now ≡ folded text.now)) }
 {
-    let mut left = names;
-    'names: while let Some((first, others)) = left.split_first() {
-        if is_spelled(text, first.bytes()) {
-            return Some(first.bytes());
+    'names: for name in names {
+        if is_spelled(text, name.bytes()) {
+            return Some(name.bytes());
         }
-        left = others;
     }
     None
 }

@@ -66,26 +66,24 @@ impl<'a> Env for Values<'a> {
     }
 }
 
+/// Whether the symbol of which a term asks is declared.
+fn is_declared(of: Values<'_>, next: &FormulaTerm) -> bool
+    ensures { result ≡ is_declared (values of.entry) (term next.now) }
+{
+    match next {
+        FormulaTerm::Named(_, name) => text_of(of, name.bytes()).is_some(),
+        FormulaTerm::Operator(_)
+        | FormulaTerm::Location
+        | FormulaTerm::Constant(_)
+        | FormulaTerm::Offset(_) => true,
+    }
+}
+
 /// Whether the symbols of which a formula asks are declared.
 fn are_declared(of: Values<'_>, terms: &[FormulaTerm]) -> bool
     ensures { result ≡ list_all (is_declared (values of.entry)) (Rattle.std.specs.Prelude.map term terms.now) }
 {
-    let mut left = terms;
-    'terms: while let Some((first, others)) = left.split_first() {
-        match first {
-            FormulaTerm::Named(_, name) => {
-                if text_of(of, name.bytes()).is_none() {
-                    return false;
-                }
-            }
-            FormulaTerm::Operator(_)
-            | FormulaTerm::Location
-            | FormulaTerm::Constant(_)
-            | FormulaTerm::Offset(_) => {}
-        }
-        left = others;
-    }
-    true
+    terms.iter().all(|next| is_declared(of, next))
 }
 
 /// A term as one of an expression.
@@ -102,19 +100,16 @@ fn as_term(of: &FormulaTerm) -> Term<'_>
 }
 
 /// The bytes of an expression with these terms.
-#[tactic(auto, using(crate::proofs::Terms::term_put, crate::proofs::Terms::terms_end))]
 fn expression(alloc: Global, terms: &[FormulaTerm]) -> Result<Vec<u8>, AllocError>
     requires { AreTerms 0 (Rattle.std.specs.Prelude.map term terms.now) }
     ensures { IfOk result (λ v. v.items ≡ terms_text 0 (Rattle.std.specs.Prelude.map term terms.now) ++ 0x00 ∷ []) }
 {
     let mut out = Vec::with_capacity(alloc, 6 * terms.len() + 1)?;
-    let mut left = terms;
-    'terms: while let Some((first, others)) = left.split_first() {
-        match put_term(&mut out, &as_term(first)) {
+    'terms: for next in terms {
+        match put_term(&mut out, &as_term(next)) {
             Ok(()) => {}
             Err(_) => return Err(AllocError),
         }
-        left = others;
     }
     out.push(0)?;
     Ok(out)

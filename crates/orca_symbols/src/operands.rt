@@ -71,15 +71,13 @@ fn piece_len(separator: u8, text: LinePart<'_>) -> usize
     let mut quote = None;
     let mut open: usize = 0;
     let mut count: usize = 0;
-    let mut left = text.bytes;
-    'bytes: while let Some((byte, behind)) = left.split_first() {
+    'bytes: for byte in text.bytes {
         if quote.is_none() && open == 0 && *byte == separator {
             return count;
         }
         open = open_behind(quote, open, *byte);
         quote = quote_behind(quote, *byte);
         count += 1;
-        left = behind;
     }
     count
 }

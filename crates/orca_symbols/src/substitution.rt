@@ -51,10 +51,8 @@ fn is_outside(front: &[u8]) -> bool
     ensures { result ≡ is_closed (quote_after None front.now) }
 {
     let mut quote = None;
-    let mut left = front;
-    'bytes: while let Some((byte, behind)) = left.split_first() {
+    'bytes: for byte in front {
         quote = quote_behind(quote, *byte);
-        left = behind;
     }
     quote.is_none()
 }
@@ -188,18 +186,10 @@ pub(crate) fn taken_length(behind: &[u8]) -> usize
 }
 
 /// Whether a name is in upper case, as symbols are kept.
-#[tactic(auto, using(crate::proofs::Fronts::folded_next))]
 pub fn is_folded(name: &[u8]) -> bool
     ensures { IsTrue result → Rattle.orca_meaning.specs.Characters.folded name.now ≡ name.now }
 {
-    let mut left = name;
-    'bytes: while let Some((byte, behind)) = left.split_first() {
-        if byte.to_ascii_uppercase() != *byte {
-            return false;
-        }
-        left = behind;
-    }
-    true
+    name.iter().all(|byte| byte.to_ascii_uppercase() == *byte)
 }
 
 /// The text of the symbol whose name stands at the front.
@@ -270,13 +260,11 @@ fn plain_len(text: &[u8]) -> usize
     ensures bound { result ≤ length text.now }
 {
     let mut count: usize = 0;
-    let mut left = text;
-    'bytes: while let Some((byte, behind)) = left.split_first() {
+    'bytes: for byte in text {
         if *byte == b'&' {
             return count;
         }
         count += 1;
-        left = behind;
     }
     count
 }

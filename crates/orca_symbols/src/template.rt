@@ -152,19 +152,18 @@ pub fn parts_of(alloc: Global, of: &SourceLine) -> Result<Vec<Part>, AllocError>
 }
 
 /// The bytes with which all begins that comes of parts.
-#[tactic(auto, using(crate::proofs::Templates::needs_more, crate::proofs::Templates::begins_plain))]
+#[tactic(auto, using(crate::proofs::Parted::drop_read, crate::proofs::Templates::needs_more))]
 pub fn plain_front(parts: &[Part]) -> Option<LinePart<'_>>
     ensures { IfSome result (λ front. BeginWith parts.now front.bytes.now) }
 {
-    let mut left = parts;
-    'parts: while let Some((first, others)) = left.split_first() {
-        match first {
+    'parts: for part in parts {
+        match part {
             Part::Plain(bytes) => {
                 return Some(LinePart {
                     bytes: bytes.bytes(),
                 });
             }
-            Part::Need(_) => left = others,
+            Part::Need(_) => {}
             Part::Put(_) => return None,
         }
     }
@@ -186,21 +185,18 @@ fn part_text<'a>(of: Values<'a>, part: &'a Part) -> Option<&'a [u8]>
 }
 
 /// Puts what comes of parts into a buffer, whose own bytes are gone: whether all their symbols are declared.
-#[tactic(auto, using(crate::proofs::Templates::fill_start, crate::proofs::Templates::fill_next, crate::proofs::Templates::fill_empty, crate::proofs::Templates::fill_none, crate::proofs::Templates::fill_end))]
 pub fn fill(of: Values<'_>, parts: &[Part], out: &mut Vec<u8>) -> Result<bool, AllocError>
     ensures text { IfOk result (λ found. IsTrue found → followed (text_of (values of.entry)) parts.now (Some []) ≡ Some out.new.items) }
     ensures missing { IfOk result (λ found. found ≡ false → followed (text_of (values of.entry)) parts.now (Some []) ≡ None) }
 {
     out.clear();
-    let mut left = parts;
-    'parts: while let Some((first, behind)) = left.split_first() {
-        let Some(text) = part_text(of, first) else {
+    'parts: for part in parts {
+        let Some(text) = part_text(of, part) else {
             return Ok(false);
         };
         if !text.is_empty() {
             out.extend_from_slice(text)?;
         }
-        left = behind;
     }
     Ok(true)
 }

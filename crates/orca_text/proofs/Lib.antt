@@ -2,6 +2,7 @@ pub mod Texts
 pub mod Whole
 pub mod Digits
 pub mod Lookup
+pub mod Spelled
 pub mod Own
 pub mod Places
 pub mod Reading

@@ -121,14 +121,12 @@ fn blank_outside(rest: &[u8]) -> usize
 {
     let mut quote = None;
     let mut count = 0;
-    let mut left = rest;
-    'bytes: while let Some((byte, behind)) = left.split_first() {
+    'bytes: for byte in rest {
         if quote.is_none() && is_blank(*byte) {
             return count;
         }
         quote = quote_behind(quote, *byte);
         count += 1;
-        left = behind;
     }
     count
 }

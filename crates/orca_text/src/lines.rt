@@ -154,10 +154,7 @@ pub fn read_lines(alloc: Global, file: u32, source: &[u8]) -> Result<Lines, Text
     let mut number = 1;
     'lines: while !rest.is_empty() {
         let (text, behind) = split_line(rest);
-        match checked(file, number, text) {
-            Ok(()) => {}
-            Err(fault) => return Err(fault),
-        }
+        checked(file, number, text)?;
         match lines.push(alloc, file, number, LinePart { bytes: text }) {
             Ok(()) => {}
             Err(_) => return Err(TextFault {

@@ -76,13 +76,11 @@ pub fn name_len(behind: &[u8]) -> usize
     ensures bound { result ≤ length behind.now }
 {
     let mut count = 0;
-    let mut left = behind;
-    'bytes: while let Some((byte, others)) = left.split_first() {
+    'bytes: for byte in behind {
         if !is_name_byte(*byte) {
             return count;
         }
         count += 1;
-        left = others;
     }
     count
 }

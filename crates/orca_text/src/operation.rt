@@ -271,21 +271,11 @@ pub fn mnemonic_of(operation: &[u8]) -> Option<Mnemonic>
 pub fn is_spelled(text: &[u8], spelling: &[u8]) -> bool
     ensures { result ≡ bytes_eq (folded text.now) spelling.now }
 {
-    let mut left = text;
-    let mut wanted = spelling;
-    'bytes: while let Some((byte, behind)) = left.split_first() {
-        match wanted.split_first() {
-            Some((first, others)) => {
-                if byte.to_ascii_uppercase() != *first {
-                    return false;
-                }
-                wanted = others;
-            }
-            None => return false,
-        }
-        left = behind;
-    }
-    wanted.is_empty()
+    text.len() == spelling.len()
+        && text
+            .iter()
+            .zip(spelling)
+            .all(|(byte, wanted)| byte.to_ascii_uppercase() == *wanted)
 }
 
 /// Whether it is a directive or macro statement without operand.

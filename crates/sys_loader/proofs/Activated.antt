@@ -35,12 +35,13 @@ use Rattle.loader_agrees.specs.laws.Reads.{headed}
 use Rattle.loader_agrees.specs.laws.Seeing.{made_at, IsKept, kept_is, refuses, does}
 use Rattle.loader_agrees.specs.laws.Leading.{is_led, joined_of}
 use Rattle.sys_loader.specs.Replies.{activation_reply}
-use Rattle.sys_loader.specs.Calls.{IsFaultAs}
+use Rattle.loader_users.specs.Taken.{IsFaultAs}
 use Rattle.sys_loader.specs.Lives.{HasTurned}
 use Rattle.sys_loader.proofs.ReadAs.{as_loadable, no_fault_as}
-use Rattle.sys_loader.specs.Activating.{IsChanged, CanLoad, IsBringRefusal, HasCome, IsComeRefusal, IsReadRefusal, CantRead, LacksMemory, CantCome, DidCome, HasActivated, DidActivate}
+use Rattle.loader_users.specs.Changed.{IsChanged}
+use Rattle.sys_loader.specs.Activating.{CanLoad, IsBringRefusal, HasCome, IsComeRefusal, IsReadRefusal, CantRead, LacksMemory, CantCome, DidCome, HasActivated, DidActivate}
 use Rattle.sys_loader.proofs.Came.{dynamic_plain, came_agrees}
-use Rattle.sys_loader.proofs.Shifting.{IsTurn, shifted_agrees}
+use Rattle.loader_users.proofs.Shifting.{IsTurn, shifted_agrees}
 
 -- ---- a segment that wakes
 

@@ -41,11 +41,13 @@ use Rattle.loader_agrees.specs.laws.Rows.{IsReached, all_reached}
 use Rattle.loader_agrees.specs.laws.RowUsers.{user_there}
 use Rattle.loader_agrees.specs.laws.Seeing.{made_at, user_is, has_any}
 use Rattle.sys_loader.specs.declared.answers.Started as answers
-use Rattle.sys_loader.specs.Lives.{with_life, AreReleased}
-use Rattle.sys_loader.specs.Restarting.{released_memory, HasBegunAnew, heads_in, kept_heads}
+use Rattle.loader_users.specs.Users.{with_life}
+use Rattle.sys_loader.specs.Lives.{AreReleased}
+use Rattle.sys_loader.specs.Restarting.{released_memory, HasBegunAnew}
+use Rattle.loader_users.specs.Users.{heads_in, kept_heads}
 use Rattle.sys_loader.proofs.Dropping.{gone_sound, gone_agrees}
 use Rattle.sys_loader.proofs.KeptHandles.{keeps_rest}
-use Rattle.sys_loader.proofs.Leads.{at_most}
+use Rattle.loader_users.proofs.Leads.{at_most}
 use Rattle.sys_loader.proofs.Relived as relived
 use Rattle.sys_loader.proofs.Rerun.{rerun_sound, rerun_agrees}
 use Rattle.sys_loader.proofs.Together.{is_in, in_row, in_rows, with_all_then, with_all_else, length_all, map_all}

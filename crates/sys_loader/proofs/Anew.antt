@@ -21,11 +21,13 @@ use Rattle.loader_agrees.specs.Agrees.{Kept, Loaded}
 use Rattle.loader_agrees.specs.Acts.{started_kept}
 use Rattle.loader_agrees.specs.laws.BegunSound.{rest_apart}
 use Rattle.sys_loader.specs.declared.answers.Started.{Started}
-use Rattle.sys_loader.specs.declared.user.Segment as users
-use Rattle.sys_loader.specs.Calls.{spread_handles, IsSettled, IsBeginRefusal}
-use Rattle.sys_loader.specs.Lives.{with_life}
-use Rattle.sys_loader.specs.Restarting.{is_whole, released_memory, HasBegunAnew, IsAgainRefusal, HasBegunFrom, IsOtherFile, kept_heads}
-use Rattle.sys_loader.proofs.Written.{heads_of, handles_of}
+use Rattle.loader_users.specs.declared.user.Segment as users
+use Rattle.loader_users.specs.Planned.{spread_handles}
+use Rattle.sys_loader.specs.Calls.{IsSettled, IsBeginRefusal}
+use Rattle.loader_users.specs.Users.{with_life}
+use Rattle.sys_loader.specs.Restarting.{is_whole, released_memory, HasBegunAnew, IsAgainRefusal, HasBegunFrom, IsOtherFile}
+use Rattle.loader_users.specs.Users.{kept_heads}
+use Rattle.loader_users.proofs.Written.{heads_of, handles_of}
 
 -- what is placed in the place of all that a user has is placed where it has nothing
 pub placed_freed : (memory middle : Memory) (id : ℕ) (wants : List Want) (hs : List Handle) → AreAllPlaced RoomRule memory id true wants hs middle → AreAllPlaced RoomRule (released_memory memory id) id false wants hs middle

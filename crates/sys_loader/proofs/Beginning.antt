@@ -27,13 +27,14 @@ use Rattle.loader_agrees.specs.Acts.{HasPlaced, HasBegun, started_kept, joined_k
 use Rattle.loader_agrees.specs.laws.Begun.{all_placed, all_length, decide}
 use Rattle.loader_agrees.specs.laws.BegunSound.{AreDistinct, rest_apart, all_distinct, spread_want, spread_index, spread_once, want_size}
 use Rattle.loader_agrees.specs.laws.BegunMore.{sound_begun}
-use Rattle.sys_loader.specs.declared.user.Segment as users
-use Rattle.sys_loader.specs.declared.user.User.{User}
-use Rattle.sys_loader.specs.View.{kept, loaded}
-use Rattle.sys_loader.specs.Filling.{IsReady, AreReady, AreFilled}
-use Rattle.sys_loader.specs.Calls.{spread_handles, IsSettled, AreJoinedUsers}
-use Rattle.sys_loader.proofs.Written.{heads_of, handles_of}
-use Rattle.sys_loader.proofs.Settling.{addresses, is_setting}
+use Rattle.loader_users.specs.declared.user.Segment as users
+use Rattle.loader_users.specs.declared.user.User.{User}
+use Rattle.loader_users.specs.View.{kept, loaded}
+use Rattle.loader_users.specs.Filling.{IsReady, AreReady, AreFilled}
+use Rattle.loader_users.specs.Planned.{spread_handles}
+use Rattle.sys_loader.specs.Calls.{IsSettled, AreJoinedUsers}
+use Rattle.loader_users.proofs.Written.{heads_of, handles_of}
+use Rattle.loader_users.proofs.Settling.{addresses, is_setting}
 
 -- ---- new blocks
 

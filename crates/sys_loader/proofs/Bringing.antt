@@ -26,7 +26,7 @@ use Rattle.loader_agrees.specs.laws.ScriptBlocks.{placed_kept}
 use Rattle.loader_agrees.specs.laws.Slotted.{slot_apart, live_block, in_put, in_left}
 use Rattle.loader_agrees.specs.laws.Stay.{reached_block, get_left, cant_move, put_apart, is_there}
 use Rattle.loader_agrees.specs.laws.Stay.IsReached.{Kept, Purged, Moved}
-use Rattle.sys_loader.proofs.Shifting.{value_here, value_in}
+use Rattle.loader_users.proofs.Shifting.{value_here, value_in}
 
 -- what a placed block of a segment is, and what is left of the others
 pub record Brings (old : Loaded) (id : ℕ) (head : Head) (h : Handle) (address : ℕ) (new : Memory) : Type 0 where

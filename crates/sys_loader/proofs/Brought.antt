@@ -32,15 +32,16 @@ use Rattle.loader_agrees.specs.laws.Keeping.{of_kept}
 use Rattle.loader_agrees.specs.laws.Lists.{set_map}
 use Rattle.loader_agrees.specs.laws.Reads.{head_at, headed}
 use Rattle.loader_agrees.specs.laws.Seeing.{made_at, has_any}
-use Rattle.sys_loader.specs.declared.user.Segment as users
-use Rattle.sys_loader.specs.Renewing.{AreRoomy, AreRenewed}
-use Rattle.sys_loader.specs.Lives.{with_bytes}
-use Rattle.sys_loader.specs.Filling.{HasHead, IsSetting, IsFilled, IsWritten}
-use Rattle.sys_loader.specs.Activating.{CanLoad, IsBrought, HasCome, with_handle}
+use Rattle.loader_users.specs.declared.user.Segment as users
+use Rattle.loader_users.specs.Renewing.{AreRoomy, AreRenewed}
+use Rattle.loader_users.specs.Bytes.{with_bytes}
+use Rattle.loader_users.specs.Filling.{HasHead, IsSetting, IsFilled, IsWritten}
+use Rattle.sys_loader.specs.Activating.{CanLoad, IsBrought, HasCome}
+use Rattle.loader_users.specs.Users.{with_handle}
 use Rattle.sys_loader.proofs.Beginning.{want_some}
 use Rattle.sys_loader.proofs.Came.{IsNew, is_new}
-use Rattle.sys_loader.proofs.Settling.{addresses, address_is}
-use Rattle.sys_loader.proofs.Written.{handles_of}
+use Rattle.loader_users.proofs.Settling.{addresses, address_is}
+use Rattle.loader_users.proofs.Written.{handles_of}
 
 none_active : (ts : List Target) → AllByRecursion (λ (t : Target). ◌≡◌ {A = Option ℕ} None None) ts
 none_active [] = tt

@@ -12,7 +12,7 @@ use Rattle.loader_machine.specs.Presences.{lies_at, active_at}
 use Rattle.loader_machine.specs.Steps.{changed, changed_all, let_go, idle_block}
 use Rattle.loader_agrees.specs.Agrees.{IsSegments}
 use Rattle.loader_agrees.specs.laws.Slotted.{slot_apart, live_block}
-use Rattle.sys_loader.proofs.Shifting.{value_here, value_in}
+use Rattle.loader_users.proofs.Shifting.{value_here, value_in}
 
 -- ---- one handle
 

@@ -36,19 +36,19 @@ use Rattle.loader_agrees.specs.laws.Seeing.{user_is, made_at, IsKept, kept_is, h
 use Rattle.loader_agrees.specs.laws.Leading.{Leading, Its, Holder}
 use Rattle.loader_agrees.specs.laws.Likes.{IsLike, AreLike, like_row, like_call, like_attached, like_entries}
 use Rattle.loader_agrees.specs.laws.RowUsers.{user_there}
-use Rattle.sys_loader.specs.Renewing.{AreRenewed}
-use Rattle.sys_loader.specs.Lives.{with_bytes}
-use Rattle.sys_loader.specs.Activating.{with_handle}
+use Rattle.loader_users.specs.Renewing.{AreRenewed}
+use Rattle.loader_users.specs.Bytes.{with_bytes}
+use Rattle.loader_users.specs.Users.{with_handle}
 use Rattle.sys_loader.proofs.Beginning.{want_some}
 use Rattle.sys_loader.proofs.Bringing.{Brings}
-use Rattle.sys_loader.proofs.Families.{user_apart}
+use Rattle.loader_users.proofs.Families.{user_apart}
 use Rattle.sys_loader.proofs.KeptHandles.{keeps_there, keeps_active, keeps_rest, keeps_target, keeps_bytes, handle_here, handle_apart}
 use Rattle.load_meaning.specs.declared.table.Target.{Target}
-use Rattle.sys_loader.specs.Renewing.{is_chosen}
-use Rattle.sys_loader.proofs.Lead.{target_stays}
-use Rattle.sys_loader.proofs.Shifting.{room_there}
-use Rattle.sys_loader.proofs.Turned.{Becomes, Stays, Turns, Anew, Turned, turned_agrees}
-use Rattle.sys_loader.proofs.Leads.{entries_lead}
+use Rattle.loader_users.specs.Renewing.{is_chosen}
+use Rattle.loader_users.proofs.Lead.{target_stays}
+use Rattle.loader_users.proofs.Shifting.{room_there}
+use Rattle.loader_users.proofs.Turned.{Becomes, Stays, Turns, Anew, Turned, turned_agrees}
+use Rattle.loader_users.proofs.Leads.{entries_lead}
 
 -- ---- the loader
 
@@ -360,7 +360,7 @@ module _ (old new : Loaded) (id number owner file : ℕ) (kept lead : Kept) (hea
                 let follows = renewed.follow n g j (at_most lead.heads n g ghead) ghead ghandle table here in
                 let room : g.length ≤ length (bytes_at old.memory j.slot) = room_there old sound p n g j has_old before in
                 subst (λ (t : Target). IsCall new.users (first_id + p) t)
-                (sym (ap (λ (bs : List ℕ). load.target_at bs k) (follows ∙ ap (Rattle.sys_loader.specs.Renewing.renewed (Some (file, number)) (Some address) (load.entry_count g.length)) (filled_apart j.slot ne ∙ bytes))
+                (sym (ap (λ (bs : List ℕ). load.target_at bs k) (follows ∙ ap (Rattle.loader_users.specs.Renewing.renewed (Some (file, number)) (Some address) (load.entry_count g.length)) (filled_apart j.slot ne ∙ bytes))
                 ∙ target_stays (Some (file, number)) (Some address) k (load.entry_count g.length) (bytes_at old.memory j.slot) (omega (arith, inside', room)))) call
             | inr other ↦ subst (λ (bs : List ℕ). IsCall new.users (first_id + p) (load.target_at bs k)) (sym (plain_bytes p n g j has_old ne (λ e. absurd (other e)) ∙ bytes)) call
           ]
@@ -513,11 +513,11 @@ module _ (old new : Loaded) (id number owner file : ℕ) (kept lead : Kept) (hea
 
     -- a table of the user's own follows
     own_table : (n : ℕ) (s : Segment) (k : Handle) → segment_at is.does_agree.segments n ≡ Some s → handle_at kept.handles n ≡ Some k → load.is_table s ≡ true → IsSome (there_at (presence placed.slots (Some k)))
-        → bytes_at new.memory k.slot ≡ Rattle.sys_loader.specs.Renewing.renewed (Some (1, number)) (Some address) (load.entry_count s.fields.length) (bytes_at (with_bytes placed h.slot content) k.slot)
+        → bytes_at new.memory k.slot ≡ Rattle.loader_users.specs.Renewing.renewed (Some (1, number)) (Some address) (load.entry_count s.fields.length) (bytes_at (with_bytes placed h.slot content) k.slot)
     own_table n s k found has table there = go leading
       where
         go : Leading old.users id owner file
-            → bytes_at new.memory k.slot ≡ Rattle.sys_loader.specs.Renewing.renewed (Some (1, number)) (Some address) (load.entry_count s.fields.length) (bytes_at (with_bytes placed h.slot content) k.slot)
+            → bytes_at new.memory k.slot ≡ Rattle.loader_users.specs.Renewing.renewed (Some (1, number)) (Some address) (load.entry_count s.fields.length) (bytes_at (with_bytes placed h.slot content) k.slot)
         go (Holder above ne' there' empty only) = elim alone [
           | inl one ↦ absurd (omega (arith, above, one))
           | inr plain' ↦ (let clash : true ≡ false = sym table ∙ plain' n (head_of s) (heads_at n s found) in absurd cc)
@@ -527,7 +527,7 @@ module _ (old new : Loaded) (id number owner file : ℕ) (kept lead : Kept) (hea
             let fhead : at_number lead.heads n ≡ Some (head_of s) = ap (λ (x : Kept). at_number x.heads n) user ∙ heads_at n s found in
             let fhandle : handle_at lead.handles n ≡ Some k = ap (λ (x : Kept). handle_at x.handles n) user ∙ has in
             renewed.follow n (head_of s) k (at_most lead.heads n (head_of s) fhead) fhead fhandle table there
-            ∙ ap (λ (f : ℕ). Rattle.sys_loader.specs.Renewing.renewed (Some (f, number)) (Some address) (load.entry_count s.fields.length) (bytes_at (with_bytes placed h.slot content) k.slot)) one
+            ∙ ap (λ (f : ℕ). Rattle.loader_users.specs.Renewing.renewed (Some (f, number)) (Some address) (load.entry_count s.fields.length) (bytes_at (with_bytes placed h.slot content) k.slot)) one
 
     becomes_other : (n : ℕ) (s : Segment) (k : Handle) → n ≢ number → segment_at is.does_agree.segments n ≡ Some s → handle_at come.handles n ≡ Some k → IsSome (there_at (presence_at new.memory.slots come.handles n))
         → Becomes (setting_with (far_in old id) id old.memory.slots kept.handles) (setting_with (far_in new id) id new.memory.slots come.handles) (Some (1, number)) (Some address) old.memory new.memory kept is.user user' n s k
@@ -541,7 +541,7 @@ module _ (old new : Loaded) (id number owner file : ℕ) (kept lead : Kept) (hea
         let kept_bytes = keeps_bytes old.memory placed k (keeps_old place n (head_of s) k one (λ a b. ne b)) here in
         elim (decide (load.is_table s)) [
           | inl table ↦ Turns table was before (own_table n s k found was table here
-              ∙ ap (Rattle.sys_loader.specs.Renewing.renewed (Some (1, number)) (Some address) (load.entry_count s.fields.length)) (filled_apart k.slot other ∙ kept_bytes))
+              ∙ ap (Rattle.loader_users.specs.Renewing.renewed (Some (1, number)) (Some address) (load.entry_count s.fields.length)) (filled_apart k.slot other ∙ kept_bytes))
           | inr plain ↦ Stays plain was before (ap (λ p. unwrap_or (there_at p) 0) presence_same) (ap (λ (x : Held). x.pokes) (held_apart n ne))
               (plain_bytes place n (head_of s) k one other (λ e. plain) ∙ kept_bytes)
         ]
@@ -674,7 +674,7 @@ module _ (old new : Loaded) (id number owner file : ℕ) (kept lead : Kept) (hea
           elim (decide (load.is_table s)) [
             | inl table ↦ Turns table has before (
                 renewed.follow n (head_of s) k (at_most lead.heads n (head_of s) (lead_heads n s found)) (lead_heads n s found) has table here
-                ∙ ap (Rattle.sys_loader.specs.Renewing.renewed (Some (file, number)) (Some address) (load.entry_count s.fields.length)) (filled_apart k.slot other ∙ kept_bytes))
+                ∙ ap (Rattle.loader_users.specs.Renewing.renewed (Some (file, number)) (Some address) (load.entry_count s.fields.length)) (filled_apart k.slot other ∙ kept_bytes))
             | inr plain' ↦ Stays plain' has before (ap (λ p. unwrap_or (there_at p) 0) presence_same) refl (plain_bytes lead_place n (head_of s) k one other (λ e. plain') ∙ kept_bytes)
           ]
 

@@ -36,7 +36,7 @@ use Rattle.loader_agrees.specs.laws.Slotted.{live_block}
 use Rattle.loader_agrees.specs.laws.Stay.{get_is, in_slot, slot_map, is_there}
 use Rattle.loader_agrees.specs.laws.RowUsers.{user_there}
 use Rattle.sys_loader.specs.Lives.{AreReleased, HasDropped}
-use Rattle.sys_loader.proofs.Shifting.{there_block}
+use Rattle.loader_users.proofs.Shifting.{there_block}
 use Rattle.sys_loader.proofs.Together.{is_in, in_last, in_either}
 
 -- ---- slots without a user's handles

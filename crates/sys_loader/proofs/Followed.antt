@@ -44,7 +44,7 @@ use Rattle.sys_loader.proofs.Activated.{IsMet, activated, presence_same}
 use Rattle.sys_loader.proofs.Came.{is_new}
 use Rattle.sys_loader.proofs.Entries.{found_code, no_code}
 use Rattle.loader_agrees.specs.laws.EntryReads.{get_all, file_read, segment_read, offset_read, table_stands, targets_count, number_within}
-use Rattle.sys_loader.proofs.Leads.{far_file, far_segment}
+use Rattle.loader_users.proofs.Leads.{far_file, far_segment}
 
 -- ---- what decides
 

@@ -18,13 +18,13 @@ use Rattle.loader_machine.specs.Steps.{changed, changed_all, let_go, idle_block}
 use Rattle.loader_machine.specs.State.{user_of, family, handles_of_all}
 use Rattle.loader_agrees.specs.Agrees.{Kept, kept_outlines}
 use Rattle.loader_agrees.specs.laws.Slotted.{slot_set, live_block}
-use Rattle.sys_loader.specs.declared.user.Segment as users
+use Rattle.loader_users.specs.declared.user.Segment as users
 use Rattle.sys_loader.specs.Lives.{AreIdled}
-use Rattle.sys_loader.proofs.Families.{take_past}
+use Rattle.loader_users.proofs.Families.{take_past}
 use Rattle.sys_loader.proofs.Together.{its_handles, more_handles}
-use Rattle.sys_loader.proofs.Written.{handles_of}
-use Rattle.sys_loader.proofs.Renewing.{same_active}
-use Rattle.sys_loader.proofs.Shifting.{set_is}
+use Rattle.loader_users.proofs.Written.{handles_of}
+use Rattle.loader_users.proofs.Renewing.{same_active}
+use Rattle.loader_users.proofs.Shifting.{set_is}
 use Rattle.sys_loader.proofs.ChangedAll.{all_more, all_none, all_kept, all_join, let_go_again, let_go_at, let_go_active, let_go_idle, let_go_empty}
 
 pub handle_get : (segments : List users.Segment) (k : ℕ) (s : users.Segment) → k < length segments → s ≡ get_or segments k s → slice_get (handles_of segments) k ≡ Some s.handle

@@ -14,7 +14,7 @@ use Rattle.loader_machine.specs.Found.{Stops, Joins}
 use Rattle.loader_agrees.specs.Agrees.{Kept}
 use Rattle.loader_agrees.specs.Acts.{joined_kept, joined_kepts}
 use Rattle.sys_loader.specs.Calls.{AreRowsRead, JoinStops, AreJoinedUsers}
-use Rattle.sys_loader.proofs.Families.{take_more}
+use Rattle.loader_users.proofs.Families.{take_more}
 
 -- a row's file was read: a run-time library file of these segments
 abbrev pub IsGood : Option FileMap → List ℕ → List Segment → Type 0

@@ -9,7 +9,7 @@ use Rattle.loader_machine.specs.Presences.{handle_at, presence, there_at, active
 use Rattle.loader_agrees.specs.Agrees.{Kept}
 use Rattle.loader_agrees.specs.laws.Frame.{Keeps, Same, Gone, unlocked}
 use Rattle.loader_agrees.specs.laws.Lists.{set_at, set_apart}
-use Rattle.sys_loader.specs.Activating.{with_handle}
+use Rattle.loader_users.specs.Users.{with_handle}
 
 -- ---- a handle that is kept
 

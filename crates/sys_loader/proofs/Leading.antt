@@ -8,7 +8,7 @@ use Rattle.loader_machine.specs.declared.seen.Head.{Head}
 use Rattle.loader_machine.specs.State.{user_of, holder_of, attached_at, is_attached, led_by}
 use Rattle.loader_agrees.specs.Agrees.{Kept, Loaded, Outline, kept_outlines, AreAttached, IsSound}
 use Rattle.loader_agrees.specs.laws.Leading.{Leading, Its, Holder, is_led}
-use Rattle.sys_loader.specs.Renewing.{AreRenewed}
+use Rattle.loader_users.specs.Renewing.{AreRenewed}
 
 -- what is told of the one loader is so of the other
 pub led_pair : (old now : Loaded) (id : ℕ) (pair : ℕ × ℕ) → old ≡ now → pair ≡ led_by (kept_outlines now.users) id → pair ≡ led_by (kept_outlines old.users) id

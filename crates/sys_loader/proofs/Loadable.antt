@@ -6,7 +6,7 @@ use Rattle.loader_machine.specs.declared.faults.LoaderFault.TheVariants.{Static}
 use Rattle.loader_machine.specs.declared.seen.Head.{Head}
 use Rattle.loader_machine.specs.State.{Seen}
 use Rattle.loader_machine.specs.Refusals.{Refuse, of_user, of_running, of_segment, of_dynamic, load_segment_refusal}
-use Rattle.loader_agrees.specs.laws.Checks.{PassesRunning, StopsRunning, PassesSegment, StopsSegment}
+use Rattle.loader_agrees.specs.Checks.{PassesRunning, StopsRunning, PassesSegment, StopsSegment}
 use Rattle.sys_loader.proofs.Unloading.{dynamic_none, dynamic_passes}
 
 module _ (number : ℕ) where

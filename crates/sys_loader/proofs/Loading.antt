@@ -20,11 +20,12 @@ use Rattle.loader_agrees.specs.Agrees.{Kept, Loaded}
 use Rattle.loader_agrees.specs.Acts.{HasBegun, joined_kept, joined_kepts}
 use Rattle.loader_agrees.specs.laws.Rows.{few_paths}
 use Rattle.sys_loader.specs.declared.answers.Started.{Started}
-use Rattle.sys_loader.specs.declared.user.Segment as users
-use Rattle.sys_loader.specs.declared.user.User.{User}
-use Rattle.sys_loader.specs.View.{kept}
-use Rattle.sys_loader.specs.Calls.{IsBeginRefusal, IsBadFile, AreRowsRead, IsRowsRefusal, RowStops, IsLost, CantBegin, RowsLackMemory, CantRead, LacksMemory, IsBad, CantStart, HasLoaded, AreJoinedUsers, RowsStop, HasLoadedRows, HasLoadedFile}
-use Rattle.sys_loader.specs.Restarting.{new_heads}
+use Rattle.loader_users.specs.declared.user.Segment as users
+use Rattle.loader_users.specs.declared.user.User.{User}
+use Rattle.loader_users.specs.View.{kept}
+use Rattle.sys_loader.specs.Calls.{IsBeginRefusal, AreRowsRead, IsRowsRefusal, RowStops, IsLost, CantBegin, RowsLackMemory, CantRead, LacksMemory, IsBad, CantStart, HasLoaded, AreJoinedUsers, RowsStop, HasLoadedRows, HasLoadedFile}
+use Rattle.loader_users.specs.Taken.{IsBadFile}
+use Rattle.loader_users.specs.Users.{new_heads}
 
 pub ids_same : (id id' n n' : ℕ) (ids : List ℕ) → ids ≡ ids_from id n → id ≡ id' → n ≡ n' → ids ≡ ids_from id' n'
 ids_same id id' n n' ids is one two = is ∙ ap (λ (m : ℕ). ids_from m n) one ∙ ap (ids_from id') two

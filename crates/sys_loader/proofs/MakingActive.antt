@@ -15,7 +15,7 @@ use Rattle.loader_machine.specs.Needs.{is_read}
 use Rattle.loader_agrees.specs.Agrees.{Kept, Loaded, seen_by}
 use Rattle.sys_loader.specs.Lives.{HasTurned}
 use Rattle.sys_loader.specs.Activating.{segment_reads, CanLoad, DidCome, HasActivated, DidActivate}
-use Rattle.sys_loader.proofs.Renewing.{same_idle}
+use Rattle.loader_users.proofs.Renewing.{same_idle}
 
 module _ (loader : Loaded) (id number : ℕ) (head : Head) (handle : Option Handle) (can : CanLoad loader id number head handle) where
   -- it is read where it isn't there

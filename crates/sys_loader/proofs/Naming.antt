@@ -41,7 +41,7 @@ use Rattle.loader_agrees.specs.laws.Seeing.{kept_is}
 use Rattle.sys_loader.specs.declared.answers.Entered.{Entered}
 use Rattle.sys_loader.specs.Naming.{HasAddress, address_read}
 use Rattle.sys_loader.specs.Replies.{where_reply}
-use Rattle.sys_loader.proofs.Lies.{lies_block}
+use Rattle.loader_users.proofs.Lies.{lies_block}
 
 -- ---- the bytes
 

@@ -29,14 +29,15 @@ use Rattle.loader_machine.specs.Refusals.{Refuse, of_user, of_running, of_segmen
 use Rattle.loader_machine.specs.Commands.{Okay, Refused, Poke}
 use Rattle.loader_machine.specs.Steps.{with_segment, with_both}
 use Rattle.loader_agrees.specs.Agrees.{Kept, Loaded, Outline, outline_of, seen_by, far_in, UserAgrees, Agrees, IsCall, IsOf, Has, IsSound, Met}
-use Rattle.loader_agrees.specs.laws.Checks.{PassesRunning, PassesSegment}
+use Rattle.loader_agrees.specs.Checks.{PassesRunning, PassesSegment}
 use Rattle.loader_agrees.specs.laws.Checking.{active_none, active_passes, inside_none, inside_passes}
 use Rattle.loader_agrees.specs.laws.Lists.{set_map, set_same, set_at, set_apart, length_set, set_like}
 use Rattle.loader_agrees.specs.laws.Seeing.{made_at, IsKept, kept_is, refuses, does, has, block_room, has_any}
 use Rattle.loader_agrees.specs.laws.Reads.{head_at}
 use Rattle.loader_agrees.specs.laws.Frame.{Same, agrees_still}
 use Rattle.sys_loader.specs.Replies.{done_reply}
-use Rattle.sys_loader.specs.Lives.{with_bytes, with_byte, CanPoke, DidPoke}
+use Rattle.loader_users.specs.Bytes.{with_bytes}
+use Rattle.sys_loader.specs.Lives.{with_byte, CanPoke, DidPoke}
 
 -- ---- the refusal, check by check
 

@@ -11,7 +11,7 @@ use Rattle.load_meaning.specs.Runtime.{kind_fault, runtime_fault, OfLoading, OfK
 use Rattle.load_meaning.specs.laws.LoadableLaws.{loadable_same, loadable_sound}
 use Rattle.loader_machine.specs.declared.seen.Head.{Head}
 use Rattle.loader_machine.specs.Heads.{head_of, at_number}
-use Rattle.sys_loader.specs.Calls.{IsReadAs, IsFaultAs}
+use Rattle.loader_users.specs.Taken.{IsReadAs, IsFaultAs}
 
 -- either way it is a load file
 pub as_loadable : (attached : Bool) (file : List ℕ) (segments : List Segment) → IsReadAs attached file segments → IsLoadable file segments

@@ -17,7 +17,7 @@ use Rattle.loader_agrees.specs.Agrees.{Kept, outline, kept_outlines, IsJoined, A
 use Rattle.loader_agrees.specs.laws.Begun.{decide}
 use Rattle.loader_agrees.specs.laws.RowUsers.{user_there}
 use Rattle.loader_agrees.specs.laws.Seeing.{made_at, user_is}
-use Rattle.sys_loader.specs.Lives.{with_life}
+use Rattle.loader_users.specs.Users.{with_life}
 use Rattle.sys_loader.proofs.Together.{is_in, Was, with_all_get, with_all_then}
 
 pub life_again : (life : Life) (k : Kept) → with_life life (with_life life k) ≡ with_life life k

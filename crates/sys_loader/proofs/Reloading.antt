@@ -35,16 +35,17 @@ use Rattle.loader_agrees.specs.laws.Reads.{headed, head_at}
 use Rattle.loader_agrees.specs.laws.Rows.{IsReached, all_reached}
 use Rattle.loader_agrees.specs.laws.Seeing.{made_at, user_is}
 use Rattle.sys_loader.specs.declared.answers.Started.{Started}
-use Rattle.sys_loader.specs.declared.user.Segment as users
-use Rattle.sys_loader.specs.declared.user.User.{User}
-use Rattle.sys_loader.specs.View.{kept}
-use Rattle.sys_loader.specs.Lives.{with_life}
-use Rattle.sys_loader.specs.Filling.{IsSetting, AreReady, AreFilled}
-use Rattle.sys_loader.specs.Restarting.{is_whole, AreReread, HasResumed, AreActivated, static_handle, again_handle, heads_in, kept_heads}
-use Rattle.sys_loader.proofs.Written.{heads_of, handles_of}
-use Rattle.sys_loader.proofs.Settling.{addresses, address_is}
+use Rattle.loader_users.specs.declared.user.Segment as users
+use Rattle.loader_users.specs.declared.user.User.{User}
+use Rattle.loader_users.specs.View.{kept}
+use Rattle.loader_users.specs.Users.{with_life}
+use Rattle.loader_users.specs.Filling.{IsSetting, AreReady, AreFilled}
+use Rattle.sys_loader.specs.Restarting.{is_whole, AreReread, HasResumed, AreActivated, static_handle, again_handle}
+use Rattle.loader_users.specs.Users.{heads_in, kept_heads}
+use Rattle.loader_users.proofs.Written.{heads_of, handles_of}
+use Rattle.loader_users.proofs.Settling.{addresses, address_is}
 use Rattle.sys_loader.proofs.Resuming.{IsQuiet, there_all, number_suc}
-use Rattle.sys_loader.proofs.Leads.{at_most}
+use Rattle.loader_users.proofs.Leads.{at_most}
 use Rattle.sys_loader.proofs.Static.{live_of, same_changed}
 
 -- ---- the refusal

@@ -16,7 +16,7 @@ use Rattle.loader_agrees.specs.laws.Frame.{Same, agrees_still}
 use Rattle.loader_agrees.specs.laws.Reads.{head_at}
 use Rattle.loader_agrees.specs.laws.RowUsers.{user_there}
 use Rattle.loader_agrees.specs.laws.Seeing.{user_is}
-use Rattle.sys_loader.specs.Lives.{with_life}
+use Rattle.loader_users.specs.Users.{with_life}
 use Rattle.sys_loader.proofs.Relived as relived
 use Rattle.sys_loader.proofs.Together.{is_in, Was, with_all_get, map_all, length_all}
 

@@ -32,14 +32,15 @@ use Rattle.loader_agrees.specs.laws.Seeing.{IsKept, kept_is, made_at, refuses, d
 use Rattle.sys_loader.specs.declared.answers.Started as answers
 use Rattle.sys_loader.specs.Replies.{load_reply}
 use Rattle.sys_loader.specs.Calls.{IsBeginRefusal}
-use Rattle.sys_loader.specs.Restarting.{CanRestart, is_whole, restart_reads, AreReread, HasResumed, released_memory, HasBegunAnew, HasRestarted, InPlace, Reread, Anew, IsAgainRefusal, IsRestartRefusal, IsStopped, CantRead, LacksMemory, CantRestart, DidRestart, kept_heads}
+use Rattle.sys_loader.specs.Restarting.{CanRestart, is_whole, restart_reads, AreReread, HasResumed, released_memory, HasBegunAnew, HasRestarted, InPlace, Reread, Anew, IsAgainRefusal, IsRestartRefusal, IsStopped, CantRead, LacksMemory, CantRestart, DidRestart}
+use Rattle.loader_users.specs.Users.{kept_heads}
 use Rattle.sys_loader.proofs.Activated.{not_changed}
 use Rattle.sys_loader.proofs.Resuming.{quiet_reread, resumed_agrees}
 use Rattle.sys_loader.proofs.Again.{next, begun_anew_agrees, begins_anew}
-use Rattle.sys_loader.specs.Lives.{HasItsUsers}
-use Rattle.sys_loader.proofs.Families.{user_set, user_apart}
+use Rattle.loader_users.specs.Users.{HasItsUsers}
+use Rattle.loader_users.proofs.Families.{user_set, user_apart}
 use Rattle.sys_loader.proofs.Leading.{no_row}
-use Rattle.sys_loader.proofs.Losing.{entries_none}
+use Rattle.loader_users.proofs.Losing.{entries_none}
 use Rattle.sys_loader.proofs.Reloading.{restart_alone}
 
 -- where none is read again, no header is of such a segment

@@ -31,20 +31,21 @@ use Rattle.loader_machine.specs.Commands.{Okay, ShutDown}
 use Rattle.loader_machine.specs.Steps.{let_go, changed_all, kept_state}
 use Rattle.loader_agrees.specs.Agrees.{Kept, Loaded, outline, kept_outlines, far_in, seen_by, IsJoined, AreAttached, IsCall, UserAgrees, Agrees, IsOf, Has, IsSound, Met}
 use Rattle.loader_agrees.specs.laws.Begun.{decide}
-use Rattle.loader_agrees.specs.laws.Checks.{PassesRunning, StopsRunning}
+use Rattle.loader_agrees.specs.Checks.{PassesRunning, StopsRunning}
 use Rattle.loader_agrees.specs.laws.RowUsers.{user_there}
 use Rattle.loader_agrees.specs.laws.Frame.{Same, agrees_still}
 use Rattle.loader_agrees.specs.laws.Reads.{head_at}
 use Rattle.loader_agrees.specs.laws.Seeing.{made_at, user_is, IsKept, kept_is, does, has_any}
 use Rattle.loader_agrees.specs.laws.Stay.{is_there}
-use Rattle.sys_loader.specs.Renewing.{AreRenewed}
-use Rattle.sys_loader.proofs.Lead.{target_stays}
-use Rattle.sys_loader.specs.Lives.{with_life, AreIdled, HasKept}
-use Rattle.sys_loader.proofs.Shifting.{there_block}
+use Rattle.loader_users.specs.Renewing.{AreRenewed}
+use Rattle.loader_users.proofs.Lead.{target_stays}
+use Rattle.loader_users.specs.Users.{with_life}
+use Rattle.sys_loader.specs.Lives.{AreIdled, HasKept}
+use Rattle.loader_users.proofs.Shifting.{there_block}
 use Rattle.sys_loader.proofs.Relived as relived
 use Rattle.sys_loader.proofs.Together.{is_in, in_last, in_front, in_either, Was, with_all_get, among, from_among, map_all, length_all}
-use Rattle.sys_loader.proofs.Turned.{Becomes, Stays, Turns, Turned, turned_agrees}
-use Rattle.sys_loader.proofs.Leads.{at_most, entries_lead}
+use Rattle.loader_users.proofs.Turned.{Becomes, Stays, Turns, Turned, turned_agrees}
+use Rattle.loader_users.proofs.Leads.{at_most, entries_lead}
 use Rattle.sys_loader.proofs.ChangedAll.{all_here, all_apart, all_in, let_go_again, let_go_at, let_go_user, let_go_movable, let_go_want, let_go_form, let_go_active_at}
 
 none_in : (place : ℕ) → ¬ Contains {X = ℕ} [] place

@@ -35,9 +35,9 @@ use Rattle.loader_agrees.specs.laws.Seeing.{made_at, user_is, IsKept, kept_is, h
 use Rattle.loader_agrees.specs.laws.Stay as stay
 use Rattle.loader_agrees.specs.laws.RowUsers.{user_there}
 use Rattle.sys_loader.specs.declared.answers.Started.{Started}
-use Rattle.sys_loader.specs.Lives.{with_life}
+use Rattle.loader_users.specs.Users.{with_life}
 use Rattle.sys_loader.specs.Restarting.{AreReread, HasResumed}
-use Rattle.sys_loader.proofs.Shifting.{there_block}
+use Rattle.loader_users.proofs.Shifting.{there_block}
 use Rattle.sys_loader.proofs.ChangedAll.{all_here, all_apart, all_in}
 use Rattle.sys_loader.proofs.Relived as relived
 use Rattle.sys_loader.proofs.Together.{is_in, in_row, in_rows, Was, with_all_get, map_all, length_all}

@@ -19,12 +19,12 @@ use Rattle.loader_machine.specs.Needs.{some_read_again}
 use Rattle.loader_agrees.specs.laws.Begun.{decide}
 use Rattle.loader_agrees.specs.laws.Lists.{number_map}
 use Rattle.loader_agrees.specs.laws.Slotted.{slot_set, live_block}
-use Rattle.sys_loader.specs.declared.user.Segment.{Segment}
+use Rattle.loader_users.specs.declared.user.Segment.{Segment}
 use Rattle.sys_loader.specs.Restarting.{static_handle, AreActivated}
-use Rattle.sys_loader.proofs.Written.{heads_of, handles_of}
-use Rattle.sys_loader.proofs.Comparing.{head_get}
+use Rattle.loader_users.proofs.Written.{heads_of, handles_of}
+use Rattle.loader_users.proofs.Comparing.{head_get}
 use Rattle.sys_loader.proofs.Idling.{take_more, handle_get}
-use Rattle.sys_loader.proofs.Shifting.{set_is}
+use Rattle.loader_users.proofs.Shifting.{set_is}
 use Rattle.sys_loader.proofs.ChangedAll.{all_or, all_more, all_none}
 use Rattle.sys_loader.proofs.Resuming.{next_number, statics_cons, statics_pass, there_all, again_is}
 

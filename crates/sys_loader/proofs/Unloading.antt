@@ -17,14 +17,14 @@ use Rattle.loader_machine.specs.Refusals.{Refuse, of_user, of_running, of_segmen
 use Rattle.loader_machine.specs.Commands.{Okay, Refused, UnloadSegment}
 use Rattle.loader_machine.specs.Steps.{changed, idled, idle_block, with_slots}
 use Rattle.loader_agrees.specs.Agrees.{Kept, Loaded, Outline, kept_outlines, seen_by, Agrees, Has, IsSound, Met}
-use Rattle.loader_agrees.specs.laws.Checks.{PassesRunning, StopsRunning, PassesSegment, StopsSegment}
+use Rattle.loader_agrees.specs.Checks.{PassesRunning, StopsRunning, PassesSegment, StopsSegment}
 use Rattle.loader_agrees.specs.laws.Checking.{active_none, active_passes}
 use Rattle.loader_agrees.specs.laws.Seeing.{IsKept, kept_is, refuses, does, has_any}
 use Rattle.loader_agrees.specs.laws.Leading.{IsLed, is_led}
 use Rattle.sys_loader.specs.Replies.{done_reply}
-use Rattle.sys_loader.specs.Renewing.{Choice, AreRoomy, AreRenewed}
+use Rattle.loader_users.specs.Renewing.{Choice, AreRoomy, AreRenewed}
 use Rattle.sys_loader.specs.Lives.{CanUnload, HasUnloaded, DidUnload}
-use Rattle.sys_loader.proofs.Shifting.{IsTurn, shifted_sound, shifted_agrees}
+use Rattle.loader_users.proofs.Shifting.{IsTurn, shifted_sound, shifted_agrees}
 
 -- ---- the refusal, check by check
 

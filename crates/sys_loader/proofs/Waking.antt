@@ -20,10 +20,11 @@ use Rattle.loader_machine.specs.Steps.{active_block}
 use Rattle.loader_machine.specs.Needs.{is_read}
 use Rattle.loader_agrees.specs.Agrees.{Kept, Loaded, kept_outlines, Has, IsSound}
 use Rattle.loader_agrees.specs.laws.Seeing.{made_at}
-use Rattle.sys_loader.specs.Renewing.{AreRenewed}
-use Rattle.sys_loader.specs.Calls.{IsReadAs}
+use Rattle.loader_users.specs.Renewing.{AreRenewed}
+use Rattle.loader_users.specs.Taken.{IsReadAs}
 use Rattle.sys_loader.specs.Lives.{HasTurned}
-use Rattle.sys_loader.specs.Activating.{IsChanged, CanLoad, IsBringRefusal, HasCome, HasComeFrom, IsComeRefusal, CantCome, DidCome}
+use Rattle.loader_users.specs.Changed.{IsChanged}
+use Rattle.sys_loader.specs.Activating.{CanLoad, IsBringRefusal, HasCome, HasComeFrom, IsComeRefusal, CantCome, DidCome}
 
 -- ---- a loader, and its fields
 

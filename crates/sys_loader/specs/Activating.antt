@@ -1,5 +1,5 @@
 -- What it takes to make a dynamic segment active, whatever files there are.
-use Rattle.std.specs.Prelude.{◌≡◌, ◌≢◌, ◌⊎◌, ℕ, ◌-◌, ◌^◌, ◌<◌, Bool, true, false, List, length, map, Option, Some, None, IsSome, slice_set, Result, Ok, Err}
+use Rattle.std.specs.Prelude.{◌≡◌, ◌⊎◌, ℕ, ◌^◌, ◌<◌, Bool, true, false, List, length, map, Option, Some, None, IsSome, Result, Ok, Err}
 use Rattle.std.specs.Option.{option_map_or}
 use Rattle.omf_format.specs.Header.{is_dynamic}
 use Rattle.omf_format.specs.File.{Segment, segment_at}
@@ -13,7 +13,6 @@ use Rattle.iigs_meaning.specs.Memory.{Memory, IsPlaced, IsReplaced, Changes, byt
 use Rattle.loader_machine.specs.declared.faults.LoaderFault.{LoaderFault}
 use Rattle.loader_machine.specs.declared.faults.LoaderFault.TheVariants as fault
 use Rattle.loader_machine.specs.declared.seen.Head.{Head}
-use Rattle.loader_machine.specs.declared.seen.Facts.{Facts}
 use Rattle.loader_machine.specs.declared.seen.Life.TheVariants.{Running}
 use Rattle.loader_machine.specs.declared.seen.Presence.{Presence}
 use Rattle.loader_machine.specs.declared.seen.Presence.TheVariants.{Absent, Purged, Idle, Active}
@@ -25,46 +24,14 @@ use Rattle.loader_machine.specs.Refusals.{load_segment_refusal}
 use Rattle.loader_machine.specs.Steps.{active_block}
 use Rattle.loader_machine.specs.Needs.{is_read}
 use Rattle.loader_agrees.specs.Agrees.{Kept, Loaded, kept_outlines, seen_by}
-use Rattle.sys_loader.specs.Calls.{IsReadAs, IsBadFile}
-use Rattle.sys_loader.specs.Renewing.{AreRenewed}
-use Rattle.sys_loader.specs.Lives.{with_bytes, HasTurned}
+use Rattle.loader_users.specs.Taken.{IsReadAs, IsBadFile}
+use Rattle.loader_users.specs.Renewing.{AreRenewed}
+use Rattle.loader_users.specs.Bytes.{with_bytes}
+use Rattle.sys_loader.specs.Lives.{HasTurned}
+use Rattle.loader_users.specs.Changed.{IsChanged}
+use Rattle.loader_users.specs.Users.{with_handle}
 
 -- ---- a file that has changed
-
--- what is told of a segment of a file with so many
-abbrev pub facts_of : ℕ → ℕ → Head → Facts
-facts_of count number head = record {
-  count = count;
-  segment = number;
-  length = head.length;
-  kind = head.kind;
-  bank_size = head.bank_size;
-  align = head.align;
-  org = head.org;
-  entry = head.entry;
-}
-
--- what is told of a file of which only the number of segments has changed
-abbrev pub count_facts : ℕ → Facts
-count_facts count = facts_of count 0 (record { length = 0; kind = 0; bank_size = 0; align = 0; org = 0; entry = 0 })
-
--- the headers of segments that both files have, up to a number, are the same
-abbrev pub AreSameBelow : List Head → List Head → ℕ → Type 0
-AreSameBelow kept found number = (n : ℕ) (a b : Head) → n < number → at_number kept n ≡ Some a → at_number found n ≡ Some b → a ≡ b
-
--- the first segment that differs has this number
-pub record DiffersAt (kept found : List Head) (number : ℕ) (was is : Head) : Type 0 where
-  pub was' : at_number kept number ≡ Some was
-  pub is' : at_number found number ≡ Some is
-  pub other : was ≢ is
-  pub before : AreSameBelow kept found number
-
--- the file isn't the one that was loaded: the first segment that differs, or else the number of segments
-abbrev pub IsChanged : List Head → List Head → LoaderFault → Type 0
-IsChanged kept found why =
-    ((number : ℕ) × (was : Head) × (is : Head) × DiffersAt kept found number was is
-    × (why ≡ fault.Changed (facts_of (length kept) number was) (facts_of (length found) number is)))
-    ⊎ (((n : ℕ) → AreSameBelow kept found n) × (length kept ≢ length found) × (why ≡ fault.Changed (count_facts (length kept)) (count_facts (length found))))
 
 -- ---- a segment that can be made active
 
@@ -92,10 +59,6 @@ abbrev pub IsBringRefusal : Memory → Head → Option Handle → ℕ → Loader
 IsBringRefusal memory head None number why = ((why ≡ fault.NoHandle) × (new_handle memory.slots ≡ None))
     ⊎ ((why ≡ fault.NoRoom number) × IsSome (new_handle memory.slots) × LacksRoom RoomRule memory.banks memory.slots (want_of head))
 IsBringRefusal memory head (Some h) number why = (why ≡ fault.NoRoom number) × LacksRoom RoomRule memory.banks memory.slots (want_of head)
-
--- the user with this handle for the segment with a number
-abbrev pub with_handle : Kept → ℕ → Handle → Kept
-with_handle kept number h = record kept { handles = slice_set kept.handles (number - 1) (Some h) }
 
 -- The block of a segment of these is placed and begins with what stands in it, and the entries for it in the tables of the user that
 -- leads to it follow, by file and number; nothing else is written.

@@ -1,5 +1,5 @@
 -- What a load does, whether the store tells its files or not.
-use Rattle.std.specs.Prelude.{◌≡◌, ◌≢◌, ◌⊎◌, ℕ, ◌+◌, ◌^◌, ◌<◌, ◌≤◌, Bool, true, false, All, List, [], ◌∷◌, length, map, Option, Some, None, Result, Ok, Err, slice_get}
+use Rattle.std.specs.Prelude.{◌≡◌, ◌≢◌, ◌⊎◌, ℕ, ◌+◌, ◌^◌, ◌<◌, ◌≤◌, List, [], ◌∷◌, length, map, Option, Some, None, Result, Ok, Err, slice_get}
 use Rattle.omf_format.specs.File.{Segment, segment_at}
 use Rattle.omf_io.specs.Counts.{IsFront, risen}
 use Rattle.omf_io.specs.Files.{FileMap, StoreSeen, IsRead, IsUnread}
@@ -9,7 +9,6 @@ use Rattle.load_meaning.specs.Loadable.{IsLoadable, IsFirstLoadFault}
 use Rattle.load_meaning.specs.Runtime.{IsRuntime, IsFirstRuntimeFault}
 use Rattle.iigs_meaning.specs.declared.handles.Handle.{Handle}
 use Rattle.iigs_meaning.specs.declared.faults.PlaceFault.TheVariants as place
-use Rattle.iigs_meaning.specs.Fits.{IsWant}
 use Rattle.iigs_meaning.specs.Puts.{IsPlaceAllRefusal}
 use Rattle.loader_machine.specs.Rule.{RoomRule}
 use Rattle.iigs_meaning.specs.Memory.{Memory, bytes_at}
@@ -21,11 +20,11 @@ use Rattle.loader_machine.specs.State.{no_pokes, first_id, max_users}
 use Rattle.loader_machine.specs.Presences.{handle_at}
 use Rattle.loader_machine.specs.Stands.{setting, stands}
 use Rattle.loader_machine.specs.Found.{Joined, Stops, Joins, joined_behind}
-use Rattle.loader_machine.specs.Steps.{spread, lost_refusal}
+use Rattle.loader_machine.specs.Steps.{lost_refusal}
 use Rattle.loader_agrees.specs.Agrees.{Kept, Loaded}
 use Rattle.loader_agrees.specs.Acts.{HasBegun, joined_kept, joined_kepts}
 use Rattle.sys_loader.specs.declared.answers.Started.{Started}
-use Rattle.sys_loader.specs.declared.plan.Plan.{Plan}
+use Rattle.loader_users.specs.Planned.{spread_handles}
 
 -- ---- a program of a load file
 
@@ -34,20 +33,6 @@ abbrev pub IsBeginRefusal : Memory → ℕ → List Head → LoaderFault → Typ
 IsBeginRefusal memory id heads why =
     ((why ≡ fault.NoHandle) × IsPlaceAllRefusal RoomRule memory.banks id memory.slots (wants_of heads) place.NoHandle)
     ⊎ ((i : ℕ) × (why ≡ fault.NoRoom (number_of 1 heads i)) × IsPlaceAllRefusal RoomRule memory.banks id memory.slots (wants_of heads) (place.NoRoom i))
-
--- a file that is read: a load file of these segments; that of an attached user is a run-time library file
-abbrev pub IsReadAs : Bool → List ℕ → List Segment → Type 0
-IsReadAs true file segments = IsRuntime file segments
-IsReadAs false file segments = IsLoadable file segments
-
--- the first fault of a file as that
-abbrev pub IsFaultAs : Bool → List ℕ → LoadFault → Type 0
-IsFaultAs true file fault = IsFirstRuntimeFault file fault
-IsFaultAs false file fault = IsFirstLoadFault file fault
-
--- the file isn't loaded, for this first fault; or memory ran out
-abbrev pub IsBadFile : Bool → List ℕ → LoaderFault → Type 0
-IsBadFile attached file why = (why ≡ fault.Memory) ⊎ ((bad : LoadFault) × IsFaultAs attached file bad × (why ≡ fault.BadFile bad))
 
 -- ---- the files of rows
 
@@ -110,18 +95,6 @@ HasLoaded held old path (Ok started) new before now reads = (segments : List Seg
 HasLoaded held old path (Err why) new before now reads = IsLoadRefusal held old path before now reads why × (new ≡ old)
 
 -- ---- on the way; no public clause cites the rest
-
--- what a program needs beside its blocks
-pub record IsPlan (segments : List Segment) (plan : Plan) : Type 0 where
-  pub heads : map (λ s. s.head) plan.segments.items ≡ map head_of segments
-  pub wants' : plan.wants.items ≡ wants_of (map head_of segments)
-  pub are : All IsWant plan.wants.items
-  pub handles' : length plan.handles.items ≡ length plan.wants.items
-  pub places' : length plan.places ≡ length segments
-
--- the handles of segments whose static ones have these, in order
-abbrev pub spread_handles : List Segment → List Handle → List (Option Handle)
-spread_handles segments hs = map (λ held. held.handle) (spread (map head_of segments) hs)
 
 -- the static segments are written into their blocks, and nothing else is
 pub record IsSettled (segments : List Segment) (user : ℕ) (hs : List Handle) (old new : Memory) : Type 0 where

@@ -1,11 +1,7 @@
-pub mod View
 pub mod Replies
 pub mod Scripts
-pub mod Lying
-pub mod Filling
 pub mod Calls
 pub mod Lives
-pub mod Renewing
 pub mod Naming
 pub mod Activating
 pub mod Following

@@ -1,20 +1,22 @@
 -- What calls on the segments of users do, whatever files there are.
-use Rattle.std.specs.Prelude.{◌≡◌, ℕ, ◌+◌, ◌≤◌, Bool, true, false, List, [], length, Option, Some, None, IsSome, slice_get, slice_set, Result, Ok, Err}
+use Rattle.std.specs.Prelude.{◌≡◌, ℕ, ◌+◌, ◌≤◌, Bool, true, false, List, [], length, Option, Some, None, slice_set, Result, Ok, Err}
 use Rattle.omf_format.specs.Header.{is_dynamic}
 use Rattle.iigs_meaning.specs.declared.handles.Handle.{Handle}
 use Rattle.iigs_meaning.specs.declared.wants.Block.{Block}
-use Rattle.iigs_meaning.specs.Memory.{Memory, KeepsBut, IsPurged, Changes, bytes_at}
+use Rattle.iigs_meaning.specs.Memory.{Memory, KeepsBut, IsPurged, bytes_at}
 use Rattle.loader_machine.specs.declared.faults.LoaderFault.{LoaderFault}
 use Rattle.loader_machine.specs.Heads.{is_table}
 use Rattle.loader_machine.specs.Refusals.{purge_refusal, poke_refusal, unload_refusal, shut_down_refusal}
 use Rattle.loader_machine.specs.Commands.{Reply, Counted, Refused}
-use Rattle.loader_machine.specs.declared.seen.Life.{Life}
 use Rattle.loader_machine.specs.declared.seen.Life.TheVariants.{Running, Dormant}
 use Rattle.loader_machine.specs.State.{user_of, led_by, is_attached, family, handles_of_all, with_all, without_all}
 use Rattle.loader_machine.specs.Steps.{idle_block, let_go, changed_all, without_users}
 use Rattle.loader_agrees.specs.Agrees.{Kept, Loaded, kept_outlines, seen_by}
 use Rattle.loader_agrees.specs.Acts.{IsActive}
-use Rattle.sys_loader.specs.Renewing.{AreRenewed}
+use Rattle.loader_users.specs.Renewing.{AreRenewed}
+use Rattle.loader_users.specs.Users.{with_life}
+use Rattle.loader_users.specs.Shifted.{HasShifted}
+use Rattle.loader_users.specs.Bytes.{with_bytes}
 
 -- ---- purge
 
@@ -36,10 +38,6 @@ pub record CanPoke (loader : Loaded) (id number at : ℕ) (h : Handle) : Type 0 
   pub plain : is_table is.head ≡ false
   pub inside : at + 1 ≤ is.head.length
 
--- memory with other bytes of one block
-abbrev pub with_bytes : Memory → ℕ → List ℕ → Memory
-with_bytes memory slot w = record { banks = memory.banks; slots = memory.slots; bytes = slice_set memory.bytes slot w }
-
 -- the loader with this byte at a place in a handle's block
 abbrev pub with_byte : Loaded → Handle → ℕ → ℕ → Loaded
 with_byte loader h at byte = record { memory = with_bytes loader.memory h.slot (slice_set (bytes_at loader.memory h.slot) at byte); users = loader.users }
@@ -56,14 +54,6 @@ DidPoke old id number at byte (Ok done) new = HasPoked old id number at byte new
 DidPoke old id number at byte (Err fault) new = (poke_refusal old.memory.slots (seen_by old id) number at ≡ Some fault) × (new ≡ old)
 
 -- ---- a segment that wakes or idles
-
--- The block of a segment changes, but for its place, and the entries for it in the tables of the user that leads to it follow, by file and
--- number; nothing else is written.
-pub record HasShifted (old : Loaded) (lead : Kept) (choice : ℕ × ℕ) (h : Handle) (change : Block → Block) (address : Option ℕ) (new : Loaded) : Type 0 where
-  pub middle : Memory
-  pub renewed : AreRenewed lead.heads lead.handles (Some choice) address old.memory middle (length lead.heads)
-  pub changes : Changes middle h change new.memory
-  pub users : new.users ≡ old.users
 
 -- the user's segment wakes or idles, and the entries for it follow in the tables of the user that leads to it
 pub record HasTurned (old : Loaded) (id number : ℕ) (h : Handle) (change : Block → Block) (address : Option ℕ) (new : Loaded) : Type 0 where
@@ -91,14 +81,6 @@ DidUnload old id number (Ok done) new = HasUnloaded old id number new
 DidUnload old id number (Err fault) new = (unload_refusal old.memory.slots (seen_by old id) number ≡ Some fault) × (new ≡ old)
 
 -- ---- shutdown
-
--- the user with this life
-abbrev pub with_life : Life → Kept → Kept
-with_life life kept = record kept { life = life }
-
--- the users that are attached to the user of an ID are there
-abbrev pub HasItsUsers : List (Option Kept) → ℕ → Type 0
-HasItsUsers users id = (kept : Kept) (place n : ℕ) → user_of users id ≡ Some kept → slice_get kept.attached place ≡ Some n → IsSome (user_of users n)
 
 -- all handles of these users were released, and nothing is written
 pub record AreReleased (ids : List ℕ) (old new : Memory) : Type 0 where

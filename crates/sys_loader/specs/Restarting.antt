@@ -4,9 +4,6 @@ use Rattle.std.specs.Option.{option_map_or}
 use Rattle.omf_format.specs.File.{Segment, segment_at}
 use Rattle.omf_io.specs.Counts.{IsFront}
 use Rattle.omf_io.specs.Files.{FileMap, IsRead, IsUnread}
-use Rattle.load_meaning.specs.declared.load.LoadFault.{LoadFault}
-use Rattle.load_meaning.specs.declared.load.LoadCause.TheVariants as cause
-use Rattle.load_meaning.specs.Table.{entry_start}
 use Rattle.load_meaning.specs.Loadable.{IsLoadable}
 use Rattle.iigs_meaning.specs.declared.handles.Handle.{Handle}
 use Rattle.iigs_meaning.specs.Puts.{without_user}
@@ -25,11 +22,12 @@ use Rattle.loader_machine.specs.Needs.{some_read_again}
 use Rattle.loader_agrees.specs.Agrees.{Kept, Loaded, kept_outlines, seen_by}
 use Rattle.loader_agrees.specs.Acts.{HasPlaced, started_kept}
 use Rattle.sys_loader.specs.declared.answers.Started.{Started}
-use Rattle.sys_loader.specs.declared.user.Segment as users
-use Rattle.sys_loader.specs.declared.user.User.{User}
-use Rattle.sys_loader.specs.Calls.{IsBadFile, IsBeginRefusal}
-use Rattle.sys_loader.specs.Activating.{IsChanged}
-use Rattle.sys_loader.specs.Lives.{with_life}
+use Rattle.loader_users.specs.declared.user.Segment as users
+use Rattle.loader_users.specs.Taken.{IsBadFile}
+use Rattle.sys_loader.specs.Calls.{IsBeginRefusal}
+use Rattle.loader_users.specs.Changed.{IsChanged}
+use Rattle.loader_users.specs.Users.{with_life}
+use Rattle.loader_users.specs.Users.{kept_heads}
 
 -- a dormant user
 pub record CanRestart (loader : Loaded) (id : ℕ) (kept : Kept) : Type 0 where
@@ -46,20 +44,6 @@ abbrev pub restart_reads : Loaded → ℕ → Bool
 restart_reads loader id = option_map_or (λ kept. not (is_whole loader kept) || some_read_again kept.heads) (user_of loader.users id) false
 
 -- ---- entries for other files
-
--- the headers of the files of users that are made, and of those with these IDs
-abbrev pub new_heads : List User → List (List Head)
-new_heads joined = map (λ user. map (λ s. s.head) user.segments.items) joined
-
-abbrev pub heads_in : List (Option Kept) → ℕ → List Head
-heads_in users id = option_map_or (λ kept. kept.heads) (user_of users id) []
-
-abbrev pub kept_heads : List (Option Kept) → List ℕ → List (List Head)
-kept_heads users ids = map (heads_in users) ids
-
--- the fault of the entry at a place of a table
-abbrev pub lost_entry : ℕ → ℕ → LoadFault
-lost_entry number place = record { cause = cause.NoSuchTarget; segment = number; at = entry_start place }
 
 -- the file isn't the one that was loaded: an entry for another file leads to no segment of an attached user, or its headers differ
 abbrev pub IsOtherFile : List (Option Kept) → Kept → List Segment → LoaderFault → Type 0

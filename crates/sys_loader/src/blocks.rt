@@ -51,10 +51,7 @@ impl Loader {
             × (change_refusal self.now.memory.slots h ≡ None)) }
         ensures err { IfErr result (λ fault. change_refusal self.now.memory.slots h ≡ Some fault) }
     {
-        let state = match self.scripts(h) {
-            Ok(state) => state,
-            Err(fault) => return Err(fault),
-        };
+        let state = self.scripts(h)?;
         match state.at {
             Some(_) => Ok(()),
             None => Err(LoaderFault::Empty),
@@ -92,10 +89,7 @@ impl Loader {
         ensures refused { IfErr result (λ fault. free_refusal self.old.memory.slots h ≡ Some fault) }
         ensures err { OnErr result (self.new ≡ self.old) }
     {
-        match self.scripts(h) {
-            Ok(_) => {}
-            Err(fault) => return Err(fault),
-        }
+        self.scripts(h)?;
         match self.banks.free(h) {
             Ok(()) => Ok(()),
             Err(BlockFault::Stale) => unreachable!(),
@@ -176,10 +170,7 @@ impl Loader {
         ensures refused { IfErr result (λ fault. change_refusal self.old.memory.slots h ≡ Some fault) }
         ensures err { OnErr result (self.new ≡ self.old) }
     {
-        match self.changeable(h) {
-            Ok(()) => {}
-            Err(fault) => return Err(fault),
-        }
+        self.changeable(h)?;
         match self.banks.lock(h) {
             Ok(()) => Ok(()),
             Err(BlockFault::Stale) => unreachable!(),
@@ -207,10 +198,7 @@ impl Loader {
         ensures refused { IfErr result (λ fault. change_refusal self.old.memory.slots h ≡ Some fault) }
         ensures err { OnErr result (self.new ≡ self.old) }
     {
-        match self.changeable(h) {
-            Ok(()) => {}
-            Err(fault) => return Err(fault),
-        }
+        self.changeable(h)?;
         match self.banks.unlock(h) {
             Ok(()) => Ok(()),
             Err(BlockFault::Stale) => unreachable!(),
@@ -238,10 +226,7 @@ impl Loader {
         ensures refused { IfErr result (λ fault. change_refusal self.old.memory.slots h ≡ Some fault) }
         ensures err { OnErr result (self.new ≡ self.old) }
     {
-        match self.changeable(h) {
-            Ok(()) => {}
-            Err(fault) => return Err(fault),
-        }
+        self.changeable(h)?;
         match self.banks.set_level(h, n) {
             Ok(()) => Ok(()),
             Err(BlockFault::Stale) => unreachable!(),

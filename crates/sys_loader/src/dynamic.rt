@@ -18,20 +18,14 @@ ghost use Rattle.sys_loader.specs.Lives.{HasTurned};
 ghost use Rattle.sys_loader.specs.Replies.{activation_reply};
 ghost use Rattle.sys_loader.specs.Activating.{segment_reads, CanLoad, IsBrought, IsBringRefusal, HasCome, HasComeFrom, IsComeRefusal, DidCome, DidActivate};
 
-use crate::compare::compare;
-use crate::fill::fill_block;
-use crate::head::{is_dynamic, want_of};
 use crate::loader::Loader;
-use crate::memory::presence;
-use crate::place::{place_of, set_places};
-use crate::reading::load_of;
-use crate::renew::renew_tables;
-use crate::turn::activate;
-use crate::user::Segment;
-use crate::users::{set_handle, user_in};
 use iigs_compact_memory::CompactBanks;
 use iigs_meaning::{Handle, PlaceFault};
 use loader_machine::{Head, LoaderFault, Presence};
+use loader_users::{
+    Segment, activate, compare, fill_block, is_dynamic, load_of, place_of, presence, renew_tables,
+    set_handle, set_places, user_in, want_of,
+};
 use omf_cells::{LoadFile, Places, PlacesFault};
 use omf_io::{Files, ReadFault};
 use std::alloc::Global;
@@ -117,14 +111,8 @@ impl Loader {
         ensures can { IfOk result (λ s. CanLoad self.now id number s.head s.handle) }
         ensures refused { IfErr result (λ fault. load_segment_refusal (seen_by self.now id) number ≡ Some fault) }
     {
-        let user = match self.running(id) {
-            Ok(user) => user,
-            Err(fault) => return Err(fault),
-        };
-        let segment = match user.kept_segment(number) {
-            Ok(segment) => segment,
-            Err(fault) => return Err(fault),
-        };
+        let user = self.running(id)?;
+        let segment = user.kept_segment(number)?;
         if !is_dynamic(&segment.head) {
             return Err(LoaderFault::Static);
         }
@@ -170,10 +158,7 @@ impl Loader {
     {
         self.is_sound();
         let (owner, file) = self.led_by(user);
-        let h = match place_segment(&mut self.banks, user, number, segment) {
-            Ok(h) => h,
-            Err(fault) => return Err(fault),
-        };
+        let h = place_segment(&mut self.banks, user, number, segment)?;
         let address = place_of(&self.banks, Some(h));
         let found = user_in(&self.users, user);
         set_places(&self.banks, &found.segments, &mut places);
@@ -216,19 +201,10 @@ impl Loader {
         ensures err { OnErr result (self.new ≡ self.old) }
     {
         self.is_sound();
-        let load = match load_of(self.alloc, file, self.is_attached(user)) {
-            Ok(load) => load,
-            Err(fault) => return Err(fault),
-        };
-        let places = match places_of(self.alloc, &load) {
-            Ok(places) => places,
-            Err(fault) => return Err(fault),
-        };
+        let load = load_of(self.alloc, file, self.is_attached(user))?;
+        let places = places_of(self.alloc, &load)?;
         let found = user_in(&self.users, user);
-        match compare(&load, &found.segments) {
-            Ok(()) => {}
-            Err(fault) => return Err(fault),
-        }
+        compare(&load, &found.segments)?;
         self.bring(&load, places, user, number, segment)
     }
 
@@ -274,10 +250,7 @@ impl Loader {
         ensures refused_unasked { IsSome (load_segment_refusal (seen_by self.old user) number) → (F.seen files.new).asked ≡ (F.seen files.old).asked }
         ensures did { DidActivate (F.seen files.old).held self.old user number result self.new (F.seen files.old).faults (F.seen files.new).faults }
     {
-        let segment = match self.loadable(user, number) {
-            Ok(segment) => segment,
-            Err(fault) => return Err(fault),
-        };
+        let segment = self.loadable(user, number)?;
         match presence(&self.banks, segment.handle) {
             Presence::Active(_, address) => Ok(address),
             Presence::Idle(h, address) => {

@@ -15,21 +15,18 @@ ghost use Rattle.loader_machine.specs.Commands as commands;
 ghost use Rattle.loader_machine.specs.Refusals.{load_segment_refusal};
 ghost use Rattle.loader_agrees.specs.Agrees.{Agrees, Meets, ReadsNeeded, kept_outlines, seen_by};
 ghost use Rattle.loader_agrees.specs.Acts.{LiesIn};
-ghost use Rattle.sys_loader.specs.View.{kept};
+ghost use Rattle.loader_users.specs.View.{kept};
 ghost use Rattle.sys_loader.specs.Activating.{segment_reads, DidActivate};
 ghost use Rattle.sys_loader.specs.Calling.{HasCall, EntersTarget};
 ghost use Rattle.sys_loader.specs.Following.{jsl_reply, LeadsTo, IsJslRefusal, HasReached, CallsEntry, entered_at, HasAsked, DidJsl};
 
 use crate::answers::Entered;
-use crate::head::is_table;
 use crate::loader::Loader;
-use crate::renew::address_in;
-use crate::user::{Segment, User};
-use crate::users::user_in;
 use iigs_compact_memory::CompactBanks;
 use iigs_meaning::{BlockFault, Handle};
 use jump_table::{entry_at, target_at};
 use loader_machine::LoaderFault;
+use loader_users::{Segment, User, address_in, is_table, user_in};
 use omf_base::number;
 use omf_io::Files;
 
@@ -103,14 +100,8 @@ impl Loader {
         ensures refused { IfErr result (IsJslRefusal self.now user segment at) }
     {
         self.is_sound();
-        let four = match self.lent(user, segment, at, 4) {
-            Ok(four) => four,
-            Err(fault) => return Err(fault),
-        };
-        let address = match called(four) {
-            Ok(address) => address,
-            Err(fault) => return Err(fault),
-        };
+        let four = self.lent(user, segment, at, 4)?;
+        let address = called(four)?;
         match self.located(address) {
             Some(place) => Ok(place),
             None => Err(LoaderFault::NoTarget),
@@ -156,10 +147,7 @@ impl Loader {
         ensures reached { IfOk result (HasReached self.old user segment at) }
         ensures refused { IfErr result (IsJslRefusal self.old user segment at) }
     {
-        let place = match self.jsl_place(user, segment, at) {
-            Ok(place) => place,
-            Err(fault) => return Err(fault),
-        };
+        let place = self.jsl_place(user, segment, at)?;
         self.note(place);
         self.reached(place)
     }
@@ -205,10 +193,7 @@ impl Loader {
         ensures asked { HasAsked self.old user segment at (F.seen files.old).asked (F.seen files.new).asked }
         ensures did { DidJsl (F.seen files.old).held self.old user segment at result self.new (F.seen files.old).faults (F.seen files.new).faults }
     {
-        let reached = match self.reach(user, segment, at) {
-            Ok(reached) => reached,
-            Err(fault) => return Err(fault),
-        };
+        let reached = self.reach(user, segment, at)?;
         match reached {
             Reached::Place(place) => Ok(place),
             Reached::Entry {

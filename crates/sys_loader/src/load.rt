@@ -17,22 +17,20 @@ ghost use Rattle.loader_machine.specs.Steps.{spread, lost_refusal};
 ghost use Rattle.loader_machine.specs.Commands.{Load};
 ghost use Rattle.loader_agrees.specs.Agrees.{Agrees, Meets, MeetsReads};
 ghost use Rattle.loader_agrees.specs.Acts.{HasBegun, joined_kept};
-ghost use Rattle.sys_loader.specs.View.{kept};
-ghost use Rattle.sys_loader.specs.Calls.{IsPlan, IsSettled, IsBeginRefusal, AreRowsRead, HasJoined, JoinStops, AreJoinedUsers, RowsStop, HasLoadedRows, HasLoadedFile, HasLoaded};
+ghost use Rattle.loader_users.specs.View.{kept};
+ghost use Rattle.loader_users.specs.Planned.{IsPlan};
+ghost use Rattle.sys_loader.specs.Calls.{IsSettled, IsBeginRefusal, AreRowsRead, HasJoined, JoinStops, AreJoinedUsers, RowsStop, HasLoadedRows, HasLoadedFile, HasLoaded};
 ghost use Rattle.sys_loader.specs.Replies.{load_reply};
 
 use crate::answers::Started;
-use crate::file::segments_of;
-use crate::fill::fill_all;
-use crate::loader::{FIRST_ID, Loader, MAX_USERS};
-use crate::lost::lost;
-use crate::place::{deal, entry_of, number_of, set_places};
-use crate::plan::{Plan, plan_of};
-use crate::reading::{load_of, read_file, runtime_load};
-use crate::user::{Segment, User};
+use crate::loader::{Loader, MAX_USERS};
 use iigs_compact_memory::CompactBanks;
 use iigs_meaning::{Handle, PlaceFault, Want};
 use loader_machine::{Life, LoaderFault};
+use loader_users::{
+    FIRST_ID, Plan, Segment, User, deal, entry_of, fill_all, load_of, lost, number_of, plan_of,
+    read_file, runtime_load, segments_of, set_places,
+};
 use omf_cells::{LoadFile, Places};
 use omf_io::Files;
 use std::alloc::{AllocError, Global};
@@ -135,14 +133,8 @@ fn join<F: Files>(alloc: Global, files: &mut F, path: &str) -> Result<User, Load
     ensures joins { IfOk result (λ user. HasJoined (F.seen files.old).held path.now (kept user) × ((F.seen files.new).faults ≡ (F.seen files.old).faults)) }
     ensures stops { IfErr result (JoinStops (F.seen files.old).held path.now (F.seen files.old).faults (F.seen files.new).faults) }
 {
-    let bytes = match read_file(alloc, files, path) {
-        Ok(bytes) => bytes,
-        Err(fault) => return Err(fault),
-    };
-    let load = match runtime_load(alloc, &bytes) {
-        Ok(load) => load,
-        Err(fault) => return Err(fault),
-    };
+    let bytes = read_file(alloc, files, path)?;
+    let load = runtime_load(alloc, &bytes)?;
     let _count = count_of(&load);
     match joined(alloc, &load, path) {
         Ok(user) => Ok(user),
@@ -165,10 +157,7 @@ fn join_all<F: Files>(
 {
     let mut users = Vec::new(alloc);
     'rows: for place in 0..load.paths() {
-        let user = match join(alloc, files, path_of(load, place)) {
-            Ok(user) => user,
-            Err(fault) => return Err(fault),
-        };
+        let user = join(alloc, files, path_of(load, place))?;
         match users.push(user) {
             Ok(()) => {}
             Err(_) => return Err(LoaderFault::Memory),
@@ -228,16 +217,13 @@ impl Loader {
             mut places,
         } = plan;
         let user = FIRST_ID + self.users.len() as u16;
-        match place_all(
+        place_all(
             &mut self.banks,
             user,
             &segments,
             wants.as_slice(),
             handles.as_mut_slice(),
-        ) {
-            Ok(()) => {}
-            Err(fault) => return Err(fault),
-        }
+        )?;
         settle(
             &mut self.banks,
             load,
@@ -306,10 +292,7 @@ impl Loader {
         if self.users.len() + 1 + load.paths() as usize > MAX_USERS {
             return Err(LoaderFault::TooManyUsers);
         }
-        let joined = match join_all(self.alloc, files, load) {
-            Ok(joined) => joined,
-            Err(fault) => return Err(fault),
-        };
+        let joined = join_all(self.alloc, files, load)?;
         match lost(load, &joined) {
             Some(fault) => return Err(LoaderFault::BadFile(fault)),
             None => {}
@@ -331,10 +314,7 @@ impl Loader {
         ensures loaded { (more : ℕ) × HasLoadedFile (F.seen files.old).held self.old path.now file.now result self.new (F.seen files.old).faults (F.seen files.new).faults more
             × ((F.seen files.new).asked ≡ risen more (F.seen files.old).asked) }
     {
-        let load = match load_of(self.alloc, file, false) {
-            Ok(load) => load,
-            Err(fault) => return Err(fault),
-        };
+        let load = load_of(self.alloc, file, false)?;
         self.join_and_start(files, &load, path)
     }
 
@@ -352,10 +332,7 @@ impl Loader {
         if self.users.len() >= MAX_USERS {
             return Err(LoaderFault::TooManyUsers);
         }
-        let bytes = match read_file(self.alloc, files, path) {
-            Ok(bytes) => bytes,
-            Err(fault) => return Err(fault),
-        };
+        let bytes = read_file(self.alloc, files, path)?;
         self.begin(files, &bytes, path)
     }
 

@@ -14,27 +14,21 @@ ghost use Rattle.loader_machine.specs.Commands as commands;
 ghost use Rattle.loader_machine.specs.Commands.{Bytes, Shown, Refused};
 ghost use Rattle.loader_agrees.specs.Agrees.{Loaded, kept_outlines, seen_in, seen_by, IsSound, Agrees, Met};
 ghost use Rattle.loader_agrees.specs.Acts.{CanRead, HasLent, HasTold, LiesIn};
-ghost use Rattle.loader_agrees.specs.laws.Checks.{PassesRunning, StopsRunning};
-ghost use Rattle.sys_loader.specs.View.{kept};
+ghost use Rattle.loader_agrees.specs.Checks.{PassesRunning, StopsRunning};
+ghost use Rattle.loader_users.specs.View.{kept};
 ghost use Rattle.sys_loader.specs.Replies.{info_reply, where_reply};
 ghost use Rattle.sys_loader.specs.Naming.{NamesPlace};
 
 use crate::answers::{Entered, Info};
-use crate::lying::{owner_of, search_owner};
-use crate::memory::{active, presence, slice};
-use crate::user::User;
-use crate::users::holder_of;
 use iigs_compact_memory::CompactBanks;
 use iigs_meaning::{BanksFault, BlockFault, Handle};
 use loader_machine::{Life, LoaderFault};
+use loader_users::{FIRST_ID, User, active, holder_of, owner_of, presence, search_owner, slice};
 use std::alloc::{AllocError, Global};
 use std::marker::Model;
 
 /// How many users can be made.
 pub(crate) const MAX_USERS: usize = 255;
-
-/// The ID of the first user.
-pub const FIRST_ID: u16 = 0x1001;
 
 /// Programs in memory of banks.
 #[derive(Drop)]
@@ -50,7 +44,7 @@ pub struct Loader {
 impl Model for Loader {
     ghost use Rattle.std.specs.Prelude.{◌≤◌, map, option_map, vec_capacity};
     ghost use Rattle.loader_agrees.specs.Agrees.{Loaded, IsSound};
-    ghost use Rattle.sys_loader.specs.View.{kept, loaded};
+    ghost use Rattle.loader_users.specs.View.{kept, loaded};
 
     ghost Value = { Loaded };
 
@@ -73,10 +67,7 @@ impl Loader {
         ensures empty { IfOk result (λ loader. IsNew banks.now loader.memory × (loader.users ≡ [])) }
         ensures refused { IfErr result (IsBanksRefusal banks.now) }
     {
-        let memory = match CompactBanks::new(alloc, banks) {
-            Ok(memory) => memory,
-            Err(fault) => return Err(fault),
-        };
+        let memory = CompactBanks::new(alloc, banks)?;
         match no_users(alloc, MAX_USERS) {
             Ok(users) => Ok(Loader {
                 alloc,
@@ -160,18 +151,9 @@ impl Loader {
         ensures can { IfOk result (λ h. CanRead self.now id number at count h) }
         ensures refused { IfErr result (λ fault. bytes_refusal self.now.memory.slots (seen_by self.now id) number at count ≡ Some fault) }
     {
-        let user = match self.running(id) {
-            Ok(user) => user,
-            Err(fault) => return Err(fault),
-        };
-        let segment = match user.kept_segment(number) {
-            Ok(segment) => segment,
-            Err(fault) => return Err(fault),
-        };
-        let h = match active(&self.banks, segment.handle) {
-            Ok(h) => h,
-            Err(fault) => return Err(fault),
-        };
+        let user = self.running(id)?;
+        let segment = user.kept_segment(number)?;
+        let h = active(&self.banks, segment.handle)?;
         if u64::from(at) + u64::from(count) > u64::from(segment.head.length) {
             return Err(LoaderFault::OutOfSegment);
         }
@@ -190,10 +172,7 @@ impl Loader {
         ensures refused { IfErr result (λ fault. bytes_refusal self.now.memory.slots (seen_by self.now user) segment at count ≡ Some fault) }
     {
         self.is_sound();
-        let h = match self.readable(user, segment, at, count) {
-            Ok(h) => h,
-            Err(fault) => return Err(fault),
-        };
+        let h = self.readable(user, segment, at, count)?;
         match self.banks.block(h) {
             Ok(bytes) => Ok(slice(bytes, at as usize, count as usize)),
             Err(BlockFault::Stale) => unreachable!(),
@@ -224,10 +203,7 @@ impl Loader {
         let Some(kept) = self.user(user) else {
             return Err(LoaderFault::NoUser);
         };
-        let found = match kept.kept_segment(segment) {
-            Ok(found) => found,
-            Err(fault) => return Err(fault),
-        };
+        let found = kept.kept_segment(segment)?;
         Ok(Info {
             presence: presence(&self.banks, found.handle),
             length: found.head.length,

@@ -10,14 +10,14 @@ ghost use Rattle.loader_machine.specs.Commands.{Poke};
 ghost use Rattle.loader_machine.specs.Refusals.{poke_refusal};
 ghost use Rattle.loader_agrees.specs.Agrees.{Agrees, Met, seen_by};
 ghost use Rattle.sys_loader.specs.Replies.{done_reply};
-ghost use Rattle.sys_loader.specs.Lives.{with_bytes, CanPoke, DidPoke};
+ghost use Rattle.loader_users.specs.Bytes.{with_bytes};
+ghost use Rattle.sys_loader.specs.Lives.{CanPoke, DidPoke};
 
-use crate::head::is_table;
 use crate::loader::Loader;
-use crate::memory::active;
 use iigs_compact_memory::CompactBanks;
 use iigs_meaning::Handle;
 use loader_machine::LoaderFault;
+use loader_users::{active, is_table};
 
 /// Writes a byte of a block that is there.
 fn put(banks: &mut CompactBanks, h: Handle, at: u32, byte: u8)
@@ -35,18 +35,9 @@ impl Loader {
         ensures can { IfOk result (λ h. CanPoke self.now id number at h) }
         ensures refused { IfErr result (λ fault. poke_refusal self.now.memory.slots (seen_by self.now id) number at ≡ Some fault) }
     {
-        let user = match self.running(id) {
-            Ok(user) => user,
-            Err(fault) => return Err(fault),
-        };
-        let segment = match user.kept_segment(number) {
-            Ok(segment) => segment,
-            Err(fault) => return Err(fault),
-        };
-        let h = match active(&self.banks, segment.handle) {
-            Ok(h) => h,
-            Err(fault) => return Err(fault),
-        };
+        let user = self.running(id)?;
+        let segment = user.kept_segment(number)?;
+        let h = active(&self.banks, segment.handle)?;
         if is_table(&segment.head) {
             return Err(LoaderFault::TableByte);
         }
@@ -60,10 +51,7 @@ impl Loader {
     fn write_byte(&mut self, user: u16, segment: u16, at: u32, byte: u8) -> Result<(), LoaderFault>
         ensures did { DidPoke self.old user segment at byte result self.new }
     {
-        let h = match self.pokable(user, segment, at) {
-            Ok(h) => h,
-            Err(fault) => return Err(fault),
-        };
+        let h = self.pokable(user, segment, at)?;
         put(&mut self.banks, h, at, byte);
         Ok(())
     }

@@ -34,10 +34,7 @@ impl Loader {
     fn purge_blocks(&mut self, user: u16) -> Result<u32, LoaderFault>
         ensures did { DidPurge self.old user result self.new }
     {
-        match self.purgeable(user) {
-            Ok(()) => {}
-            Err(fault) => return Err(fault),
-        }
+        self.purgeable(user)?;
         Ok(self.banks.purge_user(user))
     }
 

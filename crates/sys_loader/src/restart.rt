@@ -17,31 +17,27 @@ ghost use Rattle.loader_machine.specs.Steps.{lost_refusal};
 ghost use Rattle.loader_machine.specs.Needs as needs;
 ghost use Rattle.loader_machine.specs.Commands.{Restart};
 ghost use Rattle.loader_agrees.specs.Agrees.{Kept, Agrees, Meets, ReadsNeeded, kept_outlines, seen_by};
-ghost use Rattle.sys_loader.specs.View.{kept};
-ghost use Rattle.sys_loader.specs.Filling.{AreSound, AreReady, AreFilled};
-ghost use Rattle.sys_loader.specs.Calls.{IsPlan, IsBeginRefusal};
+ghost use Rattle.loader_users.specs.View.{kept};
+ghost use Rattle.loader_users.specs.Filling.{AreSound, AreReady, AreFilled};
+ghost use Rattle.loader_users.specs.Planned.{IsPlan};
+ghost use Rattle.sys_loader.specs.Calls.{IsBeginRefusal};
 ghost use Rattle.sys_loader.specs.Replies.{load_reply};
-ghost use Rattle.sys_loader.specs.Restarting.{CanRestart, is_whole, restart_reads, HasResumed, released_memory, HasBegunAnew, IsAgainRefusal, DidRestart, AreActivated, HasReloaded, HasBegunFrom, IsOtherFile, kept_heads};
+ghost use Rattle.sys_loader.specs.Restarting.{CanRestart, is_whole, restart_reads, HasResumed, released_memory, HasBegunAnew, IsAgainRefusal, DidRestart, AreActivated, HasReloaded, HasBegunFrom, IsOtherFile};
+ghost use Rattle.loader_users.specs.Users.{kept_heads};
 ghost use Rattle.sys_loader.specs.Restarting as restarting;
 
 use crate::answers::Started;
-use crate::compare::compare;
 use crate::dynamic::places_of;
-use crate::fill::fill_block;
-use crate::head::{is_read_again, is_static};
 use crate::load::{count_of, settle};
 use crate::loader::Loader;
-use crate::lost::lost_in;
-use crate::memory::presence;
-use crate::place::{entry_of, number_of, set_places};
-use crate::plan::{Plan, plan_of};
-use crate::reading::load_of;
-use crate::turn::activate;
-use crate::user::{Segment, User};
-use crate::users::{set_life, set_lives, set_segments, user_in};
 use iigs_compact_memory::CompactBanks;
 use iigs_meaning::{Handle, PlaceFault, Want};
 use loader_machine::{Life, LoaderFault, Presence};
+use loader_users::{
+    Plan, Segment, User, activate, compare, entry_of, fill_block, is_read_again, is_static,
+    load_of, lost_in, number_of, plan_of, presence, set_life, set_lives, set_places, set_segments,
+    user_in,
+};
 use omf_cells::{LoadFile, Places};
 use omf_io::{Files, ReadFault};
 use std::alloc::AllocError;
@@ -186,10 +182,7 @@ impl Loader {
         ensures ok { IfOk result (λ found. CanRestart self.now user (kept found.now)) }
         ensures err { IfErr result (λ fault. restart_refusal (is_attached (kept_outlines self.now.users) user) (seen_by self.now user) ≡ Some fault) }
     {
-        match self.unattached(user) {
-            Ok(()) => {}
-            Err(fault) => return Err(fault),
-        }
+        self.unattached(user)?;
         match self.user(user) {
             Some(found) => match found.life {
                 Life::Running => Err(LoaderFault::Running),
@@ -245,10 +238,7 @@ impl Loader {
             Some(fault) => return Err(LoaderFault::BadFile(fault)),
             None => {}
         }
-        match compare(load, &found.segments) {
-            Ok(()) => Ok(()),
-            Err(fault) => Err(fault),
-        }
+        compare(load, &found.segments)
     }
 
     // The same once they are as a file that was read has them, if it is the one that was loaded.
@@ -261,19 +251,10 @@ impl Loader {
         ensures err { OnErr result (self.new ≡ self.old) }
     {
         self.is_sound();
-        let load = match load_of(self.alloc, file, false) {
-            Ok(load) => load,
-            Err(fault) => return Err(fault),
-        };
+        let load = load_of(self.alloc, file, false)?;
         let _count = count_of(&load);
-        let places = match places_of(self.alloc, &load) {
-            Ok(places) => places,
-            Err(fault) => return Err(fault),
-        };
-        match self.is_same_file(&load, user) {
-            Ok(()) => {}
-            Err(fault) => return Err(fault),
-        }
+        let places = places_of(self.alloc, &load)?;
+        self.is_same_file(&load, user)?;
         Ok(self.resume_from(&load, places, user))
     }
 
@@ -300,16 +281,13 @@ impl Loader {
             mut handles,
             mut places,
         } = plan;
-        match place_all_anew(
+        place_all_anew(
             &mut self.banks,
             user,
             &segments,
             wants.as_slice(),
             handles.as_mut_slice(),
-        ) {
-            Ok(()) => {}
-            Err(fault) => return Err(fault),
-        }
+        )?;
         settle(
             &mut self.banks,
             load,
@@ -334,15 +312,9 @@ impl Loader {
         ensures err { OnErr result (self.new ≡ self.old) }
     {
         self.is_sound();
-        let load = match load_of(self.alloc, file, false) {
-            Ok(load) => load,
-            Err(fault) => return Err(fault),
-        };
+        let load = load_of(self.alloc, file, false)?;
         let _count = count_of(&load);
-        match self.is_same_file(&load, user) {
-            Ok(()) => {}
-            Err(fault) => return Err(fault),
-        }
+        self.is_same_file(&load, user)?;
         let plan = match plan_of(self.alloc, &load) {
             Ok(plan) => plan,
             Err(AllocError) => return Err(LoaderFault::Memory),
@@ -390,10 +362,7 @@ impl Loader {
         ensures refused_unasked { IsSome (restart_refusal (is_attached (kept_outlines self.old.users) user) (seen_by self.old user)) → (F.seen files.new).asked ≡ (F.seen files.old).asked }
         ensures did { DidRestart (F.seen files.old).held self.old user result self.new (F.seen files.old).faults (F.seen files.new).faults }
     {
-        let found = match self.dormant(user) {
-            Ok(found) => found,
-            Err(fault) => return Err(fault),
-        };
+        let found = self.dormant(user)?;
         let in_place = are_there(&self.banks, &found.segments);
         if has_to_read(&found.segments, in_place) {
             self.read_and_restart(files, user, in_place)

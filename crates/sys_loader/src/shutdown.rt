@@ -9,19 +9,18 @@ ghost use Rattle.loader_machine.specs.State.{Machine, user_of, is_attached, fami
 ghost use Rattle.loader_machine.specs.Refusals.{shut_down_refusal};
 ghost use Rattle.loader_machine.specs.Commands.{ShutDown};
 ghost use Rattle.loader_agrees.specs.Agrees.{Kept, AreAttached, Agrees, Met, kept_outlines, seen_by};
-ghost use Rattle.sys_loader.specs.View.{kept};
+ghost use Rattle.loader_users.specs.View.{kept};
 ghost use Rattle.sys_loader.specs.Replies.{done_reply};
 ghost use Rattle.sys_loader.specs.Lives.{AreIdled, AreReleased, DidShutDown};
 
 use crate::loader::Loader;
-use crate::memory::presence;
-use crate::renew::renew_tables;
-use crate::turn::idle;
-use crate::user::{Segment, User};
-use crate::users::{attached_count, attached_in, remove, set_life, set_lives, user_in};
 use iigs_compact_memory::CompactBanks;
 use iigs_meaning::PlaceFault;
 use loader_machine::{Life, LoaderFault, Presence};
+use loader_users::{
+    Segment, User, attached_count, attached_in, idle, presence, remove, renew_tables, set_life,
+    set_lives, user_in,
+};
 
 /// Releases all handles of a user.
 fn release_all(banks: &mut CompactBanks, user: u16)
@@ -100,10 +99,7 @@ impl Loader {
             × (shut_down_refusal (is_attached (kept_outlines self.now.users) user) (seen_by self.now user) false ≡ None)) }
         ensures err { IfErr result (λ fault. shut_down_refusal (is_attached (kept_outlines self.now.users) user) (seen_by self.now user) false ≡ Some fault) }
     {
-        match self.unattached(user) {
-            Ok(()) => {}
-            Err(fault) => return Err(fault),
-        }
+        self.unattached(user)?;
         match self.user(user) {
             Some(_) => Ok(()),
             None => Err(LoaderFault::NoUser),
@@ -116,14 +112,9 @@ impl Loader {
             × (shut_down_refusal (is_attached (kept_outlines self.now.users) user) (seen_by self.now user) true ≡ None)) }
         ensures err { IfErr result (λ fault. shut_down_refusal (is_attached (kept_outlines self.now.users) user) (seen_by self.now user) true ≡ Some fault) }
     {
-        match self.unattached(user) {
-            Ok(()) => {}
-            Err(fault) => return Err(fault),
-        }
-        match self.running(user) {
-            Ok(_) => Ok(()),
-            Err(fault) => Err(fault),
-        }
+        self.unattached(user)?;
+        self.running(user)?;
+        Ok(())
     }
 
     // Drops a user with those that are attached to it: their handles are released, and they are gone.
@@ -131,10 +122,7 @@ impl Loader {
         ensures did { DidShutDown self.old user false result self.new }
     {
         self.is_sound();
-        match self.droppable(user) {
-            Ok(()) => {}
-            Err(fault) => return Err(fault),
-        }
+        self.droppable(user)?;
         drop_attached(&mut self.banks, &mut self.users, user);
         release_all(&mut self.banks, user);
         remove(&mut self.users, user);
@@ -146,10 +134,7 @@ impl Loader {
         ensures did { DidShutDown self.old user true result self.new }
     {
         self.is_sound();
-        match self.keepable(user) {
-            Ok(()) => {}
-            Err(fault) => return Err(fault),
-        }
+        self.keepable(user)?;
         renew_tables(
             &mut self.banks,
             &user_in(&self.users, user).segments,

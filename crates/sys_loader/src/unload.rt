@@ -10,14 +10,10 @@ ghost use Rattle.loader_agrees.specs.Agrees.{Agrees, Met, seen_by};
 ghost use Rattle.sys_loader.specs.Replies.{done_reply};
 ghost use Rattle.sys_loader.specs.Lives.{CanUnload, DidUnload};
 
-use crate::head::is_dynamic;
 use crate::loader::Loader;
-use crate::memory::active;
-use crate::renew::renew_tables;
-use crate::turn::idle;
-use crate::users::user_in;
 use iigs_meaning::Handle;
 use loader_machine::LoaderFault;
+use loader_users::{active, idle, is_dynamic, renew_tables, user_in};
 
 impl Loader {
     // The handle of an active segment that can be let go.
@@ -25,21 +21,12 @@ impl Loader {
         ensures can { IfOk result (λ h. CanUnload self.now id number h) }
         ensures refused { IfErr result (λ fault. unload_refusal self.now.memory.slots (seen_by self.now id) number ≡ Some fault) }
     {
-        let user = match self.running(id) {
-            Ok(user) => user,
-            Err(fault) => return Err(fault),
-        };
-        let segment = match user.kept_segment(number) {
-            Ok(segment) => segment,
-            Err(fault) => return Err(fault),
-        };
+        let user = self.running(id)?;
+        let segment = user.kept_segment(number)?;
         if !is_dynamic(&segment.head) {
             return Err(LoaderFault::Static);
         }
-        match active(&self.banks, segment.handle) {
-            Ok(h) => Ok(h),
-            Err(fault) => Err(fault),
-        }
+        active(&self.banks, segment.handle)
     }
 
     // Lets a segment go, and its entries call the loader.
@@ -47,10 +34,7 @@ impl Loader {
         ensures did { DidUnload self.old user segment result self.new }
     {
         self.is_sound();
-        let h = match self.unloadable(user, segment) {
-            Ok(h) => h,
-            Err(fault) => return Err(fault),
-        };
+        let h = self.unloadable(user, segment)?;
         let (owner, file) = self.led_by(user);
         let lead = user_in(&self.users, owner);
         renew_tables(&mut self.banks, &lead.segments, Some((file, segment)), None);

@@ -1,3 +1,4 @@
+pub mod RunLaws
 pub mod KeptLaws
 pub mod Gives
 pub mod RecordRuns

@@ -2,8 +2,8 @@
 use Rattle.std.specs.Prelude.{◌≡◌}
 use Rattle.list_meaning.specs.Listing as listing
 use Rattle.w65_list.specs.declared.records.Before.{Before}
-use Rattle.list_lines.specs.LineView.{widths_view}
 use Rattle.list_lines.specs.NamesView.{AreNames}
+use Rattle.w65_list.specs.RunView.{widths_view}
 
 pub record IsBefore (before : Before) (b : listing.Before) : Type 0 where
   pub widths : widths_view before.widths ≡ b.widths

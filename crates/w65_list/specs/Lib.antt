@@ -1,3 +1,4 @@
+pub mod RunView
 pub mod BeforeView
 pub mod Giving
 pub mod FrontView

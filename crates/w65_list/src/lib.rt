@@ -4,7 +4,9 @@
 
 mod front;
 mod records;
+mod run;
 mod source;
 
 pub use list_meaning::{ListCause, ListFault};
+pub use run::{Widths, instruction_of, operand_size, put_rest, widths_behind};
 pub use source::list_source;

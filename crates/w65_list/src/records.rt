@@ -17,14 +17,15 @@ ghost use Rattle.list_meaning.specs.Listing.{Given, is_record, record_by, record
 ghost use Rattle.w65_list.specs.BeforeView.{IsBefore};
 ghost use Rattle.list_lines.specs.FormulaView.{IsFront, simple_four, weak_two};
 ghost use Rattle.w65_list.specs.Giving.{Gave, IsGiven, formula_seen, held_by, held_with, equate_by, HasExpression};
-ghost use Rattle.list_lines.specs.LineView.{HasSize, widths_view, operand_view, Wrote, WroteAll};
+ghost use Rattle.list_lines.specs.LineView.{HasSize, operand_view, Wrote, WroteAll};
 ghost use Rattle.list_lines.specs.NamesView.{AreNames};
 ghost use Rattle.list_lines.specs.OutputView.{open_line};
+ghost use Rattle.w65_list.specs.RunView.{widths_view};
 
+use crate::run::{Widths, instruction_of, operand_size, put_rest, widths_behind};
 use list_lines::{
-    Facts, Front, Names, Output, Stop, Wanted, Widths, aligns, asks, ends, equates, facts_of,
-    first_bytes, front_of, instruction_of, instructs, is_listable, labels, moves, operand_size,
-    put_rest, spaces, sums, text_of, uses, weakly, widths_behind,
+    Facts, Front, Names, Output, Stop, Wanted, aligns, asks, ends, equates, facts_of, first_bytes,
+    front_of, instructs, is_listable, labels, moves, spaces, sums, text_of, uses, weakly,
 };
 use omf_expr::Expr;
 use omf_header::Header;

@@ -209,10 +209,7 @@ pub fn list_source(alloc: Global, file: &[u8]) -> Result<Vec<u8>, ListFault>
         Ok(list) => list,
         Err(fault) => return Err(file_fault(fault)),
     };
-    let out = match put_file(alloc, &list) {
-        Ok(out) => out,
-        Err(fault) => return Err(fault),
-    };
+    let out = put_file(alloc, &list)?;
     match out.into_text() {
         Some(text) => Ok(text),
         None => Err(ListFault {

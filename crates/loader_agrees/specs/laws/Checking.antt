@@ -11,7 +11,7 @@ use Rattle.loader_machine.specs.declared.seen.Head.{Head}
 use Rattle.loader_machine.specs.State.{Seen}
 use Rattle.loader_machine.specs.Presences.{presence, handle_at, is_active}
 use Rattle.loader_machine.specs.Refusals.{Refuse, of_user, of_running, of_segment, of_active, of_inside, bytes_refusal, info_refusal, free_refusal, change_refusal, state_refusal}
-use Rattle.loader_agrees.specs.laws.Checks.{PassesRunning, StopsRunning, PassesSegment, StopsSegment}
+use Rattle.loader_agrees.specs.Checks.{PassesRunning, StopsRunning, PassesSegment, StopsSegment}
 
 pub active_none : (slots : Slots) (seen : Seen) (number : ℕ) (o : Option Handle) (rest : Refuse) → handle_at seen.handles number ≡ o → is_active (presence slots o) ≡ false
     → of_active slots seen number rest ≡ Some NotActive

@@ -1,4 +1,5 @@
 use Rattle.std.proofs.Common.{Result, subst, arith}
+use Rattle.std.proofs.lemmas.Result.{err_from_is_err_and}
 use Rattle.omf_io.specs.Outside.{outside}
 use Rattle.loader_machine.specs.Replies.{reply_line}
 use Rattle.loader_machine.specs.Commands as step
@@ -19,15 +20,16 @@ returns-in-Err g c =
     let first = first_command c.args.script.now (view.command c.in-Some.first.now) c.requires c.in-Some.ensures in
     no_memory c.args.script.now (view.command c.in-Some.first.now) (g.F.Files.seen c.args.files.now) (g.S.Sink.seen c.args.out.now) first c.in-Some.ensures
 
-pub returns-in-Err-print : goal.returns-in-Err-print
-returns-in-Err-print g c =
+pub returns-in_err-print : goal.returns-in_err-print
+returns-in_err-print g c =
+    let p = err_from_is_err_and c.from_residual.result c.from_residual.ensures.1 in
     let store = g.F.Files.seen c.args.files.now in
     let sink = g.S.Sink.seen c.args.out.now in
     let now = g.S.Sink.seen c.print.new.out in
     let command = view.command c.in-Some.first.now in
     let first = first_answered store sink now command c.in-Ok.loader c.print.result c.in-Ok.ensures (c.print.ensures.printed (reply_line step.Okay) c.okay_line.ensures) in
-    stops_at store store store sink sink now c.args.script.now 0 command no_loader c.in-Ok.loader (nothing_yet store sink) c.in-Some.ensures c.in-Err-print.stop
-    (subst (λ (r : Result (Unit {0}) Stop). HasAnswered r command no_loader c.in-Ok.loader (outside store store sink now)) c.in-Err-print.is first)
+    rw (p.1, p.2) (stops_at store store store sink sink now c.args.script.now 0 command no_loader c.in-Ok.loader (nothing_yet store sink) c.in-Some.ensures c.in_err-print.field-0.0
+    (subst (λ (r : Result (Unit {0}) Stop). HasAnswered r command no_loader c.in-Ok.loader (outside store store sink now)) c.in_err-print.was first))
 
 pub commands-init : goal.commands-init
 commands-init g c =
@@ -37,21 +39,22 @@ commands-init g c =
     let command = view.command c.in-Some.first.now in
     let first = first_answered store sink now command c.in-Ok.loader c.print.result c.in-Ok.ensures (c.print.ensures.printed (reply_line step.Okay) c.okay_line.ensures) in
     goes_past store store store sink sink now c.args.script.now 0 command no_loader c.in-Ok.loader (nothing_yet store sink) c.in-Some.ensures
-    (subst (λ (r : Result (Unit {0}) Stop). HasAnswered r command no_loader c.in-Ok.loader (outside store store sink now)) c.in-Ok-print.is first)
+    (subst (λ (r : Result (Unit {0}) Stop). HasAnswered r command no_loader c.in-Ok.loader (outside store store sink now)) c.in_ok-print.was first)
 
 pub run_command-requires : goal.run_command-requires
 run_command-requires g c = later_command c.args.script.now c.commands.place (view.command c.in-Some-get.command.now) c.requires c.commands.auto.place c.in-Some-get.ensures
 
-pub returns-in-Err-run_command : goal.returns-in-Err-run_command
-returns-in-Err-run_command g c =
+pub returns-in_err-run_command : goal.returns-in_err-run_command
+returns-in_err-run_command g c =
+    let p = err_from_is_err_and c.from_residual-in_err-run_command.result c.from_residual-in_err-run_command.ensures.1 in
     let mid = g.F.Files.seen c.commands.files in
     let now = g.F.Files.seen c.run_command.new.files in
     let sink = g.S.Sink.seen c.commands.out in
     let new = g.S.Sink.seen c.run_command.new.out in
     let command = view.command c.in-Some-get.command.now in
-    stops_at (g.F.Files.seen c.args.files.now) mid now (g.S.Sink.seen c.args.out.now) sink new c.args.script.now c.commands.place command c.commands.loader c.run_command.new.loader
-    c.commands.invariant c.in-Some-get.ensures c.in-Err-run_command.stop
-    (subst (λ (r : Result (Unit {0}) Stop). HasAnswered r command c.commands.loader c.run_command.new.loader (outside mid now sink new)) c.in-Err-run_command.is c.run_command.ensures)
+    rw (p.1, p.2) (stops_at (g.F.Files.seen c.args.files.now) mid now (g.S.Sink.seen c.args.out.now) sink new c.args.script.now c.commands.place command c.commands.loader c.run_command.new.loader
+    c.commands.invariant c.in-Some-get.ensures c.in_err-run_command.field-0.0
+    (subst (λ (r : Result (Unit {0}) Stop). HasAnswered r command c.commands.loader c.run_command.new.loader (outside mid now sink new)) c.in_err-run_command.was c.run_command.ensures))
 
 pub commands-preserved : goal.commands-preserved
 commands-preserved g c =
@@ -62,7 +65,7 @@ commands-preserved g c =
     let command = view.command c.in-Some-get.command.now in
     goes_past (g.F.Files.seen c.args.files.now) mid now (g.S.Sink.seen c.args.out.now) sink new c.args.script.now c.commands.place command c.commands.loader c.run_command.new.loader
     c.commands.invariant c.in-Some-get.ensures
-    (subst (λ (r : Result (Unit {0}) Stop). HasAnswered r command c.commands.loader c.run_command.new.loader (outside mid now sink new)) c.in-Ok-run_command.is c.run_command.ensures)
+    (subst (λ (r : Result (Unit {0}) Stop). HasAnswered r command c.commands.loader c.run_command.new.loader (outside mid now sink new)) c.in_ok-run_command.was c.run_command.ensures)
 
 pub returns : goal.returns
 returns g c =

@@ -1,4 +1,5 @@
 use Rattle.std.proofs.Common.{◌≡◌, ℕ, ◌+◌, ◌-◌, ◌++◌, length, refl, sym, ap, subst, ◌∙◌, arith}
+use Rattle.std.proofs.lemmas.Result.{err_from_is_err_and}
 use Rattle.omf_format.specs.Header.{IsWritable}
 use Rattle.omf_format.specs.laws.WrittenHeaderLaws.{length-header}
 use Rattle.omf_header.specs.View.{fields}
@@ -35,15 +36,17 @@ put_exports-requires-clause-at c =
     let own = own_number c.args.load.now c.args.number (fields c.in-Some.header.now) c.requires.known c.requires.there c.in-Some.ensures in
     subst (λ (n : ℕ). AtExports c.args.load.now n c.args.place) (sym own) c.requires.at
 
-pub returns-in-Err-clause-too_long : goal.returns-in-Err-clause-too_long
-returns-in-Err-clause-too_long c = λ e s at.
+pub returns-in_err-zeros-clause-too_long : goal.returns-in_err-zeros-clause-too_long
+returns-in_err-zeros-clause-too_long c =
+    let p = err_from_is_err_and c.from_residual-in_err-zeros.result c.from_residual-in_err-zeros.ensures.1 in
+    rw (p.1, p.2) (λ e s at.
     let load = c.args.load.now in
     let number = c.args.number in
     let f = fields c.in-Some.header.now in
     let own = own_number load number f c.requires.known c.requires.there c.in-Some.ensures in
-    let long = c.in-Err.ensures.too_long (err_moved _ _ e) s (at_own load number f.seg_num s (sym own) at) in
+    let long = c.in_err-zeros.ensures.too_long (err_moved _ _ e) s (at_own load number f.seg_num s (sym own) at) in
     let same : length (canon_segment f.seg_num (plain_of s)) ≡ length (canon_segment number (plain_of s)) = ap (λ (n : ℕ). length (canon_segment n (plain_of s))) own in
-    omega (arith, long, same)
+    omega (arith, long, same))
 
 pub overflow_sub-size : goal.overflow_sub-size
 overflow_sub-size c =
@@ -58,7 +61,7 @@ overflow_sub-size c =
     let r3 = c.put_exports.new.out.items in
     let room = c.head_size-room.result in
     let there = at_own load number f.seg_num s (sym own) at in
-    let mid = body_there out c.put_room.new.out.items c.put_content.new.out.items r3 room f.seg_num number s own c.in_ok-put_room.ensures.ok (c.in-Ok.ensures.ok s there) (c.in_ok-next.ensures.ok s there) in
+    let mid = body_there out c.put_room.new.out.items c.put_content.new.out.items r3 room f.seg_num number s own c.in_ok-put_room.ensures.ok (c.in_ok-zeros.ensures.ok s there) (c.in_ok-next.ensures.ok s there) in
     let sizes = behind_size out body r3 room mid in
     let start = ap length c.as_slice-start.ensures.value in
     let whole = ap length c.as_slice.ensures.value in
@@ -77,7 +80,7 @@ overflow_sub-size-2 c =
     let r3 = c.put_exports.new.out.items in
     let room = c.head_size-room.result in
     let there = at_own load number f.seg_num s (sym own) at in
-    let mid = body_there out c.put_room.new.out.items c.put_content.new.out.items r3 room f.seg_num number s own c.in_ok-put_room.ensures.ok (c.in-Ok.ensures.ok s there) (c.in_ok-next.ensures.ok s there) in
+    let mid = body_there out c.put_room.new.out.items c.put_content.new.out.items r3 room f.seg_num number s own c.in_ok-put_room.ensures.ok (c.in_ok-zeros.ensures.ok s there) (c.in_ok-next.ensures.ok s there) in
     let sizes = behind_size out body r3 room mid in
     let start = ap length c.as_slice-start.ensures.value in
     let whole = ap length c.as_slice.ensures.value in
@@ -93,11 +96,13 @@ front_of-requires c =
     let at = c.requires.there.1 in
     let there = at_own load number f.seg_num s (sym own) at in
     let is = its_fields load number f s c.in-Some.ensures at in
-    let space : c.in-Ok.zeros ≡ (canon_fields number (plain_of s)).res_spc = c.in-Ok.ensures.zeros s there ∙ ap (λ (n : ℕ). (canon_fields n (plain_of s)).res_spc) own in
-    subst IsWritable (sym (fields_are number c.in-Ok.zeros s f is own space)) (is_writable number (plain_of s) (known_held load number s c.requires.known at (c.requires.whole s at).whole))
+    let space : c.in_ok-zeros.zeros ≡ (canon_fields number (plain_of s)).res_spc = c.in_ok-zeros.ensures.zeros s there ∙ ap (λ (n : ℕ). (canon_fields n (plain_of s)).res_spc) own in
+    subst IsWritable (sym (fields_are number c.in_ok-zeros.zeros s f is own space)) (is_writable number (plain_of s) (known_held load number s c.requires.known at (c.requires.whole s at).whole))
 
-pub returns-in-Err-front_of-clause-too_long : goal.returns-in-Err-front_of-clause-too_long
-returns-in-Err-front_of-clause-too_long c = λ e s at.
+pub returns-in_err-front-clause-too_long : goal.returns-in_err-front-clause-too_long
+returns-in_err-front-clause-too_long c =
+    let p = err_from_is_err_and c.from_residual-in_err-front.result c.from_residual-in_err-front.ensures.1 in
+    rw (p.1, p.2) (λ e s at.
     let load = c.args.load.now in
     let number = c.args.number in
     let f = fields c.in-Some.header.now in
@@ -107,14 +112,14 @@ returns-in-Err-front_of-clause-too_long c = λ e s at.
     let r3 = c.put_exports.new.out.items in
     let room = c.head_size-room.result in
     let there = at_own load number f.seg_num s (sym own) at in
-    let mid = body_there out c.put_room.new.out.items c.put_content.new.out.items r3 room f.seg_num number s own c.in_ok-put_room.ensures.ok (c.in-Ok.ensures.ok s there) (c.in_ok-next.ensures.ok s there) in
+    let mid = body_there out c.put_room.new.out.items c.put_content.new.out.items r3 room f.seg_num number s own c.in_ok-put_room.ensures.ok (c.in_ok-zeros.ensures.ok s there) (c.in_ok-next.ensures.ok s there) in
     let sizes = behind_size out body r3 room mid in
     let start = ap length c.as_slice-start.ensures.value in
     let whole = ap length c.as_slice.ensures.value in
     let is = its_fields load number f s c.in-Some.ensures at in
     let size = length c.as_slice.result.now - length c.as_slice-start.result.now - room in
     let same : size ≡ length body = omega (arith, sizes, start, whole) in
-    long_by number 0x1000000 (length out) size s f body is c.know_size.ensures refl same (c.in-Err-front_of.ensures.too_long (err_moved _ _ e))
+    long_by number 0x1000000 (length out) size s f body is c.know_size.ensures refl same (c.in_err-front.ensures.too_long (err_moved _ _ e)))
 
 pub close-requires : goal.close-requires
 close-requires c =
@@ -129,15 +134,15 @@ close-requires c =
     let r3 = c.put_exports.new.out.items in
     let room = c.head_size-room.result in
     let there = at_own load number f.seg_num s (sym own) at in
-    let mid = body_there out c.put_room.new.out.items c.put_content.new.out.items r3 room f.seg_num number s own c.in_ok-put_room.ensures.ok (c.in-Ok.ensures.ok s there) (c.in_ok-next.ensures.ok s there) in
+    let mid = body_there out c.put_room.new.out.items c.put_content.new.out.items r3 room f.seg_num number s own c.in_ok-put_room.ensures.ok (c.in_ok-zeros.ensures.ok s there) (c.in_ok-next.ensures.ok s there) in
     let sizes = behind_size out body r3 room mid in
     let start = ap length c.as_slice-start.ensures.value in
     let whole = ap length c.as_slice.ensures.value in
-    let front = ap length (c.as_slice-2.ensures.value ∙ c.in-Ok-front_of.ensures.ok) ∙ length-header (fields_with f c.in-Ok.zeros) _ c.know_size.ensures in
+    let front = ap length (c.as_slice-2.ensures.value ∙ c.in_ok-front.ensures.ok) ∙ length-header (fields_with f c.in_ok-zeros.zeros) _ c.know_size.ensures in
     omega (arith, sizes, start, front, c.head_size-room.ensures.value)
 
-pub returns-in-Ok-close-clause-ok : goal.returns-in-Ok-close-clause-ok
-returns-in-Ok-close-clause-ok c = λ s at.
+pub returns-clause-ok : goal.returns-clause-ok
+returns-clause-ok c = λ s at.
     let load = c.args.load.now in
     let number = c.args.number in
     let f = fields c.in-Some.header.now in
@@ -147,27 +152,29 @@ returns-in-Ok-close-clause-ok c = λ s at.
     let r3 = c.put_exports.new.out.items in
     let room = c.head_size-room.result in
     let there = at_own load number f.seg_num s (sym own) at in
-    let mid = body_there out c.put_room.new.out.items c.put_content.new.out.items r3 room f.seg_num number s own c.in_ok-put_room.ensures.ok (c.in-Ok.ensures.ok s there) (c.in_ok-next.ensures.ok s there) in
+    let mid = body_there out c.put_room.new.out.items c.put_content.new.out.items r3 room f.seg_num number s own c.in_ok-put_room.ensures.ok (c.in_ok-zeros.ensures.ok s there) (c.in_ok-next.ensures.ok s there) in
     let sizes = behind_size out body r3 room mid in
     let start = ap length c.as_slice-start.ensures.value in
     let whole = ap length c.as_slice.ensures.value in
     let is = its_fields load number f s c.in-Some.ensures at in
-    let space : c.in-Ok.zeros ≡ (canon_fields number (plain_of s)).res_spc = c.in-Ok.ensures.zeros s there ∙ ap (λ (n : ℕ). (canon_fields n (plain_of s)).res_spc) own in
+    let space : c.in_ok-zeros.zeros ≡ (canon_fields number (plain_of s)).res_spc = c.in_ok-zeros.ensures.zeros s there ∙ ap (λ (n : ℕ). (canon_fields n (plain_of s)).res_spc) own in
     let size = length c.as_slice.result.now - length c.as_slice-start.result.now - room in
     let left : size ≡ length r3 - length c.as_slice-start.result.now - room = ap (λ (n : ℕ). n - length c.as_slice-start.result.now - room) whole in
-    segment_done number c.in-Ok.zeros size (length c.as_slice-start.result.now) room s f out r3 c.as_slice-2.result.now c.close.new.out.items is own space c.know_size.ensures c.head_size-room.ensures.value start mid left
-    (c.as_slice-2.ensures.value ∙ c.in-Ok-front_of.ensures.ok) c.in-Ok-close.ensures.ok
+    segment_done number c.in_ok-zeros.zeros size (length c.as_slice-start.result.now) room s f out r3 c.as_slice-2.result.now c.close.new.out.items is own space c.know_size.ensures c.head_size-room.ensures.value start mid left
+    (c.as_slice-2.ensures.value ∙ c.in_ok-front.ensures.ok) c.in_ok-close.ensures.ok
 
-pub returns-in-Ok-close-clause-next : goal.returns-in-Ok-close-clause-next
-returns-in-Ok-close-clause-next c =
+pub returns-clause-next : goal.returns-clause-next
+returns-clause-next c =
     let load = c.args.load.now in
     let number = c.args.number in
     let f = fields c.in-Some.header.now in
     let own = own_number load number f c.requires.known c.requires.there c.in-Some.ensures in
     subst (λ (n : ℕ). AtExports load (n + 1) c.in_ok-next.next) own c.in_ok-next.ensures.next
 
-pub returns-clause-too_long : goal.returns-clause-too_long
-returns-clause-too_long c = λ e s at.
+pub returns-in_err-close-clause-too_long : goal.returns-in_err-close-clause-too_long
+returns-in_err-close-clause-too_long c =
+    let p = err_from_is_err_and c.from_residual-in_err-close.result c.from_residual-in_err-close.ensures.1 in
+    rw (p.1, p.2) (λ e s at.
     let load = c.args.load.now in
     let number = c.args.number in
     let f = fields c.in-Some.header.now in
@@ -177,9 +184,9 @@ returns-clause-too_long c = λ e s at.
     let r3 = c.put_exports.new.out.items in
     let room = c.head_size-room.result in
     let there = at_own load number f.seg_num s (sym own) at in
-    let mid = body_there out c.put_room.new.out.items c.put_content.new.out.items r3 room f.seg_num number s own c.in_ok-put_room.ensures.ok (c.in-Ok.ensures.ok s there) (c.in_ok-next.ensures.ok s there) in
+    let mid = body_there out c.put_room.new.out.items c.put_content.new.out.items r3 room f.seg_num number s own c.in_ok-put_room.ensures.ok (c.in_ok-zeros.ensures.ok s there) (c.in_ok-next.ensures.ok s there) in
     let sizes = behind_size out body r3 room mid in
     let start = ap length c.as_slice-start.ensures.value in
     let whole = ap length c.as_slice.ensures.value in
     let is = its_fields load number f s c.in-Some.ensures at in
-    long_all number 0x1000000 room out r3 body s f is c.know_size.ensures refl c.head_size-room.ensures.value sizes (c.in-Err-close.ensures.too_long (err_moved _ _ e))
+    long_all number 0x1000000 room out r3 body s f is c.know_size.ensures refl c.head_size-room.ensures.value sizes (c.in_err-close.ensures.too_long (err_moved _ _ e)))

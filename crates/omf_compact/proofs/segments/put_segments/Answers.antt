@@ -1,4 +1,5 @@
 use Rattle.std.proofs.Common.{List, map, sym, subst, arith}
+use Rattle.std.proofs.lemmas.Result.{err_from_is_err_and}
 use Rattle.written_bodies.specs.declared.written.Patch.{Patch}
 use Rattle.written_bodies.specs.WrittenParts.{seen}
 use Rattle.omf_compact.specs.laws.Writing.{HasStretches}
@@ -21,14 +22,16 @@ segments-preserved c =
     let load = c.args.load.now in
     let i = c.segments.index in
     let found = segment_there load i (omega (arith, c.segments-test.true, c.count-index-end.ensures)) in
-    written_more load i c.segments.place c.in-Ok.next c.segments.out.items c.put_segment.new.out.items found.0 c.segments.invariant found.1 (c.in-Ok.ensures.ok found.0 found.1) c.in-Ok.ensures.next c.in-Ok.ensures.short
+    written_more load i c.segments.place c.in_ok-place.place c.segments.out.items c.put_segment.new.out.items found.0 c.segments.invariant found.1 (c.in_ok-place.ensures.ok found.0 found.1) c.in_ok-place.ensures.next c.in_ok-place.ensures.short
 
-pub returns-in-Err-clause-too_long : goal.returns-in-Err-clause-too_long
-returns-in-Err-clause-too_long c = λ e.
+pub returns-in_err-place-clause-too_long : goal.returns-in_err-place-clause-too_long
+returns-in_err-place-clause-too_long c =
+    let p = err_from_is_err_and c.from_residual.result c.from_residual.ensures.1 in
+    rw (p.1, p.2) (λ e.
     let load = c.args.load.now in
     let i = c.segments.index in
     let found = segment_there load i (omega (arith, c.segments-test.true, c.count-index-end.ensures)) in
-    written_long load i c.segments.place c.segments.out.items found.0 c.segments.invariant found.1 (c.in-Err.ensures.too_long (err_moved _ _ e) found.0 found.1)
+    written_long load i c.segments.place c.segments.out.items found.0 c.segments.invariant found.1 (c.in_err-place.ensures.too_long (err_moved _ _ e) found.0 found.1))
 
 pub returns-clause-ok : goal.returns-clause-ok
 returns-clause-ok c = written_all c.args.load.now c.segments.index c.segments.place c.segments.out.items c.segments.invariant (omega (arith, c.segments-test.false, c.count-index-end.ensures))

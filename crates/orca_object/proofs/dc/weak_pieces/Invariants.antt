@@ -1,4 +1,4 @@
-use Rattle.std.proofs.Common.{◌≡◌, ◌++◌, map, length}
+use Rattle.std.proofs.Common.{◌≡◌, ◌++◌, map, drop}
 use Rattle.std.specs.List.{AllByRecursion}
 use Rattle.asm_meaning.specs.Elements.{weak_piece}
 use Rattle.asm_meaning.specs.laws.GivenLaws.{IsNameLength}
@@ -6,7 +6,4 @@ use Rattle.orca_object.specs.PieceView.{piece}
 use Rattle.orca_object.proofs.dc.weak_pieces.Given as goal
 
 abbrev pub invariant-names : goal.invariant-names
-invariant-names l = (map piece l.out.items ++ map weak_piece l.left ≡ map weak_piece l.names) × AllByRecursion IsNameLength l.left
-
-abbrev pub decreases-names : goal.decreases-names
-decreases-names l = length l.left
+invariant-names l = (map piece l.out.items ++ map weak_piece (drop l.name-index l.names) ≡ map weak_piece l.names) × AllByRecursion IsNameLength (drop l.name-index l.names)

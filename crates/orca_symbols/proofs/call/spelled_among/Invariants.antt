@@ -1,10 +1,8 @@
-use Rattle.std.proofs.Common.{◌≡◌, length}
+use Rattle.std.proofs.Common.{◌≡◌, false, take}
 use Rattle.macro_meaning.specs.Call.{is_among}
 use Rattle.orca_meaning.specs.Characters.{folded}
 use Rattle.orca_symbols.proofs.call.spelled_among.Given as goal
 
+-- it is none of the names so far
 abbrev pub invariant-names : goal.invariant-names
-invariant-names l = is_among l.left (folded l.text) ≡ is_among l.names (folded l.text)
-
-abbrev pub decreases-names : goal.decreases-names
-decreases-names l = length l.left
+invariant-names l = is_among (take l.name-index l.names) (folded l.text) ≡ false

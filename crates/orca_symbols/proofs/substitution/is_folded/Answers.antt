@@ -1,9 +1,10 @@
-use Rattle.std.proofs.Common.{sym, ◌∙◌}
-use Rattle.orca_symbols.proofs.Fronts.{folded_next, folded_end}
+use Rattle.std.proofs.Common.{sym, ◌∙◌, rules, tests}
+use Rattle.std.proofs.lemmas.Iterator.{YieldsList-from_slice}
+use Rattle.std.proofs.lemmas.Iterator.Search.{all_from_yields_List}
+use Rattle.orca_symbols.proofs.Fronts.{is_upper, folded_all}
 use Rattle.orca_symbols.proofs.substitution.is_folded.Goals as goal
 
-pub bytes-preserved : goal.bytes-preserved
-bytes-preserved c = folded_next c.in-Some.byte.now c.in-Some.behind.now c.bytes.left.now c.args.name.now c.in-Some.ensures.cases.0 (sym c.to_ascii_uppercase.ensures.value ∙ c.if-to_ascii_uppercase-byte.false) c.bytes.invariant
-
 pub returns : goal.returns
-returns c = λ _. folded_end c.bytes.left.now c.args.name.now (rw c.in_default.is at c.split_first.ensures.cases) c.bytes.invariant
+returns c = λ all.
+    folded_all c.args.name.now
+    (sym (all_from_yields_List is_upper c.all.new.self _ c.all.result c.all.ensures.ran (YieldsList-from_slice c.args.name.now cc) (λ x b q k. search (rules, tests))) ∙ all)

@@ -1,10 +1,7 @@
-use Rattle.std.proofs.Common.{◌≡◌, ◌+◌, length}
+use Rattle.std.proofs.Common.{◌≡◌, ◌+◌, drop}
 use Rattle.std.specs.List.{prefix_len}
 use Rattle.orca_meaning.specs.Characters.{is_name_byte}
 use Rattle.orca_text.proofs.operand_tokens.name_len.Given as goal
 
 abbrev pub invariant-bytes : goal.invariant-bytes
-invariant-bytes l = (l.count + prefix_len is_name_byte l.left ≡ prefix_len is_name_byte l.behind) × (l.count + length l.left ≡ length l.behind)
-
-abbrev pub decreases-bytes : goal.decreases-bytes
-decreases-bytes l = length l.left
+invariant-bytes l = (l.count + prefix_len is_name_byte (drop l.byte-index l.behind) ≡ prefix_len is_name_byte l.behind) × (l.count ≡ l.byte-index)

@@ -1,7 +1,7 @@
 use Rattle.std.proofs.Common.{◌≡◌, ◌+◌, ◌-◌, ◌<◌, length, sym, ap, ◌∙◌, arith}
 use Rattle.loader_machine.specs.Heads.{at_number}
 use Rattle.loader_machine.specs.Presences.{handle_at}
-use Rattle.sys_loader.proofs.Written.{heads_of, handles_of, head_here, handle_here}
+use Rattle.loader_users.proofs.Written.{heads_of, handles_of, head_here, handle_here}
 use Rattle.sys_loader.proofs.jsl.segment_in.Goals as goal
 
 pub returns-clause-head : goal.returns-clause-head

@@ -1,5 +1,5 @@
 use Rattle.omf_header.specs.View.{fields}
-use Rattle.sys_loader.proofs.Heading.{count_is}
+use Rattle.loader_users.proofs.Heading.{count_is}
 use Rattle.sys_loader.proofs.load.count_of.Goals as goal
 
 pub returns : goal.returns

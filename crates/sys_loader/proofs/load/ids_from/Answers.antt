@@ -1,6 +1,6 @@
 use Rattle.std.proofs.Common.{◌+◌, ℕ, List, [], ◌∷◌, ◌++◌, sym, ap, ◌∙◌, arith}
 use Rattle.loader_machine.specs.State.{ids_from}
-use Rattle.sys_loader.proofs.Families.{ids_more}
+use Rattle.loader_users.proofs.Families.{ids_more}
 use Rattle.sys_loader.proofs.load.ids_from.Goals as goal
 
 pub ids-init : goal.ids-init

@@ -4,7 +4,7 @@ use Rattle.omf_io.specs.Counts.{risen}
 use Rattle.load_meaning.specs.Pathnames.{paths_of}
 use Rattle.loader_agrees.specs.Agrees.{Kept}
 use Rattle.loader_agrees.specs.Acts.{joined_kepts}
-use Rattle.sys_loader.specs.View.{kept}
+use Rattle.loader_users.specs.View.{kept}
 use Rattle.sys_loader.proofs.Joined.{AreGood}
 use Rattle.sys_loader.proofs.load.join_all.Given as goal
 

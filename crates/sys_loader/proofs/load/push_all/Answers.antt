@@ -2,8 +2,8 @@ use Rattle.std.proofs.Common.{List, [], ◌∷◌, ◌++◌, length, map, Some, 
 use Rattle.std.specs.Prelude.{option_map}
 use Rattle.std.proofs.lemmas.List.{length-append}
 use Rattle.loader_agrees.specs.Agrees.{Kept}
-use Rattle.sys_loader.specs.declared.user.User.{User}
-use Rattle.sys_loader.specs.View.{kept}
+use Rattle.loader_users.specs.declared.user.User.{User}
+use Rattle.loader_users.specs.View.{kept}
 use Rattle.sys_loader.proofs.Beginning.{none_left, pushed_more}
 use Rattle.sys_loader.proofs.load.push_all.Goals as goal
 

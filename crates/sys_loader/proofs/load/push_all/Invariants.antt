@@ -1,6 +1,6 @@
 use Rattle.std.specs.Prelude.{◌≡◌, ◌+◌, ◌≤◌, ◌++◌, length, map, option_map, Some, vec_capacity}
 use Rattle.loader_agrees.specs.Agrees.{Kept}
-use Rattle.sys_loader.specs.View.{kept}
+use Rattle.loader_users.specs.View.{kept}
 use Rattle.sys_loader.proofs.load.push_all.Given as goal
 
 -- the users so far and those that are left are all of them, and have room

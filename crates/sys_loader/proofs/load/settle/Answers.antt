@@ -4,9 +4,9 @@ use Rattle.loader_machine.specs.Heads.{head_of, wants_of}
 use Rattle.loader_machine.specs.State.{Held}
 use Rattle.loader_machine.specs.Steps.{spread}
 use Rattle.loader_agrees.specs.laws.Begun.{all_length}
-use Rattle.sys_loader.specs.Filling.{AreFilled}
-use Rattle.sys_loader.proofs.Written.{handles_of}
-use Rattle.sys_loader.proofs.Settling.{are_sound}
+use Rattle.loader_users.specs.Filling.{AreFilled}
+use Rattle.loader_users.proofs.Written.{handles_of}
+use Rattle.loader_users.proofs.Settling.{are_sound}
 use Rattle.sys_loader.proofs.Beginning.{all_ready, settled}
 use Rattle.sys_loader.proofs.load.settle.Goals as goal
 

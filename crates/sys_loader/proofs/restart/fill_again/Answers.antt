@@ -1,8 +1,8 @@
 use Rattle.std.proofs.Common.{◌+◌, ◌<◌, length, map, sym, subst, ◌∙◌, arith}
 use Rattle.iigs_meaning.specs.Memory.{Memory}
-use Rattle.sys_loader.specs.Filling.{AreFilled}
+use Rattle.loader_users.specs.Filling.{AreFilled}
 use Rattle.sys_loader.specs.Restarting.{again_handle}
-use Rattle.sys_loader.proofs.Written.{heads_of, head_here, has_head, filled_skip, filled_more, there_now, fits_now}
+use Rattle.loader_users.proofs.Written.{heads_of, head_here, has_head, filled_skip, filled_more, there_now, fits_now}
 use Rattle.sys_loader.proofs.Reloading.{again_here}
 use Rattle.sys_loader.proofs.restart.fill_again.Goals.{in-Some, in-None}
 use Rattle.sys_loader.proofs.restart.fill_again.Goals as goal

@@ -1,5 +1,5 @@
 use Rattle.std.specs.Prelude.{map}
-use Rattle.sys_loader.specs.Filling.{AreFilled}
+use Rattle.loader_users.specs.Filling.{AreFilled}
 use Rattle.sys_loader.specs.Restarting.{again_handle}
 use Rattle.sys_loader.proofs.restart.fill_again.Given as goal
 

@@ -3,10 +3,10 @@ use Rattle.std.specs.Prelude.{option_map}
 use Rattle.std.proofs.lemmas.Option.{same_Some}
 use Rattle.loader_machine.specs.State.{user_of, with_user, without_all}
 use Rattle.loader_agrees.specs.Agrees.{Kept}
-use Rattle.sys_loader.specs.View.{kept}
+use Rattle.loader_users.specs.View.{kept}
 use Rattle.sys_loader.specs.Lives.{AreReleased}
-use Rattle.sys_loader.proofs.Families.{take_more, take_past}
-use Rattle.sys_loader.proofs.UserItems.{some_is}
+use Rattle.loader_users.proofs.Families.{take_more, take_past}
+use Rattle.loader_users.proofs.UserItems.{some_is}
 use Rattle.sys_loader.proofs.Dropping.{released_none_yet, released_more, more_gone, still_there, next_there}
 use Rattle.sys_loader.proofs.shutdown.drop_attached.Goals as goal
 

@@ -2,7 +2,7 @@ use Rattle.std.proofs.Common.{◌≡◌, Some, map, take}
 use Rattle.std.specs.Prelude.{option_map, vec_capacity}
 use Rattle.loader_machine.specs.State.{user_of, without_all}
 use Rattle.loader_agrees.specs.Agrees.{Kept}
-use Rattle.sys_loader.specs.View.{kept}
+use Rattle.loader_users.specs.View.{kept}
 use Rattle.sys_loader.specs.Lives.{AreReleased}
 use Rattle.sys_loader.proofs.shutdown.drop_attached.Given as goal
 

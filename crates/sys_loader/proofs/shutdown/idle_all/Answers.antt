@@ -1,7 +1,7 @@
 use Rattle.std.proofs.Common.{◌+◌, ◌<◌, length, sym, subst, ◌∙◌, arith, take}
 use Rattle.iigs_meaning.specs.Memory.{Memory}
 use Rattle.sys_loader.specs.Lives.{AreIdled}
-use Rattle.sys_loader.proofs.Written.{handles_of}
+use Rattle.loader_users.proofs.Written.{handles_of}
 use Rattle.sys_loader.proofs.Idling.{idled_active, idled_idle, idled_purged, idled_absent, handle_get}
 use Rattle.sys_loader.proofs.shutdown.idle_all.Goals.{in-Active, in-Idle, in-Purged, in-Absent}
 use Rattle.sys_loader.proofs.shutdown.idle_all.Goals as goal

@@ -1,6 +1,6 @@
 use Rattle.std.specs.Prelude.{take}
 use Rattle.sys_loader.specs.Lives.{AreIdled}
-use Rattle.sys_loader.proofs.Written.{handles_of}
+use Rattle.loader_users.proofs.Written.{handles_of}
 use Rattle.sys_loader.proofs.shutdown.idle_all.Given as goal
 
 -- the first ones are idle

@@ -3,8 +3,8 @@ use Rattle.std.specs.Prelude.{option_map}
 use Rattle.std.proofs.lemmas.Option.{same_Some}
 use Rattle.loader_machine.specs.State.{first_id, user_of}
 use Rattle.loader_agrees.specs.laws.Seeing.{made_at}
-use Rattle.sys_loader.specs.View.{kept}
-use Rattle.sys_loader.proofs.UserItems.{some_is}
+use Rattle.loader_users.specs.View.{kept}
+use Rattle.loader_users.proofs.UserItems.{some_is}
 use Rattle.sys_loader.proofs.Idling.{idled_none, family_more, family_all}
 use Rattle.sys_loader.proofs.shutdown.idle_family.Goals as goal
 

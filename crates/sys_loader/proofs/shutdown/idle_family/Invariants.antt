@@ -2,7 +2,7 @@ use Rattle.std.proofs.Common.{◌≡◌, Some, map, take}
 use Rattle.std.specs.Prelude.{option_map}
 use Rattle.loader_machine.specs.State.{user_of, handles_of_all}
 use Rattle.loader_agrees.specs.Agrees.{Kept, kept_outlines}
-use Rattle.sys_loader.specs.View.{kept}
+use Rattle.loader_users.specs.View.{kept}
 use Rattle.sys_loader.specs.Lives.{AreIdled}
 use Rattle.sys_loader.proofs.shutdown.idle_family.Given as goal
 

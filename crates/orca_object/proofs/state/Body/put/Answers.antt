@@ -5,4 +5,4 @@ use Rattle.orca_object.proofs.Bodies.{one_more}
 use Rattle.orca_object.proofs.state.Body.put.Goals as goal
 
 pub returns-clause-body : goal.returns-clause-body
-returns-clause-body c = then_ok c.put.result (λ grows records shows. one_more c.args.self.now _ (view c.args.rec.now) grows refl c.requires.none records shows) c.put.ensures
+returns-clause-body c = then_ok c.put.result (λ grows room records shows. one_more c.args.self.now _ (view c.args.rec.now) grows refl c.requires.none room records shows) c.put.ensures

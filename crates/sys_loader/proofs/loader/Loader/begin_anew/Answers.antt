@@ -12,10 +12,11 @@ use Rattle.loader_machine.specs.State.{user_of, with_user, with_all}
 use Rattle.loader_machine.specs.Steps.{lost_refusal}
 use Rattle.loader_agrees.specs.Agrees.{Kept, Loaded}
 use Rattle.sys_loader.specs.declared.answers.Started.{Started}
-use Rattle.sys_loader.specs.View.{kept, loaded}
-use Rattle.sys_loader.specs.Lives.{with_life, HasItsUsers}
-use Rattle.sys_loader.specs.Restarting.{CanRestart, released_memory, HasBegunAnew, kept_heads}
-use Rattle.sys_loader.proofs.Families.{user_set}
+use Rattle.loader_users.specs.View.{kept, loaded}
+use Rattle.loader_users.specs.Users.{with_life, HasItsUsers}
+use Rattle.sys_loader.specs.Restarting.{CanRestart, released_memory, HasBegunAnew}
+use Rattle.loader_users.specs.Users.{kept_heads}
+use Rattle.loader_users.proofs.Families.{user_set}
 use Rattle.sys_loader.proofs.Beginning.{same_handles}
 use Rattle.sys_loader.proofs.Restarted.{can_top, its_there}
 use Rattle.sys_loader.proofs.Again.{begun_anew_sound}
@@ -26,11 +27,11 @@ pub settle-requires-clause-placed : goal.settle-requires-clause-placed
 settle-requires-clause-placed c =
     let plan = c.requires.plan in
     let handles = same_handles c.self.inside.banks.banks c.args.user (without_user c.self.inside.banks.slots c.args.user) c.place_all_anew.new.banks.slots c.as_slice.result.now c.args.plan.wants.items c.as_slice-2.result.now c.place_all_anew.new.handles
-    c.args.plan.handles.items c.args.plan.handles.len c.in-Ok.ensures.placed.puts c.as_slice.ensures.value plan.handles' c.args.plan.handles.ok.0 c.as_slice-2.ensures.value in (
+    c.args.plan.handles.items c.args.plan.handles.len c.in_ok-place_all_anew.ensures.placed.puts c.as_slice.ensures.value plan.handles' c.args.plan.handles.ok.0 c.as_slice-2.ensures.value in (
       released_memory c.self.inside.banks c.args.user,
       placed_freed c.self.inside.banks c.place_all_anew.new.banks c.args.user (wants_of (map head_of c.args.load.now)) c.as_slice-2.result.now
           (subst (λ (ws : List Want). AreAllPlaced RoomRule c.self.inside.banks c.args.user true ws c.as_slice-2.result.now c.place_all_anew.new.banks) (c.as_slice.ensures.value ∙ plan.wants')
-          (subst (λ (hs : List Handle). AreAllPlaced RoomRule c.self.inside.banks c.args.user true c.as_slice.result.now hs c.place_all_anew.new.banks) (sym handles) c.in-Ok.ensures.placed)),
+          (subst (λ (hs : List Handle). AreAllPlaced RoomRule c.self.inside.banks c.args.user true c.as_slice.result.now hs c.place_all_anew.new.banks) (sym handles) c.in_ok-place_all_anew.ensures.placed)),
     )
 
 pub set_lives-requires-clause-made : goal.set_lives-requires-clause-made
@@ -73,8 +74,8 @@ invariant_of-self-2 c =
     let started : Started = record { user = id; entry = c.entry_of-entry.result } in
     let did : HasBegunAnew old id found c.args.load.now started last =
     begun_anew old c.place_all_anew.new.banks c.settle.new.banks items c.args.load.now found c.as_slice.result.now c.as_slice-2.result.now c.place_all_anew.new.handles id c.entry_of-entry.result c.requires.short
-    c.in-Ok.ensures.placed (c.as_slice.ensures.value ∙ plan.wants') (same_handles c.self.inside.banks.banks id (without_user c.self.inside.banks.slots id) c.place_all_anew.new.banks.slots c.as_slice.result.now c.args.plan.wants.items c.as_slice-2.result.now c.place_all_anew.new.handles
-    c.args.plan.handles.items c.args.plan.handles.len c.in-Ok.ensures.placed.puts c.as_slice.ensures.value plan.handles' c.args.plan.handles.ok.0 c.as_slice-2.ensures.value) c.settle.ensures.settled c.settle.ensures.heads c.settle.ensures.handles c.entry_of-entry.ensures
+    c.in_ok-place_all_anew.ensures.placed (c.as_slice.ensures.value ∙ plan.wants') (same_handles c.self.inside.banks.banks id (without_user c.self.inside.banks.slots id) c.place_all_anew.new.banks.slots c.as_slice.result.now c.args.plan.wants.items c.as_slice-2.result.now c.place_all_anew.new.handles
+    c.args.plan.handles.items c.args.plan.handles.len c.in_ok-place_all_anew.ensures.placed.puts c.as_slice.ensures.value plan.handles' c.args.plan.handles.ok.0 c.as_slice-2.ensures.value) c.settle.ensures.settled c.settle.ensures.heads c.settle.ensures.handles c.entry_of-entry.ensures
     last.users users' in
     let other = c.requires.same found c.requires.can.1.made in
     let none : lost_refusal (kept_heads old.users found.attached) c.args.load.now ≡ None = ap (λ (l : Loaded). lost_refusal (kept_heads l.users found.attached) c.args.load.now) c.self.view_is ∙ other.0 in (
@@ -99,8 +100,8 @@ returns-clause-begun c k made =
     let started : Started = record { user = id; entry = c.entry_of-entry.result } in
     let did : HasBegunAnew old id found c.args.load.now started last =
     begun_anew old c.place_all_anew.new.banks c.settle.new.banks items c.args.load.now found c.as_slice.result.now c.as_slice-2.result.now c.place_all_anew.new.handles id c.entry_of-entry.result c.requires.short
-    c.in-Ok.ensures.placed (c.as_slice.ensures.value ∙ plan.wants') (same_handles c.self.inside.banks.banks id (without_user c.self.inside.banks.slots id) c.place_all_anew.new.banks.slots c.as_slice.result.now c.args.plan.wants.items c.as_slice-2.result.now c.place_all_anew.new.handles
-    c.args.plan.handles.items c.args.plan.handles.len c.in-Ok.ensures.placed.puts c.as_slice.ensures.value plan.handles' c.args.plan.handles.ok.0 c.as_slice-2.ensures.value) c.settle.ensures.settled c.settle.ensures.heads c.settle.ensures.handles c.entry_of-entry.ensures
+    c.in_ok-place_all_anew.ensures.placed (c.as_slice.ensures.value ∙ plan.wants') (same_handles c.self.inside.banks.banks id (without_user c.self.inside.banks.slots id) c.place_all_anew.new.banks.slots c.as_slice.result.now c.args.plan.wants.items c.as_slice-2.result.now c.place_all_anew.new.handles
+    c.args.plan.handles.items c.args.plan.handles.len c.in_ok-place_all_anew.ensures.placed.puts c.as_slice.ensures.value plan.handles' c.args.plan.handles.ok.0 c.as_slice-2.ensures.value) c.settle.ensures.settled c.settle.ensures.heads c.settle.ensures.handles c.entry_of-entry.ensures
     last.users users' in
     let same : found ≡ k = same_Some found k (sym c.requires.can.1.made ∙ made) in
     subst (λ (l : Loaded). HasBegunAnew l id k c.args.load.now started last) c.self.view_is (subst (λ (x : Kept). HasBegunAnew old id x c.args.load.now started last) same did)

@@ -8,11 +8,11 @@ use Rattle.loader_machine.specs.Presences.{presence, there_at}
 use Rattle.loader_machine.specs.Needs.{is_read}
 use Rattle.loader_agrees.specs.Agrees.{Kept, Loaded}
 use Rattle.loader_agrees.specs.laws.Seeing.{made_at}
-use Rattle.sys_loader.specs.View.{kept, loaded}
-use Rattle.sys_loader.specs.Filling.{HasHead, IsWritten}
+use Rattle.loader_users.specs.View.{kept, loaded}
+use Rattle.loader_users.specs.Filling.{HasHead, IsWritten}
 use Rattle.sys_loader.specs.Activating.{HasCome}
 use Rattle.sys_loader.proofs.Leading.{led_pair, lead_some, lead_is, renewed_by}
-use Rattle.sys_loader.proofs.Settling.{are_sound}
+use Rattle.loader_users.proofs.Settling.{are_sound}
 use Rattle.sys_loader.proofs.Waking.{can_load, one_kept, gone_empty}
 use Rattle.sys_loader.proofs.Came.{dynamic_plain, came_sound}
 use Rattle.sys_loader.proofs.Brought.{block_there, block_fits, number_inside, has_head, roomy_filled, has_come}
@@ -52,8 +52,8 @@ set-requires c =
     let s = c.args.segment.now in
     let found = c.user_in-found.result.now in
     let can = can_load old c.args.self.now c.args.user c.args.number s.head s.handle c.self.view_is c.requires.can in
-    let brought = c.in-Ok.ensures.brought in
-    let inside = number_inside old c.args.user c.args.number c.self.invariant.0 s.head s.handle can c.in-Ok.h brought.0 c.place_segment.new.banks brought.1 (kept found) c.user_in-found.ensures in
+    let brought = c.in_ok-h.ensures.brought in
+    let inside = number_inside old c.args.user c.args.number c.self.invariant.0 s.head s.handle can c.in_ok-h.h brought.0 c.place_segment.new.banks brought.1 (kept found) c.user_in-found.ensures in
     record {
       first = omega (arith, inside.0);
       within = omega (arith, inside.1, length-map found.segments.items (λ s. s.head), ap length c.set_places.ensures, length-map found.segments.items (λ s. there_at (presence c.place_segment.new.banks.slots s.handle)));
@@ -68,10 +68,10 @@ fill_block-requires-clause-head c =
     let s = c.args.segment.now in
     let found = c.user_in-found.result.now in
     let can = can_load old c.args.self.now c.args.user c.args.number s.head s.handle c.self.view_is c.requires.can in
-    let brought = c.in-Ok.ensures.brought in
+    let brought = c.in_ok-h.ensures.brought in
     let made = subst (λ (l : Loaded). user_of l.users c.args.user ≡ Some (kept found)) c.self.view_is c.user_in-found.ensures in
     subst (λ (n : ℕ). HasHead c.args.load.now n s.head) (sym c.from-2.ensures)
-    (has_head old c.args.user c.args.number c.self.invariant.0 s.head s.handle can c.in-Ok.h brought.0 c.place_segment.new.banks brought.1 (kept found) c.user_in-found.ensures
+    (has_head old c.args.user c.args.number c.self.invariant.0 s.head s.handle can c.in_ok-h.h brought.0 c.place_segment.new.banks brought.1 (kept found) c.user_in-found.ensures
     c.args.load.now (c.requires.same (kept found) made))
 
 pub fill_block-requires-clause-there : goal.fill_block-requires-clause-there
@@ -79,16 +79,16 @@ fill_block-requires-clause-there c =
     let old = loaded c.self.inside.banks c.self.inside.users.items in
     let s = c.args.segment.now in
     let can = can_load old c.args.self.now c.args.user c.args.number s.head s.handle c.self.view_is c.requires.can in
-    let brought = c.in-Ok.ensures.brought in
-    block_there old c.args.user c.args.number c.self.invariant.0 s.head s.handle can c.in-Ok.h brought.0 c.place_segment.new.banks brought.1
+    let brought = c.in_ok-h.ensures.brought in
+    block_there old c.args.user c.args.number c.self.invariant.0 s.head s.handle can c.in_ok-h.h brought.0 c.place_segment.new.banks brought.1
 
 pub fill_block-requires-clause-fits : goal.fill_block-requires-clause-fits
 fill_block-requires-clause-fits c =
     let old = loaded c.self.inside.banks c.self.inside.users.items in
     let s = c.args.segment.now in
     let can = can_load old c.args.self.now c.args.user c.args.number s.head s.handle c.self.view_is c.requires.can in
-    let brought = c.in-Ok.ensures.brought in
-    block_fits old c.args.user c.args.number c.self.invariant.0 s.head s.handle can c.in-Ok.h brought.0 c.place_segment.new.banks brought.1
+    let brought = c.in_ok-h.ensures.brought in
+    block_fits old c.args.user c.args.number c.self.invariant.0 s.head s.handle can c.in_ok-h.h brought.0 c.place_segment.new.banks brought.1
 
 pub user_in-lead-requires : goal.user_in-lead-requires
 user_in-lead-requires c =
@@ -103,11 +103,11 @@ renew_tables-requires c =
     let s = c.args.segment.now in
     let found = c.user_in-found.result.now in
     let can = can_load old c.args.self.now c.args.user c.args.number s.head s.handle c.self.view_is c.requires.can in
-    let brought = c.in-Ok.ensures.brought in
+    let brought = c.in_ok-h.ensures.brought in
     record {
-      ready = roomy_filled old c.args.user c.args.number c.self.invariant.0 s.head s.handle can c.in-Ok.h brought.0 c.place_segment.new.banks brought.1 (kept found) c.user_in-found.ensures
+      ready = roomy_filled old c.args.user c.args.number c.self.invariant.0 s.head s.handle can c.in_ok-h.h brought.0 c.place_segment.new.banks brought.1 (kept found) c.user_in-found.ensures
           c.args.load.now c.set.new.self c.fill_block.new.banks
-          (subst (λ (n : ℕ). IsWritten c.args.load.now n c.args.user c.set.new.self c.place_segment.new.banks c.in-Ok.h c.fill_block.new.banks) c.from-2.ensures c.fill_block.ensures)
+          (subst (λ (n : ℕ). IsWritten c.args.load.now n c.args.user c.set.new.self c.place_segment.new.banks c.in_ok-h.h c.fill_block.new.banks) c.from-2.ensures c.fill_block.ensures)
           c.led_by-owner.result.0 (kept c.user_in-lead.result.now) c.user_in-lead.ensures;
     }
 
@@ -116,10 +116,10 @@ set_handle-requires c =
     let old = loaded c.self.inside.banks c.self.inside.users.items in
     let s = c.args.segment.now in
     let can = can_load old c.args.self.now c.args.user c.args.number s.head s.handle c.self.view_is c.requires.can in
-    let brought = c.in-Ok.ensures.brought in
+    let brought = c.in_ok-h.ensures.brought in
     record {
       made = rw can.made refl;
-      inside = λ k made. number_inside old c.args.user c.args.number c.self.invariant.0 s.head s.handle can c.in-Ok.h brought.0 c.place_segment.new.banks brought.1 k made;
+      inside = λ k made. number_inside old c.args.user c.args.number c.self.invariant.0 s.head s.handle can c.in_ok-h.h brought.0 c.place_segment.new.banks brought.1 k made;
     }
 
 pub invariant_of-self-2 : goal.invariant_of-self-2
@@ -135,7 +135,7 @@ invariant_of-self-2 c =
     let pair = led_pair old c.args.self.now c.args.user c.led_by-owner.result c.self.view_is c.led_by-owner.ensures in
     let same : k ≡ can.kept = same_Some k can.kept (sym c.user_in-found.ensures ∙ can.made) in
     let made = subst (λ (l : Loaded). user_of l.users c.args.user ≡ Some k) c.self.view_is c.user_in-found.ensures in
-    let did = has_come old c.args.user c.args.number c.self.invariant.0 s.head s.handle can c.in-Ok.h c.place_segment.new.banks c.in-Ok.ensures.brought c.place_of-address.result c.place_of-address.ensures
+    let did = has_come old c.args.user c.args.number c.self.invariant.0 s.head s.handle can c.in_ok-h.h c.place_segment.new.banks c.in_ok-h.ensures.brought c.place_of-address.result c.place_of-address.ensures
     k c.user_in-found.ensures last items c.requires.taken.0 c.args.load.now c.set_places.new.places c.set.new.self c.from.result c.from-2.result c.fill_block.new.banks c.renew_tables.new.banks
     (length lead_items) lead (lead_is old c.args.user c.led_by-owner.result pair lead c.user_in-lead.ensures) (sym (length-map lead_items (λ s. s.head))) refl
     c.requires.taken.1 (c.requires.same k made) c.set_places.ensures c.from.ensures c.set.ensures c.from-2.ensures c.fill_block.ensures (renewed_by old c.args.user c.led_by-owner.result pair lead.heads lead.handles c.args.number (length lead_items) (Some c.place_of-address.result) c.fill_block.new.banks c.renew_tables.new.banks c.renew_tables.ensures) refl (c.set_handle.ensures.set k c.user_in-found.ensures) in (
@@ -160,7 +160,7 @@ returns-clause-come c = λ k made.
     let lead = kept c.user_in-lead.result.now in
     let pair = led_pair old c.args.self.now c.args.user c.led_by-owner.result c.self.view_is c.led_by-owner.ensures in
     let made_found = subst (λ (l : Loaded). user_of l.users c.args.user ≡ Some found) c.self.view_is c.user_in-found.ensures in
-    let did = has_come old c.args.user c.args.number c.self.invariant.0 s.head s.handle can c.in-Ok.h c.place_segment.new.banks c.in-Ok.ensures.brought c.place_of-address.result c.place_of-address.ensures
+    let did = has_come old c.args.user c.args.number c.self.invariant.0 s.head s.handle can c.in_ok-h.h c.place_segment.new.banks c.in_ok-h.ensures.brought c.place_of-address.result c.place_of-address.ensures
     found c.user_in-found.ensures last items c.requires.taken.0 c.args.load.now c.set_places.new.places c.set.new.self c.from.result c.from-2.result c.fill_block.new.banks c.renew_tables.new.banks
     (length lead_items) lead (lead_is old c.args.user c.led_by-owner.result pair lead c.user_in-lead.ensures) (sym (length-map lead_items (λ s. s.head))) refl
     c.requires.taken.1 (c.requires.same found made_found) c.set_places.ensures c.from.ensures c.set.ensures c.from-2.ensures c.fill_block.ensures (renewed_by old c.args.user c.led_by-owner.result pair lead.heads lead.handles c.args.number (length lead_items) (Some c.place_of-address.result) c.fill_block.new.banks c.renew_tables.new.banks c.renew_tables.ensures) refl (c.set_handle.ensures.set found c.user_in-found.ensures) in

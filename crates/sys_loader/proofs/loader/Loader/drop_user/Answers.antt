@@ -3,10 +3,10 @@ use Rattle.std.specs.Prelude.{option_map}
 use Rattle.loader_machine.specs.State.{user_of, without_all, is_attached}
 use Rattle.loader_machine.specs.Refusals.{shut_down_refusal}
 use Rattle.loader_agrees.specs.Agrees.{Kept, Loaded, kept_outlines, seen_by}
-use Rattle.sys_loader.specs.View.{kept, loaded}
+use Rattle.loader_users.specs.View.{kept, loaded}
 use Rattle.sys_loader.specs.Lives.{HasDropped}
-use Rattle.sys_loader.proofs.Families.{take_past}
-use Rattle.sys_loader.proofs.UserItems.{some_is}
+use Rattle.loader_users.proofs.Families.{take_past}
+use Rattle.loader_users.proofs.UserItems.{some_is}
 use Rattle.sys_loader.proofs.Dropping.{has_dropped, dropped_sound, still_there}
 use Rattle.sys_loader.proofs.Stopping.{top_of}
 use Rattle.sys_loader.proofs.loader.Loader.drop_user.Goals as goal
@@ -15,7 +15,7 @@ pub remove-requires : goal.remove-requires
 remove-requires c =
     let old = loaded c.self.inside.banks c.self.inside.users.items in
     let id = c.args.user in
-    let some = some_is (user_of old.users id) (subst (λ (l : Loaded). IsSome (user_of l.users id)) (sym c.self.view_is) c.in-Ok.ensures.ok.0) in
+    let some = some_is (user_of old.users id) (subst (λ (l : Loaded). IsSome (user_of l.users id)) (sym c.self.view_is) c.in_ok-droppable.ensures.ok.0) in
     let all = take_past some.0.attached (length some.0.attached) (omega arith) in
     let there : user_of (map (option_map kept) c.drop_attached.new.users.items) id ≡ Some some.0 =
     ap (λ (us : List (Option Kept)). user_of us id) (c.drop_attached.ensures.gone some.0 some.1 ∙ ap (without_all old.users) (sym all))
@@ -27,7 +27,7 @@ invariant_of-self c =
     let old = loaded c.self.inside.banks c.self.inside.users.items in
     let last = loaded c.release_all.new.banks c.remove.new.users.items in
     let id = c.args.user in
-    let ok = c.in-Ok.ensures.ok in
+    let ok = c.in_ok-droppable.ensures.ok in
     let some = some_is (user_of old.users id) (subst (λ (l : Loaded). IsSome (user_of l.users id)) (sym c.self.view_is) ok.0) in
     let passes : shut_down_refusal (is_attached (kept_outlines old.users) id) (seen_by old id) false ≡ None =
     subst (λ (l : Loaded). shut_down_refusal (is_attached (kept_outlines l.users) id) (seen_by l id) false ≡ None) (sym c.self.view_is) ok.1 in
@@ -40,7 +40,7 @@ returns c =
     let old = loaded c.self.inside.banks c.self.inside.users.items in
     let last = loaded c.release_all.new.banks c.remove.new.users.items in
     let id = c.args.user in
-    let ok = c.in-Ok.ensures.ok in
+    let ok = c.in_ok-droppable.ensures.ok in
     let some = some_is (user_of old.users id) (subst (λ (l : Loaded). IsSome (user_of l.users id)) (sym c.self.view_is) ok.0) in
     let passes : shut_down_refusal (is_attached (kept_outlines old.users) id) (seen_by old id) false ≡ None =
     subst (λ (l : Loaded). shut_down_refusal (is_attached (kept_outlines l.users) id) (seen_by l id) false ≡ None) (sym c.self.view_is) ok.1 in

@@ -1,15 +1,18 @@
 use Rattle.std.proofs.Common.{refl}
+use Rattle.std.proofs.lemmas.Result.{err_from_is_err_and}
 use Rattle.sys_loader.specs.Following.{NoJsl, NoPlace}
 use Rattle.sys_loader.proofs.Reaching.{lent_size}
 use Rattle.sys_loader.proofs.loader.Loader.jsl_place.Goals as goal
 
 pub called-requires : goal.called-requires
-called-requires c = lent_size c.args.self.now c.is_sound.ensures c.args.user c.args.segment c.args.at 4 c.in-Ok.four.now c.in-Ok.ensures.lent
+called-requires c = lent_size c.args.self.now c.is_sound.ensures c.args.user c.args.segment c.args.at 4 c.in_ok-four.four.now c.in_ok-four.ensures.lent
 
-pub returns-in-Err-called-clause-refused : goal.returns-in-Err-called-clause-refused
-returns-in-Err-called-clause-refused c = NoJsl c.in-Ok.four.now c.in-Ok.ensures.lent c.in-Err-called.ensures.err
+pub returns-in_err-address-clause-refused : goal.returns-in_err-address-clause-refused
+returns-in_err-address-clause-refused c =
+    let p = err_from_is_err_and c.from_residual-in_err-address.result c.from_residual-in_err-address.ensures.1 in
+    rw (p.1, p.2) (NoJsl c.in_ok-four.four.now c.in_ok-four.ensures.lent c.in_err-address.ensures.err)
 
 pub returns-in-None-clause-refused : goal.returns-in-None-clause-refused
 returns-in-None-clause-refused c =
-    let jsl = c.in-Ok-called.ensures.ok in
-    NoPlace c.in-Ok-called.address (record { bytes = c.in-Ok.four.now; lent = c.in-Ok.ensures.lent; jsl = jsl.0; address_is = jsl.1 }) c.in-None.ensures refl
+    let jsl = c.in_ok-address.ensures.ok in
+    NoPlace c.in_ok-address.address (record { bytes = c.in_ok-four.four.now; lent = c.in_ok-four.ensures.lent; jsl = jsl.0; address_is = jsl.1 }) c.in-None.ensures refl

@@ -6,9 +6,10 @@ use Rattle.loader_machine.specs.State.{first_id, user_of, with_user, with_all, f
 use Rattle.loader_machine.specs.Refusals.{shut_down_refusal}
 use Rattle.loader_agrees.specs.Agrees.{Kept, Loaded, kept_outlines, seen_by}
 use Rattle.loader_agrees.specs.laws.Seeing.{made_at}
-use Rattle.sys_loader.specs.View.{kept, loaded}
-use Rattle.sys_loader.specs.Lives.{HasKept, with_life}
-use Rattle.sys_loader.proofs.Families.{stays_all, all_last}
+use Rattle.loader_users.specs.View.{kept, loaded}
+use Rattle.sys_loader.specs.Lives.{HasKept}
+use Rattle.loader_users.specs.Users.{with_life}
+use Rattle.loader_users.proofs.Families.{stays_all, all_last}
 use Rattle.sys_loader.proofs.Unloading.{roomy}
 use Rattle.sys_loader.proofs.Resting.{kept_sound, has_kept, found_runs}
 use Rattle.sys_loader.proofs.Stopping.{top_of}
@@ -36,7 +37,7 @@ invariant_of-self c =
     let id = c.args.user in
     let k = kept c.user_in.result.now in
     let items = c.user_in.result.now.segments.items in
-    let ok = c.in-Ok.ensures.ok in
+    let ok = c.in_ok-keepable.ensures.ok in
     let made : user_of old.users id ≡ Some ok.0 = subst (λ (l : Loaded). user_of l.users id ≡ Some ok.0) (sym c.self.view_is) ok.1 in
     let runs = found_runs old.users id ok.0 k made c.user_in.ensures ok.2 in
     let passes : shut_down_refusal (is_attached (kept_outlines old.users) id) (seen_by old id) true ≡ None =
@@ -56,7 +57,7 @@ returns c =
     let id = c.args.user in
     let k = kept c.user_in.result.now in
     let items = c.user_in.result.now.segments.items in
-    let ok = c.in-Ok.ensures.ok in
+    let ok = c.in_ok-keepable.ensures.ok in
     let made : user_of old.users id ≡ Some ok.0 = subst (λ (l : Loaded). user_of l.users id ≡ Some ok.0) (sym c.self.view_is) ok.1 in
     let runs = found_runs old.users id ok.0 k made c.user_in.ensures ok.2 in
     let passes : shut_down_refusal (is_attached (kept_outlines old.users) id) (seen_by old id) true ≡ None =

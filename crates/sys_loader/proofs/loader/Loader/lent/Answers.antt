@@ -7,6 +7,6 @@ use Rattle.sys_loader.proofs.loader.Loader.lent.Goals as goal
 
 pub slice-requires : goal.slice-requires
 slice-requires c =
-    let within = can_slice c.args.self.now c.args.user c.args.segment c.args.at c.args.count c.in-Ok.h c.is_sound.ensures c.in-Ok.ensures.can in
-    let same : c.in-Ok-block.bytes.now ≡ bytes_at c.args.self.now.memory c.in-Ok.h.slot = c.in-Ok-block.ensures.lent.is ∙ ap (λ (l : Loaded). bytes_at l.memory c.in-Ok.h.slot) c.self.view_is in
+    let within = can_slice c.args.self.now c.args.user c.args.segment c.args.at c.args.count c.in_ok-h.h c.is_sound.ensures c.in_ok-h.ensures.can in
+    let same : c.in-Ok.bytes.now ≡ bytes_at c.args.self.now.memory c.in_ok-h.h.slot = c.in-Ok.ensures.lent.is ∙ ap (λ (l : Loaded). bytes_at l.memory c.in_ok-h.h.slot) c.self.view_is in
     omega (arith, within, ap (λ (bs : List ℕ). length bs) same)

@@ -4,7 +4,7 @@ use Rattle.iigs_meaning.specs.declared.handles.Handle.{Handle}
 use Rattle.loader_machine.specs.State.{first_id}
 use Rattle.loader_agrees.specs.Agrees.{Loaded}
 use Rattle.loader_agrees.specs.laws.Seeing.{made_at}
-use Rattle.sys_loader.specs.View.{kept, loaded}
+use Rattle.loader_users.specs.View.{kept, loaded}
 use Rattle.sys_loader.specs.Lives.{CanUnload, HasUnloaded}
 use Rattle.sys_loader.proofs.Leading.{led_pair, lead_some, lead_is, renewed_by}
 use Rattle.sys_loader.proofs.Unloading.{roomy, has_unloaded, unloaded_sound}
@@ -16,7 +16,7 @@ can_unload old now id number h same can = subst (λ (l : Loaded). CanUnload l id
 pub user_in-lead-requires : goal.user_in-lead-requires
 user_in-lead-requires c =
     let old = loaded c.self.inside.banks c.self.inside.users.items in
-    let can = can_unload old c.args.self.now c.args.user c.args.segment c.in-Ok.h c.self.view_is c.in-Ok.ensures.can in
+    let can = can_unload old c.args.self.now c.args.user c.args.segment c.in_ok-h.h c.self.view_is c.in_ok-h.ensures.can in
     lead_some old c.args.user c.led_by-owner.result (led_pair old c.args.self.now c.args.user c.led_by-owner.result c.self.view_is c.led_by-owner.ensures) can.is.kept c.self.invariant.0 can.is.made
 
 pub renew_tables-requires : goal.renew_tables-requires
@@ -31,9 +31,9 @@ invariant_of-self c =
     let k = kept c.user_in-lead.result.now in
     let items = c.user_in-lead.result.now.segments.items in
     let last = loaded c.idle.new.banks c.self.inside.users.items in
-    let can = can_unload old c.args.self.now c.args.user c.args.segment c.in-Ok.h c.self.view_is c.in-Ok.ensures.can in
+    let can = can_unload old c.args.self.now c.args.user c.args.segment c.in_ok-h.h c.self.view_is c.in_ok-h.ensures.can in
     let pair = led_pair old c.args.self.now c.args.user c.led_by-owner.result c.self.view_is c.led_by-owner.ensures in
-    let did = has_unloaded old c.args.user c.args.segment c.in-Ok.h can k (lead_is old c.args.user c.led_by-owner.result pair k c.user_in-lead.ensures) c.renew_tables.new.banks c.idle.new.banks last (length items)
+    let did = has_unloaded old c.args.user c.args.segment c.in_ok-h.h can k (lead_is old c.args.user c.led_by-owner.result pair k c.user_in-lead.ensures) c.renew_tables.new.banks c.idle.new.banks last (length items)
     (sym (length-map items (λ s. s.head))) (renewed_by old c.args.user c.led_by-owner.result pair k.heads k.handles c.args.segment (length items) None c.self.inside.banks c.renew_tables.new.banks c.renew_tables.ensures) c.idle.ensures refl refl in
     (unloaded_sound old last c.args.user c.args.segment c.self.invariant.0 did, c.self.invariant.1)
 
@@ -43,8 +43,8 @@ returns c =
     let k = kept c.user_in-lead.result.now in
     let items = c.user_in-lead.result.now.segments.items in
     let last = loaded c.idle.new.banks c.self.inside.users.items in
-    let can = can_unload old c.args.self.now c.args.user c.args.segment c.in-Ok.h c.self.view_is c.in-Ok.ensures.can in
+    let can = can_unload old c.args.self.now c.args.user c.args.segment c.in_ok-h.h c.self.view_is c.in_ok-h.ensures.can in
     let pair = led_pair old c.args.self.now c.args.user c.led_by-owner.result c.self.view_is c.led_by-owner.ensures in
-    let did = has_unloaded old c.args.user c.args.segment c.in-Ok.h can k (lead_is old c.args.user c.led_by-owner.result pair k c.user_in-lead.ensures) c.renew_tables.new.banks c.idle.new.banks last (length items)
+    let did = has_unloaded old c.args.user c.args.segment c.in_ok-h.h can k (lead_is old c.args.user c.led_by-owner.result pair k c.user_in-lead.ensures) c.renew_tables.new.banks c.idle.new.banks last (length items)
     (sym (length-map items (λ s. s.head))) (renewed_by old c.args.user c.led_by-owner.result pair k.heads k.handles c.args.segment (length items) None c.self.inside.banks c.renew_tables.new.banks c.renew_tables.ensures) c.idle.ensures refl refl in
     record { did = subst (λ (l : Loaded). HasUnloaded l c.args.user c.args.segment last) c.self.view_is did }

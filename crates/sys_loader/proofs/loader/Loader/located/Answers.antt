@@ -1,7 +1,7 @@
 use Rattle.std.proofs.Common.{ℕ, refl, subst}
 use Rattle.loader_agrees.specs.Agrees.{Loaded}
 use Rattle.loader_agrees.specs.Acts.{LiesIn}
-use Rattle.sys_loader.proofs.Lies.{none_held, none_owned, lies_owned, short_users}
+use Rattle.loader_users.proofs.Lies.{none_held, none_owned, lies_owned, short_users}
 use Rattle.sys_loader.proofs.loader.Loader.located.Goals as goal
 
 pub returns-in-None : goal.returns-in-None

@@ -3,7 +3,7 @@ use Rattle.std.specs.Prelude.{option_map}
 use Rattle.std.proofs.lemmas.List.{length-map}
 use Rattle.load_meaning.specs.Pathnames.{paths_of}
 use Rattle.loader_agrees.specs.Agrees.{Loaded}
-use Rattle.sys_loader.specs.View.{kept}
+use Rattle.loader_users.specs.View.{kept}
 use Rattle.sys_loader.proofs.Beginning.{rows_length}
 use Rattle.sys_loader.proofs.Loading.{ids_same}
 use Rattle.sys_loader.proofs.loader.Loader.plan_and_start.Goals as goal

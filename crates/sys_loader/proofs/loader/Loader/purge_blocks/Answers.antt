@@ -1,4 +1,4 @@
-use Rattle.sys_loader.specs.View.{loaded}
+use Rattle.loader_users.specs.View.{loaded}
 use Rattle.sys_loader.proofs.Purging.{purged_sound}
 use Rattle.sys_loader.proofs.loader.Loader.purge_blocks.Goals as goal
 

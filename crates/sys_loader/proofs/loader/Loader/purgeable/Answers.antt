@@ -2,7 +2,7 @@ use Rattle.std.proofs.Common.{sym, ap, ◌∙◌}
 use Rattle.std.specs.Prelude.{option_map}
 use Rattle.loader_machine.specs.Refusals.{purge_refusal}
 use Rattle.loader_agrees.specs.Agrees.{seen_in, seen_by}
-use Rattle.sys_loader.specs.View.{kept}
+use Rattle.loader_users.specs.View.{kept}
 use Rattle.sys_loader.proofs.Purging.{of_script, of_made, of_none}
 use Rattle.sys_loader.proofs.loader.Loader.purgeable.Goals as goal
 

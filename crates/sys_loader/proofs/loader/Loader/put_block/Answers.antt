@@ -1,7 +1,7 @@
 use Rattle.std.proofs.Common.{inl, inr, refl, ap, subst}
 use Rattle.iigs_meaning.specs.Memory.{Memory}
 use Rattle.loader_agrees.specs.Agrees.{Loaded}
-use Rattle.sys_loader.specs.View.{loaded}
+use Rattle.loader_users.specs.View.{loaded}
 use Rattle.sys_loader.specs.Replies.{IsAllocRefusal}
 use Rattle.loader_machine.specs.declared.faults.LoaderFault.TheVariants.{NoHandle, NoRoom}
 use Rattle.sys_loader.proofs.Script.{alloc_sound}

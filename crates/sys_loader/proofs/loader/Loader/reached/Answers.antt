@@ -4,7 +4,7 @@ use Rattle.iigs_meaning.specs.Memory.{bytes_at}
 use Rattle.loader_machine.specs.declared.seen.Head.{Head}
 use Rattle.loader_machine.specs.State.{user_of}
 use Rattle.loader_agrees.specs.Agrees.{Loaded}
-use Rattle.sys_loader.specs.View.{kept}
+use Rattle.loader_users.specs.View.{kept}
 use Rattle.sys_loader.proofs.Reaching.{head_same, handle_same, entry_in, lent_here, enters_place, no_entry, names_one, calls_entry}
 use Rattle.sys_loader.proofs.loader.Loader.reached.Goals as goal
 

@@ -1,7 +1,7 @@
 use Rattle.std.proofs.Common.{◌≡◌, ℕ, List, sym, ap, subst, ◌∙◌}
 use Rattle.omf_io.specs.Files.{StoreSeen, IsRead}
 use Rattle.loader_agrees.specs.Agrees.{Kept}
-use Rattle.sys_loader.specs.View.{kept, loaded}
+use Rattle.loader_users.specs.View.{kept, loaded}
 use Rattle.sys_loader.proofs.Waking.{one_kept, did_come}
 use Rattle.sys_loader.proofs.loader.Loader.read_and_come.Goals as goal
 

@@ -4,7 +4,7 @@ use Rattle.omf_io.specs.Files.{StoreSeen, HasCause, IsRead}
 use Rattle.omf_io.specs.declared.files.ReadFault.TheVariants as read
 use Rattle.loader_machine.specs.State.{user_of}
 use Rattle.loader_agrees.specs.Agrees.{Kept, Loaded}
-use Rattle.sys_loader.specs.View.{kept}
+use Rattle.loader_users.specs.View.{kept}
 use Rattle.sys_loader.specs.Restarting.{CantRead}
 use Rattle.sys_loader.proofs.Rereading.{did_reload, did_begin}
 use Rattle.sys_loader.proofs.loader.Loader.read_and_restart.Goals as goal

@@ -5,10 +5,10 @@ use Rattle.loader_machine.specs.declared.seen.Life.TheVariants.{Running}
 use Rattle.loader_machine.specs.State.{user_of, with_user, with_all}
 use Rattle.loader_agrees.specs.Agrees.{Kept, Loaded}
 use Rattle.sys_loader.specs.declared.answers.Started.{Started}
-use Rattle.sys_loader.specs.View.{kept, loaded}
-use Rattle.sys_loader.specs.Lives.{with_life, HasItsUsers}
+use Rattle.loader_users.specs.View.{kept, loaded}
+use Rattle.loader_users.specs.Users.{with_life, HasItsUsers}
 use Rattle.sys_loader.specs.Restarting.{CanRestart, is_whole, HasResumed}
-use Rattle.sys_loader.proofs.Families.{user_set}
+use Rattle.loader_users.proofs.Families.{user_set}
 use Rattle.sys_loader.proofs.Restarted.{can_top, its_there}
 use Rattle.sys_loader.proofs.Resuming.{resumed_sound}
 use Rattle.sys_loader.proofs.Reloading.{quiet_same, has_resumed}

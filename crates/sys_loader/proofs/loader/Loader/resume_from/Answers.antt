@@ -6,10 +6,11 @@ use Rattle.loader_machine.specs.declared.seen.Life.TheVariants.{Dormant}
 use Rattle.loader_machine.specs.State.{user_of}
 use Rattle.loader_machine.specs.Steps.{lost_refusal}
 use Rattle.loader_agrees.specs.Agrees.{Kept, Loaded}
-use Rattle.sys_loader.specs.View.{kept, loaded}
-use Rattle.sys_loader.specs.Filling.{AreFilled}
-use Rattle.sys_loader.specs.Restarting.{is_whole, kept_heads, AreReread, again_handle, HasReloaded}
-use Rattle.sys_loader.proofs.Settling.{are_sound}
+use Rattle.loader_users.specs.View.{kept, loaded}
+use Rattle.loader_users.specs.Filling.{AreFilled}
+use Rattle.sys_loader.specs.Restarting.{is_whole, AreReread, again_handle, HasReloaded}
+use Rattle.loader_users.specs.Users.{kept_heads}
+use Rattle.loader_users.proofs.Settling.{are_sound}
 use Rattle.sys_loader.proofs.Resuming.{quiet_reread}
 use Rattle.sys_loader.proofs.Reloading.{its_short, again_ready, has_reread, quiet_sound, reread_calls}
 use Rattle.sys_loader.proofs.loader.Loader.resume_from.Goals as goal

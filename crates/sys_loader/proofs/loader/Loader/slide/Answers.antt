@@ -1,4 +1,4 @@
-use Rattle.sys_loader.specs.View.{loaded}
+use Rattle.loader_users.specs.View.{loaded}
 use Rattle.sys_loader.proofs.Script.{slid_sound}
 use Rattle.sys_loader.proofs.loader.Loader.slide.Goals as goal
 

@@ -1,29 +1,32 @@
 use Rattle.std.proofs.Common.{Option, refl, sym, ap, ◌∙◌}
+use Rattle.std.proofs.lemmas.Result.{err_from_is_err_and}
 use Rattle.std.specs.Prelude.{option_map}
 use Rattle.loader_machine.specs.Refusals.{info_refusal}
 use Rattle.loader_machine.specs.Presences.{presence}
 use Rattle.loader_agrees.specs.Agrees.{Kept, Loaded, seen_in}
-use Rattle.sys_loader.specs.View.{kept}
+use Rattle.loader_users.specs.View.{kept}
 use Rattle.loader_agrees.specs.laws.Checking.{info_no_user, info_stops, info_passes}
 use Rattle.sys_loader.proofs.loader.Loader.told.Goals as goal
 
 pub returns-in_default-clause-refused : goal.returns-in_default-clause-refused
 returns-in_default-clause-refused c = ap (λ (o : Option Kept). info_refusal (option_map seen_in o) c.args.segment) (sym c.in_default.ensures) ∙ info_no_user c.args.segment
 
-pub returns-in-Err-clause-refused : goal.returns-in-Err-clause-refused
-returns-in-Err-clause-refused c = ap (λ (o : Option Kept). info_refusal (option_map seen_in o) c.args.segment) (sym c.in-Some.ensures)
-    ∙ info_stops (seen_in (kept c.in-Some.kept.now)) c.args.segment c.in-Err.fault c.in-Err.ensures.err
+pub returns-in_err-found-clause-refused : goal.returns-in_err-found-clause-refused
+returns-in_err-found-clause-refused c =
+    let p = err_from_is_err_and c.from_residual.result c.from_residual.ensures.1 in
+    rw (p.1, p.2) (ap (λ (o : Option Kept). info_refusal (option_map seen_in o) c.args.segment) (sym c.in-Some.ensures)
+    ∙ info_stops (seen_in (kept c.in-Some.kept.now)) c.args.segment c.in_err-found.field-0.0 c.in_err-found.ensures.err)
 
 pub returns-clause-told : goal.returns-clause-told
 returns-clause-told c = record {
   passes = ap (λ (o : Option Kept). info_refusal (option_map seen_in o) c.args.segment) (sym c.in-Some.ensures)
-      ∙ info_passes (seen_in (kept c.in-Some.kept.now)) c.args.segment c.in-Ok.found.head c.in-Ok.ensures.ok.2;
+      ∙ info_passes (seen_in (kept c.in-Some.kept.now)) c.args.segment c.in_ok-found.found.head c.in_ok-found.ensures.ok.2;
   kept = kept c.in-Some.kept.now;
   made = sym c.in-Some.ensures;
-  head = c.in-Ok.found.head;
-  head' = c.in-Ok.ensures.ok.0;
-  presence_is = c.presence.ensures ∙ ap (λ (l : Loaded). presence l.memory.slots c.in-Ok.found.handle) c.self.view_is
-      ∙ ap (presence c.args.self.now.memory.slots) (sym c.in-Ok.ensures.ok.1);
+  head = c.in_ok-found.found.head;
+  head' = c.in_ok-found.ensures.ok.0;
+  presence_is = c.presence.ensures ∙ ap (λ (l : Loaded). presence l.memory.slots c.in_ok-found.found.handle) c.self.view_is
+      ∙ ap (presence c.args.self.now.memory.slots) (sym c.in_ok-found.ensures.ok.1);
   length_is = refl;
   kind_is = refl;
 }

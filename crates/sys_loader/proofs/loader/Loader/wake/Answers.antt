@@ -6,10 +6,10 @@ use Rattle.loader_machine.specs.Steps.{active_block}
 use Rattle.loader_agrees.specs.Agrees.{Loaded}
 use Rattle.loader_agrees.specs.laws.Seeing.{made_at}
 use Rattle.loader_agrees.specs.laws.Leading.{is_led}
-use Rattle.sys_loader.specs.View.{kept, loaded}
+use Rattle.loader_users.specs.View.{kept, loaded}
 use Rattle.sys_loader.specs.Lives.{HasTurned}
 use Rattle.sys_loader.proofs.Unloading.{roomy}
-use Rattle.sys_loader.proofs.Shifting.{shifted_sound}
+use Rattle.loader_users.proofs.Shifting.{shifted_sound}
 use Rattle.sys_loader.proofs.Activated.{wakes}
 use Rattle.sys_loader.proofs.Leading.{led_pair, lead_some, lead_is, renewed_by}
 use Rattle.sys_loader.proofs.Waking.{can_load, has_woken, idle_there}

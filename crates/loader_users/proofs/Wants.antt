@@ -1,0 +1,13 @@
+-- The wants of segments, gathered one by one.
+use Rattle.std.proofs.Common.{◌≡◌, ℕ, List, ◌++◌, drop, map}
+use Rattle.iigs_meaning.specs.declared.wants.Want.{Want}
+use Rattle.loader_machine.specs.declared.seen.Head.{Head}
+use Rattle.loader_machine.specs.Heads.{wants_of}
+use Rattle.loader_users.specs.declared.user.Segment.{Segment}
+
+abbrev pub heads : List Segment → List Head
+heads segments = map (λ s. s.head) segments
+
+-- these wants and those of the segments from a place on are all wants
+abbrev pub Gathered : List Segment → ℕ → List Want → Type 0
+Gathered segments place wants = wants ++ wants_of (heads (drop place segments)) ≡ wants_of (heads segments)

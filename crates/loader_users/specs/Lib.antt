@@ -1,0 +1,10 @@
+pub mod View
+pub mod Lying
+pub mod Filling
+pub mod Renewing
+pub mod Taken
+pub mod Planned
+pub mod Changed
+pub mod Users
+pub mod Shifted
+pub mod Bytes

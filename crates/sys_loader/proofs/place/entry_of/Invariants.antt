@@ -1,9 +1,0 @@
-use Rattle.std.specs.Prelude.{map}
-use Rattle.loader_machine.specs.Stands.{place_in}
-use Rattle.sys_loader.specs.declared.user.Segment.{Segment}
-use Rattle.sys_loader.proofs.Dealing.{Sought}
-use Rattle.sys_loader.proofs.place.entry_of.Given as goal
-
--- no segment so far is the one where the program begins
-abbrev pub invariant-segments : goal.invariant-segments
-invariant-segments l = Sought (place_in l.banks.slots (map (λ (s : Segment). s.handle) l.segments.items)) l.segments.items l.segment-index
