@@ -163,9 +163,6 @@ pub fn make_library(alloc: Global, members: &Vec<Member>) -> Result<Vec<u8>, Lib
     ensures made { IfOk result (λ out. IsLibraryOf (map given_file members.now.items) out.items) }
     ensures refused { IfErr result (λ fault. IsLibRefused fault (map given_file members.now.items)) }
 {
-    let reads = match read_members(alloc, members) {
-        Ok(reads) => reads,
-        Err(fault) => return Err(fault),
-    };
+    let reads = read_members(alloc, members)?;
     library_from(alloc, &reads)
 }

@@ -97,10 +97,8 @@ pub fn read_members<'a>(alloc: Global, members: &'a Vec<Member>) -> Result<Vec<R
     let mut reads = Vec::with_capacity(alloc, members.len())?;
     let mut file = 1;
     'members: for member in members {
-        match read_member(alloc, member, file) {
-            Ok(read) => reads.push(read)?,
-            Err(fault) => return Err(fault),
-        }
+        let read = read_member(alloc, member, file)?;
+        reads.push(read)?;
         file += 1;
     }
     Ok(reads)

@@ -110,10 +110,8 @@ pub fn dictionary_of_list<'a>(
         Some(parts) => parts,
         None => return Err(DictFault::BadLibrary(first.start)),
     };
-    match rows_in(alloc, list, first.start, parts) {
-        Ok(rows) => Ok(Dictionary { rows }),
-        Err(fault) => Err(fault),
-    }
+    let rows = rows_in(alloc, list, first.start, parts)?;
+    Ok(Dictionary { rows })
 }
 
 /// The dictionary of a library. `File` is the file's first fault; `NotLibrary` comes where the file is sound and doesn't begin
@@ -129,8 +127,5 @@ pub fn read_dictionary<'a>(alloc: Global, file: &'a [u8]) -> Result<Dictionary<'
         Ok(list) => list,
         Err(fault) => return Err(file_fault(fault)),
     };
-    match dictionary_of_list(alloc, &list) {
-        Ok(dictionary) => Ok(dictionary),
-        Err(fault) => Err(fault),
-    }
+    dictionary_of_list(alloc, &list)
 }

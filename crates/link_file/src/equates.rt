@@ -89,12 +89,10 @@ fn first_open(slots: &[Slot], row: &[usize]) -> Option<usize>
     ensures found { (k : ℕ) → result ≡ Some k → IsIn row.now k × IsOpen slots.now k }
     ensures none { result ≡ None → (k : ℕ) → IsIn row.now k → IsOpen slots.now k → ⊥ }
 {
-    let mut left = row;
-    'row: while let Some((number, more)) = left.split_first() {
+    'row: for number in row {
         if is_open(slots, *number) {
             return Some(*number);
         }
-        left = more;
     }
     None
 }

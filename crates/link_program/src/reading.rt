@@ -8,6 +8,7 @@ ghost use Rattle.link_program.specs.Coming.{Coming, IsComing, Walks, seen_record
 use omf_records::{Rec, Records};
 
 /// The next record, with its displacement in the file, and None behind END.
+#[inline(always)]
 pub fn next_record<'a>(records: &mut Records<'a>) -> Option<(u32, Rec<'a>)>
     requires { IsComing records.old }
     ensures walk { (back : List (ℕ × Record)) → Coming records.old back → Walks records.new back (option_map seen_record result) }

@@ -169,9 +169,9 @@ pub fn add_record<'a>(
     let (want, name) = match rec {
         Rec::Using { name } => (Want::Data, *name),
         Rec::Strong { name } => (Want::One, *name),
-        Rec::Equate { expr, .. } | Rec::Formula { expr, .. } => {
-            return add_terms(uses, expr, lab_len, at, place);
-        }
+        // An arm each: one for both would have each record stand in memory, whatever its type.
+        Rec::Equate { expr, .. } => return add_terms(uses, expr, lab_len, at, place),
+        Rec::Formula { expr, .. } => return add_terms(uses, expr, lab_len, at, place),
         Rec::End
         | Rec::Const { .. }
         | Rec::LongConst { .. }

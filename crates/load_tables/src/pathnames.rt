@@ -303,10 +303,7 @@ pub fn check_pathnames<'a>(
     let mut number = 1;
     let mut second = false;
     'views: for view in views {
-        match take_paths(alloc, view, number, second, &mut paths) {
-            Ok(()) => {}
-            Err(fault) => return Err(fault),
-        }
+        take_paths(alloc, view, number, second, &mut paths)?;
         second = second || has_pathnames(view);
         number += 1;
     }

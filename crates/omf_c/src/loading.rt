@@ -95,10 +95,7 @@ fn places_of(alloc: Global, addresses: &[u32]) -> Result<omf_cells::Places, Plac
     requires { length addresses.now < 2 ^ 32 }
     ensures { IfOk result (λ places. places ≡ map (λ a. Some a) addresses.now) }
 {
-    let mut places = match omf_cells::Places::new(alloc, addresses.len() as u32) {
-        Ok(places) => places,
-        Err(fault) => return Err(fault),
-    };
+    let mut places = omf_cells::Places::new(alloc, addresses.len() as u32)?;
     for k in 0..addresses.len() {
         places.set(k as u32 + 1, Some(addresses[k]));
     }

@@ -33,19 +33,14 @@ fn segment_from(
     ensures ok { IfOk result (λ view. IsLoadView file.now view) }
     ensures err { IfErr result (λ fault. IsReadRefused fault number start file.now) }
 {
-    let header = match front_at(alloc, file, start, number) {
-        Ok(header) => header,
-        Err(fault) => return Err(fault),
-    };
+    let header = front_at(alloc, file, start, number)?;
     let view = SegmentView {
         start,
         header,
         file,
     };
-    match check_records(view.records(), number) {
-        Ok(()) => Ok(view),
-        Err(fault) => Err(fault),
-    }
+    check_records(view.records(), number)?;
+    Ok(view)
 }
 
 /// What is kept of each segment and the file's paths, or the first fault of the phases after phase 1, each of which goes over all
@@ -65,14 +60,8 @@ fn check_later<'a>(
         Some(fault) => return Err(fault),
         None => {}
     }
-    let contents = match contents_of(alloc, views) {
-        Ok(contents) => contents,
-        Err(fault) => return Err(fault),
-    };
-    let paths = match check_pathnames(alloc, views) {
-        Ok(paths) => paths,
-        Err(fault) => return Err(fault),
-    };
+    let contents = contents_of(alloc, views)?;
+    let paths = check_pathnames(alloc, views)?;
     match check_tables(views, &contents, paths.len() as u32) {
         Some(fault) => Err(fault),
         None => Ok((contents, paths)),
@@ -100,24 +89,19 @@ pub fn read_load<'a>(alloc: Global, file: &'a [u8]) -> Result<LoadFile<'a>, Load
     let mut start = 0;
     let mut number = 1;
     'segments: while start < file.len() {
-        let view = match segment_from(alloc, file, start as u32, number) {
-            Ok(view) => view,
-            Err(fault) => return Err(fault),
-        };
+        let view = segment_from(alloc, file, start as u32, number)?;
         add_exports(view.records(), view.header.seg_num, &mut exports)?;
         start += view.header.byte_count as usize;
         number += 1;
         views.push(view)?;
     }
-    match check_later(alloc, &views) {
-        Ok((contents, paths)) => Ok(LoadFile {
-            views,
-            contents,
-            exports,
-            paths,
-        }),
-        Err(fault) => Err(fault),
-    }
+    let (contents, paths) = check_later(alloc, &views)?;
+    Ok(LoadFile {
+        views,
+        contents,
+        exports,
+        paths,
+    })
 }
 
 /// The load file, as a run-time library file: all segments are dynamic, and none is skipped. It is refused exactly where it has a
@@ -127,10 +111,7 @@ pub fn read_runtime<'a>(alloc: Global, file: &'a [u8]) -> Result<LoadFile<'a>, L
     ensures ok { IfOk result (λ load. IsRuntime file.now load) }
     ensures refused { IfErr result (λ fault. IsRuntimeRefused fault file.now) }
 {
-    let load = match read_load(alloc, file) {
-        Ok(load) => load,
-        Err(fault) => return Err(fault),
-    };
+    let load = read_load(alloc, file)?;
     match load.kind_fault() {
         Some(fault) => Err(fault),
         None => Ok(load),

@@ -32,10 +32,10 @@ fn value_of<E: Env>(bytes: &[u8], lab_len: u8, env: &E) -> Result<Value, ValueFa
     'terms: loop {
         let at = bytes.len() - left.len();
         match next_term(left, lab_len) {
-            Ok((Some(term), rest)) => match step(&mut pending, term, at, env) {
-                Ok(()) => left = rest,
-                Err(fault) => return Err(fault),
-            },
+            Ok((Some(term), rest)) => {
+                step(&mut pending, term, at, env)?;
+                left = rest;
+            }
             Ok((None, _)) => return Ok(pending.pop()),
             Err(_) => unreachable!(),
         }
@@ -77,13 +77,8 @@ fn step_one(pending: &mut Stack, code: u8) -> Result<(), ValueFault>
     ensures err { IfErr result (λ fault. step_one code pending.old ≡ Err fault) }
 {
     let a = pending.pop();
-    match apply_one(code, a) {
-        Ok(value) => {
-            pending.push(value);
-            Ok(())
-        }
-        Err(fault) => Err(fault),
-    }
+    pending.push(apply_one(code, a)?);
+    Ok(())
 }
 
 /// An operator of two operands takes the last two pending values, of which the right one is the last, and leaves its own.
@@ -95,13 +90,8 @@ fn step_two(pending: &mut Stack, code: u8) -> Result<(), ValueFault>
 {
     let b = pending.pop();
     let a = pending.pop();
-    match apply_two(code, a, b) {
-        Ok(value) => {
-            pending.push(value);
-            Ok(())
-        }
-        Err(fault) => Err(fault),
-    }
+    pending.push(apply_two(code, a, b)?);
+    Ok(())
 }
 
 /// An operand leaves its value.
@@ -115,13 +105,8 @@ fn step_operand<E: Env>(
     ensures ok { OnOk result (step_operand (E.meaning env.now) at (view term.entry) pending.old ≡ Ok pending.new) }
     ensures err { IfErr result (λ fault. step_operand (E.meaning env.now) at (view term.entry) pending.old ≡ Err fault) }
 {
-    match operand_value(term, at, env) {
-        Ok(value) => {
-            pending.push(value);
-            Ok(())
-        }
-        Err(fault) => Err(fault),
-    }
+    pending.push(operand_value(term, at, env)?);
+    Ok(())
 }
 
 /// One term.

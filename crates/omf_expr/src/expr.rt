@@ -41,13 +41,11 @@ impl<'a> Expr<'a> {
         // How a record takes it as one of its fields.
         ensures field { as_field bytes.now result ≡ expression_field lab_len bytes.now }
     {
-        match behind_end(bytes, lab_len) {
-            Ok(rest) => Ok(Expr {
-                bytes: &bytes[..bytes.len() - rest.len()],
-                lab_len,
-            }),
-            Err(fault) => Err(fault),
-        }
+        let rest = behind_end(bytes, lab_len)?;
+        Ok(Expr {
+            bytes: &bytes[..bytes.len() - rest.len()],
+            lab_len,
+        })
     }
 
     /// The expression that bytes spell. They aren't read again.
@@ -95,14 +93,12 @@ fn behind_end(bytes: &[u8], lab_len: u8) -> Result<&[u8], ExprFault>
     let mut pending = 0;
     'terms: loop {
         let at = bytes.len() - left.len();
-        match next_step(left, lab_len, at, pending) {
-            Ok((None, rest)) => return Ok(rest),
-            Ok((Some(behind), rest)) => {
-                pending = behind;
-                left = rest;
-            }
-            Err(fault) => return Err(fault),
-        }
+        let (step, rest) = next_step(left, lab_len, at, pending)?;
+        let Some(behind) = step else {
+            return Ok(rest);
+        };
+        pending = behind;
+        left = rest;
     }
 }
 

@@ -482,10 +482,7 @@ pub fn list_file(alloc: Global, file: &[u8]) -> Result<Line, FileFault>
     ensures listed { IfOk result (λ text. IsListing file.now text) }
     ensures refused { IfErr result (λ fault. IsRefused fault file.now) }
 {
-    let list = match segments(alloc, file) {
-        Ok(list) => list,
-        Err(fault) => return Err(fault),
-    };
+    let list = segments(alloc, file)?;
     match listing(alloc, &list) {
         Ok(text) => Ok(text),
         Err(LineFault::Memory) => Err(FileFault {

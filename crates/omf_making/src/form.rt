@@ -103,7 +103,7 @@ fn inputs_only(least: usize, most: usize, words: &[String]) -> Option<&[String]>
 }
 
 /// The number that a word writes: decimal digits alone, 1 to 10 of them.
-#[tactic(auto, using(crate::proofs::Numbers::read_start, crate::proofs::Numbers::read_step, crate::proofs::Numbers::read_small, crate::proofs::Numbers::read_end, crate::proofs::Numbers::read_low, crate::proofs::Numbers::read_high, crate::proofs::Numbers::read_none, crate::proofs::Numbers::read_long))]
+#[tactic(auto, using(std::proofs::lemmas::List::drop_more, crate::proofs::Numbers::read_start, crate::proofs::Numbers::read_step, crate::proofs::Numbers::read_small, crate::proofs::Numbers::read_end, crate::proofs::Numbers::read_low, crate::proofs::Numbers::read_high, crate::proofs::Numbers::read_none, crate::proofs::Numbers::read_long))]
 fn number_in(word: &str) -> Option<u64>
     ensures { result ≡ number_in word.now }
 {
@@ -112,13 +112,11 @@ fn number_in(word: &str) -> Option<u64>
         return None;
     }
     let mut number: u64 = 0;
-    let mut left = digits;
-    'digits: while let Some((digit, rest)) = left.split_first() {
+    'digits: for digit in digits {
         if *digit < b'0' || *digit > b'9' {
             return None;
         }
         number = 10 * number + u64::from(*digit - b'0');
-        left = rest;
     }
     Some(number)
 }

@@ -4,7 +4,7 @@ use Rattle.omf_format.specs.declared.fault.HeaderFault.{HeaderFault}
 use Rattle.omf_format.specs.declared.fault.HeaderFault.TheVariants as header
 use Rattle.omf_format.specs.declared.fault.RecordFault.{RecordFault}
 use Rattle.omf_format.specs.declared.fault.FileCause.{FileCause}
-use Rattle.omf_format.specs.declared.fault.FileCause.TheVariants.{Truncated, Unsupported, Memory}
+use Rattle.omf_format.specs.declared.fault.FileCause.TheVariants.{Memory}
 use Rattle.omf_format.specs.declared.fault.FileFault.{FileFault}
 use Rattle.omf_format.specs.Record.{Record}
 use Rattle.omf_format.specs.Reading.{Reader, next_answer, HandsOut}

@@ -92,8 +92,6 @@ pub fn segment_at(
         header,
         file,
     };
-    match check_records(view.records(), number) {
-        Ok(()) => Ok(view),
-        Err(fault) => Err(fault),
-    }
+    check_records(view.records(), number)?;
+    Ok(view)
 }

@@ -63,10 +63,7 @@ pub fn segments<'a>(alloc: Global, file: &'a [u8]) -> Result<SegmentList<'a>, Fi
     let mut start = 0;
     let mut number = 1;
     'segments: while start < file.len() {
-        let view = match segment_at(alloc, file, start as u32, number) {
-            Ok(view) => view,
-            Err(fault) => return Err(fault),
-        };
+        let view = segment_at(alloc, file, start as u32, number)?;
         start += view.header.byte_count as usize;
         number += 1;
         views.push(view)?;

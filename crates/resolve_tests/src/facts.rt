@@ -65,7 +65,11 @@ fn is_resolved(alloc: Global, inputs: &Vec<Vec<u8>>, fact: &Fact) -> bool {
         return false;
     }
     match resolve(alloc, inputs) {
-        Ok(program) => is_told(&program, fact),
+        Ok(program) => {
+            let told = is_told(&program, fact);
+            drop(program);
+            told
+        }
         Err(fault) => is_refused(&fault, fact),
     }
 }

@@ -1,9 +1,9 @@
 //! The files that are linked: samples, whole or cut or with bytes changed, and files that are made.
 use crate::parts::{Part, parts_of, uses, using};
 use crate::samples::{
-    ASKING, BARE, BEHIND, DATA, DYNAMIC, EQUATE_A, EQUATE_B, LIBRARY_B, LIBRARY_C, LIBRARY_D,
-    LIBRARY_P, LIBRARY_Y, ONE, PLACED, RUNTIME, RUNTIME_PARTS, RUNTIME_TWICE, SKIPPED, TWO, USER,
-    WEAK,
+    APART, ASKING, BARE, BEHIND, DATA, DYNAMIC, EQUATE_A, EQUATE_B, LIBRARY_B, LIBRARY_C,
+    LIBRARY_D, LIBRARY_P, LIBRARY_Y, ONE, PLACED, RUNTIME, RUNTIME_PARTS, RUNTIME_TWICE, SKIPPED,
+    TWO, USER, WEAK,
 };
 use std::alloc::{AllocError, Global};
 
@@ -12,6 +12,7 @@ pub enum Sample {
     One,
     Two,
     User,
+    Apart,
     EquateA,
     EquateB,
     LibraryB,
@@ -75,6 +76,7 @@ fn sample_of(sample: &Sample) -> &'static [u8] {
         Sample::One => &ONE,
         Sample::Two => &TWO,
         Sample::User => &USER,
+        Sample::Apart => &APART,
         Sample::EquateA => &EQUATE_A,
         Sample::EquateB => &EQUATE_B,
         Sample::LibraryB => &LIBRARY_B,

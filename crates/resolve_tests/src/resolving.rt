@@ -4,8 +4,8 @@ use crate::facts::{Row, all_are_so};
 use crate::files::File;
 use crate::files::File::{Changed, Cut, Loads, Whole};
 use crate::files::Sample::{
-    Asking, Behind, Data, EquateA, EquateB, LibraryB, LibraryC, LibraryD, LibraryP, LibraryY, One,
-    Placed, Two, User, Weak,
+    Apart, Asking, Behind, Data, EquateA, EquateB, LibraryB, LibraryC, LibraryD, LibraryP,
+    LibraryY, One, Placed, Two, User, Weak,
 };
 use link_meaning::LinkCause::{
     AlignFault, BadHeader, BadLength, BadLibrary, BadRecord, Duplicate, Empty, OrgConflict,
@@ -78,7 +78,7 @@ static READING: [Row; 12] = [
     ),
 ];
 
-static RESOLVING: [Row; 32] = [
+static RESOLVING: [Row; 33] = [
     // Names are found in order.
     (
         "X of an object file, and of libraries",
@@ -162,6 +162,12 @@ static RESOLVING: [Row; 32] = [
         "a data segment of an object file and of a library",
         &[Whole(Data), Whole(LibraryD)],
         Refused(Duplicate, 1, 1, 0x38),
+    ),
+    // A resolved program may have no values: `link` refuses it.
+    (
+        "a distance between load segments",
+        &[Whole(Apart)],
+        Value(None),
     ),
     // Rows of a library serve their own: the first row's segment starts elsewhere; the second row's file isn't one of the library's.
     (

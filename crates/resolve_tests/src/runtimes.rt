@@ -85,7 +85,11 @@ fn is_linked(
         return matches!(fact, Fact::Uncallable);
     }
     match resolve_with(alloc, inputs, runtimes, form) {
-        Ok(program) => program.form() == form && is_told(&program, fact),
+        Ok(program) => {
+            let told = program.form() == form && is_told(&program, fact);
+            drop(program);
+            told
+        }
         Err(fault) => is_refused(&fault, fact),
     }
 }

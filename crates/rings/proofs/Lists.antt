@@ -101,7 +101,3 @@ pub row_gone : (ends : List ℕ) (spans : List Span) (k : ℕ) → length spans 
 row_gone ends [] k past = refl
 row_gone ends (x ∷ spans) zero past = absurd (omega (arith, past))
 row_gone ends (x ∷ spans) (suc k) past = row_gone ends spans k (omega (arith, past))
-
-pub empty : {A : Type 0} (xs : List A) → length xs ≡ 0 → xs ≡ []
-empty [] e = refl
-empty (x ∷ xs) e = absurd (omega (arith, e))

@@ -22,12 +22,10 @@ fn rank_of(ranks: &[usize], vertex: usize) -> usize
 fn never_rises(row: &[usize], ranks: &[usize], rank: usize) -> bool
     ensures { OnTrue result ((to : ℕ) → IsIn row.now to → rank_at ranks.now to ≤ rank) }
 {
-    let mut left = row;
-    'edges: while let Some((to, more)) = left.split_first() {
+    'edges: for to in row {
         if rank_of(ranks, *to) > rank {
             return false;
         }
-        left = more;
     }
     true
 }
@@ -36,12 +34,10 @@ fn never_rises(row: &[usize], ranks: &[usize], rank: usize) -> bool
 fn falls(row: &[usize], ranks: &[usize], rank: usize) -> bool
     ensures { OnTrue result ((to : ℕ) → IsIn row.now to → rank_at ranks.now to < rank) }
 {
-    let mut left = row;
-    'edges: while let Some((to, more)) = left.split_first() {
+    'edges: for to in row {
         if rank_of(ranks, *to) >= rank {
             return false;
         }
-        left = more;
     }
     true
 }
@@ -71,8 +67,7 @@ fn visit(
     ensures back { IfOk result (λ back. back ≡ true → IsIn row.now vertex) }
     ensures visits { IfOk result (λ back. back ≡ false → Visits row.now vertex seen.old.items seen.new.items queue.old.items queue.new.items) }
 {
-    let mut left = row;
-    'edges: while let Some((to, more)) = left.split_first() {
+    'edges: for to in row {
         if *to == vertex {
             return Ok(true);
         }
@@ -80,7 +75,6 @@ fn visit(
             queue.push(*to)?;
             seen[*to] = true;
         }
-        left = more;
     }
     Ok(false)
 }

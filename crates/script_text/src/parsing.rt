@@ -307,36 +307,30 @@ fn alloc_block(words: &mut Words) -> Result<Command, ScriptCause>
 fn where_(words: &mut Words) -> Result<Command, ScriptCause>
     ensures { IsRead command result (given_by machine.Where (one_number 0xFFFFFF words.old)) }
 {
-    match one_number(words, 0xFF_FFFF) {
-        Ok(address) => Ok(Command::Where { address }),
-        Err(cause) => Err(cause),
-    }
+    let address = one_number(words, 0xFF_FFFF)?;
+    Ok(Command::Where { address })
 }
 
 /// `info U S`
 fn info(words: &mut Words) -> Result<Command, ScriptCause>
     ensures { IsRead command result (given_by (λ n. machine.Info n.0 n.1) (two_numbers 0xFFFF 0xFFFF words.old)) }
 {
-    match two_numbers(words, 0xFFFF, 0xFFFF) {
-        Ok((user, segment)) => Ok(Command::Info {
-            user: user as u16,
-            segment: segment as u16,
-        }),
-        Err(cause) => Err(cause),
-    }
+    let (user, segment) = two_numbers(words, 0xFFFF, 0xFFFF)?;
+    Ok(Command::Info {
+        user: user as u16,
+        segment: segment as u16,
+    })
 }
 
 /// `loadseg U S`
 fn load_segment(words: &mut Words) -> Result<Command, ScriptCause>
     ensures { IsRead command result (given_by (λ n. machine.LoadSegment n.0 n.1) (two_numbers 0xFFFF 0xFFFF words.old)) }
 {
-    match two_numbers(words, 0xFFFF, 0xFFFF) {
-        Ok((user, segment)) => Ok(Command::LoadSegment {
-            user: user as u16,
-            segment: segment as u16,
-        }),
-        Err(cause) => Err(cause),
-    }
+    let (user, segment) = two_numbers(words, 0xFFFF, 0xFFFF)?;
+    Ok(Command::LoadSegment {
+        user: user as u16,
+        segment: segment as u16,
+    })
 }
 
 /// The command `jsl` of these words.
@@ -369,33 +363,27 @@ fn jsl(words: &mut Words) -> Result<Command, ScriptCause>
 fn restart(words: &mut Words) -> Result<Command, ScriptCause>
     ensures { IsRead command result (given_by machine.Restart (one_number 0xFFFF words.old)) }
 {
-    match one_number(words, 0xFFFF) {
-        Ok(user) => Ok(Command::Restart { user: user as u16 }),
-        Err(cause) => Err(cause),
-    }
+    let user = one_number(words, 0xFFFF)?;
+    Ok(Command::Restart { user: user as u16 })
 }
 
 /// `unloadseg U S`
 fn unload_segment(words: &mut Words) -> Result<Command, ScriptCause>
     ensures { IsRead command result (given_by (λ n. machine.UnloadSegment n.0 n.1) (two_numbers 0xFFFF 0xFFFF words.old)) }
 {
-    match two_numbers(words, 0xFFFF, 0xFFFF) {
-        Ok((user, segment)) => Ok(Command::UnloadSegment {
-            user: user as u16,
-            segment: segment as u16,
-        }),
-        Err(cause) => Err(cause),
-    }
+    let (user, segment) = two_numbers(words, 0xFFFF, 0xFFFF)?;
+    Ok(Command::UnloadSegment {
+        user: user as u16,
+        segment: segment as u16,
+    })
 }
 
 /// `purge U`
 fn purge(words: &mut Words) -> Result<Command, ScriptCause>
     ensures { IsRead command result (given_by machine.Purge (one_number 0xFFFF words.old)) }
 {
-    match one_number(words, 0xFFFF) {
-        Ok(user) => Ok(Command::Purge { user: user as u16 }),
-        Err(cause) => Err(cause),
-    }
+    let user = one_number(words, 0xFFFF)?;
+    Ok(Command::Purge { user: user as u16 })
 }
 
 /// Whether a word keeps a program, or drops it.
@@ -451,63 +439,51 @@ fn handle_of(n: u32) -> Handle
 fn handle(words: &mut Words) -> Result<Handle, ScriptCause>
     ensures { IsHandleIn result (one_number 0xFFFFFF words.old) }
 {
-    match one_number(words, 0xFF_FFFF) {
-        Ok(n) => Ok(handle_of(n)),
-        Err(cause) => Err(cause),
-    }
+    let n = one_number(words, 0xFF_FFFF)?;
+    Ok(handle_of(n))
 }
 
 /// `level H N`
 fn level(words: &mut Words) -> Result<Command, ScriptCause>
     ensures { IsRead command result (given_by (λ n. machine.Level (handle_of n.0) n.1) (two_numbers 0xFFFFFF 3 words.old)) }
 {
-    match two_numbers(words, 0xFF_FFFF, 3) {
-        Ok((n, level)) => Ok(Command::Level {
-            handle: handle_of(n),
-            level: level as u8,
-        }),
-        Err(cause) => Err(cause),
-    }
+    let (n, level) = two_numbers(words, 0xFF_FFFF, 3)?;
+    Ok(Command::Level {
+        handle: handle_of(n),
+        level: level as u8,
+    })
 }
 
 /// `free H`
 fn free(words: &mut Words) -> Result<Command, ScriptCause>
     ensures { IsRead command result (given_by (λ n. machine.Free (handle_of n)) (one_number 0xFFFFFF words.old)) }
 {
-    match handle(words) {
-        Ok(handle) => Ok(Command::Free { handle }),
-        Err(cause) => Err(cause),
-    }
+    let handle = handle(words)?;
+    Ok(Command::Free { handle })
 }
 
 /// `lock H`
 fn lock(words: &mut Words) -> Result<Command, ScriptCause>
     ensures { IsRead command result (given_by (λ n. machine.Lock (handle_of n)) (one_number 0xFFFFFF words.old)) }
 {
-    match handle(words) {
-        Ok(handle) => Ok(Command::Lock { handle }),
-        Err(cause) => Err(cause),
-    }
+    let handle = handle(words)?;
+    Ok(Command::Lock { handle })
 }
 
 /// `unlock H`
 fn unlock(words: &mut Words) -> Result<Command, ScriptCause>
     ensures { IsRead command result (given_by (λ n. machine.Unlock (handle_of n)) (one_number 0xFFFFFF words.old)) }
 {
-    match handle(words) {
-        Ok(handle) => Ok(Command::Unlock { handle }),
-        Err(cause) => Err(cause),
-    }
+    let handle = handle(words)?;
+    Ok(Command::Unlock { handle })
 }
 
 /// `handle H`
 fn state(words: &mut Words) -> Result<Command, ScriptCause>
     ensures { IsRead command result (given_by (λ n. machine.StateOf (handle_of n)) (one_number 0xFFFFFF words.old)) }
 {
-    match handle(words) {
-        Ok(handle) => Ok(Command::Handle { handle }),
-        Err(cause) => Err(cause),
-    }
+    let handle = handle(words)?;
+    Ok(Command::Handle { handle })
 }
 
 /// `room`

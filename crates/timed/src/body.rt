@@ -32,14 +32,12 @@ fn are_written(patches: &[Patch], size: usize) -> bool
     requires { size ≤ 0xFFFFFF }
     ensures { OnTrue result (AreWritten size 0 (map seen patches.now)) }
 {
-    let mut left = patches;
     let mut from = 0;
-    'patches: while let Some((patch, rest)) = left.split_first() {
+    'patches: for patch in patches {
         if !is_inside(patch, from, size) {
             return false;
         }
         from = patch.at as usize + usize::from(patch.count);
-        left = rest;
     }
     true
 }

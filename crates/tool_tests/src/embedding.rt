@@ -13,11 +13,10 @@ use sys_loader::{Entered, Loader, LoaderFault};
 static PROGRAM: File = File::Six(&[]);
 
 /// Runs the program at `prog`, shuts it down and restarts it: where its JSL leads, before and after.
-fn run_twice(alloc: Global, files: &mut MemoryFiles) -> Result<(Entered, Entered), LoaderFault> {
-    let mut loader = match Loader::new(alloc, &[0x02, 0x00]) {
-        Ok(loader) => loader,
-        Err(_) => return Err(LoaderFault::Memory),
-    };
+fn run_twice(
+    loader: &mut Loader,
+    files: &mut MemoryFiles,
+) -> Result<(Entered, Entered), LoaderFault> {
     let started = loader.load(files, "prog")?;
     let first = loader.jsl(files, started.user, 1, 4)?;
     loader.shut_down(started.user, true)?;
@@ -25,6 +24,21 @@ fn run_twice(alloc: Global, files: &mut MemoryFiles) -> Result<(Entered, Entered
     let again = loader.jsl(files, started.user, 1, 4)?;
     loader.shut_down(started.user, false)?;
     Ok((first, again))
+}
+
+/// The same of a new loader.
+fn entered_twice(
+    alloc: Global,
+    files: &mut MemoryFiles,
+) -> Result<(Entered, Entered), LoaderFault> {
+    match Loader::new(alloc, &[0x02, 0x00]) {
+        Ok(mut loader) => {
+            let entered = run_twice(&mut loader, files);
+            drop(loader);
+            entered
+        }
+        Err(_) => Err(LoaderFault::Memory),
+    }
 }
 
 /// The place that the JSL leads to.
@@ -39,7 +53,7 @@ static ENTERED: Entered = Entered {
 fn runs_twice(alloc: Global) -> Result<bool, Fail> {
     let mut files = MemoryFiles::new(alloc, Vec::new(alloc));
     files.set("prog", &bytes_of(alloc, &PROGRAM)?)?;
-    let is_entered = run_twice(alloc, &mut files) == Ok((ENTERED, ENTERED));
+    let is_entered = entered_twice(alloc, &mut files) == Ok((ENTERED, ENTERED));
     Ok(is_entered && (files.faults(), files.asked()) == (0, 2))
 }
 
@@ -76,6 +90,7 @@ fn handed_out(
         Some(loader) => Some(first_byte(loader)),
         None => None,
     };
+    drop(last);
     Ok((status, byte))
 }
 

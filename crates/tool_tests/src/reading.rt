@@ -34,7 +34,9 @@ fn line_ends_are_read(alloc: Global) -> Result<bool, ScriptFault> {
         alloc,
         b"banks 02 E1\r\n; a comment\r\rload a/b\nbytes 1 00FFFF FFFFFFFF 100",
     )?;
-    Ok(has_three(&script))
+    let three = has_three(&script);
+    drop(script);
+    Ok(three)
 }
 
 #[test]

@@ -61,7 +61,11 @@ fn over_others(alloc: Global, loader: &mut Loader) -> Result<bool, Fail> {
 fn left_over_others(alloc: Global) -> Result<bool, Fail> {
     let (_status, last) = run_whole(alloc, "run s", &LEFT, &[], &[])?;
     match last {
-        Some(mut loader) => over_others(alloc, &mut loader),
+        Some(mut loader) => {
+            let well = over_others(alloc, &mut loader);
+            drop(loader);
+            well
+        }
         None => Err(Fail::new("no loader was handed out")),
     }
 }

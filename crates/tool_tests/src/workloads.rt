@@ -54,7 +54,9 @@ fn told(last: &Option<Loader>, segments: u16) -> Option<(u32, bool)> {
 fn first_unlike_workload(alloc: Global, rows: &[Workload]) -> Result<Option<usize>, Fail> {
     for (place, (words, sink, segments, wanted)) in rows.iter().enumerate() {
         let (_status, last) = run_whole(alloc, words, &KEPT, &[1], sink)?;
-        if told(&last, *segments) != *wanted {
+        let found = told(&last, *segments);
+        drop(last);
+        if found != *wanted {
             return Ok(Some(place));
         }
     }

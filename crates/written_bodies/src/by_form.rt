@@ -32,12 +32,11 @@ pub fn by_form(alloc: Global, own: u16, patches: &[Patch]) -> Result<Vec<Vec<u32
     ensures { IfOk result (λ lists. map (λ l. l.items) lists.items ≡ locations_by_form own (map seen patches.now)) }
 {
     let mut lists = no_locations(alloc)?;
-    let mut left = patches;
-    'patches: while let Some((patch, rest)) = left.split_first() {
-        if let Some(form) = super_form(own, patch) {
-            put_in(&mut lists, form, patch.at)?;
-        }
-        left = rest;
+    'patches: for patch in patches {
+        let Some(form) = super_form(own, patch) else {
+            continue;
+        };
+        put_in(&mut lists, form, patch.at)?;
     }
     Ok(lists)
 }

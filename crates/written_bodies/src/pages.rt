@@ -30,14 +30,12 @@ fn put_skips(out: &mut Vec<u8>, pages: u32) -> Result<(), BodyFault>
 fn count_in(locations: &[u32], page: u32) -> usize
     ensures { result ≡ run page locations.now }
 {
-    let mut left = locations;
     let mut count = 0;
-    'front: while let Some((at, rest)) = left.split_first() {
+    'front: for at in locations {
         if *at / 256 != page {
             return count;
         }
         count += 1;
-        left = rest;
     }
     count
 }

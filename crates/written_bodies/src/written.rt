@@ -85,12 +85,11 @@ fn put_lone(out: &mut Vec<u8>, own: u16, patches: &[Patch], size: usize) -> Resu
     ensures ok { OnOk result (out.new.items ≡ out.old.items ++ flat_map (spelling written_layout) (map (lone_record own) (lone own (map seen patches.now)))) }
     ensures err { OnErr result (IsFront out.old.items out.new.items) }
 {
-    let mut left = patches;
-    'patches: while let Some((patch, rest)) = left.split_first() {
-        if is_lone(own, patch) {
-            put_record(out, &lone_record(own, patch))?;
+    'patches: for patch in patches {
+        if !is_lone(own, patch) {
+            continue;
         }
-        left = rest;
+        put_record(out, &lone_record(own, patch))?;
     }
     Ok(())
 }

@@ -38,15 +38,13 @@ fn put_patches(content: &mut [u8], own: u16, patches: &[Patch]) -> usize
     ensures written { content.new ≡ with_stored own content.old (map seen patches.now) }
     ensures end { result ≡ end_behind 0 (map seen patches.now) }
 {
-    let mut left = patches;
     let mut end = 0;
-    'patches: while let Some((patch, rest)) = left.split_first() {
+    'patches: for patch in patches {
         let at = patch.at as usize;
         let count = usize::from(patch.count);
         let bytes = low_bytes(own, patch);
         put_over(content, at, front(&bytes, count));
         end = at + count;
-        left = rest;
     }
     end
 }
@@ -70,12 +68,10 @@ pub fn kept(content: &[u8], end: usize) -> usize
 fn end_of(patches: &[Patch]) -> usize
     ensures { result ≡ end_behind 0 (map seen patches.now) }
 {
-    let mut left = patches;
     let mut end = 0;
-    'patches: while let Some((patch, rest)) = left.split_first() {
+    'patches: for patch in patches {
         let last = *patch;
         end = last.at as usize + usize::from(last.count);
-        left = rest;
     }
     end
 }

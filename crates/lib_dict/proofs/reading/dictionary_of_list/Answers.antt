@@ -1,4 +1,5 @@
 use Rattle.std.proofs.Common.{◌≡◌, ℕ, List, sym, ap, subst, ◌∙◌}
+use Rattle.std.proofs.lemmas.Result.{err_from_is_err_and}
 use Rattle.omf_format.specs.Header.{form_of}
 use Rattle.omf_format.specs.Record.{Record}
 use Rattle.omf_format.specs.Reading.{records_of}
@@ -31,31 +32,33 @@ rows_in-requires-clause-place c =
     let has : HasParts parts s.records = subst (HasParts parts) body c.in-Some-parts_of.ensures in
     parts_fit c.args.list.now c.requires.0 s parts c.requires.1.bytes c.requires.1.short c.requires.1.is_file c.in-Some.ensures.value has
 
-pub returns-in-Ok-clause-rows : goal.returns-in-Ok-clause-rows
-returns-in-Ok-clause-rows c = λ file is.
+pub returns-clause-rows : goal.returns-clause-rows
+returns-clause-rows c = λ file is.
     let s = shown c.in-Some.view.now in
     let parts = seen_parts c.in-Some-parts_of.parts in
     let form : form_of s.fields.kind ≡ 0x08 = sym c.form.ensures ∙ c.if-form-ne-DICTIONARY.false in
     let body : records_of c.records.result ≡ s.records = ap records_of c.records.ensures in
     let has : HasParts parts s.records = subst (HasParts parts) body c.in-Some-parts_of.ensures in
-    told_rows c.args.list.now file s parts c.in-Ok.rows.items is.is_file c.in-Some.ensures.value form has c.in-Ok.ensures.ok
+    told_rows c.args.list.now file s parts c.in_ok-rows.rows.items is.is_file c.in-Some.ensures.value form has c.in_ok-rows.ensures.ok
 
-pub returns-in-Err-clause-refused : goal.returns-in-Err-clause-refused
-returns-in-Err-clause-refused c = λ file is.
+pub returns-in_err-rows-clause-refused : goal.returns-in_err-rows-clause-refused
+returns-in_err-rows-clause-refused c =
+    let p = err_from_is_err_and c.from_residual.result c.from_residual.ensures.1 in
     let s = shown c.in-Some.view.now in
     let parts = seen_parts c.in-Some-parts_of.parts in
     let form : form_of s.fields.kind ≡ 0x08 = sym c.form.ensures ∙ c.if-form-ne-DICTIONARY.false in
     let body : records_of c.records.result ≡ s.records = ap records_of c.records.ensures in
     let has : HasParts parts s.records = subst (HasParts parts) body c.in-Some-parts_of.ensures in
-    false_rows c.args.list.now file s parts c.in-Err.fault is.is_file c.in-Some.ensures.value form has c.in-Err.ensures.err
+    rw (p.1, p.2)
+    (λ file is. false_rows c.args.list.now file s parts c.in_err-rows.field-0.0 is.is_file c.in-Some.ensures.value form has c.in_err-rows.ensures.err)
 
-pub returns-in-Ok-clause-few : goal.returns-in-Ok-clause-few
-returns-in-Ok-clause-few c = λ file is.
+pub returns-clause-few : goal.returns-clause-few
+returns-clause-few c = λ file is.
     let s = shown c.in-Some.view.now in
     let parts = seen_parts c.in-Some-parts_of.parts in
     let body : records_of c.records.result ≡ s.records = ap records_of c.records.ensures in
     let has : HasParts parts s.records = subst (HasParts parts) body c.in-Some-parts_of.ensures in
-    few_rows c.args.list.now file s parts c.in-Ok.rows.items is.bytes is.is_file c.in-Some.ensures.value has c.in-Ok.ensures.ok
+    few_rows c.args.list.now file s parts c.in_ok-rows.rows.items is.bytes is.is_file c.in-Some.ensures.value has c.in_ok-rows.ensures.ok
 
 pub rows_in-requires-clause-file : goal.rows_in-requires-clause-file
 rows_in-requires-clause-file c = record { file = c.requires.0; is_file = c.requires.1.is_file; short = c.requires.1.short }

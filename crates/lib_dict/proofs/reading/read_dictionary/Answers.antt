@@ -1,16 +1,17 @@
+use Rattle.std.proofs.lemmas.Result.{IfOk-weaker, IfErr-weaker}
 use Rattle.lib_dict.proofs.reading.read_dictionary.Goals as goal
 
 pub dictionary_of_list-requires : goal.dictionary_of_list-requires
 dictionary_of_list-requires c = (c.args.file.now, record { is_file = c.in-Ok.ensures.found; bytes = λ i. (c.type_inv.file i).fits; short = c.requires })
 
-pub returns-in-Ok-dictionary_of_list-clause-rows : goal.returns-in-Ok-dictionary_of_list-clause-rows
-returns-in-Ok-dictionary_of_list-clause-rows c =
-    c.in-Ok-dictionary_of_list.ensures.rows c.args.file.now (record { is_file = c.in-Ok.ensures.found; bytes = λ i. (c.type_inv.file i).fits; short = c.requires })
+pub returns-clause-rows : goal.returns-clause-rows
+returns-clause-rows c =
+    IfOk-weaker c.dictionary_of_list.result _ _ (λ d told. told c.args.file.now (record { is_file = c.in-Ok.ensures.found; bytes = λ i. (c.type_inv.file i).fits; short = c.requires })) c.dictionary_of_list.ensures.rows
 
-pub returns-in-Ok-dictionary_of_list-clause-few : goal.returns-in-Ok-dictionary_of_list-clause-few
-returns-in-Ok-dictionary_of_list-clause-few c =
-    c.in-Ok-dictionary_of_list.ensures.few c.args.file.now (record { is_file = c.in-Ok.ensures.found; bytes = λ i. (c.type_inv.file i).fits; short = c.requires })
+pub returns-clause-few : goal.returns-clause-few
+returns-clause-few c =
+    IfOk-weaker c.dictionary_of_list.result _ _ (λ d told. told c.args.file.now (record { is_file = c.in-Ok.ensures.found; bytes = λ i. (c.type_inv.file i).fits; short = c.requires })) c.dictionary_of_list.ensures.few
 
 pub returns-clause-refused : goal.returns-clause-refused
 returns-clause-refused c =
-    c.in-Err-dictionary_of_list.ensures.refused c.args.file.now (record { is_file = c.in-Ok.ensures.found; bytes = λ i. (c.type_inv.file i).fits; short = c.requires })
+    IfErr-weaker c.dictionary_of_list.result _ _ (λ fault told. told c.args.file.now (record { is_file = c.in-Ok.ensures.found; bytes = λ i. (c.type_inv.file i).fits; short = c.requires })) c.dictionary_of_list.ensures.refused

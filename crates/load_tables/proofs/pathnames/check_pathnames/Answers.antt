@@ -3,6 +3,7 @@ use Rattle.std.specs.Prelude.{◌||◌, slice_get, option_map}
 use Rattle.std.specs.List.{list_any}
 use Rattle.std.proofs.lemmas.Option.{slice_get_read, slice_get-map}
 use Rattle.std.proofs.lemmas.List.{length-map}
+use Rattle.std.proofs.lemmas.Result.{err_from_is_err_and}
 use Rattle.load_meaning.specs.Pathnames.{has_pathnames}
 use Rattle.load_meaning.specs.Loadable.{in_segment, shape_fault, pathnames_fault}
 use Rattle.load_meaning.specs.laws.CellLaws.{shaped, length-segment_bytes}
@@ -41,7 +42,7 @@ views-preserved c =
     let sized = none_here shape_fault views i number v inv.shapes c.requires.sized lt item in
     let place : i ≡ number - 1 = omega (arith, inv.passed.place) in
     let second : c.views.second ≡ is_second segments number = inv.second ∙ ap (λ n. list_any has_pathnames (take n segments)) place in
-    let sound = sym (phase_behind segments number (shown v) c.views.second second) ∙ c.in-Ok.ensures.sound in
+    let sound = sym (phase_behind segments number (shown v) c.views.second second) ∙ c.in_ok-take_paths.ensures.sound in
     record {
       passed = passed_more (pathnames_fault segments) views i number v (option_map (in_segment number) (pathnames_fault segments number (shown v))) inv.passed lt item refl sound;
       shapes = passed_more shape_fault views i number v (option_map (in_segment number) (shape_fault number (shown v))) inv.shapes lt item refl (ap (λ o. option_map (in_segment number) o) sized);
@@ -50,8 +51,8 @@ views-preserved c =
         | else-second w ↦ w.second-is ∙ w.has_pathnames-second.ensures ∙ sym (any_more has_pathnames segments i (shown v) there ∙ ap (λ b. b || has_pathnames (shown v)) (sym inv.second ∙ w.if-second.false))
       ];
       paths =
-          c.in-Ok.ensures.paths ∙ ap (λ l. paths_then (shown v) l) inv.paths
-          ∙ sym (paths_more segments i (shown v) there (λ is. sym inv.second ∙ first_passed c.views.second number (shown v) c.in-Ok.ensures.sound is));
+          c.in_ok-take_paths.ensures.paths ∙ ap (λ l. paths_then (shown v) l) inv.paths
+          ∙ sym (paths_more segments i (shown v) there (λ is. sym inv.second ∙ first_passed c.views.second number (shown v) c.in_ok-take_paths.ensures.sound is));
     }
 
 pub views-init : goal.views-init
@@ -64,22 +65,25 @@ views-init c =
       paths = ap seen_paths c.new-paths.ensures.items ∙ sym paths_none;
     }
 
-pub returns-in-Err-clause-refused : goal.returns-in-Err-clause-refused
-returns-in-Err-clause-refused c =
+pub returns-in_err-take_paths-clause-refused : goal.returns-in_err-take_paths-clause-refused
+returns-in_err-take_paths-clause-refused c =
+    let p = err_from_is_err_and c.from_residual.result c.from_residual.ensures.1 in
     let views = c.args.views.now.items in
     let segments = map shown views in
     let v = c.view-item.result in
     let i = c.views.view-index in
     let number = c.views.number in
     let inv = c.views.invariant in
-    let fault = c.in-Err.fault in
+    let fault = c.in_err-take_paths.field-0.0 in
     let item = c.view-item.is ∙ ap (λ (l : List SegmentView). get_or l i v) c.deref-view-items.ensures.value in
     let lt : i < length views = omega (arith, c.views-test.true, ap length c.deref-view-items.ensures.value) in
     let place : i ≡ number - 1 = omega (arith, inv.passed.place) in
     let second : c.views.second ≡ is_second segments number = inv.second ∙ ap (λ n. list_any has_pathnames (take n segments)) place in
-    unless_then fault.cause fault _ _
+    rw (p.1, p.2)
+    (unless_then fault.cause fault _ _
     (λ first. sym (passed_some (pathnames_fault segments) views i number v (option_map (in_segment number) (pathnames_fault segments number (shown v))) fault inv.passed lt item refl
-    (sym (phase_behind segments number (shown v) c.views.second second) ∙ first))) c.in-Err.ensures.refused
+    (sym (phase_behind segments number (shown v) c.views.second second) ∙ first)))
+    c.in_err-take_paths.ensures.refused)
 
 pub returns-clause-sound : goal.returns-clause-sound
 returns-clause-sound c =

@@ -1,6 +1,7 @@
 use Rattle.std.proofs.Common.{◌≡◌, ◌+◌, ◌++◌, ◌∷◌, [], List, length, map, sym, ap, subst, ◌∙◌, arith}
 use Rattle.std.proofs.lemmas.Bool.{eqb-false}
 use Rattle.std.proofs.lemmas.List.{map-append}
+use Rattle.std.proofs.lemmas.Result.{err_from_is_err_and}
 use Rattle.omf_format.specs.Reading.{Reader, records_of}
 use Rattle.omf_records.specs.Segments.{placed, shown}
 use Rattle.omf_records.specs.declared.segment.SegmentView.{SegmentView}
@@ -8,24 +9,26 @@ use Rattle.load_tables.proofs.ExportWalks.{exported_all, exports_by, exports_by-
 use Rattle.omf_cells.proofs.ReadSegments.{Read, view_lies, read_more, read_loadable, refused_in, few_read}
 use Rattle.omf_cells.proofs.reading.read_load.Goals as goal
 
-pub returns-in-Err-clause-refused : goal.returns-in-Err-clause-refused
-returns-in-Err-clause-refused c =
-    refused_in c.args.file.now c.segments.views.items c.in-Err.fault c.segments.start c.segments.number c.segments.invariant.read c.segments-test.true c.in-Err.ensures.err
+pub returns-in_err-view-clause-refused : goal.returns-in_err-view-clause-refused
+returns-in_err-view-clause-refused c =
+    let p = err_from_is_err_and c.from_residual.result c.from_residual.ensures.1 in
+    rw (p.1, p.2)
+    (refused_in c.args.file.now c.segments.views.items c.in_err-view.field-0.0 c.segments.start c.segments.number c.segments.invariant.read c.segments-test.true c.in_err-view.ensures.err)
 
 pub overflow_add-number : goal.overflow_add-number
 overflow_add-number c = omega (arith, few_read c.args.file.now c.segments.views.items c.segments.start c.segments.number c.segments.invariant.read, c.segments-test.true, c.requires)
 
 pub segments-smaller : goal.segments-smaller
 segments-smaller c =
-    let lies = view_lies c.args.file.now c.in-Ok.view c.in-Ok.ensures.ok in
-    omega (arith, lies.some, lies.within, c.in-Ok.ensures.start, c.segments-test.true)
+    let lies = view_lies c.args.file.now c.in_ok-view.view c.in_ok-view.ensures.ok in
+    omega (arith, lies.some, lies.within, c.in_ok-view.ensures.start, c.segments-test.true)
 
 pub segments-preserved : goal.segments-preserved
 segments-preserved c =
     let inv = c.segments.invariant in
-    let v = c.in-Ok.view in
+    let v = c.in_ok-view.view in
     let views = c.segments.views.items in
-    let more = read_more c.args.file.now views v c.segments.start c.segments.number inv.read c.in-Ok.ensures.start c.segments-test.true c.in-Ok.ensures.ok in
+    let more = read_more c.args.file.now views v c.segments.start c.segments.number inv.read c.in_ok-view.ensures.start c.segments-test.true c.in_ok-view.ensures.ok in
     let pushed = c.in_ok-push.ensures.items in
     let whole : map shown (views ++ v ∷ []) ≡ map shown views ++ shown v ∷ [] = map-append shown views (v ∷ []) in
     let all = c.in_ok-add_exports.ensures.value ∙ ap (λ l. l ++ exported_all v.header.seg_num (records_of c.records.result)) inv.exported
@@ -42,7 +45,7 @@ invariant_of-result c =
     let file = c.args.file.now in
     let views = c.segments.views.items in
     let inv = c.segments.invariant in
-    let later = c.in-Ok-check_later.ensures in
+    let later = c.in_ok-contents.ensures in
     record {
       views' = record {
         file = file;

@@ -1,3 +1,4 @@
+use Rattle.std.proofs.lemmas.Result.{err_from_is_err_and}
 use Rattle.omf_expr.proofs.Evaluating.{going_begin, going_some, going_room, going_more, going_fault, going_end, going_last, going_cut}
 use Rattle.omf_expr.proofs.evaluation.value_of.Goals as goal
 
@@ -17,12 +18,14 @@ step-requires-clause-room g c =
 pub terms-preserved : goal.terms-preserved
 terms-preserved g c =
     let read = rw c.in-Ok-Some-default.field-0-0-is at c.in-Ok-Some-default.ensures.gives in
-    going_more (g.E.Env.meaning c.args.env.now) _ _ _ _ _ _ _ c.terms.invariant read c.in-Ok.ensures.ok
+    going_more (g.E.Env.meaning c.args.env.now) _ _ _ _ _ _ _ c.terms.invariant read c.in_ok-step-in-Ok-Some-default.ensures.ok
 
-pub returns-in-Err-step : goal.returns-in-Err-step
-returns-in-Err-step g c = λ tree is.
+pub returns-in_err-step-in-Ok-Some-default : goal.returns-in_err-step-in-Ok-Some-default
+returns-in_err-step-in-Ok-Some-default g c = λ tree is.
     let read = rw c.in-Ok-Some-default.field-0-0-is at c.in-Ok-Some-default.ensures.gives in
-    going_fault (g.E.Env.meaning c.args.env.now) _ _ _ _ _ _ _ tree c.terms.invariant read c.in-Err-step.ensures.err is
+    let p = err_from_is_err_and c.from_residual.result c.from_residual.ensures.1 in
+    rw (p.1, p.2)
+    (going_fault (g.E.Env.meaning c.args.env.now) _ _ _ _ _ _ _ tree c.terms.invariant read c.in_err-step-in-Ok-Some-default.ensures.err is)
 
 pub pop-requires : goal.pop-requires
 pop-requires g c =

@@ -1,4 +1,4 @@
-use Rattle.std.proofs.Common.{◌≡◌, length, map}
+use Rattle.std.proofs.Common.{◌≡◌, length, map, drop}
 use Rattle.written_bodies.specs.WrittenParts.{seen, locations_by_form}
 use Rattle.written_bodies.proofs.FormLists.{with_left}
 use Rattle.written_bodies.proofs.by_form.by_form.Given as goal
@@ -6,9 +6,6 @@ use Rattle.written_bodies.proofs.by_form.by_form.Given as goal
 -- the locations so far and those of the patches that are left
 abbrev pub invariant-patches : goal.invariant-patches
 invariant-patches l = record {
-  whole : with_left l.own (map seen l.left) 0 (map (λ of. of.items) l.lists.items) ≡ locations_by_form l.own (map seen l.patches);
+  whole : with_left l.own (map seen (drop l.patch-index l.patches)) 0 (map (λ of. of.items) l.lists.items) ≡ locations_by_form l.own (map seen l.patches);
   size : length l.lists.items ≡ 38;
 }
-
-abbrev pub decreases-patches : goal.decreases-patches
-decreases-patches l = length l.left

@@ -1,4 +1,4 @@
-use Rattle.std.proofs.Common.{◌≡◌, ◌++◌, ℕ, length, map}
+use Rattle.std.proofs.Common.{◌≡◌, ◌++◌, ℕ, map, drop}
 use Rattle.std.specs.List.{flat_map}
 use Rattle.omf_format.specs.Field.{written_layout}
 use Rattle.omf_format.specs.Record.{spelling}
@@ -9,11 +9,8 @@ use Rattle.written_bodies.proofs.written.put_lone.Given as goal
 -- the records so far and those of the patches that are left
 abbrev pub invariant-patches : goal.invariant-patches
 invariant-patches l = record {
-  whole : l.out.items ++ flat_map (spelling written_layout) (map (lone_record l.own) (lone l.own (map seen l.left)))
+  whole : l.out.items ++ flat_map (spelling written_layout) (map (lone_record l.own) (lone l.own (map seen (drop l.patch-index l.patches))))
       ≡ l.initial.out.items ++ flat_map (spelling written_layout) (map (lone_record l.own) (lone l.own (map seen l.patches)));
-  left : (low : ℕ) × AreWritten l.size low (map seen l.left);
+  left : (low : ℕ) × AreWritten l.size low (map seen (drop l.patch-index l.patches));
   front : IsFront l.initial.out.items l.out.items;
 }
-
-abbrev pub decreases-patches : goal.decreases-patches
-decreases-patches l = length l.left
