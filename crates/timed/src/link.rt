@@ -57,7 +57,11 @@ fn tell_fault(rt: &HostRuntime, cause: LinkCause, spot: Spot) -> io::Result<()> 
 fn resolve_all(rt: &HostRuntime, inputs: &Vec<Vec<u8>>) -> io::Result<()> {
     match resolved(rt.alloc(), inputs) {
         None => println!(rt; "too long"),
-        Some(Ok(program)) => tell_program(rt, &program),
+        Some(Ok(program)) => {
+            let told = tell_program(rt, &program);
+            drop(program);
+            told
+        }
         Some(Err(fault)) => tell_fault(rt, fault.cause, fault.spot),
     }
 }
