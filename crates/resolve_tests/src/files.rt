@@ -1,5 +1,5 @@
 //! The files that are linked: samples, whole or cut or with bytes changed, and files that are made.
-use crate::parts::{Part, parts_of, uses, using};
+use crate::parts::{Part, equates, parts_of, uses, using};
 use crate::samples::{
     APART, ASKING, BARE, BEHIND, DATA, DYNAMIC, EQUATE_A, EQUATE_B, LIBRARY_B, LIBRARY_C,
     LIBRARY_D, LIBRARY_P, LIBRARY_Y, ONE, PLACED, RUNTIME, RUNTIME_PARTS, RUNTIME_TWICE, SKIPPED,
@@ -48,6 +48,8 @@ pub enum File {
     /// An object file of a segment that names so many data segments by USING and uses as many names of a letter, and of the first of
     /// these data segments.
     Uses(u16, u8, u16),
+    /// An object file of so many equates, each of which is the next one; the last is the one with this number.
+    Equates(u16, u16),
 }
 
 /// Files that are owned.
@@ -68,6 +70,7 @@ pub fn bytes_of(alloc: Global, file: &File) -> Result<Vec<u8>, AllocError> {
         File::Using(usings, parts) => using(alloc, usings, parts),
         File::Parts(parts) => parts_of(alloc, parts),
         File::Uses(count, letter, defined) => uses(alloc, *count, *letter, *defined),
+        File::Equates(count, last) => equates(alloc, *count, *last),
     }
 }
 

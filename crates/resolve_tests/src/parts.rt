@@ -50,11 +50,11 @@ fn segment_of(title: u16, label: u16, kind: u16) -> [u8; 72] {
     bytes
 }
 
-/// The first bytes of a segment that has so many records of one name.
+/// The first bytes of a segment whose records, without END, have so many bytes and give no cell.
 fn head_of(records: usize) -> [u8; BODY] {
     let mut bytes = [0; BODY];
     bytes.copy_from_slice(&BARE[..BODY]);
-    let size = records.saturating_mul(7).saturating_add(BODY + 1);
+    let size = records.saturating_add(BODY + 1);
     bytes[..4].copy_from_slice(&size.to_le_bytes()[..4]);
     bytes
 }
@@ -76,7 +76,7 @@ pub fn parts_of(alloc: Global, parts: &[Part]) -> Result<Vec<u8>, AllocError> {
 
 /// An object file of a segment that has these numbers of D in USING, and of segments of data.
 pub fn using(alloc: Global, usings: &[u16], parts: &[Part]) -> Result<Vec<u8>, AllocError> {
-    let mut bytes = Vec::from_slice(alloc, &head_of(usings.len()))?;
+    let mut bytes = Vec::from_slice(alloc, &head_of(usings.len().saturating_mul(7)))?;
     for number in usings {
         bytes.extend_from_slice(&record_of(USING, b'D', *number))?;
     }
@@ -88,7 +88,7 @@ pub fn using(alloc: Global, usings: &[u16], parts: &[Part]) -> Result<Vec<u8>, A
 /// An object file of a segment that names so many data segments by USING and uses as many names of a letter, and of the first of these
 /// data segments.
 pub fn uses(alloc: Global, count: u16, letter: u8, defined: u16) -> Result<Vec<u8>, AllocError> {
-    let mut bytes = Vec::from_slice(alloc, &head_of(2 * usize::from(count)))?;
+    let mut bytes = Vec::from_slice(alloc, &head_of(14 * usize::from(count)))?;
     for (code, first) in [(USING, b'D'), (STRONG, letter)] {
         for number in 0..count {
             bytes.extend_from_slice(&record_of(code, first, number))?;
@@ -98,5 +98,26 @@ pub fn uses(alloc: Global, count: u16, letter: u8, defined: u16) -> Result<Vec<u
     for number in 0..defined {
         bytes.extend_from_slice(&segment_of(number, number, DATA))?;
     }
+    Ok(bytes)
+}
+
+/// An equate of a number that is the one of another number.
+fn equate_of(number: u16, to: u16) -> [u8; 13] {
+    let [low, high] = number.to_le_bytes();
+    let [to_low, to_high] = to.to_le_bytes();
+    [
+        0xF0, 2, low, high, 0, 0, 0x47, 0, 0x82, 2, to_low, to_high, 0,
+    ]
+}
+
+/// An object file of so many equates in one segment, each of which is the next one; the last is the one with this number.
+pub fn equates(alloc: Global, count: u16, last: u16) -> Result<Vec<u8>, AllocError> {
+    let mut bytes = Vec::from_slice(alloc, &head_of(13 * usize::from(count)))?;
+    for number in 0..count {
+        let next = number.saturating_add(1);
+        let to = if next == count { last } else { next };
+        bytes.extend_from_slice(&equate_of(number, to))?;
+    }
+    bytes.push(0)?;
     Ok(bytes)
 }
