@@ -15,7 +15,7 @@ use Rattle.link_meaning.specs.LinkWritten.{AreMade, start, written_file}
 use Rattle.link_meaning.specs.EmitFaults.{HasRingFault, HasValueFault, most_bytes, Rings, Values, Size, HasEmitFault, IsEmitAnswer}
 use Rattle.link_meaning.specs.laws.EmitFaultLaws.{made_sound}
 use Rattle.link_file.specs.Answers.{IsEmitRefused}
-use Rattle.link_file.specs.Equates.{IsRingRefused}
+use Rattle.link_values.specs.Equates.{IsRingRefused}
 use Rattle.link_file.specs.Walks.{IsValueRefused}
 
 in_middle : (front : List Found) (e : Found) (back : List Found) → IsIn (front ++ e ∷ back) e

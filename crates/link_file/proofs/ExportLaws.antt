@@ -20,19 +20,19 @@ use Rattle.link_meaning.specs.Sizes.{size_at, located_from, place_behind}
 use Rattle.link_meaning.specs.Defines.{Scope, ForSegment, ForUnit, ForAll, Definition, outer_scope, scope_of, title_of, defined_by, defined_in}
 use Rattle.link_meaning.specs.Search.{Found, entries_from, entries, outside}
 use Rattle.link_program.specs.Outside.{all_found}
-use Rattle.link_file.specs.declared.slots.Slot.{Slot}
-use Rattle.link_file.specs.Slots.{AreSlots}
+use Rattle.link_values.specs.declared.slots.Slot.{Slot}
+use Rattle.link_values.specs.Slots.{AreSlots}
 use Rattle.link_meaning.specs.Layout.{load_headers}
 use Rattle.link_meaning.specs.LinkValues.{Told, found_value, if_ok}
 use Rattle.link_meaning.specs.LinkWritten.{export_at, export_of, exports, exports_for}
-use Rattle.link_program.specs.Coming.{Coming}
+use Rattle.link_tables.specs.Coming.{Coming}
 use Rattle.link_program.specs.Linked.{member_at}
 use Rattle.link_file.specs.Images.{spelled}
-use Rattle.link_file.specs.Circulars.{defined_so_far, CountsTo}
+use Rattle.link_values.specs.Circulars.{defined_so_far, CountsTo}
 use Rattle.link_file.specs.Exported.{is_public, SeenName, IsSeen, DefinesSeen, IsExported, StandsBefore, Exporting, ExportsTo}
-use Rattle.link_file.proofs.LocatedLaws.{one_located}
-use Rattle.link_file.proofs.CircularLaws.{of_located, so_far-more, so_far-all, get_at, entries-append, member_size, counts_there, segment_is}
-use Rattle.link_file.proofs.FileFacts.{parts_there}
+use Rattle.link_values.proofs.LocatedLaws.{one_located}
+use Rattle.link_values.proofs.CircularLaws.{of_located, so_far-more, so_far-all, get_at, entries-append, member_size, counts_there, segment_is}
+use Rattle.link_values.proofs.FileFacts.{parts_there}
 
 -- ---- who sees a name
 

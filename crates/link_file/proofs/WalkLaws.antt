@@ -21,14 +21,14 @@ use Rattle.link_meaning.specs.laws.LinkedWalk.{state_of, own_items, member_state
 use Rattle.link_content.specs.Holding.{Holding}
 use Rattle.link_content.specs.declared.fit.Load.{Load}
 use Rattle.link_content.specs.declared.record.Site.{Site}
-use Rattle.link_file.specs.declared.seat.Seat.{Seat}
+use Rattle.link_values.specs.declared.seat.Seat.{Seat}
 use Rattle.link_program.specs.OfFiles.{IsOfFiles}
 use Rattle.link_content.specs.Contents.{HoldsCells}
 use Rattle.link_content.specs.Fits.{told_load}
 use Rattle.link_content.specs.Records.{StandsAt, PutsMade}
 use Rattle.link_file.specs.Walks.{Begins, cells_there, behind, Puts, Unmade, StandsBehind, PutsMember}
-use Rattle.link_file.proofs.FileFacts.{read_of, body_within, end_of}
-use Rattle.link_file.proofs.LocatedLaws.{one_located, located-more, behind-append, items-more, made-more, state-more, state-there}
+use Rattle.link_values.proofs.FileFacts.{read_of, body_within, end_of}
+use Rattle.link_values.proofs.LocatedLaws.{one_located, located-more, behind-append, items-more, made-more, state-more, state-there}
 
 -- ---- one record more
 

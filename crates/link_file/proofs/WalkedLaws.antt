@@ -27,14 +27,14 @@ use Rattle.link_meaning.specs.EmitFaults.{HasValueFault}
 use Rattle.link_meaning.specs.laws.EmitFaultLaws.{made_none, fine_failed}
 use Rattle.link_meaning.specs.laws.PlaceFits.{in_parts, name_there}
 use Rattle.link_content.specs.Holding.{Holding}
-use Rattle.link_file.specs.declared.seat.Seat.{Seat}
+use Rattle.link_values.specs.declared.seat.Seat.{Seat}
 use Rattle.link_content.specs.Contents.{HoldsCells}
 use Rattle.link_file.specs.Images.{HoldLinked}
 use Rattle.link_program.specs.Linked.{member_at}
-use Rattle.link_file.specs.Seats.{IsSeat, SeatOf}
+use Rattle.link_values.specs.Seats.{IsSeat, SeatOf}
 use Rattle.link_file.specs.Walks.{Unmade, StandsBehind, PutsMember, HoldsBehind, HoldBehind, IsWalkedTo, AreEmpty, IsFilled}
-use Rattle.link_file.proofs.FileFacts.{parts_there}
-use Rattle.link_file.proofs.LocatedLaws.{made-append}
+use Rattle.link_values.proofs.FileFacts.{parts_there}
+use Rattle.link_values.proofs.LocatedLaws.{made-append}
 
 -- ---- texts
 

@@ -9,10 +9,10 @@ use Rattle.link_meaning.specs.Defines.{Scope, ForSegment, ForUnit, ForAll, Defin
 use Rattle.link_meaning.specs.Search.{entries_from, entries}
 use Rattle.link_meaning.specs.LinkValues.{Told}
 use Rattle.link_meaning.specs.LinkWritten.{export_of}
-use Rattle.link_program.specs.Coming.{Coming}
+use Rattle.link_tables.specs.Coming.{Coming}
 use Rattle.link_file.specs.declared.exports.Seen as kept
 use Rattle.link_file.specs.Images.{spelled}
-use Rattle.link_file.specs.Circulars.{defined_so_far}
+use Rattle.link_values.specs.Circulars.{defined_so_far}
 
 -- all see it
 abbrev pub is_public : Scope → Bool

@@ -1,10 +1,5 @@
 pub mod Images
-pub mod Slots
 pub mod Answers
-pub mod Seats
-pub mod Told
-pub mod Equates
-pub mod Circulars
 pub mod Walks
 pub mod Paths
 pub mod Exported

@@ -21,17 +21,17 @@ use Rattle.link_meaning.specs.laws.LinkedRuns.{item}
 use Rattle.link_meaning.specs.laws.LinkedWalk.{state_of, linked_behind, own_items}
 use Rattle.link_meaning.specs.EmitFaults.{HasValueFault}
 use Rattle.link_meaning.specs.LinkFaults.{spot_in}
-use Rattle.link_program.specs.Coming.{Coming}
+use Rattle.link_tables.specs.Coming.{Coming}
 use Rattle.link_program.specs.Memory.{memory_fault}
 use Rattle.link_content.specs.Holding.{Holding}
-use Rattle.link_file.specs.declared.seat.Seat.{Seat}
+use Rattle.link_values.specs.declared.seat.Seat.{Seat}
 use Rattle.link_content.specs.Contents.{HoldsCells}
 use Rattle.link_file.specs.Images.{HoldLinked}
 use Rattle.link_content.specs.declared.fit.Load.{Load}
-use Rattle.link_file.specs.declared.slots.Slot.{Slot}
+use Rattle.link_values.specs.declared.slots.Slot.{Slot}
 use Rattle.link_program.specs.OfFiles.{IsOfFiles}
 use Rattle.link_content.specs.Fits.{told_load}
-use Rattle.link_file.specs.Seats.{IsSeat, AreKnown}
+use Rattle.link_values.specs.Seats.{IsSeat, AreKnown}
 
 -- ---- what records meet
 

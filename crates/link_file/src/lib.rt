@@ -2,18 +2,11 @@
 //! appendix F; the rules by which a value fits are this project's own).
 #![tactic(auto)]
 
-mod circular;
 mod emitting;
-mod equates;
 mod exports;
 mod file;
 mod image;
-mod leads;
-mod meets;
 mod pathnames;
-mod seat;
-mod slots;
-mod value;
 mod values;
 mod walk;
 

@@ -10,13 +10,10 @@ ghost use Rattle.link_file.specs.Answers.{IsEmitRefused};
 ghost use Rattle.link_file.specs.Valued.{HasPlace};
 
 use crate::emitting::calls_of;
-use crate::equates::values_of;
-use crate::seat::seat_of;
-use crate::slots::Slot;
-use crate::value::{place_at, value_in};
 use jump_table::Table;
 use link_meaning::LinkFault;
 use link_program::Program;
+use link_values::{Slot, place_at, seat_of, value_in, values_of};
 use omf_format::{Value, ValueFault};
 use std::alloc::Global;
 use std::marker::Model;
@@ -30,8 +27,8 @@ pub struct Values<'e, 'a> {
 
 impl<'e, 'a> Model for Values<'e, 'a> {
     ghost use Rattle.link_program.specs.Outside.{all_found};
-    ghost use Rattle.link_file.specs.Slots.{rows_of};
-    ghost use Rattle.link_file.specs.Equates.{AreValues};
+    ghost use Rattle.link_values.specs.Slots.{rows_of};
+    ghost use Rattle.link_values.specs.Equates.{AreValues};
     ghost use Rattle.link_file.specs.Valued.{Valued};
 
     ghost Value = { Valued };

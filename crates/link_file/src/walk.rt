@@ -8,19 +8,17 @@ ghost use Rattle.link_meaning.specs.declared.fault.LinkCause.TheVariants as caus
 ghost use Rattle.link_meaning.specs.Member.{Member};
 ghost use Rattle.link_program.specs.Outside.{all_found};
 ghost use Rattle.link_meaning.specs.LinkedCells.{Item, bank_of};
-ghost use Rattle.link_program.specs.Uses.{HasSpelling};
-ghost use Rattle.link_file.specs.Slots.{rows_of};
-ghost use Rattle.link_file.specs.Seats.{IsSeat};
+ghost use Rattle.link_tables.specs.Uses.{HasSpelling};
+ghost use Rattle.link_values.specs.Slots.{rows_of};
+ghost use Rattle.link_values.specs.Seats.{IsSeat};
 ghost use Rattle.link_content.specs.Records.{IsWorth};
 ghost use Rattle.link_file.specs.Walks.{IsWhole, Begins, HasBegun, Puts, StandsBehind, HasStood, PutsMember, Unmade, IsToldAt, IsWalkedTo, IsValueRefused};
 
-use crate::seat::{Seat, seat_of};
-use crate::slots::Slot;
-use crate::value::value_in;
 use jump_table::Table;
 use link_content::{Content, Load, Site, put_record};
 use link_meaning::{LinkCause, LinkFault};
 use link_program::{Program, memory_fault, next_record, size_at};
+use link_values::{Seat, Slot, seat_of, value_in};
 use omf_base::Spot;
 use omf_format::{Value, ValueFault};
 use omf_records::{Rec, SegmentView};

@@ -12,8 +12,8 @@ use Rattle.link_program.specs.declared.program.LinkMember.{LinkMember}
 use Rattle.link_program.specs.Linked.{member_at}
 use Rattle.link_program.specs.OfFiles.{IsOfFiles}
 use Rattle.link_program.specs.Programs.{linked_at, header_at}
-use Rattle.link_file.proofs.FileFacts.{near_of}
-use Rattle.link_file.proofs.LocatedLaws.{behind-append}
+use Rattle.link_values.proofs.FileFacts.{near_of}
+use Rattle.link_values.proofs.LocatedLaws.{behind-append}
 use Rattle.link_map.specs.Standing.{HasMember, HasLoad}
 use Rattle.link_map.proofs.TextLaws.{same_some, some_none, item_there}
 

@@ -14,12 +14,12 @@ use Rattle.link_meaning.specs.Sizes.{size_at, place_behind}
 use Rattle.link_meaning.specs.Member.{Member}
 use Rattle.link_meaning.specs.Defines.{Definition, scope_of, outer_scope, title_of, defined_by, defined_in}
 use Rattle.link_meaning.specs.LinkValues.{place_value, value_in}
-use Rattle.link_program.specs.Coming.{Coming}
+use Rattle.link_tables.specs.Coming.{Coming}
 use Rattle.link_program.specs.Linked.{member_at}
-use Rattle.link_file.specs.Circulars.{defined_so_far}
+use Rattle.link_values.specs.Circulars.{defined_so_far}
 use Rattle.link_file.specs.Valued.{Valued}
-use Rattle.link_file.proofs.CircularLaws.{so_far-more, so_far-all, title_empty}
-use Rattle.link_file.proofs.LocatedLaws.{behind-append}
+use Rattle.link_values.proofs.CircularLaws.{so_far-more, so_far-all, title_empty}
+use Rattle.link_values.proofs.LocatedLaws.{behind-append}
 use Rattle.link_map.specs.MapText.{scope_text, symbol_text, symbol_line}
 use Rattle.link_map.specs.Standing.{HasRecord}
 use Rattle.link_map.proofs.TextLaws.{same_some}

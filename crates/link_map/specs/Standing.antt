@@ -9,7 +9,7 @@ use Rattle.link_meaning.specs.LinkValues.{Told}
 use Rattle.link_meaning.specs.EmitFaults.{IsEmitted}
 use Rattle.link_program.specs.Linked.{member_at}
 use Rattle.link_program.specs.Programs.{header_at}
-use Rattle.link_program.specs.Uses.{HasSpelling}
+use Rattle.link_tables.specs.Uses.{HasSpelling}
 use Rattle.link_file.specs.Valued.{HasPlace}
 use Rattle.link_map.specs.MapText.{map_text}
 

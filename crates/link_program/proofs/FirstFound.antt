@@ -4,10 +4,10 @@ use Rattle.std.specs.Prelude.{slice_get}
 use Rattle.std.proofs.lemmas.List.{length-map}
 use Rattle.link_meaning.specs.Member.{Member}
 use Rattle.link_meaning.specs.Search.{Found, finds}
-use Rattle.link_program.specs.declared.names.Outcome.{Outcome}
-use Rattle.link_program.specs.declared.names.Outcome.TheVariants.{One, Several}
+use Rattle.link_tables.specs.declared.names.Outcome.{Outcome}
+use Rattle.link_tables.specs.declared.names.Outcome.TheVariants.{One, Several}
 use Rattle.link_program.specs.declared.linked.Linked.{Linked}
-use Rattle.link_program.specs.Definitions.{Sees}
+use Rattle.link_tables.specs.Definitions.{Sees}
 use Rattle.link_program.specs.Linked.{origin_of, Holds}
 use Rattle.link_program.specs.Finding.{IsFirstOf, finds_for, found_in}
 

@@ -15,11 +15,11 @@ use Rattle.link_meaning.specs.Defines.{Definition, defined_in, data_title_of}
 use Rattle.link_meaning.specs.Uses.{Use, data_name, uses_of, usings_of}
 use Rattle.link_meaning.specs.Search.{Found, entries_from, entries, data_titles}
 use Rattle.link_meaning.specs.LinkedList.{Asked, asked_from, asked}
-use Rattle.link_program.specs.declared.definitions.Origin.{Origin}
+use Rattle.link_tables.specs.declared.definitions.Origin.{Origin}
 use Rattle.link_program.specs.declared.linked.Linked.{Linked}
-use Rattle.link_program.specs.Names.{Indexes}
-use Rattle.link_program.specs.Definitions.{AreDefinitions, IsOf, founds_in}
-use Rattle.link_program.specs.Uses.{told_use, at_place, HaveShortNames}
+use Rattle.link_tables.specs.Names.{Indexes}
+use Rattle.link_tables.specs.Definitions.{AreDefinitions, IsOf, founds_in}
+use Rattle.link_tables.specs.Uses.{told_use, at_place, HaveShortNames}
 use Rattle.link_program.specs.Linked.{title_of_data, title_in, name_at, names_of, usings_at, is_among, has_using, usings_in, origin_of, place_rows, Holds, GainsTitle, OriginOf, member_at}
 
 -- ---- lists

@@ -19,13 +19,13 @@ use Rattle.link_meaning.specs.Uses.{Use, uses_of, usings_of}
 use Rattle.link_meaning.specs.Search.{Found, step_for, is_step, sees, or_else, decided, outer_steps, steps_of, used_data, entries, data_titles, named, outside, finds_inside, finds, finds_data, only_place}
 use Rattle.link_meaning.specs.LinkedList.{Asked, asked_from, asked, row_for, found_for, unless_found}
 use Rattle.link_meaning.specs.laws.ProgressLaws.{AllNone, none_decided}
-use Rattle.link_program.specs.declared.names.Outcome.{Outcome}
-use Rattle.link_program.specs.declared.names.Outcome.TheVariants.{One}
+use Rattle.link_tables.specs.declared.names.Outcome.{Outcome}
+use Rattle.link_tables.specs.declared.names.Outcome.TheVariants.{One}
 use Rattle.link_program.specs.Linked.{SeesPlace}
 use Rattle.link_program.specs.Opening.{OpensNothing}
 use Rattle.link_program.specs.Wanted.{wanted_at, WantsNothing}
-use Rattle.link_program.specs.Definitions.{founds_in}
-use Rattle.link_program.proofs.NameTables.{bytes_same}
+use Rattle.link_tables.specs.Definitions.{founds_in}
+use Rattle.link_tables.proofs.NameTables.{bytes_same}
 use Rattle.link_program.proofs.SearchLaws.{no_place}
 use Rattle.link_program.proofs.LinkedLaws.{entries_from-snoc, asked_from-snoc, uses_at}
 

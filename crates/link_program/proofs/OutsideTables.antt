@@ -12,15 +12,15 @@ use Rattle.load_meaning.specs.Exports.{Export, exports_of}
 use Rattle.link_meaning.specs.Member.{RuntimeFile, Member, alone, setting_in}
 use Rattle.link_meaning.specs.Defines.{Scope, ForAll}
 use Rattle.link_meaning.specs.Search.{Found, step_for, is_step, named, or_else, entries, outside_of, outside, finds_inside, finds}
-use Rattle.link_program.specs.declared.names.Outcome.{Outcome}
-use Rattle.link_program.specs.declared.names.Outcome.TheVariants.{Nothing, One, Several}
+use Rattle.link_tables.specs.declared.names.Outcome.{Outcome}
+use Rattle.link_tables.specs.declared.names.Outcome.TheVariants.{Nothing, One, Several}
 use Rattle.link_program.specs.declared.outside.Far.{Far}
 use Rattle.link_program.specs.declared.outside.Outside.{Outside}
-use Rattle.link_program.specs.Names.{Named, Row, Indexes, outcome}
-use Rattle.link_program.specs.Definitions.{key_of_found, is_found, numbered, Sees}
+use Rattle.link_tables.specs.Names.{Named, Row, Indexes, outcome}
+use Rattle.link_tables.specs.Definitions.{key_of_found, is_found, numbered, Sees}
 use Rattle.link_program.specs.Outside.{all_found, far_of, IsFar, AreOutside, IsBelow, moved}
-use Rattle.link_program.proofs.DefinitionLaws.{seen_under, numbered-snoc}
-use Rattle.link_program.proofs.Lists.{take_more}
+use Rattle.link_tables.proofs.DefinitionLaws.{seen_under, numbered-snoc}
+use Rattle.link_tables.proofs.Lists.{take_more}
 
 abbrev all_key : List ℕ → Named
 all_key name = record { step = Everyone; name = name }

@@ -15,23 +15,23 @@ use Rattle.link_meaning.specs.laws.SettingLaws.{one_setting}
 use Rattle.link_program.specs.Outside.{IsOutsideOf}
 use Rattle.link_meaning.specs.Layout.{in_load, aligned_from, end_from, load_length, load_names, load_of, offset_of, headers_from, load_headers}
 use Rattle.link_meaning.specs.laws.LayoutLaws.{aligned_from-least, alignment-some}
-use Rattle.link_program.specs.declared.layout.Place.{Place}
-use Rattle.link_program.specs.declared.layout.Layout as laid
+use Rattle.link_tables.specs.declared.layout.Place.{Place}
+use Rattle.link_tables.specs.declared.layout.Layout as laid
 use Rattle.link_program.specs.declared.program.Kept.{Kept}
 use Rattle.link_program.specs.Linked.{origin_of, Holds, OriginOf, member_at}
 use Rattle.link_program.specs.Files.{segment_in, IsAmong, AllAmong}
-use Rattle.link_program.specs.Laid.{has, AllShort, Laid}
+use Rattle.link_tables.specs.Laid.{has, AllShort, Laid}
 use Rattle.link_program.specs.OfFiles.{IsOfFiles}
 use Rattle.link_program.specs.Programs.{runtimes_of, setting_of, member_in, list_of, StandsAt, IsKept, linked_at, header_at}
-use Rattle.link_program.specs.Definitions.{IsOf}
-use Rattle.link_program.specs.declared.definitions.Origin.{Origin}
+use Rattle.link_tables.specs.Definitions.{IsOf}
+use Rattle.link_tables.specs.declared.definitions.Origin.{Origin}
 use Rattle.link_program.specs.declared.program.LinkMember.{LinkMember}
 use Rattle.omf_header.specs.declared.header.Header.{Header}
-use Rattle.link_program.proofs.Lists.{in_at, take_more, drop_at}
-use Rattle.link_program.proofs.NameTables.{bytes_same}
-use Rattle.link_program.proofs.LoadNames.{load_number, bytes_refl}
-use Rattle.link_program.proofs.LaidLaws.{name_there}
-use Rattle.link_program.proofs.LayoutFaults.{load_there, length_short}
+use Rattle.link_tables.proofs.Lists.{in_at, take_more, drop_at}
+use Rattle.link_tables.proofs.NameTables.{bytes_same}
+use Rattle.link_tables.proofs.LoadNames.{load_number, bytes_refl}
+use Rattle.link_tables.proofs.LaidLaws.{name_there}
+use Rattle.link_tables.proofs.LayoutFaults.{load_there, length_short}
 
 -- ---- the list
 

@@ -8,8 +8,8 @@ use Rattle.link_meaning.specs.Member.{Member, setting_in}
 use Rattle.link_meaning.specs.Search.{Found, entries, outside, finds}
 use Rattle.link_meaning.specs.Layout.{load_of, offset_of}
 use Rattle.link_meaning.specs.laws.PlaceFits.{entry_there}
-use Rattle.link_program.specs.Listed.{ToldDefinition}
-use Rattle.link_program.specs.Definitions.{told_definition}
+use Rattle.link_tables.specs.Listed.{ToldDefinition}
+use Rattle.link_tables.specs.Definitions.{told_definition}
 use Rattle.link_program.specs.Linked.{member_at}
 use Rattle.link_program.specs.Resolving.{first_found}
 use Rattle.link_program.specs.Finding.{IsFirstOf, finds_for, found_in}

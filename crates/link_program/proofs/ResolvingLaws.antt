@@ -13,14 +13,14 @@ use Rattle.link_meaning.specs.Uses.{Use, uses_of}
 use Rattle.link_meaning.specs.Search.{Found}
 use Rattle.link_meaning.specs.LinkedList.{Asked, asked_from, asked, found_for}
 use Rattle.link_meaning.specs.LinkFaults.{use_cause}
-use Rattle.link_program.specs.declared.names.Outcome.{Outcome}
-use Rattle.link_program.specs.declared.uses.Use as kept
+use Rattle.link_tables.specs.declared.names.Outcome.{Outcome}
+use Rattle.link_tables.specs.declared.uses.Use as kept
 use Rattle.link_program.specs.declared.linked.Linked.{Linked}
-use Rattle.link_program.specs.Definitions.{Seen}
-use Rattle.link_program.specs.Uses.{use_of, told_use}
+use Rattle.link_tables.specs.Definitions.{Seen}
+use Rattle.link_tables.specs.Uses.{use_of, told_use}
 use Rattle.link_program.specs.Linked.{Holds}
 use Rattle.link_program.specs.Resolving.{IsShape, cause_of, FailsToResolve, IsFirstUse}
-use Rattle.link_program.proofs.Lists.{drop_at}
+use Rattle.link_tables.proofs.Lists.{drop_at}
 use Rattle.link_program.proofs.LinkedLaws.{count_is}
 
 pub shape_of : (T : Found → ℕ → Type 0) (found : List Found) (o : Outcome) → Seen T found o → IsShape found o

@@ -10,14 +10,14 @@ use Rattle.link_meaning.specs.Member.{Member}
 use Rattle.std.specs.Borrow.{Bor}
 use Rattle.link_meaning.specs.Uses.{usings_of}
 use Rattle.link_meaning.specs.Search.{Found, sees, or_else, decided, named, outer_steps, only_place, entries, used_data, finds_inside, finds_data}
-use Rattle.link_program.specs.declared.names.Outcome.{Outcome}
-use Rattle.link_program.specs.declared.names.Outcome.TheVariants.{Nothing, One, Several}
-use Rattle.link_program.specs.declared.names.Names.{Names}
-use Rattle.link_program.specs.declared.definitions.Origin.{Origin}
-use Rattle.link_program.specs.Names.{Named, Row, Indexes, is_row, seen_of, outcome}
-use Rattle.link_program.specs.Definitions.{Seen, Sees, IsOf, is_found, key_of_found}
+use Rattle.link_tables.specs.declared.names.Outcome.{Outcome}
+use Rattle.link_tables.specs.declared.names.Outcome.TheVariants.{Nothing, One, Several}
+use Rattle.link_tables.specs.declared.names.Names.{Names}
+use Rattle.link_tables.specs.declared.definitions.Origin.{Origin}
+use Rattle.link_tables.specs.Names.{Named, Row, Indexes, is_row, seen_of, outcome}
+use Rattle.link_tables.specs.Definitions.{Seen, Sees, IsOf, is_found, key_of_found}
 use Rattle.link_program.specs.Linked.{place_rows, SeesPlace, names_of, used_places}
-use Rattle.link_program.proofs.Lists.{drop_or}
+use Rattle.link_tables.proofs.Lists.{drop_or}
 
 filter_both : (p q : Found → Bool) (xs : List Found) → filter p (filter q xs) ≡ filter (λ x. p x && q x) xs
 filter_both p q [] = refl

@@ -10,13 +10,13 @@ use Rattle.link_meaning.specs.Defines.{Definition, outer_scope, title_of, data_t
 use Rattle.link_meaning.specs.Member.{Member}
 use Rattle.link_meaning.specs.declared.search.Step.TheVariants.{Everyone}
 use Rattle.link_meaning.specs.Search.{Found, step_for, sees, named, data_titles, finds_data}
-use Rattle.link_program.specs.declared.names.Outcome.{Outcome}
-use Rattle.link_program.specs.declared.names.Outcome.TheVariants.{One}
+use Rattle.link_tables.specs.declared.names.Outcome.{Outcome}
+use Rattle.link_tables.specs.declared.names.Outcome.TheVariants.{One}
 use Rattle.link_program.specs.Opening.{OpensNothing}
-use Rattle.link_program.specs.declared.names.Names.{Names}
-use Rattle.link_program.specs.declared.definitions.Origin.{Origin}
-use Rattle.link_program.specs.Names.{Named, Row, Indexes}
-use Rattle.link_program.specs.Definitions.{key_of_found, founds_in}
+use Rattle.link_tables.specs.declared.names.Names.{Names}
+use Rattle.link_tables.specs.declared.definitions.Origin.{Origin}
+use Rattle.link_tables.specs.Names.{Named, Row, Indexes}
+use Rattle.link_tables.specs.Definitions.{key_of_found, founds_in}
 use Rattle.link_program.specs.Linked.{place_rows, GainsTitle, SeesPlace}
 use Rattle.link_program.proofs.OpeningLaws.{none_titled_opens, titled_opens}
 

@@ -1,11 +1,9 @@
--- Names of USING one by one, and what a name finds by them that one segment alone has for itself.
-use Rattle.std.proofs.Common.{◌≡◌, ◌⊎◌, ℕ, suc, ◌+◌, ◌-◌, ◌<◌, length, take, get_or, Bool, true, false, List, [], ◌∷◌, map, Some, None, refl, sym, ap, ◌∙◌, inl, inr, arith}
+-- What a name finds by USING that one segment alone has for itself.
+use Rattle.std.proofs.Common.{◌≡◌, ◌⊎◌, ℕ, suc, ◌+◌, ◌-◌, ◌<◌, Bool, true, false, List, [], ◌∷◌, map, Some, None, refl, sym, ap, ◌∙◌, inl, inr, arith}
 use Rattle.std.specs.Prelude.{filter, slice_get, nat_eq, ◌&&◌, ◌||◌, if◌then◌else◌}
 use Rattle.std.specs.List.{list_any}
 use Rattle.std.specs.Str.{bytes_eq}
-use Rattle.std.specs.Borrow.{Bor}
 use Rattle.std.proofs.lemmas.Bool.{eq-eqb, eqb-true}
-use Rattle.std.proofs.lemmas.List.{take_more, map-append}
 use Rattle.std.proofs.lemmas.List.Folds.{list_any-append}
 use Rattle.std.proofs.lemmas.List.Concat.{flat_map-cons}
 use Rattle.omf_format.specs.Header.{is_private}
@@ -20,31 +18,13 @@ use Rattle.link_meaning.specs.declared.search.Step.{Step}
 use Rattle.link_meaning.specs.declared.search.Step.TheVariants.{Within}
 use Rattle.link_meaning.specs.Search.{Found, sees, or_else, decided, outer_steps, only_place, entries_from, data_titles, named, finds_data}
 use Rattle.link_meaning.specs.Uses.{usings_of}
-use Rattle.link_program.specs.declared.names.Outcome.{Outcome}
-use Rattle.link_program.specs.declared.names.Outcome.TheVariants.{One}
+use Rattle.link_tables.specs.declared.names.Outcome.{Outcome}
+use Rattle.link_tables.specs.declared.names.Outcome.TheVariants.{One}
 use Rattle.link_program.specs.declared.linked.Linked.{Linked}
-use Rattle.link_program.specs.Linked.{used_places, is_among, has_using, names_of, title_of_data, title_in, member_at, Holds, SeesPlace}
-use Rattle.link_program.proofs.NameTables.{bytes_same}
+use Rattle.link_program.specs.Linked.{used_places, is_among, has_using, title_of_data, title_in, member_at, Holds, SeesPlace}
+use Rattle.link_tables.proofs.NameTables.{bytes_same}
 use Rattle.link_program.proofs.SearchLaws.{or_else-nil, one_place, no_place}
 use Rattle.link_program.proofs.LinkedLaws.{each_is}
-
--- ---- names one by one
-
-one_more : (p u b h : Bool) → (if (p && b) then true else ((p && u) || h)) ≡ ((p && (u || (b || false))) || h)
-one_more true true true h = refl
-one_more true true false h = refl
-one_more true false true h = refl
-one_more true false false h = refl
-one_more false u b h = refl
-
--- one name more among those so far
-pub among_more : (p h : Bool) (names : List (Bor (List ℕ))) (k : ℕ) (d : Bor (List ℕ)) (name : List ℕ) → k < length names
-    → (if (p && bytes_eq (get_or names k d).now name) then true else ((p && is_among name (names_of (take k names))) || h)) ≡ ((p && is_among name (names_of (take (k + 1) names))) || h)
-among_more p h names k d name less =
-    one_more p (is_among name (names_of (take k names))) (bytes_eq (get_or names k d).now name) h
-    ∙ ap (λ (b : Bool). (p && b) || h) (sym (list_any-append (λ (n : List ℕ). bytes_eq n name) (names_of (take k names)) ((get_or names k d).now ∷ [])))
-    ∙ ap (λ (l : List (List ℕ)). (p && is_among name l) || h) (sym (map-append (λ (n : Bor (List ℕ)). n.now) (take k names) (get_or names k d ∷ [])))
-    ∙ ap (λ (l : List (Bor (List ℕ))). (p && is_among name (names_of l)) || h) (sym (take_more names k d less))
 
 -- ---- places, of which one has the name
 

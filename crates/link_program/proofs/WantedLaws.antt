@@ -9,16 +9,16 @@ use Rattle.link_meaning.specs.Member.{Member, Offer}
 use Rattle.link_meaning.specs.Uses.{Use}
 use Rattle.link_meaning.specs.Search.{Found}
 use Rattle.link_meaning.specs.LinkedList.{Asked, asked, row_for, found_for, unless_found, wanted_by, wanted}
-use Rattle.link_program.specs.declared.names.Outcome.{Outcome}
-use Rattle.link_program.specs.declared.names.Outcome.TheVariants.{Nothing, One, Several}
-use Rattle.link_program.specs.declared.uses.Use as kept
+use Rattle.link_tables.specs.declared.names.Outcome.{Outcome}
+use Rattle.link_tables.specs.declared.names.Outcome.TheVariants.{Nothing, One, Several}
+use Rattle.link_tables.specs.declared.uses.Use as kept
 use Rattle.link_program.specs.declared.linked.Linked.{Linked}
-use Rattle.link_program.specs.Uses.{use_of, told_use}
+use Rattle.link_tables.specs.Uses.{use_of, told_use}
 use Rattle.link_program.specs.Linked.{Holds}
-use Rattle.link_program.specs.Offers.{IsRow}
+use Rattle.link_tables.specs.Offers.{IsRow}
 use Rattle.link_program.specs.Resolving.{IsShape}
 use Rattle.link_program.specs.Wanted.{wanted_at, WantsNothing, IsWanted}
-use Rattle.link_program.proofs.Lists.{drop_at}
+use Rattle.link_tables.proofs.Lists.{drop_at}
 use Rattle.link_program.proofs.ResolvingLaws.{IsUse, stands, take_more, take_past}
 
 pub row_unless : (found : List Found) (o : Outcome) (row : Option Member) → IsShape found o → o ≡ Nothing → unless_found found row ≡ row

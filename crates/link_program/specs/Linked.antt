@@ -1,26 +1,22 @@
 -- What is kept of the linked list.
-pub use Rattle.link_program.specs.Usings.{names_of, usings_at, is_among, has_using}
-use Rattle.std.specs.Prelude.{◌≡◌, ℕ, zero, suc, ◌++◌, List, [], Option, Some, None, map, drop, slice_get, option_map, nat_eq, if◌then◌else◌}
+pub use Rattle.link_tables.specs.Usings.{names_of, usings_from, usings_at, is_among, has_using}
+use Rattle.std.specs.Prelude.{◌≡◌, ℕ, zero, suc, ◌++◌, List, [], Option, Some, None, map, slice_get, option_map, nat_eq, if◌then◌else◌}
 use Rattle.std.specs.List.{flat_map}
 use Rattle.std.specs.Borrow.{Bor}
 use Rattle.indexmap.specs.IndexMap.{IndexMap, get}
 use Rattle.omf_format.specs.File.{Segment}
 use Rattle.link_meaning.specs.Member.{Member, is_data}
 use Rattle.link_meaning.specs.Defines.{Definition}
-use Rattle.link_meaning.specs.Uses.{Use, data_name, usings_of}
+use Rattle.link_meaning.specs.Uses.{usings_of}
 use Rattle.link_meaning.specs.Search.{Found, entries, data_titles, only_place, finds_data}
 use Rattle.link_meaning.specs.LinkedList.{asked}
-use Rattle.link_program.specs.declared.names.Outcome.{Outcome}
-use Rattle.link_program.specs.declared.names.Names.{Names}
-use Rattle.link_program.specs.declared.definitions.Origin.{Origin}
+use Rattle.link_tables.specs.declared.names.Outcome.{Outcome}
+use Rattle.link_tables.specs.declared.names.Names.{Names}
+use Rattle.link_tables.specs.declared.definitions.Origin.{Origin}
 use Rattle.link_program.specs.declared.linked.Linked.{Linked}
-use Rattle.link_program.specs.Names.{Row, Indexes}
-use Rattle.link_program.specs.Definitions.{Seen, AreDefinitions, IsOf, key_of_found, founds_in}
-use Rattle.link_program.specs.Uses.{told_use, HaveShortNames}
-
--- the names of USING among the uses from a number on, counted from 0
-abbrev pub usings_from : List (ℕ × Use) → ℕ → List (List ℕ)
-usings_from uses from = flat_map (λ u. data_name u.1) (drop from uses)
+use Rattle.link_tables.specs.Names.{Row, Indexes}
+use Rattle.link_tables.specs.Definitions.{Seen, AreDefinitions, IsOf, key_of_found, founds_in}
+use Rattle.link_tables.specs.Uses.{told_use, HaveShortNames}
 
 -- where a member comes from
 abbrev pub origin_of : Member → Origin

@@ -4,12 +4,12 @@ use Rattle.std.specs.List.{AllByRecursion}
 use Rattle.link_meaning.specs.Member.{Member, setting_in}
 use Rattle.link_meaning.specs.Defines.{ForAll}
 use Rattle.link_meaning.specs.Search.{Found, entries, outside}
-use Rattle.link_program.specs.declared.names.Outcome.{Outcome}
-use Rattle.link_program.specs.declared.names.Outcome.TheVariants.{Nothing, One, Several}
+use Rattle.link_tables.specs.declared.names.Outcome.{Outcome}
+use Rattle.link_tables.specs.declared.names.Outcome.TheVariants.{Nothing, One, Several}
 use Rattle.link_program.specs.declared.outside.Far.{Far}
 use Rattle.link_program.specs.declared.outside.Outside.{Outside}
-use Rattle.link_program.specs.Names.{Indexes}
-use Rattle.link_program.specs.Definitions.{numbered}
+use Rattle.link_tables.specs.Names.{Indexes}
+use Rattle.link_tables.specs.Definitions.{numbered}
 
 -- all that a name can find: what the members of a list define, and then what the run-time library files export
 abbrev pub all_found : List Member → List Found

@@ -9,12 +9,12 @@ use Rattle.link_meaning.specs.declared.search.Want.TheVariants.{Data, One, Any}
 use Rattle.link_meaning.specs.Member.{Setting, Member, setting_in, RuntimeFile}
 use Rattle.link_meaning.specs.Search.{Found}
 use Rattle.link_meaning.specs.Layout.{load_of, offset_of, load_headers}
-use Rattle.link_program.specs.declared.definitions.Origin.{Origin}
+use Rattle.link_tables.specs.declared.definitions.Origin.{Origin}
 use Rattle.link_program.specs.declared.program.LinkMember.{LinkMember}
 use Rattle.link_program.specs.declared.program.Kept.{Kept}
 use Rattle.link_program.specs.declared.program.Definition as told
 use Rattle.link_program.specs.Outside.{IsOutsideOf}
-use Rattle.link_program.specs.declared.layout.Place.{Place}
+use Rattle.link_tables.specs.declared.layout.Place.{Place}
 use Rattle.link_program.specs.Linked.{Holds, member_at}
 use Rattle.link_program.specs.Files.{segment_in, AllAmong}
 use Rattle.link_program.specs.OfFiles.{IsOfFiles}

@@ -9,8 +9,8 @@ use Rattle.link_meaning.specs.Member.{Member}
 use Rattle.link_meaning.specs.Search.{Found}
 use Rattle.link_meaning.specs.LinkedList.{Asked, asked, found_for}
 use Rattle.link_meaning.specs.LinkFaults.{use_cause}
-use Rattle.link_program.specs.declared.names.Outcome.{Outcome}
-use Rattle.link_program.specs.declared.names.Outcome.TheVariants.{Nothing, One, Several}
+use Rattle.link_tables.specs.declared.names.Outcome.{Outcome}
+use Rattle.link_tables.specs.declared.names.Outcome.TheVariants.{Nothing, One, Several}
 use Rattle.link_program.specs.declared.linked.Linked.{Linked}
 use Rattle.link_program.specs.Linked.{Holds}
 

@@ -23,3 +23,10 @@ pub fn segment_in<'s, 'a>(
         None => None,
     }
 }
+
+/// LENGTH, which bounds the cells of a sound body.
+pub fn length_of(segment: &SegmentView) -> u32
+    ensures { result ≡ (segment.now).header.length }
+{
+    segment.header.length
+}

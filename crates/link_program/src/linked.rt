@@ -10,13 +10,13 @@ ghost use Rattle.link_meaning.specs.Uses.{data_name, usings_of};
 ghost use Rattle.link_meaning.specs.Search.{Found, entries, data_titles, decided, outer_steps, named, sees, finds_inside, finds, finds_data};
 ghost use Rattle.link_meaning.specs.First.{HasNone};
 ghost use Rattle.link_meaning.specs.LinkedList.{asked, found_for, wanted_by};
-ghost use Rattle.link_program.specs.Names.{Row, Indexes, key_of};
+ghost use Rattle.link_tables.specs.Names.{Row, Indexes, key_of};
 ghost use Rattle.link_program.specs.Finding.{IsFirstOf, found_in};
 ghost use Rattle.link_program.specs.Resolving.{IsShape, IsHeld, FailsToResolve, IsFirstUse, cause_of};
-ghost use Rattle.link_program.specs.Definitions.{AreDefinitions, AreHolders, IsOf, Sees, founds_in, told_definition};
-ghost use Rattle.link_program.specs.Listed.{definition_of};
-ghost use Rattle.link_program.specs.Uses.{use_of};
-ghost use Rattle.link_program.specs.Offers.{AreOffers, IsRow};
+ghost use Rattle.link_tables.specs.Definitions.{AreDefinitions, AreHolders, IsOf, Sees, founds_in, told_definition};
+ghost use Rattle.link_tables.specs.Listed.{definition_of};
+ghost use Rattle.link_tables.specs.Uses.{use_of};
+ghost use Rattle.link_tables.specs.Offers.{AreOffers, IsRow};
 ghost use Rattle.link_program.specs.Wanted.{WantsNothing, IsWanted};
 ghost use Rattle.link_program.specs.Linked.{Holds, GainsTitle, SeesPlace, title_of_data, title_in, name_at, names_of, usings_from, used_places, OriginOf, member_at};
 ghost use Rattle.link_meaning.specs.declared.search.Step.TheVariants.{Within, Everyone};
@@ -25,16 +25,13 @@ ghost use Rattle.link_meaning.specs.LinkedList.{Asked};
 ghost use Rattle.link_program.specs.Opening.{OpensNothing};
 ghost use Rattle.link_program.specs.Outside.{IsTable, IsOutsideOf, all_found};
 
-use crate::body::add_body;
-use crate::definitions::{Defined, Definitions, Origin, outer_step};
-use crate::names::{Key, Names, Outcome};
-use crate::offers::Offers;
 use crate::outside::{Outside, moved};
-use crate::segname::title;
-use crate::uses::{Use, Uses};
-use crate::usings::Usings;
 use indexmap::IndexMap;
 use link_meaning::{LinkCause, Step, Want};
+use link_tables::{
+    Defined, Definitions, Key, Names, Offers, Origin, Outcome, Use, Uses, Usings, add_body,
+    outer_step, title,
+};
 use omf_records::SegmentView;
 use std::alloc::{AllocError, Global};
 

@@ -6,11 +6,11 @@ ghost use Rattle.load_meaning.specs.Exports.{exports_of};
 ghost use Rattle.load_tables.specs.View.{seen_export};
 ghost use Rattle.link_meaning.specs.Member.{RuntimeFile};
 ghost use Rattle.link_meaning.specs.Search.{Found, named, outside_of};
-ghost use Rattle.link_program.specs.Definitions.{Sees};
+ghost use Rattle.link_tables.specs.Definitions.{Sees};
 ghost use Rattle.link_program.specs.Outside.{AreOutside, IsTable, IsFar, IsBelow, far_of, moved};
 
-use crate::names::{Key, Names, Outcome};
 use link_meaning::Step;
+use link_tables::{Key, Names, Outcome};
 use omf_cells::{Export, LoadFile};
 use std::alloc::{AllocError, Global};
 

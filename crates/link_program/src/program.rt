@@ -15,13 +15,12 @@ ghost use Rattle.link_meaning.specs.Uses.{Use, uses_of};
 ghost use Rattle.link_meaning.specs.LinkFaults.{Given, IsResolved};
 ghost use Rattle.link_program.specs.Programs.{IsKept, linked_at, header_at, symbol_of, told_symbol, FindsOnly, StandsInInput};
 
-use crate::definitions::Defined;
 use crate::files::segment_in;
-use crate::layout::Place;
 use crate::linked::Linked;
 use crate::outside::{Far, Outside};
 use lib_dict::{Member, rows_are_laid_out};
 use link_meaning::LinkForm;
+use link_tables::{Defined, Place};
 use omf_base::Name;
 use omf_cells::LoadFile;
 use omf_header::Header;

@@ -1,27 +1,22 @@
 -- What inputs add to the list and to the offers.
-use Rattle.std.proofs.Common.{◌≡◌, ◌⊎◌, inl, inr, ℕ, zero, suc, ◌+◌, ◌≤◌, Bool, true, false, List, [], ◌∷◌, ◌++◌, length, map, take, Option, Some, None, Ok, Err, refl, sym, ap, subst, ◌∙◌, append_assoc, append-nil, arith}
-use Rattle.std.specs.Prelude.{slice_get, option_map, if◌then◌else◌, ◌==◌}
+use Rattle.std.proofs.Common.{◌≡◌, ◌⊎◌, inl, inr, ℕ, zero, suc, ◌+◌, Bool, true, false, List, [], ◌∷◌, ◌++◌, length, map, take, Some, None, Ok, Err, sym, ap, subst, ◌∙◌, append_assoc, append-nil, arith}
+use Rattle.std.specs.Prelude.{slice_get, if◌then◌else◌}
 use Rattle.std.specs.List.{filter_map}
-use Rattle.std.specs.Option.{option_or}
 use Rattle.std.proofs.lemmas.List.{map-append, length-map}
-use Rattle.std.proofs.lemmas.Bool.{eqb-true}
 use Rattle.omf_format.specs.declared.fault.FileFault.{FileFault}
 use Rattle.omf_format.specs.File.{Segment, IsFile, IsFirstFault}
 use Rattle.omf_format.specs.laws.FileLaws.{file_same, no_file}
-use Rattle.link_meaning.specs.declared.fault.LinkCause.{LinkCause}
-use Rattle.link_meaning.specs.declared.fault.LinkCause.TheVariants.{BadLength, BadLibrary}
+use Rattle.link_meaning.specs.declared.fault.LinkCause.TheVariants.{BadLibrary}
 use Rattle.link_meaning.specs.First.{IsIn}
-use Rattle.link_meaning.specs.Sizes.{body_size}
 use Rattle.link_meaning.specs.Member.{Row, Input, Member, Offer, is_library, members_from, objects_from, objects, offer_of, offers_from, offers, Setting}
 use Rattle.link_meaning.specs.Dictionary.{rows_of}
-use Rattle.link_meaning.specs.LinkFaults.{segment_fault, segments_fault, length_fault, records_fault, type_fault, with_place, OfDictionary, IsInput}
-use Rattle.omf_format.specs.Header.{alignment_of}
+use Rattle.link_meaning.specs.LinkFaults.{segments_fault, OfDictionary, IsInput}
 use Rattle.link_meaning.specs.declared.fault.LinkFault.{LinkFault}
 use Rattle.lib_dict.specs.DictionaryLayout.{AreRows, RowsAreLaidOut}
 use Rattle.lib_dict.specs.Library.{LibraryRow, told_row, HasRows, IsFalseAt}
 use Rattle.link_resolve.specs.declared.gather.Gathered as gathered
 use Rattle.link_program.specs.Linked.{Holds}
-use Rattle.link_program.specs.Offers.{AreOffers}
+use Rattle.link_tables.specs.Offers.{AreOffers}
 use Rattle.link_program.specs.Inputs.{IsSoundInput}
 use Rattle.link_resolve.specs.Reading.{IsFileRefused}
 use Rattle.link_resolve.specs.Gathered as shown
@@ -46,43 +41,6 @@ members_more setting file n (x ∷ list) (suc k) s e =
     let number : n + 1 + k ≡ n + suc k = omega arith in
     ap (λ (i : ℕ). members_from setting file n (take i (x ∷ list))) next
     ∙ ap (λ (l : List Member). member_as setting file n x ∷ l) (members_more setting file (n + 1) list k s e ∙ ap (λ (i : ℕ). members_from setting file (n + 1) (take k list) ++ member_as setting file i s ∷ []) number)
-
--- ---- LENGTH bounds the body
-
-or_none : {A : Type 0} → (a b : Option A) → option_or a b ≡ None → (a ≡ None) × (b ≡ None)
-or_none None b e = (refl, e)
-or_none (Some x) b e = absurd cc
-
-map_none : {A B : Type 0} → (f : A → B) (a : Option A) → option_map f a ≡ None → a ≡ None
-map_none f None e = refl
-map_none f (Some x) e = absurd cc
-
-segment_sound : (first : Bool) (s : Segment) → segment_fault first s ≡ None → length_fault s ≡ None
-unfolding segment_fault
-segment_sound first s e =
-    let a = or_none (option_map (with_place s.start) (type_fault first s.fields)) (option_or (records_fault (alignment_of s.fields.align) s.records) (length_fault s)) e in
-    (or_none (records_fault (alignment_of s.fields.align) s.records) (length_fault s) a.1).1
-
-each_sound : (number : ℕ) (list : List Segment) (k : ℕ) (s : Segment) → segments_fault number list ≡ None → slice_get list k ≡ Some s → length_fault s ≡ None
-each_sound number [] k s none e = absurd cc
-each_sound number (x ∷ list) zero s none e =
-    let same : x ≡ s = cc in
-    let a = or_none (option_map (λ (found : LinkCause × ℕ). (number, found)) (segment_fault (number == 1) x)) (segments_fault (number + 1) list) none in
-    subst (λ (y : Segment). length_fault y ≡ None) same (segment_sound (number == 1) x (map_none (λ (found : LinkCause × ℕ). (number, found)) (segment_fault (number == 1) x) a.0))
-each_sound number (x ∷ list) (suc k) s none e =
-    let a = or_none (option_map (λ (found : LinkCause × ℕ). (number, found)) (segment_fault (number == 1) x)) (segments_fault (number + 1) list) none in
-    each_sound (number + 1) list k s a.1 e
-
-length_is : (s : Segment) → length_fault s ≡ None → s.fields.length ≡ body_size s + s.fields.res_spc
-length_is s e = settle (s.fields.length == body_size s + s.fields.res_spc) refl e
-  where
-    settle : (b : Bool) → (s.fields.length == body_size s + s.fields.res_spc) ≡ b → (if b then None else Some (with_place s.start BadLength)) ≡ None → s.fields.length ≡ body_size s + s.fields.res_spc
-    settle true is none = eqb-true s.fields.length (body_size s + s.fields.res_spc) is
-    settle false is none = absurd cc
-
--- a sound segment's body is no longer than LENGTH says
-pub body_short : (list : List Segment) (k : ℕ) (s : Segment) → segments_fault 1 list ≡ None → slice_get list k ≡ Some s → body_size s ≤ s.fields.length
-body_short list k s none e = let is = length_is s (each_sound 1 list k s none e) in omega (arith, is)
 
 -- ---- a library's rows
 

@@ -7,7 +7,7 @@ use Rattle.std.proofs.lemmas.Option.{slice_get_read, slice_get-map}
 use Rattle.lib_dict.specs.declared.member.Member.{Member}
 use Rattle.link_resolve.specs.Resolved.{total_size}
 use Rattle.link_resolve.specs.Runtimes.{files_of}
-use Rattle.link_program.proofs.Lists.{take_more}
+use Rattle.link_tables.proofs.Lists.{take_more}
 use Rattle.link_resolve.proofs.RuntimeLaws.{file_at}
 
 pub all_more : {A : Type 0} → (P : A → Type 0) (xs : List A) (k : ℕ) (x : A) → slice_get xs k ≡ Some x → P x → AllByRecursion P (take k xs) → AllByRecursion P (take (k + 1) xs)

@@ -1,7 +1,6 @@
 pub mod SegmentsLeft
 pub mod FileRefusals
 pub mod LibraryLaws
-pub mod GrowLaws
 pub mod GatherLaws
 pub mod InputLaws
 pub mod PartLaws

@@ -16,15 +16,15 @@ use Rattle.link_meaning.specs.Member.{Row, Offer, offer_of, Setting}
 use Rattle.link_meaning.specs.Defines.{Definition, outer_scope, title_of, data_title_of}
 use Rattle.link_meaning.specs.LinkedList.{has_title}
 use Rattle.lib_dict.specs.Library.{LibraryRow, told_row}
-use Rattle.link_program.specs.declared.definitions.Origin.{Origin}
-use Rattle.link_program.specs.declared.offers.Offers.{Offers}
-use Rattle.link_program.specs.Offers.{told_origin, is_titled, IsOfferOf, AreOffers}
+use Rattle.link_tables.specs.declared.definitions.Origin.{Origin}
+use Rattle.link_tables.specs.declared.offers.Offers.{Offers}
+use Rattle.link_tables.specs.Offers.{told_origin, is_titled, IsOfferOf, AreOffers}
 use Rattle.std.proofs.lemmas.Option.{slice_get-map}
 use Rattle.std.proofs.lemmas.List.{length-map}
 use Rattle.link_resolve.specs.Libraries.{StartsAscend}
 use Rattle.link_program.specs.Inputs.{StandsIn, AllStand}
 use Rattle.link_program.proofs.RowLaws.{row_place, offer_with, offer_same, offer_is}
-use Rattle.link_program.proofs.Lists.{in_at, take_more, take_all}
+use Rattle.link_tables.proofs.Lists.{in_at, take_more, take_all}
 
 -- ---- starts
 

@@ -12,10 +12,10 @@ use Rattle.link_meaning.specs.LinkedList.{Asked, asked}
 use Rattle.link_meaning.specs.LinkFaults.{Given, nowhere, parts_of, HasPartFault, IsSetting, AreInputs, IsProgram, HasUseFault, HasLayoutFault, Phase, Reading, Objects, Names, Layout, HasPhaseFault, IsFirstResolveFault, IsResolved}
 use Rattle.link_meaning.specs.laws.LinkFaultLaws.{inputs_same, setting_same, one_program}
 use Rattle.link_resolve.proofs.PartLaws.{none_parts}
-use Rattle.link_program.specs.declared.definitions.Origin.{Origin}
-use Rattle.link_program.specs.Definitions.{IsOf}
+use Rattle.link_tables.specs.declared.definitions.Origin.{Origin}
+use Rattle.link_tables.specs.Definitions.{IsOf}
 use Rattle.link_program.specs.Resolving.{FailsToResolve, IsFirstUse}
-use Rattle.link_program.specs.Laid.{layout_checks}
+use Rattle.link_tables.specs.Laid.{layout_checks}
 
 -- ---- the phases
 

@@ -20,29 +20,29 @@ use Rattle.link_meaning.specs.LinkFaults.{Given, HasBytes, MayHave, nowhere, IsI
 use Rattle.link_resolve.specs.declared.gather.Gathered as gathered
 use Rattle.link_resolve.specs.Reading.{IsFileRefused}
 use Rattle.omf_header.specs.View.{fields}
-use Rattle.link_program.specs.declared.layout.Layout as laid
+use Rattle.link_tables.specs.declared.layout.Layout as laid
 use Rattle.link_program.specs.declared.program.Kept.{Kept}
 use Rattle.link_resolve.specs.Gathered.{IsGathered}
 use Rattle.link_program.specs.Files.{AllAmong}
 use Rattle.link_program.specs.Programs.{setting_of, IsKept, runtimes_of}
 use Rattle.link_program.specs.Linked.{Holds}
-use Rattle.link_resolve.specs.Grown.{MayGrow, HasGrown}
-use Rattle.link_program.specs.Laid.{layout_checks, Laid, AllShort, AreHeaders}
+use Rattle.link_program.specs.Grown.{MayGrow, HasGrown}
+use Rattle.link_tables.specs.Laid.{layout_checks, Laid, AllShort, AreHeaders}
 use Rattle.link_resolve.specs.Resolved.{all_bytes, total_size, AreFew, FewGiven, HasGathered, HasObjects, setting_as, IsReadAll, setting_grown, IsListOf, IsLaidOut, IsInputFault, IsUseFault, IsRefused}
 use Rattle.link_resolve.specs.Runtimes.{files_of, AreRead, IsFirstFile, IsFirstRefused}
 use Rattle.link_program.specs.Outside.{AreOutside, IsOutsideOf}
 use Rattle.link_program.specs.declared.outside.Outside.{Outside}
 use Rattle.link_resolve.specs.declared.resolving.Read.{Read}
 use Rattle.link_resolve.specs.declared.resolving.Grown.{Grown}
-use Rattle.link_program.proofs.Lists.{drop_at, empty, take_more, take_all}
+use Rattle.link_tables.proofs.Lists.{drop_at, empty, take_more, take_all}
 use Rattle.link_program.proofs.LinkedLaws.{count_is}
 use Rattle.link_program.proofs.AmongLaws.{objects_among, offers_among, offers_sound, files_sound}
 use Rattle.link_resolve.proofs.FewLaws.{few_more, all_fit}
-use Rattle.link_program.proofs.LayoutFaults.{loads_are, all_headers}
+use Rattle.link_tables.proofs.LayoutFaults.{loads_are, all_headers}
 use Rattle.link_program.proofs.ProgramLaws.{kept_is}
 use Rattle.link_resolve.proofs.InputLaws.{inputs_more}
 use Rattle.link_resolve.proofs.PartLaws.{first_input, first_runtime}
-use Rattle.link_resolve.proofs.GrowLaws.{setting_is}
+use Rattle.link_program.proofs.GrowLaws.{setting_is}
 use Rattle.link_resolve.proofs.PhaseLaws.{at_reading, at_objects, at_names, at_layout, all_sound}
 
 -- ---- reading

@@ -23,7 +23,7 @@ use Rattle.link_program.specs.declared.outside.Outside.{Outside}
 use Rattle.link_program.specs.Outside.{AreOutside}
 use Rattle.link_resolve.specs.Runtimes.{files_of, told_cause, IsFileRefused, IsFirstRefused}
 use Rattle.link_program.specs.Programs.{runtimes_of}
-use Rattle.link_program.proofs.Lists.{drop_at, take_more}
+use Rattle.link_tables.proofs.Lists.{drop_at, take_more}
 
 -- want of memory has no cause that is told, and no other cause is told as that
 pub not_memory : (cause : LoadCause) (told : LinkCause) → told_cause cause ≡ Some told → told ≡ causes.Memory → ⊥

@@ -5,7 +5,7 @@ use Rattle.std.specs.Option.{option_or}
 use Rattle.omf_format.specs.File.{Segment}
 use Rattle.link_meaning.specs.declared.fault.LinkCause.{LinkCause}
 use Rattle.link_meaning.specs.LinkFaults.{segment_fault, segments_fault}
-use Rattle.link_program.proofs.Lists.{drop_at}
+use Rattle.link_tables.proofs.Lists.{drop_at}
 
 -- the first k have none, so the first is that of the others
 pub record SegmentsLeft (list : List Segment) (k : ℕ) : Type 0 where

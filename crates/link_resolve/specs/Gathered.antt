@@ -8,7 +8,7 @@ use Rattle.link_meaning.specs.Member.{Row, Input, Setting, Member, Offer, is_lib
 use Rattle.link_meaning.specs.Dictionary.{rows_of}
 use Rattle.link_resolve.specs.declared.gather.Gathered as kept
 use Rattle.link_program.specs.Linked.{Holds}
-use Rattle.link_program.specs.Offers.{AreOffers}
+use Rattle.link_tables.specs.Offers.{AreOffers}
 use Rattle.link_resolve.specs.Libraries.{StartsAscend}
 use Rattle.link_program.specs.Inputs.{AllStand, IsSoundInput}
 

@@ -10,7 +10,7 @@ use Rattle.link_meaning.specs.Member.{Input, Setting, Member, objects}
 use Rattle.link_meaning.specs.LinkedList.{asked}
 use Rattle.link_meaning.specs.LinkFaults.{Given, MayHave, AreInputs, HasFileFault, HasUseFault, IsFirstResolveFault, IsResolved}
 use Rattle.link_resolve.specs.declared.gather.Gathered as gathered
-use Rattle.link_program.specs.declared.layout.Layout as laid
+use Rattle.link_tables.specs.declared.layout.Layout as laid
 use Rattle.link_program.specs.Memory.{memory_fault}
 use Rattle.link_resolve.specs.declared.resolving.Read.{Read}
 use Rattle.link_resolve.specs.declared.resolving.Grown.{Grown}
@@ -19,8 +19,8 @@ use Rattle.link_resolve.specs.Runtimes.{files_of, AreRead}
 use Rattle.link_program.specs.Programs.{runtimes_of}
 use Rattle.std.specs.List.{AllByRecursion}
 use Rattle.link_resolve.specs.Gathered.{IsGathered}
-use Rattle.link_resolve.specs.Grown.{HasGrown}
-use Rattle.link_program.specs.Laid.{Laid, AllShort}
+use Rattle.link_program.specs.Grown.{HasGrown}
+use Rattle.link_tables.specs.Laid.{Laid, AllShort}
 
 -- the bytes of files that are held
 abbrev pub all_bytes : List (Vec ℕ Global) → List (List ℕ)

@@ -7,7 +7,7 @@ ghost use Rattle.omf_records.specs.Segments.{IsSound, shown};
 ghost use Rattle.omf_records.specs.View.{view};
 ghost use Rattle.link_meaning.specs.Sizes.{body_size};
 ghost use Rattle.link_meaning.specs.LinkFaults.{type_fault, record_fault, records_fault, length_fault, segment_fault, segments_fault};
-ghost use Rattle.link_program.specs.Sizes.{in_32_bits};
+ghost use Rattle.link_tables.specs.Sizes.{in_32_bits};
 
 use link_meaning::LinkCause;
 use link_program::{next_record, size_behind};

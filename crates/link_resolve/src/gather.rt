@@ -9,7 +9,7 @@ ghost use Rattle.link_meaning.specs.Member.{Input, Setting, Member, is_library, 
 ghost use Rattle.link_meaning.specs.LinkFaults.{segments_fault, IsInput, AreInputs};
 ghost use Rattle.link_resolve.specs.Reading.{IsFileRefused};
 ghost use Rattle.link_program.specs.Linked.{Holds};
-ghost use Rattle.link_program.specs.Offers.{AreOffers};
+ghost use Rattle.link_tables.specs.Offers.{AreOffers};
 ghost use Rattle.link_program.specs.Inputs.{AllStand, IsSoundInput};
 ghost use Rattle.link_resolve.specs.Gathered.{IsGathered, AreRows, AddsInput};
 
@@ -17,7 +17,7 @@ use crate::input::{fault_in, read_segments};
 use crate::library::add_rows;
 use lib_dict::{DictFault, Dictionary, dictionary_of_list, rows_are_laid_out};
 use link_meaning::{LinkCause, LinkFault};
-use link_program::{Linked, Offers, Origin, memory_fault};
+use link_program::{Linked, Offers, Origin, length_of, memory_fault};
 use omf_records::{SegmentList, SegmentView};
 use std::alloc::{AllocError, Global};
 
@@ -38,13 +38,6 @@ fn is_library(list: &SegmentList) -> bool
         Some(segment) => segment.header.kind.form() == 0x08,
         None => false,
     }
-}
-
-/// LENGTH, which bounds the cells of a sound body.
-pub fn length_of(segment: &SegmentView) -> u32
-    ensures { result ≡ (segment.now).header.length }
-{
-    segment.header.length
 }
 
 /// Adds the segments of the object file with this number.

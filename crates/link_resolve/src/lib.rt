@@ -6,7 +6,6 @@ mod bytes;
 mod checks;
 mod gather;
 mod given;
-mod grow;
 mod input;
 mod library;
 mod resolving;

@@ -9,7 +9,7 @@ ghost use Rattle.lib_dict.specs.Rows.{seen_row};
 ghost use Rattle.link_meaning.specs.Member.{Offer, offer_of, Setting};
 ghost use Rattle.link_meaning.specs.Member as told;
 ghost use Rattle.link_meaning.specs.LinkedList.{has_title};
-ghost use Rattle.link_program.specs.Offers.{AreOffers};
+ghost use Rattle.link_tables.specs.Offers.{AreOffers};
 ghost use Rattle.link_resolve.specs.Libraries.{StartsAscend, IsTold, AreTold};
 ghost use Rattle.link_program.specs.Inputs.{StandsIn, AllStand};
 

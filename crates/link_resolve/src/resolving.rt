@@ -11,18 +11,19 @@ ghost use Rattle.link_meaning.specs.LinkedList.{asked};
 ghost use Rattle.link_meaning.specs.LinkFaults.{Given, HasBytes, MayHave, nowhere, plain, HasUseFault, IsResolved};
 ghost use Rattle.link_program.specs.Linked.{Holds};
 ghost use Rattle.link_program.specs.Files.{AllAmong};
-ghost use Rattle.link_program.specs.Laid.{Laid};
+ghost use Rattle.link_tables.specs.Laid.{Laid};
 ghost use Rattle.link_program.specs.Outside.{IsTable, IsOutsideOf};
 ghost use Rattle.link_program.specs.Resolving.{IsHeld};
 ghost use Rattle.link_resolve.specs.Resolved.{all_bytes, given_of, HavePaths, total_size, AreFew, FewGiven, HasGathered, IsReadAll, IsListOf, IsLaidOut, IsInputFault, IsUseFault, IsRefused};
 
 use crate::bytes::{know_bytes, know_members};
 use crate::gather::Gathered;
-use crate::grow::grow;
 use crate::runtimes::{Runtimes, read_runtimes};
 use lib_dict::Member;
 use link_meaning::{LinkCause, LinkFault, LinkForm};
-use link_program::{Kept, Layout, Linked, Outside, Program, headers, memory_fault, segment_in};
+use link_program::{
+    Kept, Layout, Linked, Outside, Program, grow, headers, memory_fault, segment_in,
+};
 use omf_base::{Name, NameFault, Spot};
 use omf_records::SegmentList;
 use std::alloc::{AllocError, Global};

@@ -1,5 +1,2 @@
 pub mod Transcripts
-pub mod ScriptWords
 pub mod UnderWay
-pub mod Reading
-pub mod Loads

@@ -11,12 +11,14 @@ use Rattle.iigs_meaning.specs.Blocks.{new_slots}
 use Rattle.loader_machine.specs.Replies.{reply_line}
 use Rattle.loader_machine.specs.Script.{IsCommand, AreCommands}
 use Rattle.loader_agrees.specs.Agrees.{Loaded, Agrees}
-use Rattle.loader_script.specs.declared.run.Stop.{Stop}
-use Rattle.loader_script.specs.declared.run.Stop.TheVariants as stop
-use Rattle.loader_script.specs.Replied.{AreReplies, IsUnanswered}
+use Rattle.loader_replies.specs.declared.command.Stop.{Stop}
+use Rattle.loader_replies.specs.declared.command.Stop.TheVariants as stop
+use Rattle.loader_replies.specs.Replied.{AreReplies, IsUnanswered}
 use Rattle.loader_script.specs.Run.{HandsOut, HasRunAll, StopsShort}
-use Rattle.loader_script.specs.Running.{HasPrinted, IsAnswer, IsFirstLoader, HasAnswered, IsUnderWay, HasFinished}
-use Rattle.loader_script.proofs.Transcripts.{OneTold, AllTold, idle_reads, answered, more_replied, forget, printed_more, with_text-none}
+use Rattle.loader_replies.specs.Answered.{HasPrinted, IsAnswer, IsFirstLoader, HasAnswered}
+use Rattle.loader_script.specs.Running.{IsUnderWay, HasFinished}
+use Rattle.loader_replies.proofs.OneCommand.{OneTold, idle_reads, answered}
+use Rattle.loader_script.proofs.Transcripts.{AllTold, more_replied, forget, printed_more, with_text-none}
 
 -- what stands for the loader before there is one
 abbrev pub no_loader : Loaded

@@ -8,7 +8,7 @@ use Rattle.loader_machine.specs.State.{Machine}
 use Rattle.loader_machine.specs.Replies.{reply_line, replies_text}
 use Rattle.loader_machine.specs.Script.{IsScript, HasScriptFault}
 use Rattle.loader_agrees.specs.Agrees.{Loaded, Agrees}
-use Rattle.loader_script.specs.Replied.{AreReplies, IsUnanswered}
+use Rattle.loader_replies.specs.Replied.{AreReplies, IsUnanswered}
 use Rattle.loader_script.specs.declared.run.ScriptEnd.{ScriptEnd}
 use Rattle.loader_script.specs.declared.run.ScriptEnd.TheVariants.{Done, Refused, CannotPrint, Memory}
 

@@ -1,7 +1,6 @@
 //! Scripts of the System Loader, run: the commands that a text was read into are given to a loader, each reply a printed line.
 #![tactic(auto)]
 
-mod replies;
 mod run;
 
 pub use loader_machine::{ScriptCause, ScriptFault};

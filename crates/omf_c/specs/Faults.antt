@@ -8,9 +8,9 @@ use Rattle.link_meaning.specs.declared.fault.LinkFault.{LinkFault}
 use Rattle.asm_meaning.specs.declared.faults.AsmFault.{AsmFault}
 use Rattle.loader_machine.specs.Replies.{cause_text}
 use Rattle.omf_making.specs.FileCauses.{cause_name}
-use Rattle.omf_cli.specs.LibCauses.{lib_cause_name}
+use Rattle.omf_commands.specs.LibCauses.{lib_cause_name}
 use Rattle.omf_cli.specs.LinkCauses.{link_cause_name}
-use Rattle.omf_cli.specs.AsmCauses.{asm_cause_name}
+use Rattle.omf_commands.specs.AsmCauses.{asm_cause_name}
 use Rattle.omf_c.specs.declared.fault.OmfFault.{OmfFault}
 use Rattle.omf_c.specs.Causes.{name_of}
 

@@ -3,9 +3,9 @@
 ghost use Rattle.std.specs.Prelude.{◌≡◌, ◌≢◌, Some, MatchOption};
 ghost use Rattle.omf_making.specs.FileCauses.{cause_name};
 ghost use Rattle.loader_machine.specs.Replies.{cause_text};
-ghost use Rattle.omf_cli.specs.LibCauses.{lib_cause_name};
+ghost use Rattle.omf_commands.specs.LibCauses.{lib_cause_name};
 ghost use Rattle.omf_cli.specs.LinkCauses.{link_cause_name};
-ghost use Rattle.omf_cli.specs.AsmCauses.{asm_cause_name};
+ghost use Rattle.omf_commands.specs.AsmCauses.{asm_cause_name};
 ghost use Rattle.omf_format.specs.declared.fault.FileCause.TheVariants as file_causes;
 ghost use Rattle.load_meaning.specs.declared.load.LoadCause.TheVariants as load_causes;
 ghost use Rattle.lib_dict.specs.declared.fault.LibCause.TheVariants as lib_causes;

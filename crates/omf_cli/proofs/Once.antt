@@ -7,7 +7,7 @@ use Rattle.loader_agrees.specs.Agrees.{Loaded}
 use Rattle.omf_making.specs.Made.{Made}
 use Rattle.omf_io.specs.Outside.{Outside}
 use Rattle.omf_making.specs.Making.{MakesRun}
-use Rattle.omf_cli.specs.Script.{ScriptRun}
+use Rattle.omf_commands.specs.Script.{ScriptRun}
 
 risen-is : (more count : ℕ) → count + more ≤ 2 ^ 64 - 1 → risen more count ≡ count + more
 risen-is zero count small = omega arith

@@ -8,7 +8,7 @@ use Rattle.link_resolve.specs.Runtimes.{files_of}
 use Rattle.omf_making.specs.Words.{words_of}
 use Rattle.omf_making.specs.Made.{all_bytes}
 use Rattle.omf_cli.specs.Link.{under_paths}
-use Rattle.omf_cli.proofs.Libraries.{drop_word}
+use Rattle.omf_commands.proofs.Libraries.{drop_word}
 
 -- the files under the paths that were passed, and those that are left, are all
 pub record Passed (paths : List (String Global)) (files : List (Vec ℕ Global)) (i : ℕ) (members : List Member) (rest : List (Vec ℕ Global)) : Type 0 where

@@ -1,16 +1,6 @@
-pub mod AsmCauses
-pub mod Assemble
 pub mod LinkCauses
 pub mod Link
-pub mod Dump
-pub mod LibCauses
-pub mod Library
-pub mod ListCauses
-pub mod Listings
-pub mod Script
 pub mod Stress
-pub mod CompactCauses
-pub mod Compact
 pub mod Tool
 pub mod Laws
 pub mod Loads

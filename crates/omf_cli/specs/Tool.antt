@@ -9,14 +9,14 @@ use Rattle.omf_making.specs.Form.{Form, Asm, Link, Dump, Run, Lib, Stress, Rtl, 
 use Rattle.omf_making.specs.Lines.{usage_line}
 use Rattle.omf_making.specs.Printing.{Ends}
 use Rattle.omf_making.specs.Making.{MakesRun, CanMake}
-use Rattle.omf_cli.specs.Assemble.{AsmMakes}
-use Rattle.omf_cli.specs.Dump.{DumpMakes}
+use Rattle.omf_commands.specs.Assemble.{AsmMakes}
+use Rattle.omf_commands.specs.Dump.{DumpMakes}
 use Rattle.omf_cli.specs.Link.{LinkMakes, given_alone, given_with}
-use Rattle.omf_cli.specs.Listings.{ListMakes}
-use Rattle.omf_cli.specs.Library.{LibMakes}
-use Rattle.omf_cli.specs.Script.{ScriptRun, CanRun}
+use Rattle.omf_commands.specs.Listings.{ListMakes}
+use Rattle.omf_commands.specs.Library.{LibMakes}
+use Rattle.omf_commands.specs.Script.{ScriptRun, CanRun}
 use Rattle.omf_cli.specs.Stress.{StressRun}
-use Rattle.omf_cli.specs.Compact.{CompactMakes}
+use Rattle.omf_commands.specs.Compact.{CompactMakes}
 
 -- the usage line, and nothing else
 abbrev pub UsageRun : Status → Outside → Type 0

@@ -3,20 +3,15 @@
 ghost use Rattle.std.specs.Prelude.{◌≡◌, ◌⊎◌, ◌≤◌, ◌∷◌, length, None, Some};
 ghost use Rattle.omf_io.specs.Outside.{outside};
 ghost use Rattle.omf_making.specs.Words.{words_of};
-ghost use Rattle.omf_cli.specs.Assemble.{AsmMakes};
+ghost use Rattle.omf_commands.specs.Assemble.{AsmMakes};
 ghost use Rattle.omf_making.specs.Form.{form_of};
 ghost use Rattle.omf_making.specs.Making.{MakesRun, CanMake};
 ghost use Rattle.omf_cli.specs.Tool.{HasRun, CanSucceed};
 
-use crate::asm::{Asm, inputs_of};
-use crate::compact::Compact;
-use crate::dump::Dump;
-use crate::library::Lib;
 use crate::link::{Link, LinkRt};
-use crate::list::Listing;
-use crate::script::run_file;
 use crate::stress::run_stress;
 use link_meaning::LinkForm;
+use omf_commands::{Asm, Compact, Dump, Lib, Listing, inputs_of, run_file};
 use omf_io::{Files, Sink};
 use omf_making::{Form, Status, print, read_form, run_maker, usage_line};
 use std::alloc::Global;

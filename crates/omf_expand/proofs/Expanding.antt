@@ -5,7 +5,7 @@ use Rattle.macro_meaning.specs.declared.faults.MacroCause.TheVariants.{LineTooLo
 use Rattle.macro_meaning.specs.declared.faults.MacroFault.{MacroFault}
 use Rattle.macro_meaning.specs.Expansion.{IsFirstFault, IsFaultFor, IsMacroFault}
 use Rattle.omf_making.specs.declared.making.Making.{Making}
-use Rattle.omf_cli.specs.Assemble.{behind_first}
+use Rattle.omf_commands.specs.Assemble.{behind_first}
 use Rattle.omf_making.specs.Made.{Made, Bytes, Refusal, made_of, first_of}
 use Rattle.omf_expand.specs.Expanded.{ExpandMakes, TellsMacroFault}
 

@@ -9,8 +9,8 @@ use Rattle.asm_meaning.specs.Object.{cause_of}
 use Rattle.expand_lines.specs.LinesText.{IsTextOf}
 use Rattle.omf_making.specs.declared.status.Status.{Status}
 use Rattle.omf_making.specs.declared.status.Status.TheVariants as status
-use Rattle.omf_cli.specs.AsmCauses.{asm_cause_name}
-use Rattle.omf_cli.specs.Assemble.{behind_first}
+use Rattle.omf_commands.specs.AsmCauses.{asm_cause_name}
+use Rattle.omf_commands.specs.Assemble.{behind_first}
 use Rattle.omf_making.specs.Lines.{line_fault_line}
 use Rattle.omf_making.specs.Made.{Made, Bytes, Refusal, first_of}
 use Rattle.omf_making.specs.Making.{MakesRun, CanMake}

@@ -3,7 +3,7 @@
 ghost use Rattle.std.specs.Prelude.{◌≡◌, ◌⊎◌, IfOk};
 ghost use Rattle.asm_meaning.specs.Object.{cause_of};
 ghost use Rattle.omf_io.specs.Outside.{outside};
-ghost use Rattle.omf_cli.specs.AsmCauses.{asm_cause_name};
+ghost use Rattle.omf_commands.specs.AsmCauses.{asm_cause_name};
 ghost use Rattle.omf_making.specs.Made.{all_bytes, made_of};
 ghost use Rattle.omf_making.specs.Words.{words_of};
 ghost use Rattle.omf_expand.specs.Expanded.{ExpandMakes, TellsMacroFault, expand_usage_line, HasExpanded, CanExpand};
@@ -11,8 +11,9 @@ ghost use Rattle.omf_expand.specs.Expanded.{ExpandMakes, TellsMacroFault, expand
 use expand_lines::expand_text;
 use macro_meaning::{MacroCause, MacroFault};
 use omf_base::{Line, LineFault};
-use omf_cli::{Maker, Making, Status, are_paths, line_fault_line, print, run_maker, take_first};
+use omf_commands::take_first;
 use omf_io::{Files, Sink};
+use omf_making::{Maker, Making, Status, are_paths, line_fault_line, print, run_maker};
 use std::alloc::{AllocError, Global};
 
 /// The command that prints the lines of a source after expansion.

@@ -4,8 +4,8 @@
 mod expand;
 
 pub use expand::run_expand;
-use omf_cli::Status;
 use omf_io::{HostFiles, HostSink};
+use omf_making::Status;
 use std::alloc::AllocError;
 use std::env;
 use std::io::{self, ErrorKind};

@@ -2,7 +2,7 @@ use Rattle.std.proofs.Common.{sym}
 use Rattle.link_meaning.specs.Member.{setting_in}
 use Rattle.link_meaning.specs.Layout.{load_headers}
 use Rattle.link_meaning.specs.LinkedCells.{cells_before}
-use Rattle.link_program.proofs.OnOks.{on_ok}
+use Rattle.link_tables.proofs.OnOks.{on_ok}
 use Rattle.link_content.proofs.RecordLaws.{value_put}
 use Rattle.link_content.proofs.record.put_value.Goals as goal
 

@@ -1,8 +1,8 @@
 use Rattle.std.proofs.Common.{◌+◌, ℕ, map, ap, ◌∙◌, arith}
 use Rattle.link_program.specs.Outside.{all_found}
 use Rattle.link_content.specs.Fits.{told_load}
-use Rattle.link_file.specs.Slots.{rows_of}
-use Rattle.link_file.proofs.FileFacts.{few_of}
+use Rattle.link_values.specs.Slots.{rows_of}
+use Rattle.link_values.proofs.FileFacts.{few_of}
 use Rattle.link_file.proofs.LoadLaws.{headers_size}
 use Rattle.link_file.proofs.EmitLaws.{refused_value}
 use Rattle.link_file.proofs.emitting.calls_of.Goals as goal

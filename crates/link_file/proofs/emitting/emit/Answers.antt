@@ -3,11 +3,11 @@ use Rattle.std.proofs.lemmas.Result.{err_from_is_err_and}
 use Rattle.link_program.specs.Outside.{all_found}
 use Rattle.link_file.specs.declared.image.ImageFault.{ImageFault}
 use Rattle.link_file.specs.Answers.{IsEmitRefused}
-use Rattle.link_file.specs.Equates.{AreValues}
+use Rattle.link_values.specs.Equates.{AreValues}
 use Rattle.link_content.specs.Fits.{told_load}
 use Rattle.link_file.specs.Images.{AreReady, AreLoads}
-use Rattle.link_file.specs.Slots.{rows_of}
-use Rattle.link_file.proofs.FileFacts.{few_of}
+use Rattle.link_values.specs.Slots.{rows_of}
+use Rattle.link_values.proofs.FileFacts.{few_of}
 use Rattle.link_file.proofs.LoadLaws.{headers_size, loads_ready}
 use Rattle.link_file.proofs.EmitLaws.{refused_ring, refused_value, refused_size, written_is}
 use Rattle.link_file.proofs.emitting.emit.Goals as goal

@@ -1,7 +1,7 @@
 use Rattle.std.proofs.Common.{sym, subst, ◌∙◌, arith}
 use Rattle.omf_records.specs.Segments.{shown}
 use Rattle.link_program.specs.Outside.{all_found}
-use Rattle.link_file.specs.Slots.{rows_of}
+use Rattle.link_values.specs.Slots.{rows_of}
 use Rattle.link_file.specs.Exported.{ExportsTo}
 use Rattle.link_file.proofs.ExportLaws.{exports_none, stands_before, exports_more, exports_all}
 use Rattle.link_file.proofs.exports.exports_text.Goals as goal

@@ -1,6 +1,6 @@
 use Rattle.std.proofs.Common.{◌-◌, length}
 use Rattle.link_program.specs.Outside.{all_found}
-use Rattle.link_file.specs.Slots.{rows_of}
+use Rattle.link_values.specs.Slots.{rows_of}
 use Rattle.link_file.specs.Exported.{ExportsTo}
 use Rattle.link_file.proofs.exports.exports_text.Given as goal
 

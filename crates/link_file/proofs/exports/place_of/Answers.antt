@@ -1,7 +1,7 @@
 use Rattle.std.proofs.Common.{[], ◌∷◌, ap, ◌∙◌}
 use Rattle.link_meaning.specs.LinkValues.{found_value}
 use Rattle.link_meaning.specs.LinkWritten.{export_at}
-use Rattle.link_file.specs.Slots.{rows_of}
+use Rattle.link_values.specs.Slots.{rows_of}
 use Rattle.link_file.proofs.ExportLaws.{value_told, none_told}
 use Rattle.link_file.proofs.exports.place_of.Goals as goal
 

@@ -5,9 +5,9 @@ use Rattle.link_meaning.specs.LinkValues.{found_value}
 use Rattle.link_meaning.specs.LinkWritten.{export_at}
 use Rattle.link_program.specs.Outside.{all_found}
 use Rattle.link_file.specs.Images.{spelled}
-use Rattle.link_file.specs.Slots.{rows_of}
-use Rattle.link_file.proofs.AllFound.{outer_at}
-use Rattle.link_program.proofs.OnOks.{on_ok}
+use Rattle.link_values.specs.Slots.{rows_of}
+use Rattle.link_values.proofs.AllFound.{outer_at}
+use Rattle.link_tables.proofs.OnOks.{on_ok}
 use Rattle.link_file.proofs.ExportLaws.{export_public, export_other, exported_more}
 use Rattle.link_file.proofs.exports.put_seen.Goals as goal
 

@@ -4,9 +4,9 @@ use Rattle.omf_format.specs.Record.{Record}
 use Rattle.omf_records.specs.Segments.{shown}
 use Rattle.omf_records.specs.View.{view}
 use Rattle.link_program.specs.Outside.{all_found}
-use Rattle.link_file.specs.Slots.{rows_of}
+use Rattle.link_values.specs.Slots.{rows_of}
 use Rattle.link_file.specs.Exported.{seen_name}
-use Rattle.link_file.proofs.Coming.{coming_view, body_lab_len, found_next, found_end}
+use Rattle.link_values.proofs.Coming.{coming_view, body_lab_len, found_next, found_end}
 use Rattle.link_file.proofs.ExportLaws.{number_fits, name_fits, exporting_all, exporting_more, exporting_named, exporting_there, exporting_end}
 use Rattle.link_file.proofs.exports.put_segment.Goals as goal
 

@@ -1,7 +1,7 @@
 use Rattle.std.proofs.Common.{◌≡◌, length}
 use Rattle.omf_records.specs.Segments.{shown}
 use Rattle.link_program.specs.Outside.{all_found}
-use Rattle.link_file.specs.Slots.{rows_of}
+use Rattle.link_values.specs.Slots.{rows_of}
 use Rattle.link_file.specs.Exported.{Exporting}
 use Rattle.link_file.proofs.exports.put_segment.Given as goal
 

@@ -3,7 +3,7 @@ use Rattle.std.proofs.lemmas.Bool.{eqb-true, eq-eqb}
 use Rattle.omf_records.specs.Segments.{shown}
 use Rattle.link_meaning.specs.Defines.{title_of}
 use Rattle.link_file.specs.Exported.{DefinesSeen}
-use Rattle.link_file.proofs.CircularLaws.{title_empty}
+use Rattle.link_values.proofs.CircularLaws.{title_empty}
 use Rattle.link_file.proofs.ExportLaws.{title_named}
 use Rattle.link_file.proofs.exports.title_seen.Goals as goal
 

@@ -1,7 +1,7 @@
 use Rattle.std.proofs.lemmas.Result.{err_from_is_err_and}
 use Rattle.link_meaning.specs.Member.{setting_in}
 use Rattle.link_file.proofs.FileLaws.{rest_text, rest_long, rest_first}
-use Rattle.link_program.proofs.OnOks.{on_ok}
+use Rattle.link_tables.proofs.OnOks.{on_ok}
 use Rattle.link_file.proofs.file.put_rest.Goals as goal
 
 pub returns-in_err-put_table-clause-too_long : goal.returns-in_err-put_table-clause-too_long

@@ -6,7 +6,7 @@ use Rattle.load_meaning.specs.WrittenFile.{image_text, file_text}
 use Rattle.link_meaning.specs.LinkWritten.{table_images}
 use Rattle.link_file.specs.Images.{image_in}
 use Rattle.link_file.proofs.FileLaws.{no_table, table_len, table_ready, table_text}
-use Rattle.link_program.proofs.OnOks.{on_ok}
+use Rattle.link_tables.proofs.OnOks.{on_ok}
 use Rattle.link_file.proofs.ImageLaws.{ok_moved}
 use Rattle.link_file.proofs.file.put_table.Goals as goal
 

@@ -7,7 +7,7 @@ use Rattle.written_bodies.specs.WrittenParts.{seen}
 use Rattle.load_meaning.specs.WrittenFile.{image_text}
 use Rattle.load_meaning.specs.WrittenBody.{zeros_behind, written_cells, body_text}
 use Rattle.link_file.specs.Images.{with_space, image_in}
-use Rattle.link_program.proofs.OnOks.{on_ok}
+use Rattle.link_tables.proofs.OnOks.{on_ok}
 use Rattle.link_file.proofs.ImageLaws.{zeros_fit, space_writable, text_is, text_size, err_moved, behind_size, closed}
 use Rattle.link_file.proofs.image.put_image.Goals as goal
 

@@ -3,7 +3,7 @@ use Rattle.std.proofs.lemmas.List.{length-append}
 use Rattle.omf_header.specs.View.{fields}
 use Rattle.load_meaning.specs.WrittenFile.{image_text}
 use Rattle.link_file.specs.Images.{whole_image}
-use Rattle.link_program.proofs.OnOks.{on_ok}
+use Rattle.link_tables.proofs.OnOks.{on_ok}
 use Rattle.link_file.proofs.PathLaws.{whole_text, whole_size}
 use Rattle.link_file.proofs.pathnames.put_whole.Goals as goal
 

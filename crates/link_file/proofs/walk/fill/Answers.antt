@@ -4,7 +4,7 @@ use Rattle.load_meaning.specs.declared.table.Target.{Target}
 use Rattle.link_program.specs.Outside.{all_found}
 use Rattle.link_meaning.specs.Layout.{load_headers}
 use Rattle.link_content.specs.Fits.{told_load}
-use Rattle.link_file.specs.Slots.{rows_of}
+use Rattle.link_values.specs.Slots.{rows_of}
 use Rattle.link_file.specs.Walks.{IsWalkedTo, AreEmpty}
 use Rattle.link_file.proofs.LoadLaws.{loads_size}
 use Rattle.link_file.proofs.WalkedLaws.{walked_none, walked_all}

@@ -6,7 +6,7 @@ use Rattle.link_program.specs.Outside.{all_found}
 use Rattle.link_meaning.specs.laws.LinkedWalk.{linked_behind}
 use Rattle.link_meaning.specs.declared.fault.LinkFault.{LinkFault}
 use Rattle.link_program.specs.Linked.{member_at}
-use Rattle.link_file.specs.Slots.{rows_of}
+use Rattle.link_values.specs.Slots.{rows_of}
 use Rattle.link_file.specs.Walks.{IsWalkedTo}
 use Rattle.link_file.proofs.WalkedLaws.{load_within, stands_behind, walked_more, first_fault, load_some, next_walked, segment_is, seat_there, seat_gone}
 use Rattle.link_file.proofs.walk.put_member.Goals as goal

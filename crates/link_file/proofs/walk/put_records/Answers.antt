@@ -8,10 +8,10 @@ use Rattle.link_meaning.specs.Layout.{load_headers}
 use Rattle.link_program.specs.Outside.{all_found}
 use Rattle.link_meaning.specs.LinkedCells.{made}
 use Rattle.link_meaning.specs.laws.LinkedRuns.{item}
-use Rattle.link_file.specs.Slots.{rows_of}
+use Rattle.link_values.specs.Slots.{rows_of}
 use Rattle.link_file.specs.Walks.{Puts, cells_there, behind}
-use Rattle.link_file.proofs.Coming.{coming_view, body_lab_len, found_next, found_end}
-use Rattle.link_file.proofs.LocatedLaws.{one_located, behind-append}
+use Rattle.link_values.proofs.Coming.{coming_view, body_lab_len, found_next, found_end}
+use Rattle.link_values.proofs.LocatedLaws.{one_located, behind-append}
 use Rattle.link_file.proofs.WalkLaws.{puts_none, puts_more, unmade, stands_at, holds_size, within_load}
 use Rattle.link_file.proofs.walk.put_records.Goals as goal
 

@@ -3,7 +3,7 @@ use Rattle.omf_records.specs.Segments.{shown}
 use Rattle.load_meaning.specs.Cells.{Cell}
 use Rattle.link_meaning.specs.Member.{Member}
 use Rattle.link_program.specs.Outside.{all_found}
-use Rattle.link_file.specs.Slots.{rows_of}
+use Rattle.link_values.specs.Slots.{rows_of}
 use Rattle.link_file.specs.Walks.{Begins, Puts, Putting}
 use Rattle.link_file.proofs.walk.put_records.Given as goal
 

@@ -4,7 +4,7 @@ use Rattle.omf_records.specs.Segments.{shown}
 use Rattle.link_program.specs.Outside.{all_found}
 use Rattle.link_meaning.specs.LinkedCells.{zeros}
 use Rattle.link_content.specs.Contents.{HoldsCells}
-use Rattle.link_file.specs.Slots.{rows_of}
+use Rattle.link_values.specs.Slots.{rows_of}
 use Rattle.link_file.proofs.WalkLaws.{begins_there, puts_member, room_behind}
 use Rattle.link_file.proofs.walk.put_segment.Goals as goal
 

@@ -2,7 +2,7 @@ use Rattle.std.proofs.Common.{◌≡◌, ◌+◌, ◌++◌, ℕ, List, length, a
 use Rattle.link_meaning.specs.Member.{Member}
 use Rattle.link_meaning.specs.Layout.{load_headers}
 use Rattle.link_meaning.specs.LinkedCells.{table_number}
-use Rattle.link_file.proofs.FileFacts.{few_of}
+use Rattle.link_values.proofs.FileFacts.{few_of}
 use Rattle.link_file.proofs.LoadLaws.{loads_size}
 use Rattle.link_map.specs.MapText.{numbered, load_text}
 use Rattle.link_map.proofs.MapLaws.{map_is}

@@ -5,8 +5,8 @@ use Rattle.omf_records.specs.Segments.{shown}
 use Rattle.omf_records.specs.View.{view}
 use Rattle.link_meaning.specs.Sizes.{size_at, place_behind, body_size}
 use Rattle.link_program.specs.OfFiles.{IsOfFiles}
-use Rattle.link_file.proofs.Coming.{coming_view, body_lab_len, found_next, found_end}
-use Rattle.link_file.proofs.LocatedLaws.{behind-append}
+use Rattle.link_values.proofs.Coming.{coming_view, body_lab_len, found_next, found_end}
+use Rattle.link_values.proofs.LocatedLaws.{behind-append}
 use Rattle.link_map.proofs.ListLaws.{near_there, behind_within}
 use Rattle.link_map.proofs.SymbolLaws.{telling_none, telling_more, telling_all}
 use Rattle.link_map.proofs.symbols.put_symbols.Goals as goal

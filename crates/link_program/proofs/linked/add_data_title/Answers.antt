@@ -1,7 +1,7 @@
 use Rattle.std.proofs.Common.{◌≡◌, length, arith}
 use Rattle.omf_records.specs.Segments.{shown}
-use Rattle.link_program.proofs.OnOks.{on_ok}
-use Rattle.link_program.proofs.Lists.{empty, not_empty}
+use Rattle.link_tables.proofs.OnOks.{on_ok}
+use Rattle.link_tables.proofs.Lists.{empty, not_empty}
 use Rattle.link_program.proofs.TitleLaws.{no_data, no_name, gained}
 use Rattle.link_program.proofs.linked.add_data_title.Goals as goal
 

@@ -1,7 +1,7 @@
 use Rattle.std.proofs.Common.{arith}
-use Rattle.link_program.specs.Uses.{use_of}
+use Rattle.link_tables.specs.Uses.{use_of}
 use Rattle.link_program.specs.Linked.{names_of}
-use Rattle.link_program.proofs.UseTables.{usings_next, usings_all}
+use Rattle.link_tables.proofs.UseTables.{usings_next, usings_all}
 use Rattle.link_program.proofs.linked.usings_in.Goals as goal
 
 pub loop-number-preserved : goal.loop-number-preserved

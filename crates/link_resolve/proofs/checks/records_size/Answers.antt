@@ -4,9 +4,9 @@ use Rattle.omf_records.specs.Segments.{shown}
 use Rattle.omf_records.specs.View.{view}
 use Rattle.link_meaning.specs.LinkFaults.{records_fault}
 use Rattle.link_meaning.specs.Sizes.{body_size}
-use Rattle.link_program.proofs.ComingLaws.{coming_view, found_next, found_end}
-use Rattle.link_program.proofs.FirstLeft.{first_end, first_here}
-use Rattle.link_program.proofs.Sized.{sized_end, sized_more}
+use Rattle.link_tables.proofs.ComingLaws.{coming_view, found_next, found_end}
+use Rattle.link_tables.proofs.FirstLeft.{first_end, first_here}
+use Rattle.link_tables.proofs.Sized.{sized_end, sized_more}
 use Rattle.link_resolve.proofs.checks.records_size.Goals as goal
 
 pub walk-init : goal.walk-init

@@ -1,6 +1,6 @@
 use Rattle.std.proofs.Common.{length}
 use Rattle.omf_records.specs.Segments.{shown}
-use Rattle.link_program.proofs.Sized.{Sized}
+use Rattle.link_tables.proofs.Sized.{Sized}
 use Rattle.link_resolve.proofs.checks.records_size.Given as goal
 
 abbrev pub invariant-walk : goal.invariant-walk

@@ -3,7 +3,8 @@ use Rattle.omf_records.specs.Segments.{shown}
 use Rattle.omf_records.specs.SegmentLaws.{shown_at}
 use Rattle.link_meaning.specs.Member.{Member, members_from}
 use Rattle.link_program.specs.Linked.{Holds}
-use Rattle.link_resolve.proofs.GatherLaws.{members_more, member_as, body_short}
+use Rattle.link_resolve.proofs.GatherLaws.{members_more, member_as}
+use Rattle.link_program.proofs.BodyLengths.{body_short}
 use Rattle.link_resolve.proofs.gather.add_object.Goals as goal
 
 pub add-requires-clause-short : goal.add-requires-clause-short

@@ -1,7 +1,7 @@
 use Rattle.std.proofs.Common.{◌≡◌, ℕ, List, [], length, ap, sym, subst, arith}
 use Rattle.link_meaning.specs.declared.form.LinkForm.{LinkForm}
 use Rattle.link_meaning.specs.LinkFaults.{MayHave}
-use Rattle.link_program.proofs.Lists.{empty}
+use Rattle.link_tables.proofs.Lists.{empty}
 use Rattle.link_resolve.proofs.given.most_runtimes.Goals as goal
 
 pub returns-in-Runtime-clause-enough : goal.returns-in-Runtime-clause-enough

@@ -1,6 +1,6 @@
 use Rattle.std.proofs.Common.{sym, ◌∙◌}
 use Rattle.lib_dict.specs.Rows.{seen_row}
-use Rattle.link_program.proofs.OnOks.{on_ok}
+use Rattle.link_tables.proofs.OnOks.{on_ok}
 use Rattle.link_program.proofs.RowLaws.{row_place}
 use Rattle.link_resolve.proofs.LibraryLaws.{offered_row}
 use Rattle.link_resolve.proofs.library.add_row.Goals as goal

@@ -1,7 +1,7 @@
 use Rattle.std.proofs.Common.{List, sym, subst, append-nil, arith}
 use Rattle.lib_dict.specs.Rows.{seen_row}
 use Rattle.link_meaning.specs.Member.{Offer}
-use Rattle.link_program.specs.Offers.{AreOffers}
+use Rattle.link_tables.specs.Offers.{AreOffers}
 use Rattle.link_resolve.proofs.LibraryLaws.{row_at, rows_next, rows_all}
 use Rattle.link_resolve.proofs.library.add_rows.Goals as goal
 

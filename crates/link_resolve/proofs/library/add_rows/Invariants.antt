@@ -2,7 +2,7 @@ use Rattle.std.proofs.Common.{◌≡◌, ◌-◌, ◌≤◌, ◌++◌, List, len
 use Rattle.std.specs.List.{filter_map}
 use Rattle.lib_dict.specs.Library.{told_row}
 use Rattle.link_meaning.specs.Member.{Row, Setting, Offer, offer_of}
-use Rattle.link_program.specs.Offers.{AreOffers}
+use Rattle.link_tables.specs.Offers.{AreOffers}
 use Rattle.link_program.specs.Inputs.{AllStand}
 use Rattle.link_resolve.proofs.library.add_rows.Given as goal
 

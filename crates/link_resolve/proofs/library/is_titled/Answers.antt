@@ -3,7 +3,7 @@ use Rattle.std.specs.Prelude.{if◌then◌else◌}
 use Rattle.std.specs.Str.{bytes_eq}
 use Rattle.omf_format.specs.Header.{is_private}
 use Rattle.omf_records.specs.Segments.{shown}
-use Rattle.link_program.proofs.Lists.{empty, not_empty}
+use Rattle.link_tables.proofs.Lists.{empty, not_empty}
 use Rattle.link_resolve.proofs.LibraryLaws.{other_form, no_title, other_title, same_title, not_true, not_false}
 use Rattle.link_resolve.proofs.library.is_titled.Goals as goal
 

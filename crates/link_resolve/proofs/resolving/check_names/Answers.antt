@@ -1,6 +1,6 @@
 use Rattle.std.proofs.Common.{inr, refl, length, ap, ◌∙◌, arith}
 use Rattle.std.proofs.lemmas.List.{length-map}
-use Rattle.link_program.specs.Uses.{told_use}
+use Rattle.link_tables.specs.Uses.{told_use}
 use Rattle.std.proofs.lemmas.Option.{slice_get_within}
 use Rattle.link_meaning.specs.Member.{setting_in}
 use Rattle.link_meaning.specs.Search.{outside}

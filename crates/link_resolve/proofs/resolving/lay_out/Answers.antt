@@ -1,8 +1,8 @@
 use Rattle.std.proofs.Common.{◌+◌, ◌≤◌, List, length, subst, arith}
 use Rattle.link_meaning.specs.Member.{Member}
-use Rattle.link_program.specs.Laid.{Laid}
+use Rattle.link_tables.specs.Laid.{Laid}
 use Rattle.link_program.proofs.LinkedLaws.{count_is}
-use Rattle.link_program.proofs.Lists.{take_all}
+use Rattle.link_tables.proofs.Lists.{take_all}
 use Rattle.link_program.proofs.ProgramLaws.{told_at, no_view, laid_more}
 use Rattle.link_resolve.proofs.resolving.lay_out.Goals as goal
 

@@ -2,7 +2,7 @@ use Rattle.std.proofs.Common.{◌-◌, ◌≤◌, List, length, take}
 use Rattle.link_meaning.specs.Member.{Member}
 use Rattle.link_program.specs.Linked.{Holds}
 use Rattle.link_program.specs.Files.{AllAmong}
-use Rattle.link_program.specs.Laid.{Laid}
+use Rattle.link_tables.specs.Laid.{Laid}
 use Rattle.link_resolve.proofs.resolving.lay_out.Given as goal
 
 -- the members so far have their places

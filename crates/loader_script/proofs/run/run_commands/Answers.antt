@@ -4,8 +4,8 @@ use Rattle.omf_io.specs.Outside.{outside}
 use Rattle.loader_machine.specs.Replies.{reply_line}
 use Rattle.loader_machine.specs.Commands as step
 use Rattle.script_text.specs.View as view
-use Rattle.loader_script.specs.declared.run.Stop.{Stop}
-use Rattle.loader_script.specs.Running.{HasAnswered}
+use Rattle.loader_replies.specs.declared.command.Stop.{Stop}
+use Rattle.loader_replies.specs.Answered.{HasAnswered}
 use Rattle.loader_script.proofs.UnderWay.{no_loader, nothing_yet, first_answered, goes_past, stops_at, later_command, first_command, ended, ended_empty, no_memory}
 use Rattle.loader_script.proofs.run.run_commands.Goals as goal
 

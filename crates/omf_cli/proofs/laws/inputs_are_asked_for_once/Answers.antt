@@ -1,6 +1,6 @@
 use Rattle.std.specs.Prelude.{◌∷◌}
-use Rattle.omf_cli.specs.Assemble.{AsmMakes}
-use Rattle.omf_cli.specs.Library.{LibMakes}
+use Rattle.omf_commands.specs.Assemble.{AsmMakes}
+use Rattle.omf_commands.specs.Library.{LibMakes}
 use Rattle.link_meaning.specs.declared.form.LinkForm.TheVariants.{Program}
 use Rattle.omf_cli.specs.Link.{LinkMakes, given_alone}
 use Rattle.omf_cli.proofs.Once.{unwritten_reads, unread_reads}

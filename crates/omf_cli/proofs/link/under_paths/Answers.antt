@@ -1,6 +1,6 @@
 use Rattle.std.proofs.Common.{◌<◌, ◌∙◌, length, ap, arith, rules}
 use Rattle.std.proofs.lemmas.Bool.{false≢true}
-use Rattle.omf_cli.proofs.Libraries.{short_path}
+use Rattle.omf_commands.proofs.Libraries.{short_path}
 use Rattle.omf_cli.proofs.Passing.{passed_more, no_file_left, nothing_left}
 use Rattle.omf_cli.proofs.link.under_paths.Goals as goal
 

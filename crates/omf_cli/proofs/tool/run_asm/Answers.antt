@@ -2,7 +2,7 @@ use Rattle.std.proofs.Common.{◌≡◌, ◌⊎◌, ◌∙◌, List, ℕ, Some, 
 use Rattle.omf_io.specs.Outside.{Outside, outside}
 use Rattle.omf_making.specs.Words.{words_of}
 use Rattle.omf_making.specs.declared.status.Status.TheVariants.{Done, Memory}
-use Rattle.omf_cli.specs.Assemble.{AsmMakes}
+use Rattle.omf_commands.specs.Assemble.{AsmMakes}
 use Rattle.omf_making.specs.Making.{MakesRun, CanMake}
 use Rattle.omf_cli.proofs.tool.run_asm.Goals as goal
 

@@ -1,5 +1,5 @@
 use Rattle.omf_making.specs.Words.{words_of}
-use Rattle.omf_cli.proofs.Sources.{few_macros}
+use Rattle.omf_commands.proofs.Sources.{few_macros}
 use Rattle.omf_cli.proofs.Forms.{link_few, lib_paths, stress_few, rtl_few, linkrt_few, dump_few, list_few, compact_few}
 use Rattle.omf_cli.proofs.tool.run_tool.Goals as goal
 

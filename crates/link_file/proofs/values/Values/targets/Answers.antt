@@ -2,10 +2,10 @@ use Rattle.std.proofs.Common.{◌≡◌, List, sym, subst}
 use Rattle.std.specs.Prelude.{IfOk, IfErr}
 use Rattle.link_meaning.specs.LinkedCells.{targets}
 use Rattle.link_program.specs.Outside.{all_found}
-use Rattle.link_file.specs.declared.slots.Slot.{Slot}
+use Rattle.link_values.specs.declared.slots.Slot.{Slot}
 use Rattle.link_file.specs.Answers.{IsEmitRefused}
-use Rattle.link_file.specs.Equates.{AreValues}
-use Rattle.link_file.specs.Slots.{rows_of}
+use Rattle.link_values.specs.Equates.{AreValues}
+use Rattle.link_values.specs.Slots.{rows_of}
 use Rattle.link_file.specs.Valued.{Valued}
 use Rattle.link_file.proofs.values.Values.targets.Goals as goal
 

@@ -5,9 +5,9 @@ use Rattle.link_meaning.specs.Layout.{offset_of}
 use Rattle.link_meaning.specs.LinkValues.{value_in}
 use Rattle.link_program.specs.Linked.{member_at}
 use Rattle.link_program.specs.Outside.{all_found}
-use Rattle.link_file.specs.declared.slots.Slot.{Slot}
-use Rattle.link_file.specs.Slots.{rows_of}
-use Rattle.link_file.specs.Seats.{AreKnown}
+use Rattle.link_values.specs.declared.slots.Slot.{Slot}
+use Rattle.link_values.specs.Slots.{rows_of}
+use Rattle.link_values.specs.Seats.{AreKnown}
 use Rattle.link_file.specs.Valued.{Valued}
 use Rattle.link_file.proofs.WalkedLaws.{seat_there, seat_gone}
 use Rattle.link_file.proofs.values.Values.value_in.Goals as goal

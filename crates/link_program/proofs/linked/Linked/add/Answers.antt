@@ -4,10 +4,10 @@ use Rattle.omf_records.specs.Segments.{shown}
 use Rattle.link_meaning.specs.Sizes.{located}
 use Rattle.link_meaning.specs.Defines.{title_of, defined_in}
 use Rattle.link_meaning.specs.Uses.{Use, data_name}
-use Rattle.link_program.specs.declared.definitions.Origin.{Origin}
+use Rattle.link_tables.specs.declared.definitions.Origin.{Origin}
 use Rattle.link_program.specs.declared.linked.Linked.{Linked}
 use Rattle.link_program.specs.Linked.{names_of}
-use Rattle.link_program.proofs.DefinitionLaws.{gains_both, defined_at}
+use Rattle.link_tables.proofs.DefinitionLaws.{gains_both, defined_at}
 use Rattle.link_program.proofs.LinkedLaws.{usings_are, held_more}
 use Rattle.link_program.proofs.linked.Linked.add.Goals as goal
 

@@ -1,9 +1,9 @@
 use Rattle.std.proofs.Common.{sym, subst}
 use Rattle.link_meaning.specs.Search.{entries, outside, finds, finds_inside}
 use Rattle.link_meaning.specs.Member.{setting_in}
-use Rattle.link_program.specs.declared.names.Outcome.{Outcome}
-use Rattle.link_program.specs.declared.names.Outcome.TheVariants.{One, Several}
-use Rattle.link_program.specs.Definitions.{Sees}
+use Rattle.link_tables.specs.declared.names.Outcome.{Outcome}
+use Rattle.link_tables.specs.declared.names.Outcome.TheVariants.{One, Several}
+use Rattle.link_tables.specs.Definitions.{Sees}
 use Rattle.link_program.specs.Outside.{all_found}
 use Rattle.link_program.proofs.SearchLaws.{one_some, several_some}
 use Rattle.link_program.proofs.OutsideTables.{found_inside, found_outside}

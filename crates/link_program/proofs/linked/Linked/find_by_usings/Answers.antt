@@ -3,8 +3,8 @@ use Rattle.std.specs.Option.{option_map_or}
 use Rattle.link_meaning.specs.declared.search.Step.TheVariants.{Within}
 use Rattle.link_meaning.specs.Uses.{usings_of}
 use Rattle.link_meaning.specs.Search.{Found, entries, named, decided}
-use Rattle.link_program.specs.declared.names.Outcome.TheVariants.{Nothing}
-use Rattle.link_program.specs.Definitions.{Sees, IsElsewhere}
+use Rattle.link_tables.specs.declared.names.Outcome.TheVariants.{Nothing}
+use Rattle.link_tables.specs.Definitions.{Sees, IsElsewhere}
 use Rattle.link_program.specs.Linked.{names_of, used_places}
 use Rattle.link_program.proofs.SearchLaws.{none_decided, seen_definitions}
 use Rattle.link_program.proofs.LinkedLaws.{usings_is}

@@ -4,9 +4,9 @@ use Rattle.std.proofs.lemmas.Option.{slice_get_read}
 use Rattle.link_meaning.specs.declared.search.Step.TheVariants.{Within}
 use Rattle.link_meaning.specs.Uses.{usings_of}
 use Rattle.link_meaning.specs.Search.{Found, entries, named, sees, decided}
-use Rattle.link_program.specs.declared.names.Outcome.{Outcome}
-use Rattle.link_program.specs.declared.names.Outcome.TheVariants.{One, Several}
-use Rattle.link_program.specs.Definitions.{Sees}
+use Rattle.link_tables.specs.declared.names.Outcome.{Outcome}
+use Rattle.link_tables.specs.declared.names.Outcome.TheVariants.{One, Several}
+use Rattle.link_tables.specs.Definitions.{Sees}
 use Rattle.link_program.specs.Linked.{used_places}
 use Rattle.link_program.proofs.SearchLaws.{finds_own, finds_used, finds_outer, one_some, several_some}
 use Rattle.link_program.proofs.LinkedLaws.{member_is}

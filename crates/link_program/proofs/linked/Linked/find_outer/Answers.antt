@@ -2,7 +2,7 @@ use Rattle.std.proofs.Common.{◌≡◌, ℕ, Some, refl}
 use Rattle.std.specs.Prelude.{slice_get}
 use Rattle.link_meaning.specs.declared.search.Step.TheVariants.{OfUnit, Everyone}
 use Rattle.link_meaning.specs.Search.{Found, named}
-use Rattle.link_program.specs.declared.names.Outcome.TheVariants.{Nothing, One, Several}
+use Rattle.link_tables.specs.declared.names.Outcome.TheVariants.{Nothing, One, Several}
 use Rattle.link_program.proofs.SearchLaws.{seen_definitions, outer_first, outer_second, one_some, several_some}
 use Rattle.link_program.proofs.linked.Linked.find_outer.Goals as goal
 

@@ -3,7 +3,7 @@ use Rattle.std.specs.Prelude.{slice_get}
 use Rattle.std.specs.Borrow.{Bor}
 use Rattle.link_meaning.specs.declared.search.Step.TheVariants.{Within}
 use Rattle.link_meaning.specs.Search.{Found, entries, named}
-use Rattle.link_program.specs.declared.names.Outcome.TheVariants.{Nothing, One, Several}
+use Rattle.link_tables.specs.declared.names.Outcome.TheVariants.{Nothing, One, Several}
 use Rattle.link_program.proofs.SearchLaws.{seen_definitions, told_titles, used_found, used_empty, used_other, one_some, several_some, nothing_one, several_one}
 use Rattle.link_program.proofs.linked.Linked.find_used.Goals.{in-One+in-Nothing-look, in-Nothing, in-Several}
 use Rattle.link_program.proofs.linked.Linked.find_used.Goals as goal

@@ -2,7 +2,7 @@ use Rattle.std.proofs.Common.{◌≡◌, drop, map, List}
 use Rattle.link_meaning.specs.declared.search.Step.TheVariants.{Within}
 use Rattle.link_meaning.specs.Member.{Member}
 use Rattle.link_meaning.specs.Search.{entries, decided, named}
-use Rattle.link_program.specs.Definitions.{IsOf}
+use Rattle.link_tables.specs.Definitions.{IsOf}
 use Rattle.link_program.specs.Linked.{Holds, names_of, used_places}
 use Rattle.link_program.proofs.linked.Linked.find_used.Given as goal
 

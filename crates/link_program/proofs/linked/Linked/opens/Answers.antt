@@ -1,7 +1,7 @@
 use Rattle.std.proofs.Common.{◌≡◌, length, sym, ◌∙◌, arith}
 use Rattle.omf_records.specs.Segments.{shown}
-use Rattle.link_program.specs.declared.names.Outcome.TheVariants.{Nothing, One, Several}
-use Rattle.link_program.proofs.Lists.{empty, not_empty}
+use Rattle.link_tables.specs.declared.names.Outcome.TheVariants.{Nothing, One, Several}
+use Rattle.link_tables.proofs.Lists.{empty, not_empty}
 use Rattle.link_program.proofs.TitleLaws.{code_opens_nothing, unnamed_opens_nothing, title_opens_nothing}
 use Rattle.link_program.proofs.linked.Linked.opens.Goals as goal
 

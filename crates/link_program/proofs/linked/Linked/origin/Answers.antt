@@ -1,7 +1,7 @@
 use Rattle.std.proofs.Common.{◌≡◌, ◌-◌, ◌<◌, ◌≤◌, length, get_or, List, refl, sym, ap, ◌∙◌, arith}
 use Rattle.std.proofs.lemmas.Bool.{ltb-false}
 use Rattle.std.proofs.lemmas.Option.{slice_get_read}
-use Rattle.link_program.specs.declared.definitions.Origin.{Origin}
+use Rattle.link_tables.specs.declared.definitions.Origin.{Origin}
 use Rattle.link_program.proofs.LinkedLaws.{origin_some, origin_none}
 use Rattle.link_program.proofs.linked.Linked.origin.Goals as goal
 

@@ -2,8 +2,8 @@ use Rattle.std.proofs.Common.{◌-◌, ◌<◌, length, Option, refl, sym, subst
 use Rattle.std.proofs.lemmas.Option.{slice_get_read}
 use Rattle.link_meaning.specs.Member.{Member}
 use Rattle.link_meaning.specs.LinkedList.{found_for, row_for}
-use Rattle.link_program.specs.Offers.{IsRow}
-use Rattle.link_program.specs.Uses.{use_of}
+use Rattle.link_tables.specs.Offers.{IsRow}
+use Rattle.link_tables.specs.Uses.{use_of}
 use Rattle.link_program.proofs.LinkedLaws.{member_is}
 use Rattle.link_program.proofs.SearchLaws.{one_some, several_some}
 use Rattle.link_program.proofs.WantedLaws.{row_unless, no_row}

@@ -3,10 +3,10 @@ use Rattle.std.specs.Prelude.{slice_get}
 use Rattle.std.proofs.lemmas.Option.{slice_get_read}
 use Rattle.link_meaning.specs.LinkedList.{Asked}
 use Rattle.link_meaning.specs.Uses.{Use}
-use Rattle.link_program.specs.Uses.{use_of, told_use}
+use Rattle.link_tables.specs.Uses.{use_of, told_use}
 use Rattle.link_program.proofs.LinkedLaws.{member_is}
 use Rattle.link_program.proofs.ResolvingLaws.{use_is, place_within, stands}
-use Rattle.link_program.proofs.ShortNames.{short_at}
+use Rattle.link_tables.proofs.ShortNames.{short_at}
 use Rattle.link_program.proofs.linked.Linked.used.Goals as goal
 
 asked_same : (a b : Asked) → Some a ≡ Some b → a ≡ b

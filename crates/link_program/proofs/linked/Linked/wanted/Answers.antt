@@ -1,6 +1,6 @@
 use Rattle.std.proofs.Common.{◌≤◌, length, Some, None, ap, arith}
 use Rattle.std.proofs.lemmas.List.{length-map}
-use Rattle.link_program.specs.Offers.{told_origin}
+use Rattle.link_tables.specs.Offers.{told_origin}
 use Rattle.link_program.proofs.ResolvingLaws.{use_is, place_within}
 use Rattle.link_program.proofs.WantedLaws.{wants_so, wants_next, wanted_here, wanted_none, wanted_without_rows}
 use Rattle.link_program.proofs.linked.Linked.wanted.Goals as goal

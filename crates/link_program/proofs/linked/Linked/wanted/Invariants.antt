@@ -1,7 +1,7 @@
 use Rattle.std.proofs.Common.{◌-◌, List, length}
 use Rattle.link_meaning.specs.Member.{Member, Offer}
 use Rattle.link_program.specs.Linked.{Holds}
-use Rattle.link_program.specs.Offers.{AreOffers}
+use Rattle.link_tables.specs.Offers.{AreOffers}
 use Rattle.link_program.specs.Outside.{IsOutsideOf}
 use Rattle.link_program.specs.Wanted.{WantsNothing}
 use Rattle.link_program.proofs.linked.Linked.wanted.Given as goal

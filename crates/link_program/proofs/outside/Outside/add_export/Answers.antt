@@ -2,7 +2,7 @@ use Rattle.std.proofs.Common.{◌≡◌, List, Some, None, refl, sym, ap, ◌∙
 use Rattle.omf_format.specs.File.{Segment, segment_at}
 use Rattle.load_tables.specs.View.{seen_export}
 use Rattle.link_program.specs.declared.outside.Far.{Far}
-use Rattle.link_program.proofs.OnOks.{on_ok}
+use Rattle.link_tables.proofs.OnOks.{on_ok}
 use Rattle.link_program.proofs.OutsideTables.{added_export, no_export, segment_there, no_segment}
 use Rattle.link_program.proofs.outside.Outside.add_export.Goals as goal
 

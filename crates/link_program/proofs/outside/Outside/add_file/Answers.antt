@@ -6,7 +6,7 @@ use Rattle.load_meaning.specs.Exports.{Export, exports_of}
 use Rattle.load_tables.specs.View.{seen_export}
 use Rattle.link_meaning.specs.Search.{outside_of}
 use Rattle.link_program.specs.Outside.{AreOutside}
-use Rattle.link_program.proofs.Lists.{take_all}
+use Rattle.link_tables.proofs.Lists.{take_all}
 use Rattle.link_program.proofs.OutsideTables.{added_more}
 use Rattle.link_program.proofs.outside.Outside.add_file.Goals as goal
 

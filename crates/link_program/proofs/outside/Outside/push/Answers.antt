@@ -2,7 +2,7 @@ use Rattle.std.proofs.Common.{◌≡◌, ℕ, [], ◌∷◌, ◌++◌, List, len
 use Rattle.link_meaning.specs.declared.search.Step.TheVariants.{Everyone}
 use Rattle.link_program.specs.declared.outside.Far.{Far}
 use Rattle.link_program.specs.declared.outside.Outside.{Outside}
-use Rattle.link_program.specs.Names.{Indexes}
+use Rattle.link_tables.specs.Names.{Indexes}
 use Rattle.link_program.proofs.OutsideTables.{pushed_far}
 use Rattle.link_program.proofs.outside.Outside.push.Goals as goal
 

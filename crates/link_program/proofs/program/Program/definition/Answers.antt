@@ -2,7 +2,7 @@ use Rattle.std.proofs.Common.{◌<◌, length, List, sym, ap, subst, ◌∙◌, 
 use Rattle.std.specs.Prelude.{option_map, Some}
 use Rattle.link_meaning.specs.Member.{Member, setting_in}
 use Rattle.link_meaning.specs.Search.{entries, outside}
-use Rattle.link_program.specs.Listed.{definition_of}
+use Rattle.link_tables.specs.Listed.{definition_of}
 use Rattle.link_program.specs.Linked.{Holds}
 use Rattle.link_program.specs.Outside.{IsOutsideOf}
 use Rattle.link_program.specs.Programs.{symbol_of}

@@ -1,8 +1,8 @@
 use Rattle.std.proofs.Common.{◌≡◌, ℕ, ◌-◌, ◌<◌, length, get_or, refl, sym, ap, ◌∙◌, arith}
 use Rattle.std.specs.Prelude.{slice_get}
 use Rattle.std.proofs.lemmas.Option.{slice_get_read, slice_get_within}
-use Rattle.link_program.specs.declared.definitions.Origin.{Origin}
-use Rattle.link_program.specs.declared.layout.Place.{Place}
+use Rattle.link_tables.specs.declared.definitions.Origin.{Origin}
+use Rattle.link_tables.specs.declared.layout.Place.{Place}
 use Rattle.link_program.specs.declared.program.Kept.{Kept}
 use Rattle.link_program.specs.Programs.{list_of, StandsAt, IsKept}
 use Rattle.link_program.proofs.ProgramLaws.{IsTold, told_at, linked_told}

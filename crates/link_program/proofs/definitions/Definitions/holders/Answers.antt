@@ -1,5 +1,0 @@
-use Rattle.link_program.proofs.DefinitionLaws.{seen_elsewhere}
-use Rattle.link_program.proofs.definitions.Definitions.holders.Goals as goal
-
-pub returns : goal.returns
-returns c = λ fs are place apart. seen_elsewhere fs c.args.self.now c.args.name.now c.look.result place are c.look.ensures apart

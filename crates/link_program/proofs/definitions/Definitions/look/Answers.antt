@@ -1,6 +1,0 @@
-use Rattle.link_program.specs.Names.{key_of}
-use Rattle.link_program.proofs.DefinitionLaws.{seen_all}
-use Rattle.link_program.proofs.definitions.Definitions.look.Goals as goal
-
-pub returns : goal.returns
-returns c = λ fs are. seen_all fs c.args.self.now (key_of c.args.key) c.look.result are c.look.ensures

@@ -1,0 +1,9 @@
+pub mod Coming
+pub mod Names
+pub mod Sizes
+pub mod Listed
+pub mod Definitions
+pub mod Uses
+pub mod Usings
+pub mod Offers
+pub mod Laid

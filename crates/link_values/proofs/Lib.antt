@@ -1,0 +1,10 @@
+pub mod Coming
+pub mod AllFound
+pub mod SlotLaws
+pub mod SeatLaws
+pub mod ValueLaws
+pub mod FileFacts
+pub mod EquateLaws
+pub mod LeadLaws
+pub mod LocatedLaws
+pub mod CircularLaws

@@ -1,0 +1,16 @@
+//! What the expressions of a program are worth: where its members stand, the values of its definitions, and of the terms of an
+//! expression in a member; or the first equate that leads back to itself.
+#![tactic(auto)]
+
+mod circular;
+mod equates;
+mod leads;
+mod meets;
+mod seat;
+mod slots;
+mod value;
+
+pub use equates::values_of;
+pub use seat::{Seat, seat_of};
+pub use slots::{Slot, label_of};
+pub use value::{place_at, value_in};

@@ -1,0 +1,14 @@
+use Rattle.std.proofs.Common.{refl}
+use Rattle.loader_machine.specs.Commands as commands
+use Rattle.loader_machine.specs.Refusals.{change_refusal}
+use Rattle.sys_loader.specs.Replies.{done_reply}
+use Rattle.loader_replies.proofs.OneCommand.{idle_line, line_text}
+use Rattle.loader_replies.proofs.Refusals.{change_safe, done_safe}
+use Rattle.loader_replies.proofs.blocks.level.Goals as goal
+
+pub returns : goal.returns
+returns c store =
+    let old = c.args.loader.now in
+    let slots = old.memory.slots in
+    idle_line c.done_line.result store (commands.Level c.args.handle c.args.n) old c.level.new.self (done_reply c.level.result) (line_text c.done_line.result (done_reply c.level.result) c.done_line.ensures)
+    (done_safe c.level.result (change_refusal slots c.args.handle) (change_safe slots c.args.handle) c.level.ensures.refused) refl refl c.level.ensures.meets

@@ -1,0 +1,4 @@
+mod Runs
+mod Completes
+pub mod Libraries
+pub mod Sources

@@ -1,0 +1,27 @@
+-- `asm`: the object of the first input with the others as its macro files, or the first fault.
+use Rattle.std.specs.Prelude.{◌≡◌, ◌≢◌, ℕ, List, [], ◌∷◌}
+use Rattle.asm_meaning.specs.declared.faults.AsmCause.TheVariants as causes
+use Rattle.asm_meaning.specs.declared.faults.AsmFault.{AsmFault}
+use Rattle.asm_meaning.specs.Object.{IsObject, IsFirstFault}
+use Rattle.omf_commands.specs.AsmCauses.{asm_cause_name}
+use Rattle.omf_making.specs.Lines.{line_fault_line}
+use Rattle.omf_making.specs.Made.{Made, Bytes, Refusal, first_of}
+
+-- the files behind the first
+abbrev pub behind_first : List (List ℕ) → List (List ℕ)
+behind_first [] = []
+behind_first (file ∷ files) = files
+
+-- the line of a fault: its cause, its file and its line
+abbrev pub asm_fault_line : AsmFault → List ℕ
+asm_fault_line fault = line_fault_line (asm_cause_name fault.cause) fault.file fault.line
+
+-- the object, or the line of the first fault
+abbrev pub AsmMakes : List (List ℕ) → Made → Type 0
+AsmMakes files (Bytes object) = IsObject (first_of files) (behind_first files) object
+AsmMakes files (Refusal text) = (fault : AsmFault) × IsFirstFault (first_of files) (behind_first files) fault × (text ≡ asm_fault_line fault)
+
+-- the line of a fault that isn't want of memory
+abbrev pub TellsAsmFault : AsmFault → Made → Type 0
+TellsAsmFault fault (Bytes bytes) = ⊥
+TellsAsmFault fault (Refusal text) = (fault.cause ≢ causes.Memory) × (text ≡ asm_fault_line fault)

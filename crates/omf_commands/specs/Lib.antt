@@ -1,0 +1,10 @@
+pub mod AsmCauses
+pub mod Assemble
+pub mod Dump
+pub mod LibCauses
+pub mod Library
+pub mod ListCauses
+pub mod Listings
+pub mod Script
+pub mod CompactCauses
+pub mod Compact
