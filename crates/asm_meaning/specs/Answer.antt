@@ -38,11 +38,11 @@ abbrev pub earlier : AsmCause → AsmCause → AsmCause
 earlier cause other = if nat_lt (rank other) (rank cause) then other else cause
 
 -- two answers, or the earlier of their faults
-abbrev pub both : {A B : Type 0} → Answer A → Answer B → Answer (A × B)
-both (Ok a) (Ok b) = Ok (a, b)
-both (Ok a) (Err cause) = Err cause
-both (Err cause) (Ok b) = Err cause
-both (Err cause) (Err other) = Err (earlier cause other)
+abbrev pub pair_or_earlier_fault : {A B : Type 0} → Answer A → Answer B → Answer (A × B)
+pair_or_earlier_fault (Ok a) (Ok b) = Ok (a, b)
+pair_or_earlier_fault (Ok a) (Err cause) = Err cause
+pair_or_earlier_fault (Err cause) (Ok b) = Err cause
+pair_or_earlier_fault (Err cause) (Err other) = Err (earlier cause other)
 
 abbrev pub with_first : {A : Type 0} → Answer (A × List A) → Answer (List A)
 with_first (Ok (a, more)) = Ok (a ∷ more)
@@ -51,4 +51,4 @@ with_first (Err cause) = Err cause
 -- each of these, or the earliest of their faults
 abbrev pub all_of : {A B : Type 0} → (A → Answer B) → List A → Answer (List B)
 all_of f [] = Ok []
-all_of f (a ∷ more) = with_first (both (f a) (all_of f more))
+all_of f (a ∷ more) = with_first (pair_or_earlier_fault (f a) (all_of f more))

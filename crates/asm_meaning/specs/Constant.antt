@@ -13,30 +13,30 @@ Constants = List ℕ → Option ℕ
 
 -- what a formula is worth: a number; none, since the location counter, an attribute or a name that is no known constant
 -- stands in it; or a number divided by 0
-pub data Worth : Type 0 where
-  Number : (n : ℕ) → Worth
-  Open : Worth
-  Divided : Worth
+pub data KnownValue : Type 0 where
+  Number : (n : ℕ) → KnownValue
+  Open : KnownValue
+  Divided : KnownValue
 
-abbrev pub number_or_open : Option ℕ → Worth
+abbrev pub number_or_open : Option ℕ → KnownValue
 number_or_open None = Open
 number_or_open (Some n) = Number n
 
 -- of a name ($83) its value, and of its length or its count nothing
-abbrev pub worth_of_term : Constants → Term → Worth
+abbrev pub worth_of_term : Constants → Term → KnownValue
 worth_of_term constants (Operator code) = Open
 worth_of_term constants Location = Open
 worth_of_term constants (Constant n) = Number n
 worth_of_term constants (Named code name) = if code == 0x83 then number_or_open (constants name) else Open
 worth_of_term constants (Offset n) = Open
 
-abbrev pub worth_of_one : ℕ → Worth → Worth
+abbrev pub worth_of_one : ℕ → KnownValue → KnownValue
 worth_of_one code (Number a) = Number (number_of_one code a)
 worth_of_one code Open = Open
 worth_of_one code Divided = Divided
 
 -- a formula that is open is no constant, whatever it divides
-abbrev pub worth_of_two : ℕ → Worth → Worth → Worth
+abbrev pub worth_of_two : ℕ → KnownValue → KnownValue → KnownValue
 worth_of_two code (Number a) (Number b) = if divides code && b == 0 then Divided else Number (number_of_two code a b)
 worth_of_two code (Number a) Open = Open
 worth_of_two code (Number a) Divided = Divided
@@ -46,16 +46,16 @@ worth_of_two code Divided Open = Open
 worth_of_two code Divided Divided = Divided
 
 -- what a formula is worth where these names are known
-unfoldable pub worth : Constants → Tree → Worth
-worth constants (Leaf term) = worth_of_term constants term
-worth constants (Unary code a) = worth_of_one code (worth constants a)
-worth constants (Binary code a b) = worth_of_two code (worth constants a) (worth constants b)
+unfoldable pub known_value : Constants → Tree → KnownValue
+known_value constants (Leaf term) = worth_of_term constants term
+known_value constants (Unary code a) = worth_of_one code (known_value constants a)
+known_value constants (Binary code a b) = worth_of_two code (known_value constants a) (known_value constants b)
 
 -- the number, where one is needed
-abbrev pub needed : Worth → Answer ℕ
-needed (Number n) = Ok n
-needed Open = Err UnknownConstant
-needed Divided = Err DivideByZero
+abbrev pub required_number : KnownValue → Answer ℕ
+required_number (Number n) = Ok n
+required_number Open = Err UnknownConstant
+required_number Divided = Err DivideByZero
 
 -- ---- what is written of a formula that isn't a constant
 
@@ -81,13 +81,13 @@ pub data Amount : Type 0 where
   Known : (n : ℕ) → Amount
   Written : (tree : Tree) → Amount
 
-abbrev pub amount_by : Tree → Worth → Answer Amount
+abbrev pub amount_by : Tree → KnownValue → Answer Amount
 amount_by tree (Number n) = Ok (Known n)
 amount_by tree Open = Ok (Written tree)
 amount_by tree Divided = Err DivideByZero
 
 unfoldable pub amount : Constants → Tree → Answer Amount
-amount constants tree = amount_by (with_values constants tree) (worth constants tree)
+amount constants tree = amount_by (with_values constants tree) (known_value constants tree)
 
 -- the expression of an amount; that of a number is the number
 abbrev pub tree_of_amount : Amount → Tree

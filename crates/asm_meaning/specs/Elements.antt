@@ -12,9 +12,9 @@ use Rattle.orca_meaning.specs.declared.operators.Operands.TheVariants.{Labels}
 use Rattle.orca_meaning.specs.Formula.{MeansAt}
 use Rattle.orca_meaning.specs.Token.{Found, digits_at, name_at}
 use Rattle.asm_meaning.specs.declared.faults.AsmCause.TheVariants.{BadOperand, BadNumber}
-use Rattle.asm_meaning.specs.Answer.{Answer, both, all_of}
+use Rattle.asm_meaning.specs.Answer.{Answer, pair_or_earlier_fault, all_of}
 use Rattle.asm_meaning.specs.Constant.{Constants, Amount, Known, Written, amount}
-use Rattle.asm_meaning.specs.Formulas.{AreFormulas, judged, number_of, expression_text}
+use Rattle.asm_meaning.specs.Formulas.{AreFormulas, checked_formula, number_of, expression_text}
 use Rattle.asm_meaning.specs.Pieces.{Piece, Bytes, Whole, copies}
 
 -- ---- elements
@@ -40,9 +40,9 @@ pub record Element : Type 0 where
 -- ---- digits
 
 -- the bytes of digits, so many a byte with the first of them highest; missing ones are 0
-unfoldable pub packed : ℕ → ℕ → ℕ → List ℕ → List ℕ
-packed base each zero digits = []
-packed base each (suc n) digits = digits_value base (take each (digits ++ replicate each ascii.digit_0)) ∷ packed base each n (drop each digits)
+unfoldable pub bytes_of_group_digits : ℕ → ℕ → ℕ → List ℕ → List ℕ
+bytes_of_group_digits base each zero digits = []
+bytes_of_group_digits base each (suc n) digits = digits_value base (take each (digits ++ replicate each ascii.digit_0)) ∷ bytes_of_group_digits base each n (drop each digits)
 
 abbrev pub is_space : ℕ → Bool
 is_space byte = byte == ascii.space
@@ -54,7 +54,7 @@ abbrev pub packed_digits : ℕ → ℕ → List ℕ → Option (List ℕ)
 packed_digits base each [] = None
 packed_digits base each (digit ∷ digits) =
     if list_all (λ byte. is_digit byte base) (digit ∷ digits)
-    then Some (packed base each ((length (digit ∷ digits) + (each - 1)) / each) (digit ∷ digits)) else None
+    then Some (bytes_of_group_digits base each ((length (digit ∷ digits) + (each - 1)) / each) (digit ∷ digits)) else None
 
 -- the bytes of digits, of which there is one at least, with spaces between them: two hexadecimal ones a byte, or eight binary ones
 unfoldable pub bytes_of_digits : ℕ → ℕ → List ℕ → Option (List ℕ)
@@ -173,8 +173,8 @@ abbrev pub number_piece : ℕ → Amount → Piece
 number_piece width (Known n) = Bytes (little_bytes width n)
 number_piece width (Written tree) = Whole (Formula 0xEB width 0 (expression_text tree))
 
-abbrev pub numbered : Constants → ℕ → Tree → Answer Piece
-numbered constants width tree = judged tree >>= λ t. amount constants t >>= λ a. Ok (number_piece width a)
+abbrev pub piece_of_number : Constants → ℕ → Tree → Answer Piece
+piece_of_number constants width tree = checked_formula tree >>= λ t. amount constants t >>= λ a. Ok (number_piece width a)
 
 -- with MSB on the bytes of a text have their high bits set
 abbrev pub text_byte : Bool → ℕ → ℕ
@@ -188,7 +188,7 @@ abbrev pub strong_piece : List ℕ → Piece
 strong_piece name = Whole (Strong name)
 
 abbrev pub value_pieces : Constants → Bool → Value → Answer (List Piece)
-value_pieces constants msb (Numbers width trees) = all_of (numbered constants width) trees
+value_pieces constants msb (Numbers width trees) = all_of (piece_of_number constants width) trees
 value_pieces constants msb (Fixed bytes) = Ok (Bytes bytes ∷ [])
 value_pieces constants msb (Text bytes) = Ok (Bytes (map (text_byte msb) bytes) ∷ [])
 value_pieces constants msb (Asked names) = Ok (map strong_piece names)
@@ -197,16 +197,16 @@ value_pieces constants msb (Weak names) = Ok (map weak_piece names)
 -- what an element gives: its value so often
 unfoldable pub element_pieces : Constants → Bool → Element → Answer (List Piece)
 element_pieces constants msb element =
-    both (count_of constants element.repeat) (value_pieces constants msb element.value) >>= λ found. Ok (copies found.0 found.1)
+    pair_or_earlier_fault (count_of constants element.repeat) (value_pieces constants msb element.value) >>= λ found. Ok (copies found.0 found.1)
 
 -- the elements that an operand is, if it is a list of them
 abbrev pub IsList : List ℕ → Option (List Element) → Type 0
 IsList text None = (elements : List Element) → AreElements text elements → ⊥
 IsList text (Some elements) = AreElements text elements
 
-abbrev pub joined : List (List Piece) → List Piece
-joined all = flat_map (λ pieces. pieces) all
+abbrev pub joined_pieces : List (List Piece) → List Piece
+joined_pieces all = flat_map (λ pieces. pieces) all
 
 abbrev pub list_pieces : Constants → Bool → Option (List Element) → Answer (List Piece)
 list_pieces constants msb None = Err BadOperand
-list_pieces constants msb (Some elements) = all_of (element_pieces constants msb) elements >>= λ found. Ok (joined found)
+list_pieces constants msb (Some elements) = all_of (element_pieces constants msb) elements >>= λ found. Ok (joined_pieces found)

@@ -7,7 +7,7 @@ use Rattle.orca_meaning.specs.declared.operators.Operands.TheVariants.{Labels}
 use Rattle.orca_meaning.specs.Formula.{MeansAt, pending, has_large}
 use Rattle.asm_meaning.specs.declared.faults.AsmCause.TheVariants.{BadOperand, BadNumber}
 use Rattle.asm_meaning.specs.Answer.{Answer}
-use Rattle.asm_meaning.specs.Constant.{Constants, worth, needed}
+use Rattle.asm_meaning.specs.Constant.{Constants, known_value, required_number}
 
 -- the formula that a text is, if it is one
 abbrev pub IsFormula : List ℕ → Option Tree → Type 0
@@ -21,17 +21,17 @@ AreFormulas text (tree ∷ []) = MeansAt Labels text tree []
 AreFormulas text (tree ∷ next ∷ trees) = (behind : List ℕ) × MeansAt Labels text tree (ascii.comma ∷ behind) × AreFormulas behind (next ∷ trees)
 
 -- at most 64 values are pending, and its numbers are at most 4,294,967,295
-unfoldable pub judged : Tree → Answer Tree
-judged tree = if nat_lt 64 (pending 1 tree) then Err BadOperand else if has_large tree then Err BadNumber else Ok tree
+unfoldable pub checked_formula : Tree → Answer Tree
+checked_formula tree = if nat_lt 64 (pending 1 tree) then Err BadOperand else if has_large tree then Err BadNumber else Ok tree
 
 -- the formula that stands there
 abbrev pub formula_of : Option Tree → Answer Tree
 formula_of None = Err BadOperand
-formula_of (Some tree) = judged tree
+formula_of (Some tree) = checked_formula tree
 
 -- the number that a formula is, which has to be a constant
 abbrev pub number_of : Constants → Tree → Answer ℕ
-number_of constants tree = judged tree >>= λ t. needed (worth constants t)
+number_of constants tree = checked_formula tree >>= λ t. required_number (known_value constants t)
 
 -- the bytes of the expression: its terms in postfix order, and the end
 unfoldable pub expression_text : Tree → List ℕ

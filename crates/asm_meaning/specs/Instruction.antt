@@ -13,13 +13,13 @@ use Rattle.orca_meaning.specs.declared.mnemonics.Mnemonic.{Mnemonic}
 use Rattle.orca_meaning.specs.declared.mnemonics.Mnemonic.TheVariants as mnemonics
 use Rattle.orca_meaning.specs.declared.modes.Mode.{Mode}
 use Rattle.orca_meaning.specs.declared.modes.Mode.TheVariants.{Implied, Accumulator, Immediate, Direct, DirectX, DirectY, DirectIndirect, DirectIndirectY, DirectXIndirect, DirectLong, DirectLongY, Stack, StackIndirectY, Absolute, AbsoluteX, AbsoluteY, AbsoluteIndirect, AbsoluteXIndirect, AbsoluteLongIndirect, Long, LongX, Relative8, Relative16, Move, Signature}
-use Rattle.orca_meaning.specs.Formula.{placed}
+use Rattle.orca_meaning.specs.Formula.{with_location_less}
 use Rattle.orca_meaning.specs.Length.{length_of}
 use Rattle.orca_meaning.specs.Matrix.{opcode_of}
 use Rattle.orca_meaning.specs.Operand.{Meaning}
 use Rattle.orca_meaning.specs.Operation.{has_mode}
 use Rattle.asm_meaning.specs.declared.faults.AsmCause.TheVariants.{BadMode, DoesNotFit}
-use Rattle.asm_meaning.specs.Answer.{Answer, both}
+use Rattle.asm_meaning.specs.Answer.{Answer, pair_or_earlier_fault}
 use Rattle.asm_meaning.specs.Constant.{Constants, Amount, Known, Written, amount, tree_of_amount}
 use Rattle.asm_meaning.specs.Formulas.{expression_text}
 use Rattle.asm_meaning.specs.Pieces.{Piece, Bytes, Whole}
@@ -108,8 +108,8 @@ is_asked Greater kind = is_value kind || is_address 3 kind
 is_asked Caret kind = is_value kind
 
 -- the modes of a form and a prefix that a mnemonic has
-unfoldable pub offered : Mnemonic → Form → Prefix → List Mode
-offered mnemonic form prefix = filter (λ mode. has_mode mnemonic mode && is_asked prefix (kind_of mode)) (modes_of form)
+unfoldable pub modes_of_form : Mnemonic → Form → Prefix → List Mode
+modes_of_form mnemonic form prefix = filter (λ mode. has_mode mnemonic mode && is_asked prefix (kind_of mode)) (modes_of form)
 
 -- ---- constants
 
@@ -131,13 +131,13 @@ fits_value prefix width n = if is_bare prefix then nat_lt n (256 ^ width) || nat
 
 -- whether the operand can be this number in so many bytes: an address, a bank and a signature as an unsigned one; a branch
 -- leaves that to the linker
-abbrev pub holds : Prefix → Kind → ℕ → ℕ → Bool
-holds prefix Missing width n = false
-holds prefix Value width n = fits_value prefix width n
-holds prefix (Address bytes) width n = nat_lt n (256 ^ width)
-holds prefix (Distance bytes) width n = true
-holds prefix Banks width n = nat_lt n 256
-holds prefix Sign width n = nat_lt n (256 ^ width)
+abbrev pub is_operand_of_width : Prefix → Kind → ℕ → ℕ → Bool
+is_operand_of_width prefix Missing width n = false
+is_operand_of_width prefix Value width n = fits_value prefix width n
+is_operand_of_width prefix (Address bytes) width n = nat_lt n (256 ^ width)
+is_operand_of_width prefix (Distance bytes) width n = true
+is_operand_of_width prefix Banks width n = nat_lt n 256
+is_operand_of_width prefix Sign width n = nat_lt n (256 ^ width)
 
 abbrev pub or_fault : {A : Type 0} → Option A → Answer A
 or_fault None = Err DoesNotFit
@@ -146,7 +146,7 @@ or_fault (Some a) = Ok a
 -- a constant takes the first mode that holds it
 abbrev pub mode_of_number : Widths → Mnemonic → Prefix → ℕ → List Mode → Answer Mode
 mode_of_number widths mnemonic prefix n modes =
-    or_fault (find (λ mode. holds prefix (kind_of mode) (operand_bytes widths mnemonic mode) n) modes)
+    or_fault (find (λ mode. is_operand_of_width prefix (kind_of mode) (operand_bytes widths mnemonic mode) n) modes)
 
 abbrev pub or_first : Mode → Option Mode → Mode
 or_first first None = first
@@ -159,8 +159,8 @@ mode_of_tree mode modes = or_first mode (find (λ other. is_address 2 (kind_of o
 -- ---- what is written
 
 -- the last expression operator of `#>` and `#^` is a shift to the right
-abbrev pub shifted : ℕ → Tree → Tree
-shifted count tree = if count == 0 then tree else Binary 0x07 tree (Leaf (Constant (2 ^ 32 - count)))
+abbrev pub with_right_shift : ℕ → Tree → Tree
+with_right_shift count tree = if count == 0 then tree else Binary 0x07 tree (Leaf (Constant (2 ^ 32 - count)))
 
 -- the shift of an operand: that of a value alone
 abbrev pub shift_in : Kind → Prefix → ℕ
@@ -208,7 +208,7 @@ with_number mnemonic mode prefix width n =
 abbrev pub with_tree : Mnemonic → Mode → Prefix → ℕ → Tree → List Piece
 with_tree mnemonic mode prefix width tree =
     Bytes (opcode_in mnemonic mode ∷ [])
-    ∷ Whole (operand_record mnemonic (kind_of mode) width (shifted (shift_in (kind_of mode) prefix) (placed 1 tree))) ∷ []
+    ∷ Whole (operand_record mnemonic (kind_of mode) width (with_right_shift (shift_in (kind_of mode) prefix) (with_location_less 1 tree))) ∷ []
 
 -- a branch has its record for a constant too
 abbrev pub with_known : Widths → Mnemonic → Prefix → ℕ → Mode → List Piece
@@ -237,7 +237,7 @@ bank (Written tree) = Ok (Written tree)
 
 -- a bank that stands so many bytes behind the instruction's start
 abbrev pub bank_record : ℕ → Amount → Record
-bank_record back a = Formula 0xEB 1 0 (expression_text (placed back (tree_of_amount a)))
+bank_record back a = Formula 0xEB 1 0 (expression_text (with_location_less back (tree_of_amount a)))
 
 -- the bank of the destination stands first, and is written second in the source
 abbrev pub banks_written : ℕ → Amount → Amount → List Piece
@@ -247,9 +247,9 @@ banks_written opcode (Known source) (Written destination) =
 banks_written opcode (Written source) destination =
     Bytes (opcode ∷ []) ∷ Whole (bank_record 1 destination) ∷ Whole (bank_record 2 (Written source)) ∷ []
 
-abbrev pub moved : Constants → Mnemonic → Mode → Tree → Tree → Answer (List Piece)
-moved constants mnemonic mode source destination =
-    both (amount constants source >>= bank) (amount constants destination >>= bank)
+abbrev pub block_move_pieces : Constants → Mnemonic → Mode → Tree → Tree → Answer (List Piece)
+block_move_pieces constants mnemonic mode source destination =
+    pair_or_earlier_fault (amount constants source >>= bank) (amount constants destination >>= bank)
     >>= λ banks. Ok (banks_written (opcode_in mnemonic mode) banks.0 banks.1)
 
 -- ---- instructions
@@ -259,7 +259,7 @@ abbrev pub given_by : Constants → Widths → Mnemonic → Prefix → Mode → 
 given_by constants widths mnemonic prefix mode modes [] = without_amount widths mnemonic mode
 given_by constants widths mnemonic prefix mode modes (tree ∷ []) =
     amount constants tree >>= with_amount widths mnemonic prefix mode modes
-given_by constants widths mnemonic prefix mode modes (source ∷ destination ∷ trees) = moved constants mnemonic mode source destination
+given_by constants widths mnemonic prefix mode modes (source ∷ destination ∷ trees) = block_move_pieces constants mnemonic mode source destination
 
 abbrev pub in_modes : Constants → Widths → Mnemonic → Prefix → List Tree → List Mode → Answer (List Piece)
 in_modes constants widths mnemonic prefix trees [] = Err BadMode
@@ -268,4 +268,4 @@ in_modes constants widths mnemonic prefix trees (mode ∷ modes) = given_by cons
 -- what an instruction with this operand gives
 unfoldable pub instruction : Constants → Widths → Mnemonic → Meaning → Answer (List Piece)
 instruction constants widths mnemonic operand =
-    in_modes constants widths mnemonic operand.prefix operand.trees (offered mnemonic operand.form operand.prefix)
+    in_modes constants widths mnemonic operand.prefix operand.trees (modes_of_form mnemonic operand.form operand.prefix)

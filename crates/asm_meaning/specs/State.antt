@@ -23,7 +23,7 @@ Names = List ℕ → Option (Option ℕ)
 -- a segment that hasn't ended: the line that begins it, its class, its header so far, the names that it defines, and its
 -- records
 pub record Segment : Type 0 where
-  pub begun : Line
+  pub state_after_start : Line
   pub class : Class
   pub header : Fields
   pub names : Names
@@ -111,13 +111,13 @@ header_of state class name load_name = record {
 }
 
 -- a segment begins, with what waits for it; its name is the first that it defines
-abbrev pub begun : State → Line → Class → List ℕ → List ℕ → State
-begun state line class name load_name = record state {
+abbrev pub state_after_start : State → Line → Class → List ℕ → List ℕ → State
+state_after_start state line class name load_name = record state {
   org = 0;
   align = 0;
   front = [];
   segment = Some (record {
-    begun = line;
+    state_after_start = line;
     class = class;
     header = header_of state class name load_name;
     names = with_name name None no_names;
@@ -130,8 +130,8 @@ abbrev pub ended_of : Option Segment → List Ended
 ended_of None = []
 ended_of (Some s) = record { header = record s.header { length = cells_of s }; body = s.body } ∷ []
 
-abbrev pub closed : State → State
-closed state = record state { segment = None; ended = state.ended ++ ended_of state.segment }
+abbrev pub state_after_end : State → State
+state_after_end state = record state { segment = None; ended = state.ended ++ ended_of state.segment }
 
 -- ---- statements in a segment
 
@@ -147,12 +147,12 @@ local_of [] form size = []
 local_of (byte ∷ label) form size = Label false (byte ∷ label) (min size 0xFFFF) form 0 ∷ []
 
 -- a statement's records stand at the end of the segment, behind these for its label, which becomes one of its names
-abbrev pub grown : List ℕ → Option ℕ → List Record → List Record → Segment → Segment
-grown label value front contents s = record s { names = with_label label value s.names; body = s.body ++ (front ++ contents) }
+abbrev pub with_records : List ℕ → Option ℕ → List Record → List Record → Segment → Segment
+with_records label value front contents s = record s { names = with_label label value s.names; body = s.body ++ (front ++ contents) }
 
 -- the same with LOCAL for its label
-abbrev pub marked : List ℕ → ℕ → List Record → Segment → Segment
-marked label form contents s = grown label None (local_of label form (length_at (cells_of s) contents)) contents s
+abbrev pub with_local_record : List ℕ → ℕ → List Record → Segment → Segment
+with_local_record label form contents s = with_records label None (local_of label form (length_at (cells_of s) contents)) contents s
 
 abbrev pub in_segment : (Segment → Segment) → State → State
 in_segment change state = record state { segment = option_map change state.segment }
@@ -169,7 +169,7 @@ within_length state = if is_too_long state.segment then Err SegmentTooLong else 
 
 -- ---- what is turned on and off
 
-abbrev pub turned : Switch → Bool → State → State
-turned LongA on state = record state { widths = record state.widths { long_a = on } }
-turned LongI on state = record state { widths = record state.widths { long_i = on } }
-turned Msb on state = record state { msb = on }
+abbrev pub with_switch_set : Switch → Bool → State → State
+with_switch_set LongA on state = record state { widths = record state.widths { long_a = on } }
+with_switch_set LongI on state = record state { widths = record state.widths { long_i = on } }
+with_switch_set Msb on state = record state { msb = on }

@@ -17,8 +17,8 @@ use Rattle.asm_meaning.specs.declared.directives.Class.{Class}
 use Rattle.asm_meaning.specs.declared.directives.Switch.{Switch}
 use Rattle.asm_meaning.specs.declared.directives.Directive.TheVariants as directives
 use Rattle.asm_meaning.specs.declared.faults.AsmCause.TheVariants.{UnknownOperation, OutsideSegment, BadLabel, BadOperand, BadNumber, Duplicate, DoesNotFit}
-use Rattle.asm_meaning.specs.Answer.{Answer, both}
-use Rattle.asm_meaning.specs.Constant.{needed, worth, Constants, Amount, Known, Written, amount, tree_of_amount}
+use Rattle.asm_meaning.specs.Answer.{Answer, pair_or_earlier_fault}
+use Rattle.asm_meaning.specs.Constant.{required_number, known_value, Constants, Amount, Known, Written, amount, tree_of_amount}
 use Rattle.asm_meaning.specs.Elements.{Element, IsList, list_pieces}
 use Rattle.asm_meaning.specs.Formulas.{IsFormula, formula_of, expression_text}
 use Rattle.asm_meaning.specs.Instruction.{instruction}
@@ -26,7 +26,7 @@ use Rattle.asm_meaning.specs.declared.directives.Operation.{Operation}
 use Rattle.asm_meaning.specs.declared.directives.Operation.TheVariants.{Instruct, Direct}
 use Rattle.asm_meaning.specs.Operations.{operation_of}
 use Rattle.asm_meaning.specs.Pieces.{records_of}
-use Rattle.asm_meaning.specs.State.{Segment, State, begun, closed, grown, marked, in_segment, within_length, turned}
+use Rattle.asm_meaning.specs.State.{Segment, State, state_after_start, state_after_end, with_records, with_local_record, in_segment, within_length, with_switch_set}
 
 -- ---- inside and outside of segments
 
@@ -136,7 +136,7 @@ constants_of state name = option_or (constants_in state.segment name) (state.out
 
 -- the number that a formula is
 abbrev pub number_in : State → Option Tree → Answer ℕ
-number_in state found = formula_of found >>= λ tree. needed (worth (constants_of state) tree)
+number_in state found = formula_of found >>= λ tree. required_number (known_value (constants_of state) tree)
 
 -- ---- directives with a number
 
@@ -158,13 +158,13 @@ abbrev pub listed_kind : ℕ → Answer ℕ
 listed_kind n = if not (is_listed (form_of n)) then Err BadOperand else if nat_lt 0xFFFF n then Err DoesNotFit else Ok n
 
 -- what ALIGN and ORG do: outside segments they wait for the next one
-abbrev pub aligned : State → Option Segment → List ℕ → ℕ → State
-aligned state None label n = record state { align = n }
-aligned state (Some s) label n = in_segment (marked label 0x4E (Align n ∷ [])) state
+abbrev pub state_after_align : State → Option Segment → List ℕ → ℕ → State
+state_after_align state None label n = record state { align = n }
+state_after_align state (Some s) label n = in_segment (with_local_record label 0x4E (Align n ∷ [])) state
 
-abbrev pub moved : State → Option Segment → List ℕ → ℕ → State
-moved state None label n = record state { org = n }
-moved state (Some s) label n = in_segment (marked label 0x4E (Org n ∷ [])) state
+abbrev pub state_after_org : State → Option Segment → List ℕ → ℕ → State
+state_after_org state None label n = record state { org = n }
+state_after_org state (Some s) label n = in_segment (with_local_record label 0x4E (Org n ∷ [])) state
 
 abbrev pub with_kind : ℕ → Segment → Segment
 with_kind n s = record s { header = record s.header { kind = n } }
@@ -180,18 +180,18 @@ abbrev pub value_of : Amount → Option ℕ
 value_of (Known n) = Some n
 value_of (Written tree) = None
 
-abbrev pub equated : Bool → List ℕ → Amount → Segment → Segment
-equated global label a s = grown label (value_of a) [] (equate global label (tree_of_amount a) ∷ []) s
+abbrev pub with_equate : Bool → List ℕ → Amount → Segment → Segment
+with_equate global label a s = with_records label (value_of a) [] (equate global label (tree_of_amount a) ∷ []) s
 
 abbrev pub equating : State → Bool → Answer (List ℕ) → Option Tree → Answer State
 equating state global label found =
-    both label (formula_of found >>= amount (constants_of state))
-    >>= λ (name, a). Ok (in_segment (equated global name a) state)
+    pair_or_earlier_fault label (formula_of found >>= amount (constants_of state))
+    >>= λ (name, a). Ok (in_segment (with_equate global name a) state)
 
 -- outside segments GEQU is a constant, and waits for the front of the next segment
 abbrev pub equating_outside : State → Answer (List ℕ) → Option Tree → Answer State
 equating_outside state label found =
-    both label (number_in state found)
+    pair_or_earlier_fault label (number_in state found)
     >>= λ (name, n). Ok (record state { outside = with_name name n state.outside; front = state.front ++ equate true name (Leaf (Constant n)) ∷ [] })
 
 abbrev pub equating_global : State → Option Segment → Answer (List ℕ) → Option Tree → Answer State
@@ -202,20 +202,20 @@ equating_global state (Some s) label found = equating state true label found
 
 abbrev pub spacing : State → Answer (List ℕ) → Option Tree → Answer State
 spacing state label found =
-    both label (number_in state found) >>= λ (name, n). Ok (in_segment (marked name 0x4E (Space n ∷ [])) state)
+    pair_or_earlier_fault label (number_in state found) >>= λ (name, n). Ok (in_segment (with_local_record name 0x4E (Space n ∷ [])) state)
 
-abbrev pub aligning : State → Answer (List ℕ) → Option Tree → Answer State
-aligning state label found =
-    both label (number_in state found >>= alignment_in state) >>= λ (name, n). Ok (aligned state state.segment name n)
+abbrev pub align_state : State → Answer (List ℕ) → Option Tree → Answer State
+align_state state label found =
+    pair_or_earlier_fault label (number_in state found >>= alignment_in state) >>= λ (name, n). Ok (state_after_align state state.segment name n)
 
 abbrev pub moving : State → Answer (List ℕ) → Option Tree → Answer State
 moving state label found =
-    both label (number_in state found >>= distance_in state.segment) >>= λ (name, n). Ok (moved state state.segment name n)
+    pair_or_earlier_fault label (number_in state found >>= distance_in state.segment) >>= λ (name, n). Ok (state_after_org state state.segment name n)
 
 abbrev pub kinding : State → Answer (List ℕ) → Option Tree → Answer State
 kinding state label found =
-    both label (number_in state found >>= listed_kind)
-    >>= λ (name, n). Ok (in_segment (λ s. with_kind n (marked name 0x4E [] s)) state)
+    pair_or_earlier_fault label (number_in state found >>= listed_kind)
+    >>= λ (name, n). Ok (in_segment (λ s. with_kind n (with_local_record name 0x4E [] s)) state)
 
 -- the formula of ORG: in a segment it stands behind `*+`
 abbrev pub IsMoveText : Option (List ℕ) → Option Tree → Type 0
@@ -229,19 +229,19 @@ IsMove (Some s) text found = IsMoveText (behind_here text) found
 -- ---- what each operation does
 
 abbrev pub marking : State → ℕ → Answer (List ℕ) → Answer (List Record) → Answer State
-marking state form label contents = both label contents >>= λ (name, found). Ok (in_segment (marked name form found) state)
+marking state form label contents = pair_or_earlier_fault label contents >>= λ (name, found). Ok (in_segment (with_local_record name form found) state)
 
 abbrev pub beginning : State → Line → Class → Answer (List ℕ) → List ℕ → Answer State
 beginning state line class label text =
-    both label (load_name_of text) >>= λ (name, load_name). Ok (begun state line class name load_name)
+    pair_or_earlier_fault label (load_name_of text) >>= λ (name, load_name). Ok (state_after_start state line class name load_name)
 
 abbrev pub turning : State → Switch → Answer (List ℕ) → List ℕ → Answer State
 turning state switch label text =
-    both label (switch_of text) >>= λ (name, on). Ok (turned switch on (in_segment (marked name 0x4E []) state))
+    pair_or_earlier_fault label (switch_of text) >>= λ (name, on). Ok (with_switch_set switch on (in_segment (with_local_record name 0x4E []) state))
 
 -- an ENTRY's label is a GLOBAL of length 0 that isn't private
 abbrev pub entering : State → Answer (List ℕ) → Answer State
-entering state label = label >>= λ name. Ok (in_segment (grown name None (Label true name 0 0x4E 0 ∷ []) []) state)
+entering state label = label >>= λ name. Ok (in_segment (with_records name None (Label true name 0 0x4E 0 ∷ []) []) state)
 
 -- What a statement leaves, or its first fault, by its operation, its label and the text of its operand.
 unfoldable pub IsDone : State → Line → Operation → Answer (List ℕ) → List ℕ → Answer State → Type 0
@@ -249,7 +249,7 @@ IsDone state line (Instruct mnemonic) label text answer =
     (operand : Answer Meaning) × IsOperandOf mnemonic text operand
     × (answer ≡ marking state 0x4D label (operand >>= instruction (constants_of state) state.widths mnemonic >>= λ pieces. Ok (records_of pieces)))
 IsDone state line (Direct (directives.Begin class)) label text answer = answer ≡ beginning state line class label text
-IsDone state line (Direct directives.End) label text answer = answer ≡ (marking state 0x4E label (Ok (End ∷ [])) >>= λ left. Ok (closed left))
+IsDone state line (Direct directives.End) label text answer = answer ≡ (marking state 0x4E label (Ok (End ∷ [])) >>= λ left. Ok (state_after_end left))
 IsDone state line (Direct directives.Entry) label text answer = answer ≡ entering state label
 IsDone state line (Direct directives.Using) label text answer = answer ≡ marking state 0x4E label (name_of text >>= λ name. Ok (Using name ∷ []))
 IsDone state line (Direct directives.Equ) label text answer = (found : Option Tree) × IsFormula text found × (answer ≡ equating state false label found)
@@ -259,7 +259,7 @@ IsDone state line (Direct directives.Constants) label text answer =
     (found : Option (List Element)) × IsList text found
     × (answer ≡ marking state 0x4E label (list_pieces (constants_of state) state.msb found >>= λ pieces. Ok (records_of pieces)))
 IsDone state line (Direct directives.Space) label text answer = (found : Option Tree) × IsFormula text found × (answer ≡ spacing state label found)
-IsDone state line (Direct directives.Align) label text answer = (found : Option Tree) × IsFormula text found × (answer ≡ aligning state label found)
+IsDone state line (Direct directives.Align) label text answer = (found : Option Tree) × IsFormula text found × (answer ≡ align_state state label found)
 IsDone state line (Direct directives.Org) label text answer = (found : Option Tree) × IsMove state.segment text found × (answer ≡ moving state label found)
 IsDone state line (Direct directives.Kind) label text answer = (found : Option Tree) × IsFormula text found × (answer ≡ kinding state label found)
 IsDone state line (Direct (directives.Turn switch)) label text answer = answer ≡ turning state switch label text

@@ -3,17 +3,17 @@ use Rattle.std.proofs.Common.{◌≡◌, inl, inr, ℕ, zero, suc, Bool, true, f
 use Rattle.std.proofs.lemmas.Bool.{cases_lt}
 use Rattle.std.proofs.lemmas.List.Sums.{sum_by-cons}
 use Rattle.iigs_meaning.specs.declared.slots.Slot.{Slot}
-use Rattle.iigs_meaning.specs.declared.slots.Content.{Content}
-use Rattle.iigs_meaning.specs.declared.slots.Content.TheVariants.{Free, Used, Retired}
+use Rattle.iigs_meaning.specs.declared.slots.SlotContent.{SlotContent}
+use Rattle.iigs_meaning.specs.declared.slots.SlotContent.TheVariants.{Free, Used, Retired}
 use Rattle.iigs_meaning.specs.declared.wants.Want.{Want}
 use Rattle.iigs_meaning.specs.declared.wants.Block.{Block}
 use Rattle.iigs_meaning.specs.Slots.{slot_at}
 use Rattle.iigs_meaning.specs.Free.{IsFree}
 use Rattle.iigs_meaning.specs.Fits.{Slots, Fits, HoldsByte, block_in}
-use Rattle.iigs_meaning.specs.Placement.{can_purge, emptied_where, emptied, is_gone, rank}
+use Rattle.iigs_meaning.specs.Placement.{can_purge, emptied_where, slots_after_purges, is_gone, rank}
 use Rattle.iigs_meaning.specs.Room.{CountsBelow, IsRoom}
 use Rattle.iigs_meaning.specs.Room.CountsBelow.{none, one_more, no_more}
-use Rattle.iigs_meaning.specs.Slide.{mover, place_of, moved_to, Slides}
+use Rattle.iigs_meaning.specs.Slide.{movable_block, place_of, moved_to, Slides}
 use Rattle.iigs_meaning.specs.laws.SlideLaws.{mover_in, lies, has_bytes}
 use Rattle.iigs_places.specs.Arranged.{Arrangement, IsArranged}
 use Rattle.iigs_places.specs.Sizes.{free_below, size_in, lasting_in}
@@ -45,37 +45,37 @@ size_there slot block is lies = rw (is, lies) refl
 
 module _ (banks : List ℕ) (old new : Slots) (arranged : IsArranged banks old) (slides : Slides banks old new) where
   size_slid : (place : ℕ) → size_in (slot_at new place) ≡ size_in (slot_at old place)
-  size_slid place = go (mover (slot_at old place)) refl
+  size_slid place = go (movable_block (slot_at old place)) refl
     where
-      go : (o : Option Block) → mover (slot_at old place) ≡ o → size_in (slot_at new place) ≡ size_in (slot_at old place)
+      go : (o : Option Block) → movable_block (slot_at old place) ≡ o → size_in (slot_at new place) ≡ size_in (slot_at old place)
       go None is = ap size_in (slides.stay place is)
       go (Some block) is =
           ap size_in (slides.goes place block is).2 ∙ sym (size_there (slot_at old place) block (mover_in (slot_at old place) block is).0 (lies (slot_at old place) block is))
 
   -- the bytes of a block that moves are those from its new address on
-  moved_bytes : (place i : ℕ) (block : Block) (is : mover (slot_at old place) ≡ Some block) → HoldsByte i (slot_at new place)
+  moved_bytes : (place i : ℕ) (block : Block) (is : movable_block (slot_at old place) ≡ Some block) → HoldsByte i (slot_at new place)
       → ((slides.goes place block is).0 ≤ i) × (i < (slides.goes place block is).0 + block.want.size)
   moved_bytes place i block is holds = subst (HoldsByte i) (slides.goes place block is).2 holds
 
   inside : (place i : ℕ) → HoldsByte i (slot_at new place) → IsFree banks i
-  inside place i holds = go (mover (slot_at old place)) refl
+  inside place i holds = go (movable_block (slot_at old place)) refl
     where
-      go : (o : Option Block) → mover (slot_at old place) ≡ o → IsFree banks i
+      go : (o : Option Block) → movable_block (slot_at old place) ≡ o → IsFree banks i
       go None is = arranged.sound.inside place i (subst (HoldsByte i) (slides.stay place is) holds)
       go (Some block) is = let there = moved_bytes place i block is holds in (slides.goes place block is).1.fits.open_.free i there.0 there.1
 
-  beside_still : (place other i : ℕ) (block : Block) → mover (slot_at old place) ≡ Some block → mover (slot_at old other) ≡ None → HoldsByte i (slot_at new place) → HoldsByte i (slot_at new other) → ⊥
+  beside_still : (place other i : ℕ) (block : Block) → movable_block (slot_at old place) ≡ Some block → movable_block (slot_at old other) ≡ None → HoldsByte i (slot_at new place) → HoldsByte i (slot_at new other) → ⊥
   beside_still place other i block is still one two =
       let there = moved_bytes place i block is one in
       (slides.goes place block is).1.fits.stay other still i there.0 there.1 (subst (HoldsByte i) (slides.stay other still) two)
 
-  beside_moved : (place other i : ℕ) (block above : Block) → mover (slot_at old place) ≡ Some block → mover (slot_at old other) ≡ Some above → place_of block < place_of above
+  beside_moved : (place other i : ℕ) (block above : Block) → movable_block (slot_at old place) ≡ Some block → movable_block (slot_at old other) ≡ Some above → place_of block < place_of above
       → HoldsByte i (slot_at new place) → HoldsByte i (slot_at new other) → ⊥
   beside_moved place other i block above is is' less one two =
       let there = moved_bytes other i above is' two in
       (slides.goes other above is').1.fits.moved place block is less i there.0 there.1 one
 
-  same_start : (place other i : ℕ) (block second : Block) → mover (slot_at old place) ≡ Some block → mover (slot_at old other) ≡ Some second → place_of block ≡ place_of second
+  same_start : (place other i : ℕ) (block second : Block) → movable_block (slot_at old place) ≡ Some block → movable_block (slot_at old other) ≡ Some second → place_of block ≡ place_of second
       → HoldsByte i (slot_at new place) → HoldsByte i (slot_at new other) → place ≡ other
   same_start place other i block second is is' same one two =
       let here = moved_bytes place i block is one in
@@ -85,9 +85,9 @@ module _ (banks : List ℕ) (old new : Slots) (arranged : IsArranged banks old) 
       (has_bytes (slot_at old other) second is' (place_of block) (omega (arith, same)) (omega (arith, same, there.0, there.1)))
 
   apart : (place other i : ℕ) → HoldsByte i (slot_at new place) → HoldsByte i (slot_at new other) → place ≡ other
-  apart place other i one two = go (mover (slot_at old place)) refl (mover (slot_at old other)) refl
+  apart place other i one two = go (movable_block (slot_at old place)) refl (movable_block (slot_at old other)) refl
     where
-      go : (o : Option Block) → mover (slot_at old place) ≡ o → (p : Option Block) → mover (slot_at old other) ≡ p → place ≡ other
+      go : (o : Option Block) → movable_block (slot_at old place) ≡ o → (p : Option Block) → movable_block (slot_at old other) ≡ p → place ≡ other
       go None is None is' = arranged.sound.apart place other i (subst (HoldsByte i) (slides.stay place is) one) (subst (HoldsByte i) (slides.stay other is') two)
       go None is (Some block) is' = absurd (beside_still other place i block is' is two one)
       go (Some block) is None is' = absurd (beside_still place other i block is is' one two)
@@ -100,12 +100,12 @@ module _ (banks : List ℕ) (old new : Slots) (arranged : IsArranged banks old) 
       ]
 
   bounded : All IsBoundedSlot new
-  bounded = all_slots IsBoundedSlot new (λ place. go place (mover (slot_at old place)) refl)
+  bounded = all_slots IsBoundedSlot new (λ place. go place (movable_block (slot_at old place)) refl)
     where
       was : (place : ℕ) → IsBoundedSlot (slot_at old place)
       was place = each_slot IsBoundedSlot old tt arranged.bounded place
 
-      go : (place : ℕ) (o : Option Block) → mover (slot_at old place) ≡ o → IsBoundedSlot (slot_at new place)
+      go : (place : ℕ) (o : Option Block) → movable_block (slot_at old place) ≡ o → IsBoundedSlot (slot_at new place)
       go place None is = subst IsBoundedSlot (sym (slides.stay place is)) (was place)
       go place (Some block) is =
           let one : IsBounded block = subst (λ (o : Option Block). IfSome o IsBounded) (mover_in (slot_at old place) block is).0 (was place) in
@@ -135,7 +135,7 @@ lasting_stays slots count slot = go slot.generation slot.content
     used generation block true = omega arith
     used generation block false = omega arith
 
-    go : (generation : ℕ) (content : Content Block) → lasting_in (record { generation = generation; content = content }) ≤ size_in (emptied_where (is_gone slots count) (record { generation = generation; content = content }))
+    go : (generation : ℕ) (content : SlotContent Block) → lasting_in (record { generation = generation; content = content }) ≤ size_in (emptied_where (is_gone slots count) (record { generation = generation; content = content }))
     go generation Free = omega arith
     go generation Retired = omega arith
     go generation (Used block) = used generation block (can_purge block)
@@ -150,12 +150,12 @@ sums_below (x ∷ xs) (y ∷ ys) each = omega (arith, sum_by-cons lasting_in x x
 -- a want of more bytes than are left beside the blocks that aren't purgeable fits nowhere after a slide
 pub none_large : (banks : List ℕ) (slots : Slots) (want : Want) (room : ℕ) → IsArranged banks slots → 0 < want.size → room + sum_by lasting_in slots ≡ free_below banks 256 → room < want.size
     → (count : ℕ) → NoneAfter banks slots want count
-unfolding emptied
+unfolding slots_after_purges
 none_large banks slots want room arranged some is less count slid slides address fits =
     let gone = arranged_gone banks slots count arranged in
-    let all = fits_within banks (emptied slots count) slid gone slides want address some fits in
+    let all = fits_within banks (slots_after_purges slots count) slid gone slides want address some fits in
     let each : (place : ℕ) → lasting_in (slot_at slots place) ≤ size_in (slot_at slid place) = λ place.
     let same : size_in (slot_at slid place) ≡ size_in (emptied_where (is_gone slots count) (slot_at slots place)) =
-    size_slid banks (emptied slots count) slid gone slides place ∙ ap size_in (slot_at-map (emptied_where (is_gone slots count)) slots place refl) in
+    size_slid banks (slots_after_purges slots count) slid gone slides place ∙ ap size_in (slot_at-map (emptied_where (is_gone slots count)) slots place refl) in
     omega (arith, same, lasting_stays slots count (slot_at slots place)) in
     absurd (omega (arith, is, less, all, sums_below slots slid each))

@@ -12,9 +12,9 @@ use Rattle.iigs_meaning.specs.Slots.{slot_at, new_slot, used_value, get, with_va
 use Rattle.iigs_meaning.specs.Fits.{Slots, Fits, block_in}
 use Rattle.iigs_meaning.specs.Blocks.{AreApart, address_in}
 use Rattle.iigs_meaning.specs.Moves.{Shifts}
-use Rattle.iigs_meaning.specs.Slide.{can_move, is_moved, count_moved, mover, place_of, holding, moved_to, Slides, AreSettled}
+use Rattle.iigs_meaning.specs.Slide.{can_move, is_moved, count_moved, movable_block, place_of, holding, moved_to, Slides, AreSettled}
 use Rattle.iigs_meaning.specs.laws.SlideLaws.{mover_in, lies, are_low, slides_moved, AreSlidTo, IsNext, fits_there, from_slide}
-use Rattle.iigs_places.specs.declared.table.Put.{Put}
+use Rattle.iigs_places.specs.declared.table.PlacedBlock.{PlacedBlock}
 use Rattle.iigs_places.specs.Lowest.{IsFirstPut}
 use Rattle.iigs_places.proofs.Changed.{live_block, live_in}
 use Rattle.iigs_places.proofs.Sliding.{set_is, is_mover, no_mover, held_same, set_same}
@@ -101,7 +101,7 @@ carried_none old plan = record {
 }
 
 module _ (banks : List ℕ) (old plan now : Slots) (apart : AreApart banks old) (settled : AreSettled banks old) (slides : Slides banks old plan) (limit : ℕ) (carried : AreCarried old plan now limit) where
-  same_done : (block : Block) → place_of block ≤ limit → (place : ℕ) (other : Block) → mover (slot_at old place) ≡ Some other → place_of other < place_of block → slot_at plan place ≡ slot_at now place
+  same_done : (block : Block) → place_of block ≤ limit → (place : ℕ) (other : Block) → movable_block (slot_at old place) ≡ Some other → place_of other < place_of block → slot_at plan place ≡ slot_at now place
   same_done block le place other m below = sym (carried.done place other m (omega (arith, le, below)))
 
   pub slid_now : AreSlidTo banks old now limit
@@ -122,21 +122,21 @@ module _ (banks : List ℕ) (old plan now : Slots) (apart : AreApart banks old) 
     };
   }
 
-  address_mover : (place : ℕ) (block : Block) → mover (slot_at old place) ≡ Some block → limit ≤ place_of block → address_in (slot_at now place) ≡ Some (place_of block)
+  address_mover : (place : ℕ) (block : Block) → movable_block (slot_at old place) ≡ Some block → limit ≤ place_of block → address_in (slot_at now place) ≡ Some (place_of block)
   address_mover place block m late = ap address_in (carried.wait place block m late) ∙ rw (mover_in (slot_at old place) block m).0 (lies (slot_at old place) block m)
 
   -- where no block is left, all are where the plan has them
   pub carried_all : ((place at : ℕ) → address_in (slot_at now place) ≡ Some at → at < limit) → now ≡ plan
-  carried_all none = ext_get_or new_slot now plan (carried.len ∙ sym slides.len) (λ place inside'. go place (mover (slot_at old place)) refl)
+  carried_all none = ext_get_or new_slot now plan (carried.len ∙ sym slides.len) (λ place inside'. go place (movable_block (slot_at old place)) refl)
     where
-      go : (place : ℕ) (o : Option Block) → mover (slot_at old place) ≡ o → slot_at now place ≡ slot_at plan place
+      go : (place : ℕ) (o : Option Block) → movable_block (slot_at old place) ≡ o → slot_at now place ≡ slot_at plan place
       go place None m = carried.stay place m ∙ sym (slides.stay place m)
       go place (Some block) m = elim (cases_lt (place_of block) limit) [
         | inl below ↦ carried.done place block m below
         | inr late ↦ carried.done place block m (none place (place_of block) (address_mover place block m late))
       ]
 
-  module _ (put : Put) (first : IsFirstPut now limit put) where
+  module _ (put : PlacedBlock) (first : IsFirstPut now limit put) where
     its : (block : Block) × (get now put.handle ≡ Some block) × (block.at ≡ Some put.at)
     its = go (get now put.handle) refl first.there
       where
@@ -152,9 +152,9 @@ module _ (banks : List ℕ) (old plan now : Slots) (apart : AreApart banks old) 
 
     -- it waits where it was
     still : slot_at now put.handle.slot ≡ slot_at old put.handle.slot
-    still = go (mover (slot_at old put.handle.slot)) refl
+    still = go (movable_block (slot_at old put.handle.slot)) refl
       where
-        go : (o : Option Block) → mover (slot_at old put.handle.slot) ≡ o → slot_at now put.handle.slot ≡ slot_at old put.handle.slot
+        go : (o : Option Block) → movable_block (slot_at old put.handle.slot) ≡ o → slot_at now put.handle.slot ≡ slot_at old put.handle.slot
         go None m = carried.stay put.handle.slot m
         go (Some was) m = elim (cases_lt (place_of was) limit) [
           | inr late ↦ carried.wait put.handle.slot was m late
@@ -171,7 +171,7 @@ module _ (banks : List ℕ) (old plan now : Slots) (apart : AreApart banks old) 
     place_first : place_of its.0 ≡ put.at
     place_first = rw its.2 refl
 
-    late_others : (place : ℕ) (other : Block) → mover (slot_at old place) ≡ Some other → limit ≤ place_of other → put.at ≤ place_of other
+    late_others : (place : ℕ) (other : Block) → movable_block (slot_at old place) ≡ Some other → limit ≤ place_of other → put.at ≤ place_of other
     late_others place other m late = first.least place (place_of other) (address_mover place other m late) late
 
     is_next : IsNext old limit its.0
@@ -207,7 +207,7 @@ module _ (banks : List ℕ) (old plan now : Slots) (apart : AreApart banks old) 
               goes = λ ne. (isnt_locked its.0 can, omega (arith, low, place_first), subst (λ (s : Slots). Fits banks s its.0.want it.0) (sym (set_is now put.handle its.0 its.1 (record its.0 { at = None }))) fits);
             }
           where
-            low_of : (m : mover (slot_at old put.handle.slot) ≡ Some its.0) → (slides.goes put.handle.slot its.0 m).0 ≤ place_of its.0
+            low_of : (m : movable_block (slot_at old put.handle.slot) ≡ Some its.0) → (slides.goes put.handle.slot its.0 m).0 ≤ place_of its.0
             low_of m =
                 let it = are_low banks old plan apart settled (suc (place_of its.0)) (slides_moved banks old plan slides (suc (place_of its.0))) (suc (place_of its.0)) (omega arith) put.handle.slot its.0 m (omega arith) in
                 let one : moved_to it.0 its.0 ≡ moved_to (slides.goes put.handle.slot its.0 m).0 its.0 = same_held (slot_at old put.handle.slot) (moved_to it.0 its.0) (moved_to (slides.goes put.handle.slot its.0 m).0 its.0) (sym it.2 ∙ (slides.goes put.handle.slot its.0 m).2) in
@@ -216,7 +216,7 @@ module _ (banks : List ℕ) (old plan now : Slots) (apart : AreApart banks old) 
                 same_held : (slot : Slot Block) (a b : Block) → holding slot a ≡ holding slot b → a ≡ b
                 same_held slot a b e = same_Some a b (ap block_in e)
 
-            early : (m : mover (slot_at old put.handle.slot) ≡ Some its.0) → (place : ℕ) (other : Block) → mover (slot_at old place) ≡ Some other → place_of other < place_of its.0 → slot_at plan place ≡ slot_at now place
+            early : (m : movable_block (slot_at old put.handle.slot) ≡ Some its.0) → (place : ℕ) (other : Block) → movable_block (slot_at old place) ≡ Some other → place_of other < place_of its.0 → slot_at plan place ≡ slot_at now place
             early m place other m' below = elim (cases_lt (place_of other) limit) [
               | inl before ↦ sym (carried.done place other m' before)
               | inr late ↦ absurd (omega (arith, late_others place other m' late, place_first, below))
@@ -258,7 +258,7 @@ module _ (banks : List ℕ) (old plan now : Slots) (apart : AreApart banks old) 
         other place ne = get_or-set_other now put.handle.slot place (slot_at plan put.handle.slot) new_slot ne
 
         -- two blocks that begin at one address are one
-        one_place : (place : ℕ) (block : Block) → mover (slot_at old place) ≡ Some block → limit ≤ place_of block → place_of block ≡ put.at → place ≡ put.handle.slot
+        one_place : (place : ℕ) (block : Block) → movable_block (slot_at old place) ≡ Some block → limit ≤ place_of block → place_of block ≡ put.at → place ≡ put.handle.slot
         one_place place block m late at =
             let want = settled.wants place block (mover_in (slot_at old place) block m).0 in
             let want' = settled.wants put.handle.slot its.0 there_old in

@@ -8,17 +8,17 @@ use Rattle.std.proofs.lemmas.Bool.{cases_lt}
 use Rattle.std.proofs.lemmas.List.{get_or-set_other}
 use Rattle.iigs_meaning.specs.declared.handles.Handle.{Handle}
 use Rattle.iigs_meaning.specs.declared.slots.Slot.{Slot}
-use Rattle.iigs_meaning.specs.declared.slots.Content.{Content}
-use Rattle.iigs_meaning.specs.declared.slots.Content.TheVariants.{Free, Used, Retired}
+use Rattle.iigs_meaning.specs.declared.slots.SlotContent.{SlotContent}
+use Rattle.iigs_meaning.specs.declared.slots.SlotContent.TheVariants.{Free, Used, Retired}
 use Rattle.iigs_meaning.specs.declared.wants.Want.{Want}
 use Rattle.iigs_meaning.specs.declared.wants.Block.{Block}
 use Rattle.iigs_meaning.specs.Slots.{slot_at, new_slot, used_value, get, is_free, is_free_content, lowest_free, new_handle, after_take, with_value}
 use Rattle.iigs_meaning.specs.Fits.{Slots, Fits, block_in}
-use Rattle.iigs_meaning.specs.Placement.{can_purge, emptied, emptied_where, is_gone, HasNoRoom, count_purgeable}
-use Rattle.iigs_meaning.specs.Puts.{Purges, Puts, PutsAnew, LacksRoom, placed}
+use Rattle.iigs_meaning.specs.Placement.{can_purge, slots_after_purges, emptied_where, is_gone, HasNoRoom, count_purgeable}
+use Rattle.iigs_meaning.specs.Puts.{Purges, Puts, PutsAnew, LacksRoom, placed_block}
 use Rattle.iigs_meaning.specs.Blocks.{address_in}
 use Rattle.iigs_meaning.specs.Memory.{Memory, KeepsBut, IsThere}
-use Rattle.iigs_meaning.specs.Slide.{can_move, mover, Slides, PurgesOrSlides}
+use Rattle.iigs_meaning.specs.Slide.{can_move, movable_block, Slides, PurgesOrSlides}
 use Rattle.iigs_meaning.specs.laws.Left.{IsLeft, AreLeft}
 use Rattle.iigs_meaning.specs.laws.Left.IsLeft.{Unmoved, Emptied, Shifted}
 use Rattle.iigs_meaning.specs.laws.PlacementLaws.{no_room}
@@ -32,16 +32,16 @@ use Rattle.iigs_compact_memory.specs.Needs.{NoneAfter, NeedsPurges}
 
 module _ (banks : List ℕ) (slots : Slots) (want : Want) where
   -- one slide of so many purges speaks for every one
-  pub none_once : (count : ℕ) (room : Slots) → Slides banks (emptied slots count) room → ((address : ℕ) → ¬ Fits banks room want address) → NoneAfter banks slots want count
+  pub none_once : (count : ℕ) (room : Slots) → Slides banks (slots_after_purges slots count) room → ((address : ℕ) → ¬ Fits banks room want address) → NoneAfter banks slots want count
   none_once count room slides none other slides' address fits =
-      none address (subst (λ (r : Slots). Fits banks r want address) (slides_once banks (emptied slots count) other room slides' slides) fits)
+      none address (subst (λ (r : Slots). Fits banks r want address) (slides_once banks (slots_after_purges slots count) other room slides' slides) fits)
 
   -- more purges than there are purgeable blocks change nothing
   pub none_past : (most : ℕ) → most ≡ count_purgeable slots → ((count : ℕ) → count < most + 1 → NoneAfter banks slots want count) → (count : ℕ) → NoneAfter banks slots want count
   none_past most is none count = elim (cases_lt count (most + 1)) [
     | inl less ↦ none count less
     | inr past ↦ λ room slides address fits.
-        let same : emptied slots count ≡ emptied slots most = emptied_past slots count (omega (arith, is, past)) ∙ ap (emptied slots) (sym is) in
+        let same : slots_after_purges slots count ≡ slots_after_purges slots most = emptied_past slots count (omega (arith, is, past)) ∙ ap (slots_after_purges slots) (sym is) in
         none most (omega arith) room (subst (λ (s : Slots). Slides banks s room) same slides) address fits
   ]
 
@@ -56,7 +56,7 @@ module _ (banks : List ℕ) (slots : Slots) (want : Want) where
 pub left_free : (was now : Slot Block) → IsLeft was now → (is_free now ≡ is_free was) × (now.generation ≡ was.generation)
 left_free was now = go
   where
-    used : (block : Block) (content : Content Block) → used_value content ≡ Some block → is_free_content content ≡ false
+    used : (block : Block) (content : SlotContent Block) → used_value content ≡ Some block → is_free_content content ≡ false
     used block Free e = absurd cc
     used block Retired e = refl
     used block (Used b) e = refl
@@ -120,9 +120,9 @@ left_empty slots room left h block was empty = go (left.each h.slot)
 
 module _ (banks : List ℕ) (slots room : Slots) (want : Want) (count : ℕ) (none : HasNoRoom banks slots want) (needs : NeedsPurges banks slots want count room) where
   pub needs_left : AreLeft slots room
-  needs_left = slid_left banks slots (emptied slots count) room (emptied_left slots count) needs.slides
+  needs_left = slid_left banks slots (slots_after_purges slots count) room (emptied_left slots count) needs.slides
 
-  fits_none : Fits banks (emptied room 0) want needs.address
+  fits_none : Fits banks (slots_after_purges room 0) want needs.address
   fits_none = subst (λ (r : Slots). Fits banks r want needs.address) (sym (emptied_none room)) needs.fits
 
   -- in the room there is room
@@ -140,8 +140,8 @@ module _ (banks : List ℕ) (slots room : Slots) (want : Want) (count : ℕ) (no
       | inr le ↦ omega (arith, le)
     ]
 
-    same_room : emptied room makes.count ≡ room
-    same_room = ap (emptied room) no_purge ∙ emptied_none room
+    same_room : slots_after_purges room makes.count ≡ room
+    same_room = ap (slots_after_purges room) no_purge ∙ emptied_none room
 
     pub room_same : after ≡ room
     room_same = makes.room_is ∙ same_room
@@ -166,7 +166,7 @@ module _ (banks : List ℕ) (slots room : Slots) (want : Want) (count : ℕ) (no
     room = room;
     makes = makes_slide puts.address puts.room puts.makes;
     handle = sym (left_handle slots room needs_left) ∙ puts.handle;
-    next_is = puts.next_is ∙ ap (λ (r : Slots). after_take r (placed want puts.address user locked level movable)) (room_same puts.address puts.room puts.makes);
+    next_is = puts.next_is ∙ ap (λ (r : Slots). after_take r (placed_block want puts.address user locked level movable)) (room_same puts.address puts.room puts.makes);
   }
 
   pub slide_then_replace : (next : Slots) (h : Handle) (block : Block) → get slots h ≡ Some block → block.at ≡ None → PutsAnew Purges banks room h want next → PutsAnew PurgesOrSlides banks slots h want next
@@ -180,8 +180,8 @@ module _ (banks : List ℕ) (slots room : Slots) (want : Want) (count : ℕ) (no
         room = room;
         makes = makes_slide puts.address puts.room puts.makes;
         next_is = puts.next_is
-            ∙ ap (λ (r : Slots). with_value r h (placed want puts.address puts.block.user puts.block.locked puts.block.level false)) (room_same puts.address puts.room puts.makes)
-            ∙ ap (λ (b : Block). with_value room h (placed want puts.address b.user b.locked b.level false)) same;
+            ∙ ap (λ (r : Slots). with_value r h (placed_block want puts.address puts.block.user puts.block.locked puts.block.level false)) (room_same puts.address puts.room puts.makes)
+            ∙ ap (λ (b : Block). with_value room h (placed_block want puts.address b.user b.locked b.level false)) same;
       }
 
 -- and one that finds room at once too
@@ -223,15 +223,15 @@ there_emptied test slot = go (block_in slot) refl
     go None is some = some
     go (Some one) is some = by_test one is (test one) some
 
-pub there_gone : (slots : Slots) (count place : ℕ) → There (slot_at (emptied slots count) place) → There (slot_at slots place)
-unfolding emptied
+pub there_gone : (slots : Slots) (count place : ℕ) → There (slot_at (slots_after_purges slots count) place) → There (slot_at slots place)
+unfolding slots_after_purges
 there_gone slots count place some = there_emptied (is_gone slots count) (slot_at slots place)
     (subst There (slot_at-map (emptied_where (is_gone slots count)) slots place refl) some)
 
 pub there_slid : (banks : List ℕ) (old new : Slots) → Slides banks old new → (place : ℕ) → There (slot_at new place) → There (slot_at old place)
-there_slid banks old new slides place some = go (mover (slot_at old place)) refl
+there_slid banks old new slides place some = go (movable_block (slot_at old place)) refl
   where
-    go : (o : Option Block) → mover (slot_at old place) ≡ o → There (slot_at old place)
+    go : (o : Option Block) → movable_block (slot_at old place) ≡ o → There (slot_at old place)
     go None m = subst There (slides.stay place m) some
     go (Some block) m = rw ((mover_in (slot_at old place) block m).0, lies (slot_at old place) block m) refl
 
@@ -255,16 +255,16 @@ there_with slots h block place ne = go (is_some (get slots h))
 pub there_puts : (banks : List ℕ) (slots next : Slots) (want : Want) (user : ℕ) (locked : Bool) (level : ℕ) (movable : Bool) (h : Handle) → Puts Purges banks slots want user locked level movable h next
     → (place : ℕ) → place ≢ h.slot → There (slot_at next place) → There (slot_at slots place)
 there_puts banks slots next want user locked level movable h puts place ne some =
-    let room : puts.room ≡ emptied slots puts.makes.count = puts.makes.room_is in
-    let handle : new_handle puts.room ≡ Some h = ap new_handle room ∙ left_handle slots (emptied slots puts.makes.count) (emptied_left slots puts.makes.count) ∙ puts.handle in
-    let some' : There (slot_at (after_take puts.room (placed want puts.address user locked level movable)) place) = subst (λ (s : Slots). There (slot_at s place)) puts.next_is some in
-    let there : There (slot_at puts.room place) = there_take puts.room (placed want puts.address user locked level movable) h handle place ne some' in
+    let room : puts.room ≡ slots_after_purges slots puts.makes.count = puts.makes.room_is in
+    let handle : new_handle puts.room ≡ Some h = ap new_handle room ∙ left_handle slots (slots_after_purges slots puts.makes.count) (emptied_left slots puts.makes.count) ∙ puts.handle in
+    let some' : There (slot_at (after_take puts.room (placed_block want puts.address user locked level movable)) place) = subst (λ (s : Slots). There (slot_at s place)) puts.next_is some in
+    let there : There (slot_at puts.room place) = there_take puts.room (placed_block want puts.address user locked level movable) h handle place ne some' in
     there_gone slots puts.makes.count place (subst (λ (s : Slots). There (slot_at s place)) room there)
 
 pub there_anew : (banks : List ℕ) (slots next : Slots) (want : Want) (h : Handle) → PutsAnew Purges banks slots h want next → (place : ℕ) → place ≢ h.slot → There (slot_at next place) → There (slot_at slots place)
 there_anew banks slots next want h puts place ne some =
-    let some' : There (slot_at (with_value puts.room h (placed want puts.address puts.block.user puts.block.locked puts.block.level false)) place) = subst (λ (s : Slots). There (slot_at s place)) puts.next_is some in
-    let there : There (slot_at puts.room place) = there_with puts.room h (placed want puts.address puts.block.user puts.block.locked puts.block.level false) place ne some' in
+    let some' : There (slot_at (with_value puts.room h (placed_block want puts.address puts.block.user puts.block.locked puts.block.level false)) place) = subst (λ (s : Slots). There (slot_at s place)) puts.next_is some in
+    let there : There (slot_at puts.room place) = there_with puts.room h (placed_block want puts.address puts.block.user puts.block.locked puts.block.level false) place ne some' in
     there_gone slots puts.makes.count place (subst (λ (s : Slots). There (slot_at s place)) puts.makes.room_is there)
 
 -- ---- bytes that are kept twice

@@ -5,7 +5,7 @@ use Rattle.iigs_meaning.specs.declared.wants.Want.{Want}
 use Rattle.iigs_meaning.specs.declared.wants.Block.{Block}
 use Rattle.iigs_meaning.specs.Slots.{get}
 use Rattle.iigs_meaning.specs.Fits.{Slots, IsWant}
-use Rattle.iigs_meaning.specs.Placement.{emptied, HasNoRoom}
+use Rattle.iigs_meaning.specs.Placement.{slots_after_purges, HasNoRoom}
 use Rattle.iigs_meaning.specs.Puts.{Purges, Puts, PutsAnew, LacksRoom}
 use Rattle.iigs_meaning.specs.Memory.{Memory, KeepsBut, IsPlaced, IsReplaced}
 use Rattle.iigs_meaning.specs.Slide.{Slides, AreSettled, PurgesOrSlides}
@@ -15,7 +15,7 @@ use Rattle.iigs_compact_memory.proofs.Making.{needs_left, left_empty, has_room, 
 
 -- ---- so many are purged, and a slide that was planned is carried out
 
-module _ (old purged : Memory) (plan : Slots) (want : Want) (count : ℕ) (needs : NeedsPurges old.banks old.slots want count plan) (slots : purged.slots ≡ emptied old.slots count) (kept : KeepsBut old purged []) where
+module _ (old purged : Memory) (plan : Slots) (want : Want) (count : ℕ) (needs : NeedsPurges old.banks old.slots want count plan) (slots : purged.slots ≡ slots_after_purges old.slots count) (kept : KeepsBut old purged []) where
   pub planned : Slides purged.banks purged.slots plan
   planned = subst (λ (bs : List ℕ). Slides bs purged.slots plan) (sym kept.banks) (subst (λ (s : Slots). Slides old.banks s plan) (sym slots) needs.slides)
 

@@ -6,10 +6,10 @@ use Rattle.iigs_meaning.specs.declared.handles.Handle.{Handle}
 use Rattle.iigs_meaning.specs.declared.wants.Want.{Want}
 use Rattle.iigs_meaning.specs.Slots.{is_free, new_handle}
 use Rattle.iigs_meaning.specs.Fits.{Slots, IsWant}
-use Rattle.iigs_meaning.specs.Placement.{emptied, HasNoRoom}
+use Rattle.iigs_meaning.specs.Placement.{slots_after_purges, HasNoRoom}
 use Rattle.iigs_meaning.specs.Puts.{Puts, PutsAll, LacksRoom, LacksRoomAt}
 use Rattle.iigs_meaning.specs.Slide.{AreSettled, PurgesOrSlides}
-use Rattle.iigs_places.specs.declared.table.Put.{Put}
+use Rattle.iigs_places.specs.declared.table.PlacedBlock.{PlacedBlock}
 use Rattle.iigs_places.specs.Table.{IsPut}
 use Rattle.iigs_places.proofs.Puts.{put_is}
 use Rattle.iigs_places.proofs.Takes.{some_handle}
@@ -20,7 +20,7 @@ use Rattle.iigs_compact_memory.proofs.Several.{puts_more, free_puts}
 
 -- ---- one want
 
-module _ (banks : List ℕ) (slots next : Slots) (want : Want) (user : ℕ) (put : Put) where
+module _ (banks : List ℕ) (slots next : Slots) (want : Want) (user : ℕ) (put : PlacedBlock) where
   -- it is placed at once
   pub plan_at_once : IsPut banks slots want user true 0 false put next → (h : Handle) × Puts PurgesOrSlides banks slots want user true 0 false h next
   plan_at_once did = (put.handle, place_at_once banks slots next want user true 0 false put.handle (put_is banks slots next want user true 0 false put did))
@@ -31,9 +31,9 @@ module _ (banks : List ℕ) (slots next : Slots) (want : Want) (user : ℕ) (put
 -- or after purges and a slide
 module _ (banks : List ℕ) (slots room : Slots) (want : Want) (count : ℕ) (needs : NeedsPurges banks slots want count room) where
   pub needs_settled : AreSettled banks slots → AreSettled banks room
-  needs_settled settled = settled_slides banks (emptied slots count) room (settled_emptied banks slots count settled) needs.slides
+  needs_settled settled = settled_slides banks (slots_after_purges slots count) room (settled_emptied banks slots count settled) needs.slides
 
-  pub plan_after : HasNoRoom banks slots want → (next : Slots) (user : ℕ) (put : Put) → IsPut banks room want user true 0 false put next → (h : Handle) × Puts PurgesOrSlides banks slots want user true 0 false h next
+  pub plan_after : HasNoRoom banks slots want → (next : Slots) (user : ℕ) (put : PlacedBlock) → IsPut banks room want user true 0 false put next → (h : Handle) × Puts PurgesOrSlides banks slots want user true 0 false h next
   plan_after none next user put did = (put.handle, slide_then_place banks slots room want count none needs next user true 0 false put.handle (put_is banks room next want user true 0 false put did))
 
 -- ---- one more of all

@@ -3,7 +3,7 @@ use Rattle.std.proofs.Common.{◌≡◌, inl, inr, ℕ, false, ◌+◌, ◌<◌,
 use Rattle.std.proofs.lemmas.Bool.{cases_lt}
 use Rattle.iigs_meaning.specs.declared.wants.Want.{Want}
 use Rattle.iigs_meaning.specs.Fits.{Slots, Fits}
-use Rattle.iigs_meaning.specs.Placement.{emptied}
+use Rattle.iigs_meaning.specs.Placement.{slots_after_purges}
 use Rattle.iigs_meaning.specs.Puts.{slots_for}
 use Rattle.iigs_meaning.specs.Slide.{Slides, AreSettled}
 use Rattle.iigs_places.specs.Arranged.{Arrangement}
@@ -15,12 +15,12 @@ use Rattle.iigs_compact_memory.proofs.Still.{none_still}
 
 -- one trial: so many are purged on a copy, which is slid down then
 module _ (places start began purged slid : Arrangement) (banks : start.banks ≡ places.banks) (count : ℕ)
-    (starts : began ≡ record start { slots = slots_for places.slots 0 false }) (purges : purged ≡ record began { slots = emptied began.slots count }) where
+    (starts : began ≡ record start { slots = slots_for places.slots 0 false }) (purges : purged ≡ record began { slots = slots_after_purges began.slots count }) where
   purged_banks : purged.banks ≡ places.banks
   purged_banks = ap (λ (a : Arrangement). a.banks) purges ∙ ap (λ (a : Arrangement). a.banks) starts ∙ banks
 
-  purged_slots : purged.slots ≡ emptied places.slots count
-  purged_slots = ap (λ (a : Arrangement). a.slots) purges ∙ ap (λ (a : Arrangement). emptied a.slots count) starts
+  purged_slots : purged.slots ≡ slots_after_purges places.slots count
+  purged_slots = ap (λ (a : Arrangement). a.slots) purges ∙ ap (λ (a : Arrangement). slots_after_purges a.slots count) starts
 
   pub trial_settled : AreSettled places.banks places.slots → AreSettled purged.banks purged.slots
   trial_settled settled = subst (λ (bs : List ℕ). AreSettled bs purged.slots) (sym purged_banks)
@@ -39,7 +39,7 @@ module _ (places start began purged slid : Arrangement) (banks : start.banks ≡
     pub trial_banks : slid.banks ≡ places.banks
     trial_banks = same ∙ purged_banks
 
-    trial_slides : Slides places.banks (emptied places.slots count) slid.slots
+    trial_slides : Slides places.banks (slots_after_purges places.slots count) slid.slots
     trial_slides = subst (λ (s : Slots). Slides places.banks s slid.slots) purged_slots (subst (λ (bs : List ℕ). Slides bs purged.slots slid.slots) purged_banks slides)
 
     pub trial_none : (want : Want) → ((address : ℕ) → ¬ Fits slid.banks slid.slots want address) → NoneAfter places.banks places.slots want count

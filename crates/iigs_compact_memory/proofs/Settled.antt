@@ -7,16 +7,16 @@ use Rattle.std.proofs.lemmas.Bool.{cases_eq, cases_lt}
 use Rattle.std.proofs.lemmas.List.{get_or-set_same, get_or-set_other, get_or_past, length-set}
 use Rattle.iigs_meaning.specs.declared.handles.Handle.{Handle}
 use Rattle.iigs_meaning.specs.declared.slots.Slot.{Slot}
-use Rattle.iigs_meaning.specs.declared.slots.Content.TheVariants.{Free, Used, Retired}
+use Rattle.iigs_meaning.specs.declared.slots.SlotContent.TheVariants.{Free, Used, Retired}
 use Rattle.iigs_meaning.specs.declared.wants.Want.{Want}
 use Rattle.iigs_meaning.specs.declared.wants.Block.{Block}
 use Rattle.iigs_meaning.specs.Slots.{slot_at, new_slot, get, with_slot, with_value, released, after_release, after_take, lowest_free}
 use Rattle.iigs_meaning.specs.Fits.{Slots, IsWant, Fits, block_in}
-use Rattle.iigs_meaning.specs.Placement.{emptied_where, emptied, is_gone}
-use Rattle.iigs_meaning.specs.Puts.{Purges, Puts, PutsAnew, placed, without_user, without_user_in, slots_for}
+use Rattle.iigs_meaning.specs.Placement.{emptied_where, slots_after_purges, is_gone}
+use Rattle.iigs_meaning.specs.Puts.{Purges, Puts, PutsAnew, placed_block, without_user, without_user_in, slots_for}
 use Rattle.iigs_meaning.specs.Blocks.{new_slots, can_purge_of}
 use Rattle.iigs_meaning.specs.Memory.{Memory, Changes, IsFreed, IsPurged}
-use Rattle.iigs_meaning.specs.Slide.{mover, moved_to, Slides, AreSettled}
+use Rattle.iigs_meaning.specs.Slide.{movable_block, moved_to, Slides, AreSettled}
 use Rattle.iigs_meaning.specs.laws.SlideLaws.{mover_in}
 use Rattle.iigs_places.proofs.Stays.{slot_at-map}
 use Rattle.iigs_places.proofs.Changed.{live_block}
@@ -113,8 +113,8 @@ module _ (banks : List ℕ) where
   settled_map test slots settled = all_slots (map (emptied_where test) slots)
       (λ place. subst (SettledIn banks) (sym (slot_at-map (emptied_where test) slots place refl)) (in_emptied test (slot_at slots place) (in_slots slots settled place)))
 
-  pub settled_emptied : (slots : Slots) (count : ℕ) → AreSettled banks slots → AreSettled banks (emptied slots count)
-  unfolding emptied
+  pub settled_emptied : (slots : Slots) (count : ℕ) → AreSettled banks slots → AreSettled banks (slots_after_purges slots count)
+  unfolding slots_after_purges
   settled_emptied slots count = settled_map (is_gone slots count) slots
 
   pub settled_for : (slots : Slots) (user : ℕ) (fresh : Bool) → AreSettled banks slots → AreSettled banks (slots_for slots user fresh)
@@ -136,7 +136,7 @@ module _ (banks : List ℕ) where
     special = fits.special;
   }
 
-  placed_settled : (slots : Slots) (want : Want) (address user : ℕ) (locked : Bool) (level : ℕ) (movable : Bool) → IsWant want → Fits banks slots want address → IsSettled banks (placed want address user locked level movable)
+  placed_settled : (slots : Slots) (want : Want) (address user : ℕ) (locked : Bool) (level : ℕ) (movable : Bool) → IsWant want → Fits banks slots want address → IsSettled banks (placed_block want address user locked level movable)
   placed_settled slots want address user locked level movable is_want fits = record {
     want = is_want;
     fits = λ at lies. subst (λ (n : ℕ). Fits banks [] want n) (same_Some address at lies) (fits_alone slots want address fits);
@@ -146,21 +146,21 @@ module _ (banks : List ℕ) where
       → Puts Purges banks slots want user locked level movable h next → AreSettled banks next
   settled_puts slots next want user locked level movable h is_want settled puts =
       let room : AreSettled banks puts.room = subst (AreSettled banks) (sym puts.makes.room_is) (settled_emptied slots puts.makes.count settled) in
-      subst (AreSettled banks) (sym puts.next_is) (settled_take puts.room (placed want puts.address user locked level movable) room
-      (placed_settled (emptied slots puts.makes.count) want puts.address user locked level movable is_want puts.makes.goes.fits))
+      subst (AreSettled banks) (sym puts.next_is) (settled_take puts.room (placed_block want puts.address user locked level movable) room
+      (placed_settled (slots_after_purges slots puts.makes.count) want puts.address user locked level movable is_want puts.makes.goes.fits))
 
   pub settled_anew : (slots next : Slots) (want : Want) (h : Handle) → IsWant want → AreSettled banks slots → PutsAnew Purges banks slots h want next → AreSettled banks next
   settled_anew slots next want h is_want settled puts =
       let room : AreSettled banks puts.room = subst (AreSettled banks) (sym puts.makes.room_is) (settled_emptied slots puts.makes.count settled) in
-      subst (AreSettled banks) (sym puts.next_is) (settled_value puts.room h (placed want puts.address puts.block.user puts.block.locked puts.block.level false) room
-      (placed_settled (emptied slots puts.makes.count) want puts.address puts.block.user puts.block.locked puts.block.level false is_want puts.makes.goes.fits))
+      subst (AreSettled banks) (sym puts.next_is) (settled_value puts.room h (placed_block want puts.address puts.block.user puts.block.locked puts.block.level false) room
+      (placed_settled (slots_after_purges slots puts.makes.count) want puts.address puts.block.user puts.block.locked puts.block.level false is_want puts.makes.goes.fits))
 
   -- ---- a slide
 
   pub settled_slides : (old new : Slots) → AreSettled banks old → Slides banks old new → AreSettled banks new
-  settled_slides old new settled slides = all_slots new (λ place. go place (mover (slot_at old place)) refl)
+  settled_slides old new settled slides = all_slots new (λ place. go place (movable_block (slot_at old place)) refl)
     where
-      go : (place : ℕ) (o : Option Block) → mover (slot_at old place) ≡ o → SettledIn banks (slot_at new place)
+      go : (place : ℕ) (o : Option Block) → movable_block (slot_at old place) ≡ o → SettledIn banks (slot_at new place)
       go place None m = subst (SettledIn banks) (sym (slides.stay place m)) (in_slots old settled place)
       go place (Some was) m =
           let goes = slides.goes place was m in

@@ -9,13 +9,13 @@ use Rattle.std.proofs.lemmas.List.Elements.{Contains-append_left, Contains-push}
 use Rattle.std.proofs.lemmas.List.Quantifiers.{position-Some}
 use Rattle.iigs_meaning.specs.declared.handles.Handle.{Handle}
 use Rattle.iigs_meaning.specs.declared.slots.Slot.{Slot}
-use Rattle.iigs_meaning.specs.declared.slots.Content.TheVariants.{Used}
+use Rattle.iigs_meaning.specs.declared.slots.SlotContent.TheVariants.{Used}
 use Rattle.iigs_meaning.specs.declared.wants.Want.{Want}
 use Rattle.iigs_meaning.specs.declared.wants.Block.{Block}
 use Rattle.iigs_meaning.specs.Slots.{slot_at, new_slot, is_free, lowest_free, new_handle, after_take}
 use Rattle.iigs_meaning.specs.Fits.{Slots, block_in}
 use Rattle.iigs_meaning.specs.Placement.{can_purge}
-use Rattle.iigs_meaning.specs.Puts.{Purges, Puts, PutsAll, LacksRoom, placed}
+use Rattle.iigs_meaning.specs.Puts.{Purges, Puts, PutsAll, LacksRoom, placed_block}
 use Rattle.iigs_meaning.specs.Blocks.{address_in}
 use Rattle.iigs_meaning.specs.Memory.{Memory, KeepsBut, IsPlaced, IsThere, bytes_at}
 use Rattle.iigs_meaning.specs.Slide.{can_move, PurgesOrSlides}
@@ -52,7 +52,7 @@ module _ (banks : List ℕ) (user : ℕ) where
   pub puts_once : (slots : Slots) (want : Want) (h k : Handle) (x y : Slots) → Puts PurgesOrSlides banks slots want user true 0 false h x → Puts PurgesOrSlides banks slots want user true 0 false k y → x ≡ y
   puts_once slots want h k x y p q =
       let same = purges_or_slides_once.room banks slots want p.address q.address p.room q.room p.makes q.makes in
-      p.next_is ∙ ap (λ (r : Slots). after_take r (placed want p.address user true 0 false)) same.1 ∙ ap (λ (n : ℕ). after_take q.room (placed want n user true 0 false)) same.0 ∙ sym q.next_is
+      p.next_is ∙ ap (λ (r : Slots). after_take r (placed_block want p.address user true 0 false)) same.1 ∙ ap (λ (n : ℕ). after_take q.room (placed_block want n user true 0 false)) same.0 ∙ sym q.next_is
 
 -- ---- free slots
 
@@ -80,7 +80,7 @@ free_puts banks slots next want user h puts =
     let left = are_left banks slots want puts.address puts.room puts.makes in
     let same : count_by is_free puts.room ≡ count_by is_free slots = count_left is_free slots puts.room left.len (λ k. (left_free (slot_at slots k) (slot_at puts.room k) (left.each k)).0) in
     let handle : IsSome (new_handle puts.room) = rw (left_handle slots puts.room left ∙ puts.handle) refl in
-    omega (arith, same, free_taken puts.room (placed want puts.address user true 0 false) handle, ap (count_by is_free) puts.next_is)
+    omega (arith, same, free_taken puts.room (placed_block want puts.address user true 0 false) handle, ap (count_by is_free) puts.next_is)
 
 -- ---- a locked block stays
 
@@ -112,7 +112,7 @@ module _ (banks : List ℕ) (slots next : Slots) (want : Want) (user : ℕ) (h :
   left = are_left banks slots want puts.address puts.room puts.makes
 
   block : Block
-  block = placed want puts.address user true 0 false
+  block = placed_block want puts.address user true 0 false
 
   handle : new_handle puts.room ≡ Some h
   handle = left_handle slots puts.room left ∙ puts.handle
@@ -120,13 +120,13 @@ module _ (banks : List ℕ) (slots next : Slots) (want : Want) (user : ℕ) (h :
   took : (after_take puts.room block ≡ slice_set puts.room h.slot (record { generation = h.generation; content = Used block })) × (h.slot < length puts.room) × (block_in (slot_at puts.room h.slot) ≡ None)
   took = taken puts.room h block handle
 
-  next_set : next ≡ slice_set puts.room h.slot (record { generation = h.generation; content = Used (placed want puts.address user true 0 false) })
+  next_set : next ≡ slice_set puts.room h.slot (record { generation = h.generation; content = Used (placed_block want puts.address user true 0 false) })
   unfolding block
   next_set = puts.next_is ∙ took.0
 
   -- the new one is there, locked
-  pub put_here : block_in (slot_at next h.slot) ≡ Some (placed want puts.address user true 0 false)
-  put_here = ap (λ (s : Slots). block_in (slot_at s h.slot)) next_set ∙ ap block_in (get_or-set_same puts.room h.slot (record { generation = h.generation; content = Used (placed want puts.address user true 0 false) }) new_slot took.1)
+  pub put_here : block_in (slot_at next h.slot) ≡ Some (placed_block want puts.address user true 0 false)
+  put_here = ap (λ (s : Slots). block_in (slot_at s h.slot)) next_set ∙ ap block_in (get_or-set_same puts.room h.slot (record { generation = h.generation; content = Used (placed_block want puts.address user true 0 false) }) new_slot took.1)
 
   pub locked_stays : (place : ℕ) (one : Block) → block_in (slot_at slots place) ≡ Some one → one.locked ≡ true → (place ≢ h.slot) × (slot_at next place ≡ slot_at slots place)
   locked_stays place one there locked =
@@ -134,7 +134,7 @@ module _ (banks : List ℕ) (slots next : Slots) (want : Want) (user : ℕ) (h :
       let ne : place ≢ h.slot = λ eq.
       let none : Some one ≡ None = sym there ∙ ap block_in (sym same) ∙ ap (λ (n : ℕ). block_in (slot_at puts.room n)) eq ∙ took.2 in
       absurd cc in
-      (ne, ap (λ (s : Slots). slot_at s place) next_set ∙ get_or-set_other puts.room h.slot place (record { generation = h.generation; content = Used (placed want puts.address user true 0 false) }) new_slot ne ∙ same)
+      (ne, ap (λ (s : Slots). slot_at s place) next_set ∙ get_or-set_other puts.room h.slot place (record { generation = h.generation; content = Used (placed_block want puts.address user true 0 false) }) new_slot ne ∙ same)
 
 -- ---- their bytes
 
@@ -161,7 +161,7 @@ module _ (now next : Memory) (want : Want) (user : ℕ) (h : Handle) (one : IsPl
   here : AreZeros next (want ∷ []) (h ∷ [])
   here =
       let at = put_here now.banks now.slots next.slots want user h one.puts in
-      (one.zeros, (placed want one.puts.address user true 0 false, at, refl, rw at refl), tt)
+      (one.zeros, (placed_block want one.puts.address user true 0 false, at, refl, rw at refl), tt)
 
   both : (ws vs : List Want) (hs ks : List Handle) → AreZeros next ws hs → AreZeros next vs ks → AreZeros next (ws ++ vs) (hs ++ ks)
   both [] vs [] ks one two = two
@@ -200,7 +200,7 @@ pub there_puts : (banks : List ℕ) (slots next : Slots) (want : Want) (user : �
 there_puts banks slots next want user h puts place ne some =
     let left = are_left banks slots want puts.address puts.room puts.makes in
     let there : IsSome (address_in (slot_at puts.room place)) = subst (λ (s : Slot Block). IsSome (address_in s))
-    (ap (λ (s : Slots). slot_at s place) (next_set banks slots next want user h puts) ∙ get_or-set_other puts.room h.slot place (record { generation = h.generation; content = Used (placed want puts.address user true 0 false) }) new_slot ne) some in
+    (ap (λ (s : Slots). slot_at s place) (next_set banks slots next want user h puts) ∙ get_or-set_other puts.room h.slot place (record { generation = h.generation; content = Used (placed_block want puts.address user true 0 false) }) new_slot ne) some in
     there_left (slot_at slots place) (slot_at puts.room place) (left.each place) there
 
 -- ---- one more of all

@@ -7,18 +7,18 @@ use Rattle.std.proofs.lemmas.Bool.Decides.{nat_tests}
 use Rattle.std.proofs.lemmas.List.{get_or-set_same, get_or-set_other, get_or_past}
 use Rattle.iigs_meaning.specs.declared.handles.Handle.{Handle}
 use Rattle.iigs_meaning.specs.declared.slots.Slot.{Slot}
-use Rattle.iigs_meaning.specs.declared.slots.Content.{Content}
-use Rattle.iigs_meaning.specs.declared.slots.Content.TheVariants.{Free, Used, Retired}
+use Rattle.iigs_meaning.specs.declared.slots.SlotContent.{SlotContent}
+use Rattle.iigs_meaning.specs.declared.slots.SlotContent.TheVariants.{Free, Used, Retired}
 use Rattle.iigs_meaning.specs.declared.wants.Want.{Want}
 use Rattle.iigs_meaning.specs.declared.wants.Block.{Block}
 use Rattle.iigs_meaning.specs.Slots.{slot_at, new_slot, get, with_value}
 use Rattle.iigs_meaning.specs.Fits.{Slots, Fits, HoldsByte, IsApart, block_in}
-use Rattle.iigs_meaning.specs.Placement.{can_purge, emptied_where, emptied, is_gone, rank}
+use Rattle.iigs_meaning.specs.Placement.{can_purge, emptied_where, slots_after_purges, is_gone, rank}
 use Rattle.iigs_meaning.specs.Blocks.{address_in, can_purge_of}
 use Rattle.iigs_meaning.specs.Moves.{lies_below}
-use Rattle.iigs_meaning.specs.Slide.{can_move, mover, holding}
+use Rattle.iigs_meaning.specs.Slide.{can_move, movable_block, holding}
 use Rattle.iigs_meaning.specs.laws.SlideLaws.{all_at}
-use Rattle.iigs_places.specs.declared.table.Put.{Put}
+use Rattle.iigs_places.specs.declared.table.PlacedBlock.{PlacedBlock}
 use Rattle.iigs_places.specs.Arranged.{Arrangement, IsArranged}
 use Rattle.iigs_places.specs.Extent.{extent}
 use Rattle.iigs_places.specs.Lowest.{IsFirstPut}
@@ -40,13 +40,13 @@ held_marked slot block is = rw is refl
 address_marked : (slot : Slot Block) → address_in (marked_in slot) ≡ address_in slot
 address_marked slot = go slot.generation slot.content
   where
-    go : (generation : ℕ) (content : Content Block) → address_in (marked_in (record { generation = generation; content = content })) ≡ address_in (record { generation = generation; content = content })
+    go : (generation : ℕ) (content : SlotContent Block) → address_in (marked_in (record { generation = generation; content = content })) ≡ address_in (record { generation = generation; content = content })
     go generation Free = refl
     go generation Retired = refl
     go generation (Used block) = refl
 
 -- a byte that is left once the purgeable blocks are purged is one of a block that doesn't move
-still_in : (slot : Slot Block) (address : ℕ) → HoldsByte address (emptied_where (can_purge_of 0) (marked_in slot)) → (mover slot ≡ None) × HoldsByte address slot
+still_in : (slot : Slot Block) (address : ℕ) → HoldsByte address (emptied_where (can_purge_of 0) (marked_in slot)) → (movable_block slot ≡ None) × HoldsByte address slot
 unfolding can_move can_purge
 still_in slot address = go slot.generation slot.content
   where
@@ -62,8 +62,8 @@ still_in slot address = go slot.generation slot.content
     used generation block true e holds = absurd holds
     used generation block false e holds = (rw (stays (is_some block.at) block.movable block.locked e) refl, holds)
 
-    go : (generation : ℕ) (content : Content Block) → HoldsByte address (emptied_where (can_purge_of 0) (marked_in (record { generation = generation; content = content })))
-        → (mover (record { generation = generation; content = content }) ≡ None) × HoldsByte address (record { generation = generation; content = content })
+    go : (generation : ℕ) (content : SlotContent Block) → HoldsByte address (emptied_where (can_purge_of 0) (marked_in (record { generation = generation; content = content })))
+        → (movable_block (record { generation = generation; content = content }) ≡ None) × HoldsByte address (record { generation = generation; content = content })
     go generation Free holds = absurd holds
     go generation Retired holds = absurd holds
     go generation (Used block) holds = used generation block (can_purge_of 0 (marked_still block)) refl holds
@@ -77,7 +77,7 @@ none_held slot address = go slot.generation slot.content
     used generation block true none holds = holds
     used generation block false none holds = rw none at holds
 
-    go : (generation : ℕ) (content : Content Block) → address_in (record { generation = generation; content = content }) ≡ None
+    go : (generation : ℕ) (content : SlotContent Block) → address_in (record { generation = generation; content = content }) ≡ None
         → HoldsByte address (emptied_where (can_purge_of 0) (record { generation = generation; content = content })) → ⊥
     go generation Free none holds = holds
     go generation Retired none holds = holds
@@ -87,7 +87,7 @@ none_held slot address = go slot.generation slot.content
 begins : (slot : Slot Block) (at : ℕ) → address_in slot ≡ Some at → (e : ℕ × ℕ) × (extent slot ≡ Some e) × (e.0 ≡ at)
 begins slot at = go slot.content
   where
-    go : (content : Content Block) → address_in (record { generation = slot.generation; content = content }) ≡ Some at → (e : ℕ × ℕ) × (extent (record { generation = slot.generation; content = content }) ≡ Some e) × (e.0 ≡ at)
+    go : (content : SlotContent Block) → address_in (record { generation = slot.generation; content = content }) ≡ Some at → (e : ℕ × ℕ) × (extent (record { generation = slot.generation; content = content }) ≡ Some e) × (e.0 ≡ at)
     go Free is = absurd cc
     go Retired is = absurd cc
     go (Used block) is = ((at, block.want.size), rw is refl, refl)
@@ -135,7 +135,7 @@ marked_none old place = go (address_in (slot_at old place)) refl
     go None is = rw (never_below 0 (slot_at old place) is) refl
     go (Some at) is = rw (not_below 0 (slot_at old place) at is (omega arith)) refl
 
-module _ (banks : List ℕ) (old now : Slots) (arranged : IsArranged banks now) (limit : ℕ) (are : AreMarked old now limit) (put : Put) (first : IsFirstPut now limit put) where
+module _ (banks : List ℕ) (old now : Slots) (arranged : IsArranged banks now) (limit : ℕ) (are : AreMarked old now limit) (put : PlacedBlock) (first : IsFirstPut now limit put) where
   its : (block : Block) × (get now put.handle ≡ Some block) × (block.at ≡ Some put.at)
   its = go (get now put.handle) refl first.there
     where
@@ -210,7 +210,7 @@ left_still old now limit are all place address holds = go (address_in (slot_at o
     there : HoldsByte address (emptied_where (can_purge_of 0) (slot_at now place))
     there = subst (HoldsByte address) (slot_at-map (emptied_where (can_purge_of 0)) now place refl) holds
 
-    go : (o : Option ℕ) → address_in (slot_at old place) ≡ o → (mover (slot_at old place) ≡ None) × HoldsByte address (slot_at old place)
+    go : (o : Option ℕ) → address_in (slot_at old place) ≡ o → (movable_block (slot_at old place) ≡ None) × HoldsByte address (slot_at old place)
     go None is =
         let same : slot_at now place ≡ slot_at old place = are place ∙ ap (λ (b : Bool). cond b (marked_in (slot_at old place)) (slot_at old place)) (never_below limit (slot_at old place) is) in
         absurd (none_held (slot_at old place) address is (subst (λ (s : Slot Block). HoldsByte address (emptied_where (can_purge_of 0) s)) same there))
@@ -222,8 +222,8 @@ left_still old now limit are all place address holds = go (address_in (slot_at o
 -- ---- no room
 
 -- a block that is there once so many are purged is so with fewer
-same_fewer : (slots : Slots) (count fewer place address : ℕ) → fewer ≤ count → HoldsByte address (slot_at (emptied slots count) place) → slot_at (emptied slots fewer) place ≡ slot_at (emptied slots count) place
-unfolding emptied is_gone
+same_fewer : (slots : Slots) (count fewer place address : ℕ) → fewer ≤ count → HoldsByte address (slot_at (slots_after_purges slots count) place) → slot_at (slots_after_purges slots fewer) place ≡ slot_at (slots_after_purges slots count) place
+unfolding slots_after_purges is_gone
 same_fewer slots count fewer place address le holds =
     slot_at-map (emptied_where (is_gone slots fewer)) slots place refl ∙ go (slot_at slots place).generation (slot_at slots place).content
     (subst (HoldsByte address) (slot_at-map (emptied_where (is_gone slots count)) slots place refl) holds) ∙ sym (slot_at-map (emptied_where (is_gone slots count)) slots place refl)
@@ -239,7 +239,7 @@ same_fewer slots count fewer place address le holds =
     used generation block true e there = absurd there
     used generation block false e there = rw (less (can_purge block) (rank slots block) e) refl
 
-    go : (generation : ℕ) (content : Content Block) → HoldsByte address (emptied_where (is_gone slots count) (record { generation = generation; content = content }))
+    go : (generation : ℕ) (content : SlotContent Block) → HoldsByte address (emptied_where (is_gone slots count) (record { generation = generation; content = content }))
         → emptied_where (is_gone slots fewer) (record { generation = generation; content = content }) ≡ emptied_where (is_gone slots count) (record { generation = generation; content = content })
     go generation Free there = refl
     go generation Retired there = refl
@@ -252,14 +252,14 @@ apart_at address size slots all place = elim (cases_lt place (length slots)) [
 ]
 
 -- where a want doesn't fit beside the blocks that stay once so many are purged, no slide makes room with as few
-pub none_still : (banks : List ℕ) (slots still : Slots) (want : Want) (count : ℕ) → LeavesStill (emptied slots count) still → ((address : ℕ) → ¬ Fits banks still want address)
+pub none_still : (banks : List ℕ) (slots still : Slots) (want : Want) (count : ℕ) → LeavesStill (slots_after_purges slots count) still → ((address : ℕ) → ¬ Fits banks still want address)
     → (fewer : ℕ) → fewer ≤ count → NoneAfter banks slots want fewer
 none_still banks slots still want count leaves none fewer le room slides address fits = none address (record {
   free = fits.free;
   apart = all_at address want.size still (λ place i from to holds.
       let stays = leaves place i holds in
       let same = same_fewer slots count fewer place i le stays.1 in
-      let stood = slides.stay place (ap mover same ∙ stays.0) in
+      let stood = slides.stay place (ap movable_block same ∙ stays.0) in
       apart_at address want.size room fits.apart place i from to (subst (HoldsByte i) (sym (stood ∙ same)) stays.1));
   crossing = fits.crossing;
   aligned = fits.aligned;

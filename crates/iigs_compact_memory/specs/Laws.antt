@@ -3,7 +3,7 @@ use Rattle.std.specs.Prelude.{◌≡◌, ◌↔◌, ℕ, List}
 use Rattle.iigs_meaning.specs.declared.wants.Want.{Want}
 use Rattle.iigs_meaning.specs.Fits.{Slots}
 use Rattle.iigs_meaning.specs.Blocks.{AreApart}
-use Rattle.iigs_meaning.specs.Placement.{emptied}
+use Rattle.iigs_meaning.specs.Placement.{slots_after_purges}
 use Rattle.iigs_meaning.specs.Puts.{LacksRoom}
 use Rattle.iigs_meaning.specs.Slide.{Slides, AreSettled, NoAddressRises, PurgesOrSlides, HasNoRoomBySlides}
 
@@ -21,7 +21,7 @@ StaySound = (banks : List ℕ) (old new : Slots) → AreApart banks old → AreS
 
 -- and they do so once the first so many purgeable ones are emptied
 abbrev pub StaySoundPurged : Type 0
-StaySoundPurged = (banks : List ℕ) (slots : Slots) (count : ℕ) → AreApart banks slots → AreSettled banks slots → AreApart banks (emptied slots count) × AreSettled banks (emptied slots count)
+StaySoundPurged = (banks : List ℕ) (slots : Slots) (count : ℕ) → AreApart banks slots → AreSettled banks slots → AreApart banks (slots_after_purges slots count) × AreSettled banks (slots_after_purges slots count)
 
 -- there is no room exactly where the want fits nowhere, whatever is purged and slid down
 abbrev pub LacksWhereNoneFits : Type 0

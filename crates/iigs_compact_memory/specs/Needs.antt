@@ -2,16 +2,16 @@
 use Rattle.std.specs.Prelude.{ℕ, ◌<◌, List}
 use Rattle.iigs_meaning.specs.declared.wants.Want.{Want}
 use Rattle.iigs_meaning.specs.Fits.{Slots, Fits}
-use Rattle.iigs_meaning.specs.Placement.{emptied}
+use Rattle.iigs_meaning.specs.Placement.{slots_after_purges}
 use Rattle.iigs_meaning.specs.Slide.{Slides}
 
 -- with so many purged the want fits nowhere after a slide
 abbrev pub NoneAfter : List ℕ → Slots → Want → ℕ → Type 0
-NoneAfter banks slots want count = (room : Slots) → Slides banks (emptied slots count) room → (address : ℕ) → ¬ Fits banks room want address
+NoneAfter banks slots want count = (room : Slots) → Slides banks (slots_after_purges slots count) room → (address : ℕ) → ¬ Fits banks room want address
 
 -- with so many purged the want fits somewhere after a slide, and with fewer it fits nowhere
 pub record NeedsPurges (banks : List ℕ) (slots : Slots) (want : Want) (count : ℕ) (room : Slots) : Type 0 where
-  pub slides : Slides banks (emptied slots count) room
+  pub slides : Slides banks (slots_after_purges slots count) room
   pub address : ℕ
   pub fits : Fits banks room want address
   pub fewest : (fewer : ℕ) → fewer < count → NoneAfter banks slots want fewer

@@ -9,7 +9,7 @@ ghost use Rattle.iigs_meaning.specs.Memory.{KeepsBut, IsThere};
 ghost use Rattle.iigs_meaning.specs.Slide.{AreSettled, PurgesOrSlides};
 ghost use Rattle.iigs_compact_memory.specs.Alls.{AreZeros, CanPutAll};
 
-use crate::needs::needed;
+use crate::needs::least_purges;
 use crate::place::place;
 use iigs_meaning::{Handle, PlaceFault, Want};
 use iigs_memory::Banks;
@@ -35,7 +35,7 @@ fn plan_one(plan: &mut Places, trial: &mut Places, want: &Want, user: u16) -> bo
         Err(PlaceFault::NoHandle) => unreachable!(),
         Err(PlaceFault::Memory) => unreachable!(),
     }
-    let Some(_) = needed(plan, trial, want) else {
+    let Some(_) = least_purges(plan, trial, want) else {
         return false;
     };
     mem::swap(plan, trial);

@@ -15,7 +15,7 @@ ghost use Rattle.iigs_meaning.specs.Banks.{IsBanksRefusal};
 ghost use Rattle.iigs_meaning.specs.Memory.{bytes_at, IsLent, KeepsBut, Changes, IsFreed, IsPurged, IsPlaced, AreAllPlaced, IsReplaced, IsNew};
 ghost use Rattle.iigs_meaning.specs.Room.{CountsBelow, IsRoom};
 ghost use Rattle.iigs_places.specs.Holder.{Has, IsHolder};
-ghost use Rattle.iigs_memory.specs.Overlay.{overlaid};
+ghost use Rattle.iigs_memory.specs.Overlay.{with_bytes_written};
 
 use crate::alls::{place_each, plan_all, release};
 use crate::carry::carry_out;
@@ -125,7 +125,7 @@ impl CompactBanks {
         ensures* writes_back { sem 𝓛 (lends_block self.entry h result) }
         ensures value { result.now ≡ bytes_at self.old h.slot }
         ensures alone { (w : List ℕ) → length w ≡ length (bytes_at self.old h.slot)
-            → overlaid self.old h w ≡ record self.old { bytes = slice_set self.old.bytes h.slot w } }
+            → with_bytes_written self.old h w ≡ record self.old { bytes = slice_set self.old.bytes h.slot w } }
     {
         self.banks.lend(h)
     }

@@ -5,11 +5,11 @@
 
 mod alls;
 mod banks;
-mod bound;
 mod carry;
 mod law;
 mod needs;
 mod place;
+mod purge_bound;
 
 pub use banks::CompactBanks;
 pub use iigs_memory::{

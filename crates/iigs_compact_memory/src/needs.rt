@@ -5,13 +5,13 @@ ghost use Rattle.iigs_meaning.specs.Fits.{IsWant};
 ghost use Rattle.iigs_meaning.specs.Slide.{AreSettled};
 ghost use Rattle.iigs_compact_memory.specs.Needs.{NoneAfter, NeedsPurges};
 
-use crate::bound::bound;
+use crate::purge_bound::bound_of_purges;
 use iigs_meaning::Want;
 use iigs_places::Places;
 
 /// The least number of purges after which a want fits somewhere once the movable blocks are slid down, which is done in
 /// `trial` then.
-pub fn needed(places: &Places, trial: &mut Places, want: &Want) -> Option<u32>
+pub fn least_purges(places: &Places, trial: &mut Places, want: &Want) -> Option<u32>
     requires want { IsWant want.now }
     requires banks { trial.old.banks ≡ places.now.banks }
     requires settled { AreSettled places.now.banks places.now.slots }
@@ -19,7 +19,7 @@ pub fn needed(places: &Places, trial: &mut Places, want: &Want) -> Option<u32>
         (λ count. NeedsPurges places.now.banks places.now.slots want.now count trial.new.slots) }
     ensures banks { trial.new.banks ≡ trial.old.banks }
 {
-    let Some(least) = bound(places, trial, want) else {
+    let Some(least) = bound_of_purges(places, trial, want) else {
         return None;
     };
     let most = places.purgeable();

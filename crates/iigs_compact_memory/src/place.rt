@@ -10,7 +10,7 @@ ghost use Rattle.iigs_meaning.specs.Slide.{AreSettled, PurgesOrSlides};
 ghost use Rattle.iigs_compact_memory.specs.Needs.{NoneAfter, NeedsPurges};
 
 use crate::carry::carry_out;
-use crate::needs::needed;
+use crate::needs::least_purges;
 use iigs_meaning::{Handle, PlaceFault, Want};
 use iigs_memory::Banks;
 use iigs_places::Places;
@@ -28,7 +28,7 @@ fn make_room(banks: &mut Banks, trial: &mut Places, want: &Want) -> bool
     ensures settled { AreSettled banks.new.banks banks.new.slots }
     ensures banks { trial.new.banks ≡ banks.new.banks }
 {
-    let Some(count) = needed(banks.places(), trial, want) else {
+    let Some(count) = least_purges(banks.places(), trial, want) else {
         return false;
     };
     banks.purge_first(count);

@@ -8,8 +8,8 @@ use Rattle.std.proofs.lemmas.Bool.{cases_lt, cases_eq}
 use Rattle.std.proofs.lemmas.Bool.Decides.{nat_tests}
 use Rattle.iigs_meaning.specs.declared.handles.Handle.{Handle}
 use Rattle.iigs_meaning.specs.declared.slots.Slot.{Slot}
-use Rattle.iigs_meaning.specs.declared.slots.Content.{Content}
-use Rattle.iigs_meaning.specs.declared.slots.Content.TheVariants.{Free, Used, Retired}
+use Rattle.iigs_meaning.specs.declared.slots.SlotContent.{SlotContent}
+use Rattle.iigs_meaning.specs.declared.slots.SlotContent.TheVariants.{Free, Used, Retired}
 use Rattle.iigs_meaning.specs.Slots.{is_free, is_free_content, slot_at, new_slot, get, used_value, released, IsDead, IsLive, with_slot, after_take, after_release}
 use Rattle.iigs_meaning.specs.Runs.{Call, after_call, after_all}
 use Rattle.iigs_meaning.specs.Runs.Call.{take, look, change, release, left}
@@ -46,7 +46,7 @@ module _ {T : Type 0} where
         rw same live.1,
   )
 
-  none_either : (b : Bool) (c : Content T) → (b ≡ false) ⊎ (c ≡ Retired) → cond b (used_value c) None ≡ None
+  none_either : (b : Bool) (c : SlotContent T) → (b ≡ false) ⊎ (c ≡ Retired) → cond b (used_value c) None ≡ None
   none_either true c (inl e) = cc
   none_either true c (inr e) = rw e refl
   none_either false c e = refl
@@ -56,12 +56,12 @@ module _ {T : Type 0} where
   dead_is_stale slots h (inr retired) = none_either ((slot_at slots h.slot).generation == h.generation) (slot_at slots h.slot).content (inr retired)
 
   -- a used slot isn't retired
-  used_not_retired : (c : Content T) → IsSome (used_value c) → (c ≡ Retired) → ⊥
+  used_not_retired : (c : SlotContent T) → IsSome (used_value c) → (c ≡ Retired) → ⊥
   used_not_retired Free some r = cc
   used_not_retired (Used value) some r = cc
   used_not_retired Retired some r = cc
 
-  free_not_retired : (c : Content T) → is_free_content c ≡ true → (c ≡ Retired) → ⊥
+  free_not_retired : (c : SlotContent T) → is_free_content c ≡ true → (c ≡ Retired) → ⊥
   free_not_retired Free e r = cc
   free_not_retired (Used value) e r = cc
   free_not_retired Retired e r = cc

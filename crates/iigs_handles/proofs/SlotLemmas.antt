@@ -8,8 +8,8 @@ use Rattle.std.proofs.lemmas.Bool.{cases_lt}
 use Rattle.iigs_meaning.specs.declared.slots.Slot.{Slot}
 use Rattle.std.specs.Prelude.{None, ◌==◌}
 use Rattle.std.proofs.Math.ListN.{get_or-eq_default}
-use Rattle.iigs_meaning.specs.declared.slots.Content.{Content}
-use Rattle.iigs_meaning.specs.declared.slots.Content.TheVariants.{Free, Used, Retired}
+use Rattle.iigs_meaning.specs.declared.slots.SlotContent.{SlotContent}
+use Rattle.iigs_meaning.specs.declared.slots.SlotContent.TheVariants.{Free, Used, Retired}
 use Rattle.iigs_meaning.specs.declared.handles.Handle.{Handle}
 use Rattle.iigs_meaning.specs.Slots.{is_free, is_free_content, slot_at, new_slot, get, used_value}
 use Rattle.iigs_handles.specs.Table.{IsSound}
@@ -129,7 +129,7 @@ module _ {T : Type 0} where
     unused = unused_still slots first free end place slot sound was;
   }
 
-  used_taken : (same : Bool) (content : Content T) → is_some (cond same (used_value content) None) ≡ true → is_free_content content ≡ false
+  used_taken : (same : Bool) (content : SlotContent T) → is_some (cond same (used_value content) None) ≡ true → is_free_content content ≡ false
   used_taken true Free live = cc
   used_taken true (Used value) live = refl
   used_taken true Retired live = refl

@@ -3,7 +3,7 @@ use Rattle.std.specs.Prelude.{List, Result}
 use Rattle.std.specs.Borrow.{Lends, LendsIfOk, Fml, RattleType, MutBor}
 use Rattle.iigs_meaning.specs.declared.handles.Handle.{Handle}
 use Rattle.iigs_meaning.specs.declared.slots.Slot.{Slot}
-use Rattle.iigs_meaning.specs.declared.slots.Content.TheVariants.{Used}
+use Rattle.iigs_meaning.specs.declared.slots.SlotContent.TheVariants.{Used}
 use Rattle.iigs_meaning.specs.contracts.slots.Slot.{the_row as slot_row}
 use Rattle.iigs_meaning.specs.Slots.{with_value}
 use Rattle.iigs_handles.specs.contracts.table.Handles.{the_row}

@@ -5,6 +5,6 @@
 mod law;
 mod table;
 
-pub use iigs_meaning::{Content, Handle, Slot, Stale};
+pub use iigs_meaning::{Handle, Slot, SlotContent, Stale};
 pub use law::dead_stay_dead;
 pub use table::{Handles, HandlesFault, SLOTS};

@@ -8,7 +8,7 @@ ghost use Rattle.std.specs.Borrow.{sem, Lends};
 ghost use Rattle.iigs_handles.specs.Lends.{lends_content};
 ghost use Rattle.iigs_meaning.specs.Slots.{get, is_free as passes_free, slot_at, new_slot, new_handle, after_take, after_release, used_value, with_value, released as released_slot};
 
-use iigs_meaning::{Content, Handle, Slot, Stale};
+use iigs_meaning::{Handle, Slot, SlotContent, Stale};
 use std::alloc::{AllocError, Global};
 use std::marker::Model;
 use std::mem;
@@ -70,7 +70,7 @@ fn free_slots<T: Drop>(alloc: Global, count: usize) -> Result<Vec<Slot<T>>, Allo
     for _ in 0..count {
         slots.push(Slot {
             generation: 0,
-            content: Content::Free,
+            content: SlotContent::Free,
         })?;
     }
     Ok(slots)
@@ -94,25 +94,25 @@ fn is_free<T>(slot: &Slot<T>) -> bool
     ensures { result ≡ passes_free slot.now }
 {
     match &slot.content {
-        Content::Free => true,
-        Content::Used(_) => false,
-        Content::Retired => false,
+        SlotContent::Free => true,
+        SlotContent::Used(_) => false,
+        SlotContent::Retired => false,
     }
 }
 
 // What a slot becomes that is released under this generation.
-fn released<T>(generation: u8) -> Slot<T>
+fn slot_after_release<T>(generation: u8) -> Slot<T>
     ensures { result ≡ released_slot generation }
 {
     if generation == LAST_GENERATION {
         return Slot {
             generation,
-            content: Content::Retired,
+            content: SlotContent::Retired,
         };
     }
     Slot {
         generation: generation + 1,
-        content: Content::Free,
+        content: SlotContent::Free,
     }
 }
 
@@ -122,19 +122,19 @@ fn value_of<T: Drop>(slot: Slot<T>) -> T
     ensures { used_value slot.content ≡ Some result }
 {
     match slot.content {
-        Content::Used(value) => value,
-        Content::Free => unreachable!(),
-        Content::Retired => unreachable!(),
+        SlotContent::Used(value) => value,
+        SlotContent::Free => unreachable!(),
+        SlotContent::Retired => unreachable!(),
     }
 }
 
-fn copied<T: Copy>(slot: &Slot<T>) -> Slot<T>
+fn copy_slot<T: Copy>(slot: &Slot<T>) -> Slot<T>
     ensures { result ≡ slot.now }
 {
     let content = match &slot.content {
-        Content::Free => Content::Free,
-        Content::Used(value) => Content::Used(*value),
-        Content::Retired => Content::Retired,
+        SlotContent::Free => SlotContent::Free,
+        SlotContent::Used(value) => SlotContent::Used(*value),
+        SlotContent::Retired => SlotContent::Retired,
     };
     Slot {
         generation: slot.generation,
@@ -147,7 +147,7 @@ fn copy_slots<T: Copy>(to: &mut [Slot<T>], from: &[Slot<T>])
     ensures { to.new ≡ from.now }
 {
     for place in 0..from.len() {
-        to[place] = copied(&from[place]);
+        to[place] = copy_slot(&from[place]);
     }
 }
 
@@ -158,9 +158,9 @@ fn content_mut<T>(slot: &mut Slot<T>) -> &mut T
     ensures value { used_value slot.old.content ≡ Some result.now }
 {
     match &mut slot.content {
-        Content::Used(value) => value,
-        Content::Free => unreachable!(),
-        Content::Retired => unreachable!(),
+        SlotContent::Used(value) => value,
+        SlotContent::Free => unreachable!(),
+        SlotContent::Retired => unreachable!(),
     }
 }
 
@@ -192,7 +192,7 @@ impl<T: Drop> Handles<T> {
             return Err(value);
         }
         let generation = self.slots[place].generation;
-        self.slots[place].content = Content::Used(value);
+        self.slots[place].content = SlotContent::Used(value);
         self.first = next_free(&self.slots, place + 1);
         self.free -= 1;
         self.end = self.end.max(place + 1);
@@ -213,9 +213,9 @@ impl<T: Drop> Handles<T> {
             return Err(Stale);
         }
         match &slot.content {
-            Content::Used(value) => Ok(value),
-            Content::Free => Err(Stale),
-            Content::Retired => Err(Stale),
+            SlotContent::Used(value) => Ok(value),
+            SlotContent::Free => Err(Stale),
+            SlotContent::Retired => Err(Stale),
         }
     }
 
@@ -256,7 +256,7 @@ impl<T: Drop> Handles<T> {
             return Err(Stale);
         }
         let place = h.slot as usize;
-        let next = released(h.generation);
+        let next = slot_after_release(h.generation);
         let goes_on = is_free(&next);
         let slot = &mut self.slots[place];
         let old = mem::replace(slot, next);

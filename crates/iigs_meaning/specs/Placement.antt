@@ -2,7 +2,7 @@
 use Rattle.std.specs.Prelude.{◌≡◌, ℕ, Bool, false, ◌==◌, ◌&&◌, ◌||◌, not, nat_lt, ◌<◌, ◌≤◌, List, map, count_by, None, is_some, unwrap_or, if◌then◌else◌}
 use Rattle.std.specs.Option.{option_map_or}
 use Rattle.iigs_meaning.specs.declared.slots.Slot.{Slot}
-use Rattle.iigs_meaning.specs.declared.slots.Content.TheVariants.{Used}
+use Rattle.iigs_meaning.specs.declared.slots.SlotContent.TheVariants.{Used}
 use Rattle.iigs_meaning.specs.declared.wants.Want.{Want}
 use Rattle.iigs_meaning.specs.declared.wants.Block.{Block}
 use Rattle.iigs_meaning.specs.Fits.{Slots, Fits, block_in}
@@ -35,15 +35,15 @@ emptied_where test slot = option_map_or
     (block_in slot) slot
 
 -- the slots with the first so many purgeable blocks emptied
-unfoldable pub emptied : Slots → ℕ → Slots
-emptied slots count = map (emptied_where (is_gone slots count)) slots
+unfoldable pub slots_after_purges : Slots → ℕ → Slots
+slots_after_purges slots count = map (emptied_where (is_gone slots count)) slots
 
 -- the want goes to the least address that fits once the first so many purgeable blocks are emptied, for the fewest
 -- with which any address fits
 pub record GoesTo (banks : List ℕ) (slots : Slots) (want : Want) (count address : ℕ) : Type 0 where
-  pub fits : Fits banks (emptied slots count) want address
-  pub least : (other : ℕ) → Fits banks (emptied slots count) want other → address ≤ other
-  pub fewest : (fewer : ℕ) → fewer < count → (other : ℕ) → ¬ Fits banks (emptied slots fewer) want other
+  pub fits : Fits banks (slots_after_purges slots count) want address
+  pub least : (other : ℕ) → Fits banks (slots_after_purges slots count) want other → address ≤ other
+  pub fewest : (fewer : ℕ) → fewer < count → (other : ℕ) → ¬ Fits banks (slots_after_purges slots fewer) want other
 
 -- a want goes to one address only, once one number of blocks is emptied
 abbrev pub GoesToOneAddress : Type 0
@@ -53,4 +53,4 @@ GoesToOneAddress = (banks : List ℕ) (slots : Slots) (want : Want) (count other
 
 -- the want fits nowhere, whatever is purged
 abbrev pub HasNoRoom : List ℕ → Slots → Want → Type 0
-HasNoRoom banks slots want = (count address : ℕ) → ¬ Fits banks (emptied slots count) want address
+HasNoRoom banks slots want = (count address : ℕ) → ¬ Fits banks (slots_after_purges slots count) want address

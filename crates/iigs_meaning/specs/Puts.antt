@@ -10,7 +10,7 @@ use Rattle.iigs_meaning.specs.declared.faults.PlaceFault.{PlaceFault}
 use Rattle.iigs_meaning.specs.declared.faults.PlaceFault.TheVariants.{Stale, NotEmpty, NoHandle, NoRoom, Memory}
 use Rattle.iigs_meaning.specs.Slots.{get, is_free, new_handle, after_take, with_value, released}
 use Rattle.iigs_meaning.specs.Fits.{Slots, block_in}
-use Rattle.iigs_meaning.specs.Placement.{emptied, GoesTo, HasNoRoom}
+use Rattle.iigs_meaning.specs.Placement.{slots_after_purges, GoesTo, HasNoRoom}
 
 -- ---- room
 
@@ -22,7 +22,7 @@ MakesRoom = List ℕ → Slots → Want → ℕ → Slots → Type 0
 pub record Purges (banks : List ℕ) (slots : Slots) (want : Want) (address : ℕ) (room : Slots) : Type 0 where
   pub count : ℕ
   pub goes : GoesTo banks slots want count address
-  pub room_is : room ≡ emptied slots count
+  pub room_is : room ≡ slots_after_purges slots count
 
 -- there is no room for the want
 abbrev pub LacksRoom : MakesRoom → List ℕ → Slots → Want → Type 0
@@ -40,8 +40,8 @@ pub record IsOnce (Makes : MakesRoom) : Type 0 where
 -- ---- one block
 
 -- a block that was just placed
-abbrev pub placed : Want → ℕ → ℕ → Bool → ℕ → Bool → Block
-placed want address user locked level movable = record { at = Some address; want = want; user = user; level = level; locked = locked; movable = movable }
+abbrev pub placed_block : Want → ℕ → ℕ → Bool → ℕ → Bool → Block
+placed_block want address user locked level movable = record { at = Some address; want = want; user = user; level = level; locked = locked; movable = movable }
 
 -- a new handle has the block, where there is room for its want
 pub record Puts (Makes : MakesRoom) (banks : List ℕ) (slots : Slots) (want : Want) (user : ℕ) (locked : Bool) (level : ℕ) (movable : Bool) (h : Handle) (next : Slots) : Type 0 where
@@ -49,7 +49,7 @@ pub record Puts (Makes : MakesRoom) (banks : List ℕ) (slots : Slots) (want : W
   pub room : Slots
   pub makes : Makes banks slots want address room
   pub handle : new_handle slots ≡ Some h
-  pub next_is : next ≡ after_take room (placed want address user locked level movable)
+  pub next_is : next ≡ after_take room (placed_block want address user locked level movable)
 
 -- the handle's empty block is put anew, where there is room for the want; it keeps its user, level and lock, and isn't movable
 pub record PutsAnew (Makes : MakesRoom) (banks : List ℕ) (slots : Slots) (h : Handle) (want : Want) (next : Slots) : Type 0 where
@@ -59,7 +59,7 @@ pub record PutsAnew (Makes : MakesRoom) (banks : List ℕ) (slots : Slots) (h : 
   pub address : ℕ
   pub room : Slots
   pub makes : Makes banks slots want address room
-  pub next_is : next ≡ with_value room h (placed want address block.user block.locked block.level false)
+  pub next_is : next ≡ with_value room h (placed_block want address block.user block.locked block.level false)
 
 -- why no block is put: no slot is free, and else there is no room for the want
 abbrev pub IsPlaceRefusal : MakesRoom → List ℕ → Slots → Want → PlaceFault → Type 0

@@ -3,12 +3,12 @@ use Rattle.std.specs.Prelude.{◌≡◌, ◌⊎◌, ℕ, Bool, ◌&&◌, ◌==�
 use Rattle.std.specs.Option.{option_and_then}
 use Rattle.std.specs.List.{zip}
 use Rattle.iigs_meaning.specs.declared.slots.Slot.{Slot}
-use Rattle.iigs_meaning.specs.declared.slots.Content.TheVariants.{Used}
+use Rattle.iigs_meaning.specs.declared.slots.SlotContent.TheVariants.{Used}
 use Rattle.iigs_meaning.specs.declared.wants.Want.{Want}
 use Rattle.iigs_meaning.specs.declared.wants.Block.{Block}
 use Rattle.iigs_meaning.specs.Slots.{slot_at}
 use Rattle.iigs_meaning.specs.Fits.{Slots, IsWant, Fits, IsApart, block_in}
-use Rattle.iigs_meaning.specs.Placement.{emptied, HasNoRoom}
+use Rattle.iigs_meaning.specs.Placement.{slots_after_purges, HasNoRoom}
 use Rattle.iigs_meaning.specs.Puts.{MakesRoom, Purges}
 use Rattle.iigs_meaning.specs.Blocks.{address_in}
 
@@ -23,8 +23,8 @@ abbrev pub AsksNoPlace : Want → Type 0
 AsksNoPlace want = (want.at ≡ None) × (want.bank ≡ None) × (want.low ≡ None)
 
 -- the slot's block, if it moves
-abbrev pub mover : Slot Block → Option Block
-mover slot = option_and_then (λ block. if can_move block then Some block else None) (block_in slot)
+abbrev pub movable_block : Slot Block → Option Block
+movable_block slot = option_and_then (λ block. if can_move block then Some block else None) (block_in slot)
 
 -- where a block lies that is there
 abbrev pub place_of : Block → ℕ
@@ -44,8 +44,8 @@ moved_to address block = record block { at = Some address }
 -- and lay below this one, which stand at their new places.
 pub record FitsBeside (banks : List ℕ) (old new : Slots) (block : Block) (address : ℕ) : Type 0 where
   pub open_ : Fits banks [] block.want address
-  pub stay : (place : ℕ) → mover (slot_at old place) ≡ None → IsApart address block.want.size (slot_at old place)
-  pub moved : (place : ℕ) (other : Block) → mover (slot_at old place) ≡ Some other → place_of other < place_of block
+  pub stay : (place : ℕ) → movable_block (slot_at old place) ≡ None → IsApart address block.want.size (slot_at old place)
+  pub moved : (place : ℕ) (other : Block) → movable_block (slot_at old place) ≡ Some other → place_of other < place_of block
       → IsApart address block.want.size (slot_at new place)
 
 -- the least such address
@@ -57,8 +57,8 @@ pub record GoesBeside (banks : List ℕ) (old new : Slots) (block : Block) (addr
 -- was last placed fits beside the blocks that aren't movable and those that were moved before it. All else stays.
 pub record Slides (banks : List ℕ) (old new : Slots) : Type 0 where
   pub len : length new ≡ length old
-  pub stay : (place : ℕ) → mover (slot_at old place) ≡ None → slot_at new place ≡ slot_at old place
-  pub goes : (place : ℕ) (block : Block) → mover (slot_at old place) ≡ Some block
+  pub stay : (place : ℕ) → movable_block (slot_at old place) ≡ None → slot_at new place ≡ slot_at old place
+  pub goes : (place : ℕ) (block : Block) → movable_block (slot_at old place) ≡ Some block
       → (address : ℕ) × GoesBeside banks old new block address × (slot_at new place ≡ holding (slot_at old place) (moved_to address block))
 
 -- the block in a slot changed its address
@@ -75,10 +75,10 @@ count_moved old new = count_by (λ pair. is_moved pair.0 pair.1) (zip old new)
 -- to the least address that fits, for the fewest with which any address fits
 pub record MakesBySlide (banks : List ℕ) (slots : Slots) (want : Want) (address : ℕ) (room : Slots) : Type 0 where
   pub count : ℕ
-  pub slides : Slides banks (emptied slots count) room
+  pub slides : Slides banks (slots_after_purges slots count) room
   pub fits : Fits banks room want address
   pub least : (other : ℕ) → Fits banks room want other → address ≤ other
-  pub fewest : (fewer : ℕ) → fewer < count → (other : Slots) → Slides banks (emptied slots fewer) other → (place : ℕ) → ¬ Fits banks other want place
+  pub fewest : (fewer : ℕ) → fewer < count → (other : Slots) → Slides banks (slots_after_purges slots fewer) other → (place : ℕ) → ¬ Fits banks other want place
 
 -- room is made by purges, and where the want then fits nowhere, whatever is purged, by a slide
 abbrev pub PurgesOrSlides : MakesRoom
@@ -87,7 +87,7 @@ PurgesOrSlides banks slots want address room = Purges banks slots want address r
 -- the want fits nowhere, whatever is purged and slid down
 abbrev pub HasNoRoomBySlides : List ℕ → Slots → Want → Type 0
 HasNoRoomBySlides banks slots want = HasNoRoom banks slots want
-    × ((count : ℕ) (room : Slots) → Slides banks (emptied slots count) room → (address : ℕ) → ¬ Fits banks room want address)
+    × ((count : ℕ) (room : Slots) → Slides banks (slots_after_purges slots count) room → (address : ℕ) → ¬ Fits banks room want address)
 
 -- ---- memory in which blocks can be slid
 
@@ -99,6 +99,6 @@ pub record AreSettled (banks : List ℕ) (slots : Slots) : Type 0 where
 -- When a movable block's turn in a slide comes, its present address fits, so it doesn't rise: each stands afterwards at the least
 -- address that fits then, which isn't above where it lay.
 pub record NoAddressRises (banks : List ℕ) (old new : Slots) : Type 0 where
-  pub present : (place : ℕ) (block : Block) → mover (slot_at old place) ≡ Some block → FitsBeside banks old new block (place_of block)
-  pub low : (place : ℕ) (block : Block) → mover (slot_at old place) ≡ Some block
+  pub present : (place : ℕ) (block : Block) → movable_block (slot_at old place) ≡ Some block → FitsBeside banks old new block (place_of block)
+  pub low : (place : ℕ) (block : Block) → movable_block (slot_at old place) ≡ Some block
       → (address : ℕ) × (address ≤ place_of block) × (slot_at new place ≡ holding (slot_at old place) (moved_to address block))

@@ -4,8 +4,8 @@ use Rattle.std.specs.Prelude.{◌≡◌, ℕ, Bool, true, false, ◌+◌, ◌==�
 use Rattle.std.specs.Option.{option_map, option_map_or}
 use Rattle.iigs_meaning.specs.declared.handles.Handle.{Handle}
 use Rattle.iigs_meaning.specs.declared.slots.Slot.{Slot}
-use Rattle.iigs_meaning.specs.declared.slots.Content.{Content}
-use Rattle.iigs_meaning.specs.declared.slots.Content.TheVariants.{Free, Used, Retired}
+use Rattle.iigs_meaning.specs.declared.slots.SlotContent.{SlotContent}
+use Rattle.iigs_meaning.specs.declared.slots.SlotContent.TheVariants.{Free, Used, Retired}
 
 -- the generation after which a slot isn't used again
 abbrev pub last_generation : ℕ
@@ -21,12 +21,12 @@ module _ {T : Type 0} where
   slot_at slots place = slice_index_or slots place new_slot
 
   -- the value of a used slot, and none for a free or retired one
-  abbrev pub used_value : Content T → Option T
+  abbrev pub used_value : SlotContent T → Option T
   used_value Free = None
   used_value (Used value) = Some value
   used_value Retired = None
 
-  abbrev pub is_free_content : Content T → Bool
+  abbrev pub is_free_content : SlotContent T → Bool
   is_free_content Free = true
   is_free_content (Used value) = false
   is_free_content Retired = false

@@ -9,5 +9,5 @@ mod wants;
 
 pub use faults::{BanksFault, BlockFault, EmptyFault, PlaceFault, ShiftFault};
 pub use handles::{Handle, Stale};
-pub use slots::{Content, Slot};
+pub use slots::{Slot, SlotContent};
 pub use wants::{Block, BlockState, Want};

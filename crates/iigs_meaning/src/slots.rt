@@ -2,7 +2,7 @@
 
 /// What a slot holds.
 #[derive(Drop)]
-pub enum Content<T> {
+pub enum SlotContent<T> {
     /// Nothing: the next handles may take the slot.
     Free,
     /// The value of a live handle.
@@ -17,5 +17,5 @@ pub struct Slot<T> {
     /// How often the slot was released; a retired slot keeps 255.
     pub generation: u8,
     /// What the slot holds.
-    pub content: Content<T>,
+    pub content: SlotContent<T>,
 }

@@ -11,7 +11,7 @@ use Rattle.iigs_meaning.specs.Blocks.{AreApart, address_in}
 use Rattle.iigs_places.specs.Offsets.{bytes_below, offset_of}
 use Rattle.iigs_places.specs.Spots.{IsBoundedSlot}
 use Rattle.iigs_memory.specs.Overlay.{written_over}
-use Rattle.iigs_places.specs.Extent.{sized, extent_of, extent, Spans}
+use Rattle.iigs_places.specs.Extent.{extent_of_size, extent_of, extent, Spans}
 use Rattle.iigs_memory.specs.Store.{bytes_of, bytes_in}
 use Rattle.iigs_memory.proofs.Parts.{part, overlay, part-overlay, written_beside, written_whole, length-part}
 use Rattle.iigs_memory.proofs.Ranges.{range_inside, range_before}
@@ -20,7 +20,7 @@ use Rattle.iigs_places.proofs.Extents.{holds_from, bounded_extent, each_slot, st
 abbrev pub bytes_from : List ℕ → List ℕ → Option (ℕ × ℕ) → List ℕ
 bytes_from banks buffer o = option_map_or (λ e. part (offset_of banks e.0) e.1 buffer) o []
 
-bytes_block : (banks buffer : List ℕ) (o : Option ℕ) (size : ℕ) → option_map_or (λ at. take size (drop (offset_of banks at) buffer)) o [] ≡ bytes_from banks buffer (sized size o)
+bytes_block : (banks buffer : List ℕ) (o : Option ℕ) (size : ℕ) → option_map_or (λ at. take size (drop (offset_of banks at) buffer)) o [] ≡ bytes_from banks buffer (extent_of_size size o)
 bytes_block banks buffer None size = refl
 bytes_block banks buffer (Some at) size = refl
 

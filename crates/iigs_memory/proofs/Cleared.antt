@@ -10,15 +10,15 @@ use Rattle.iigs_meaning.specs.declared.wants.Want.{Want}
 use Rattle.iigs_meaning.specs.declared.wants.Block.{Block}
 use Rattle.iigs_meaning.specs.Slots.{slot_at}
 use Rattle.iigs_meaning.specs.Fits.{block_in}
-use Rattle.iigs_meaning.specs.Puts.{placed}
+use Rattle.iigs_meaning.specs.Puts.{placed_block}
 use Rattle.iigs_meaning.specs.Blocks.{AreApart}
 use Rattle.iigs_places.specs.Offsets.{offset_of, bytes_below}
 use Rattle.iigs_places.specs.Spots.{IsBoundedSlot}
 use Rattle.iigs_places.specs.Extent.{extent, extent_of}
 use Rattle.iigs_memory.specs.Store.{bytes_in}
-use Rattle.iigs_places.specs.declared.table.Put.{Put}
+use Rattle.iigs_places.specs.declared.table.PlacedBlock.{PlacedBlock}
 use Rattle.iigs_places.specs.Alls.{handle_of, BlocksAre, NotAmong}
-use Rattle.iigs_memory.specs.Cleared.{cleared, FitIn}
+use Rattle.iigs_memory.specs.Cleared.{with_zeroed_blocks, FitIn}
 use Rattle.iigs_places.proofs.Extents.{bounded_extent, each_slot}
 use Rattle.iigs_memory.proofs.Buffer.{in_buffer, over_here, over_other}
 use Rattle.iigs_memory.proofs.Puts.{clear_overlay}
@@ -28,16 +28,16 @@ abbrev pub clear_one : ℕ → ℕ → List ℕ → List ℕ
 clear_one start size buffer = take start buffer ++ (replicate size 0 ++ drop (start + size) buffer)
 
 -- one more is cleared
-cleared_suc : (banks : List ℕ) (wants : List Want) (puts : List Put) (buffer : List ℕ) (k : ℕ) (w : Want) (p : Put) → k < length wants → k < length puts
-    → cleared banks (take (suc k) wants) (take (suc k) puts) buffer ≡ clear_one (offset_of banks (get_or puts k p).at) (get_or wants k w).size (cleared banks (take k wants) (take k puts) buffer)
+cleared_suc : (banks : List ℕ) (wants : List Want) (puts : List PlacedBlock) (buffer : List ℕ) (k : ℕ) (w : Want) (p : PlacedBlock) → k < length wants → k < length puts
+    → with_zeroed_blocks banks (take (suc k) wants) (take (suc k) puts) buffer ≡ clear_one (offset_of banks (get_or puts k p).at) (get_or wants k w).size (with_zeroed_blocks banks (take k wants) (take k puts) buffer)
 cleared_suc banks [] puts buffer k w p inside inside' = absurd (omega arith)
 cleared_suc banks (want ∷ wants) [] buffer k w p inside inside' = absurd (omega arith)
 cleared_suc banks (want ∷ wants) (put ∷ puts) buffer zero w p inside inside' = refl
 cleared_suc banks (want ∷ wants) (put ∷ puts) buffer (suc k) w p inside inside' =
     cleared_suc banks wants puts (clear_one (offset_of banks put.at) want.size buffer) k w p (omega arith) (omega arith)
 
-pub cleared_more : (banks : List ℕ) (wants : List Want) (puts : List Put) (buffer : List ℕ) (k : ℕ) (w : Want) (p : Put) → k < length wants → k < length puts
-    → cleared banks (take (k + 1) wants) (take (k + 1) puts) buffer ≡ clear_one (offset_of banks (get_or puts k p).at) (get_or wants k w).size (cleared banks (take k wants) (take k puts) buffer)
+pub cleared_more : (banks : List ℕ) (wants : List Want) (puts : List PlacedBlock) (buffer : List ℕ) (k : ℕ) (w : Want) (p : PlacedBlock) → k < length wants → k < length puts
+    → with_zeroed_blocks banks (take (k + 1) wants) (take (k + 1) puts) buffer ≡ clear_one (offset_of banks (get_or puts k p).at) (get_or wants k w).size (with_zeroed_blocks banks (take k wants) (take k puts) buffer)
 cleared_more banks wants puts buffer k w p inside inside' = rw add-one (cleared_suc banks wants puts buffer k w p inside inside')
 
 pub length-clear_one : (start size : ℕ) (buffer : List ℕ) → start + size ≤ length buffer → length (clear_one start size buffer) ≡ length buffer
@@ -50,12 +50,12 @@ here_is : (slot : Slot Block) (block : Block) → block_in slot ≡ Some block �
 here_is slot block there = ap (option_and_then extent_of) there
 
 module _ (banks : List ℕ) (user : ℕ) (slots : List (Slot Block)) (bounded : All IsBoundedSlot slots) (sound : AreApart banks slots) where
-  put_at : (want : Want) (put : Put) → block_in (slot_at slots put.handle.slot) ≡ Some (placed want put.at user true 0 false)
+  put_at : (want : Want) (put : PlacedBlock) → block_in (slot_at slots put.handle.slot) ≡ Some (placed_block want put.at user true 0 false)
       → extent (slot_at slots put.handle.slot) ≡ Some (put.at, want.size)
-  put_at want put there = here_is (slot_at slots put.handle.slot) (placed want put.at user true 0 false) there
+  put_at want put there = here_is (slot_at slots put.handle.slot) (placed_block want put.at user true 0 false) there
 
-  module _ (buffer : List ℕ) (room : bytes_below banks 256 ≤ length buffer) (want : Want) (put : Put)
-      (there : block_in (slot_at slots put.handle.slot) ≡ Some (placed want put.at user true 0 false)) where
+  module _ (buffer : List ℕ) (room : bytes_below banks 256 ≤ length buffer) (want : Want) (put : PlacedBlock)
+      (there : block_in (slot_at slots put.handle.slot) ≡ Some (placed_block want put.at user true 0 false)) where
     one_inside : offset_of banks put.at + want.size ≤ length buffer
     one_inside = in_buffer banks buffer slots bounded sound room put.handle.slot (put.at, want.size) (put_at want put there)
 
@@ -85,8 +85,8 @@ module _ (banks : List ℕ) (user : ℕ) (slots : List (Slot Block)) (bounded : 
       | inr ne ↦ one_other place ne ∙ zeros
     ]
 
-  pub length-cleared : (wants : List Want) (puts : List Put) (buffer : List ℕ) → bytes_below banks 256 ≤ length buffer → BlocksAre user slots wants puts
-      → length (cleared banks wants puts buffer) ≡ length buffer
+  pub length-cleared : (wants : List Want) (puts : List PlacedBlock) (buffer : List ℕ) → bytes_below banks 256 ≤ length buffer → BlocksAre user slots wants puts
+      → length (with_zeroed_blocks banks wants puts buffer) ≡ length buffer
   length-cleared [] puts buffer room blocks = refl
   length-cleared (want ∷ wants) [] buffer room blocks = refl
   length-cleared (want ∷ wants) (put ∷ puts) buffer room blocks =
@@ -94,17 +94,17 @@ module _ (banks : List ℕ) (user : ℕ) (slots : List (Slot Block)) (bounded : 
       ∙ one_length buffer room want put blocks.0
 
   -- blocks that aren't among them keep their bytes
-  pub cleared_other : (wants : List Want) (puts : List Put) (buffer : List ℕ) → bytes_below banks 256 ≤ length buffer → BlocksAre user slots wants puts
-      → (place : ℕ) → NotAmong puts place → bytes_in banks (cleared banks wants puts buffer) (slot_at slots place) ≡ bytes_in banks buffer (slot_at slots place)
+  pub cleared_other : (wants : List Want) (puts : List PlacedBlock) (buffer : List ℕ) → bytes_below banks 256 ≤ length buffer → BlocksAre user slots wants puts
+      → (place : ℕ) → NotAmong puts place → bytes_in banks (with_zeroed_blocks banks wants puts buffer) (slot_at slots place) ≡ bytes_in banks buffer (slot_at slots place)
   cleared_other [] puts buffer room blocks place not = refl
   cleared_other (want ∷ wants) [] buffer room blocks place not = refl
   cleared_other (want ∷ wants) (put ∷ puts) buffer room blocks place not =
       cleared_other wants puts (clear_one (offset_of banks put.at) want.size buffer) (one_room buffer room want put blocks.0) blocks.1 place not.1
       ∙ one_other buffer room want put blocks.0 place not.0
 
-  zeros_stay : (wants : List Want) (puts : List Put) (buffer : List ℕ) → bytes_below banks 256 ≤ length buffer → BlocksAre user slots wants puts
+  zeros_stay : (wants : List Want) (puts : List PlacedBlock) (buffer : List ℕ) → bytes_below banks 256 ≤ length buffer → BlocksAre user slots wants puts
       → (place : ℕ) (e : ℕ × ℕ) → extent (slot_at slots place) ≡ Some e → bytes_in banks buffer (slot_at slots place) ≡ replicate e.1 0
-      → bytes_in banks (cleared banks wants puts buffer) (slot_at slots place) ≡ replicate e.1 0
+      → bytes_in banks (with_zeroed_blocks banks wants puts buffer) (slot_at slots place) ≡ replicate e.1 0
   zeros_stay [] puts buffer room blocks place e is zeros = zeros
   zeros_stay (want ∷ wants) [] buffer room blocks place e is zeros = zeros
   zeros_stay (want ∷ wants) (put ∷ puts) buffer room blocks place e is zeros =
@@ -112,9 +112,9 @@ module _ (banks : List ℕ) (user : ℕ) (slots : List (Slot Block)) (bounded : 
       (one_zeros buffer room want put blocks.0 place e is zeros)
 
   -- each of them is all zeros
-  pub cleared_zeros : (wants : List Want) (puts : List Put) (buffer : List ℕ) → bytes_below banks 256 ≤ length buffer → BlocksAre user slots wants puts
+  pub cleared_zeros : (wants : List Want) (puts : List PlacedBlock) (buffer : List ℕ) → bytes_below banks 256 ≤ length buffer → BlocksAre user slots wants puts
       → (i : ℕ) (want : Want) (h : Handle) → slice_get wants i ≡ Some want → slice_get (map handle_of puts) i ≡ Some h
-      → bytes_in banks (cleared banks wants puts buffer) (slot_at slots h.slot) ≡ replicate want.size 0
+      → bytes_in banks (with_zeroed_blocks banks wants puts buffer) (slot_at slots h.slot) ≡ replicate want.size 0
   cleared_zeros [] puts buffer room blocks i want h is at = absurd (cc)
   cleared_zeros (w ∷ wants) [] buffer room blocks i want h is at = absurd blocks
   cleared_zeros (w ∷ wants) (put ∷ puts) buffer room blocks zero want h is at =
@@ -127,7 +127,7 @@ module _ (banks : List ℕ) (user : ℕ) (slots : List (Slot Block)) (bounded : 
       cleared_zeros wants puts (clear_one (offset_of banks put.at) w.size buffer) (one_room buffer room w put blocks.0) blocks.1 i want h is at
 
   -- their bytes stand in the buffer
-  pub all_fit : (wants : List Want) (puts : List Put) (buffer : List ℕ) → bytes_below banks 256 ≤ length buffer → BlocksAre user slots wants puts
+  pub all_fit : (wants : List Want) (puts : List PlacedBlock) (buffer : List ℕ) → bytes_below banks 256 ≤ length buffer → BlocksAre user slots wants puts
       → FitIn banks (length buffer) wants puts
   all_fit [] puts buffer room blocks k w p inside inside' = absurd (omega arith)
   all_fit (want ∷ wants) [] buffer room blocks k w p inside inside' = absurd (omega arith)
@@ -140,18 +140,18 @@ module _ (banks : List ℕ) (user : ℕ) (slots : List (Slot Block)) (bounded : 
       all_fit wants puts buffer room blocks.1 k w p (omega arith) (omega arith)
 
 -- as many were put as wanted
-pub as_many : (user : ℕ) (slots : List (Slot Block)) (wants : List Want) (puts : List Put) → BlocksAre user slots wants puts → length wants ≡ length puts
+pub as_many : (user : ℕ) (slots : List (Slot Block)) (wants : List Want) (puts : List PlacedBlock) → BlocksAre user slots wants puts → length wants ≡ length puts
 as_many user slots [] [] blocks = refl
 as_many user slots [] (put ∷ puts) blocks = absurd blocks
 as_many user slots (want ∷ wants) [] blocks = absurd blocks
 as_many user slots (want ∷ wants) (put ∷ puts) blocks = ap suc (as_many user slots wants puts blocks.1)
 
-pub not_among : (puts : List Put) (place : ℕ) → ¬ Contains (map (λ (h : Handle). h.slot) (map handle_of puts)) place → NotAmong puts place
+pub not_among : (puts : List PlacedBlock) (place : ℕ) → ¬ Contains (map (λ (h : Handle). h.slot) (map handle_of puts)) place → NotAmong puts place
 not_among [] place out = tt
 not_among (put ∷ puts) place out = (λ eq. out (0, omega arith, sym eq), not_among puts place (λ has. out (suc has.0, omega (arith, has.1), has.2)))
 
 -- one more handle is given
-give_suc : (hs : List Handle) (puts : List Put) (k : ℕ) (d : Put) → k < length hs → k < length puts → take k hs ≡ take k (map handle_of puts)
+give_suc : (hs : List Handle) (puts : List PlacedBlock) (k : ℕ) (d : PlacedBlock) → k < length hs → k < length puts → take k hs ≡ take k (map handle_of puts)
     → take (suc k) (set hs k (get_or puts k d).handle) ≡ take (suc k) (map handle_of puts)
 give_suc [] puts k d inside inside' so = absurd (omega arith)
 give_suc (h ∷ hs) [] k d inside inside' so = absurd (omega arith)
@@ -161,6 +161,6 @@ give_suc (h ∷ hs) (put ∷ puts) (suc k) d inside inside' so =
     let rest : take k hs ≡ take k (map handle_of puts) = cc in
     rw first (ap (λ (more : List Handle). put.handle ∷ more) (give_suc hs puts k d (omega arith) (omega arith) rest))
 
-pub give_next : (hs : List Handle) (puts : List Put) (k : ℕ) (d : Put) → k < length hs → k < length puts → take k hs ≡ take k (map handle_of puts)
+pub give_next : (hs : List Handle) (puts : List PlacedBlock) (k : ℕ) (d : PlacedBlock) → k < length hs → k < length puts → take k hs ≡ take k (map handle_of puts)
     → take (k + 1) (set hs k (get_or puts k d).handle) ≡ take (k + 1) (map handle_of puts)
 give_next hs puts k d inside inside' so = rw add-one (give_suc hs puts k d inside inside' so)

@@ -12,7 +12,7 @@ use Rattle.iigs_meaning.specs.Blocks.{AreApart}
 use Rattle.iigs_meaning.specs.Memory.{Memory, bytes_at}
 use Rattle.iigs_places.specs.Offsets.{bytes_below, offset_of}
 use Rattle.iigs_places.specs.Spots.{IsBoundedSlot}
-use Rattle.iigs_memory.specs.Overlay.{written_over, overlaid, start_of}
+use Rattle.iigs_memory.specs.Overlay.{written_over, with_bytes_written, start_of}
 use Rattle.iigs_memory.specs.declared.part.Part.{Part}
 use Rattle.iigs_places.specs.Extent.{extent}
 use Rattle.iigs_places.specs.Arranged.{IsArranged}
@@ -71,7 +71,7 @@ module _ (banks buffer : List ℕ) (slots : List (Slot Block)) (bounded : All Is
   ]
 
   -- the memory after bytes were written from the block's start on
-  pub lent_memory : (ws : List ℕ) → memory_of banks slots (overlay (offset_of banks e.0) ws buffer) ≡ overlaid (memory_of banks slots buffer) h ws
+  pub lent_memory : (ws : List ℕ) → memory_of banks slots (overlay (offset_of banks e.0) ws buffer) ≡ with_bytes_written (memory_of banks slots buffer) h ws
   lent_memory ws =
       let start : start_of banks (slot_at slots h.slot) ≡ offset_of banks e.0 = ap (offset_of banks) (start_extent (slot_at slots h.slot) e is) in
       ap (λ (bytes : List (List ℕ)). let m : Memory = record { banks = banks; slots = slots; bytes = bytes } in m)
@@ -81,7 +81,7 @@ module _ (banks buffer : List ℕ) (slots : List (Slot Block)) (bounded : All Is
 
   -- as many bytes as the block has change that block alone
   pub lent_alone : (ws : List ℕ) → length ws ≡ length (bytes_at (memory_of banks slots buffer) h.slot)
-      → overlaid (memory_of banks slots buffer) h ws ≡ record { banks = banks; slots = slots; bytes = set (map (bytes_in banks buffer) slots) h.slot ws }
+      → with_bytes_written (memory_of banks slots buffer) h ws ≡ record { banks = banks; slots = slots; bytes = set (map (bytes_in banks buffer) slots) h.slot ws }
   lent_alone ws len =
       let size : length ws ≡ e.1 = len ∙ ap length (sym part_bytes) ∙ length-part (offset_of banks e.0) e.1 buffer (in_buffer banks buffer slots bounded sound room h.slot e is) in
       sym (lent_memory ws) ∙ ap (λ (bytes : List (List ℕ)). let m : Memory = record { banks = banks; slots = slots; bytes = bytes } in m)
@@ -115,13 +115,13 @@ module _ (banks buffer : List ℕ) (slots : List (Slot Block)) (bounded : All Is
       let size : end - start ≡ e.0.1 = omega (arith, e.3) in
       ap (λ n. part n (end - start) buffer) e.2 ∙ ap (λ n. part (offset_of banks e.0.0) n buffer) size ∙ part_bytes banks buffer slots bounded sound room h e.0 e.1
 
-  pub memory_there : (ws : List ℕ) → memory_of banks slots (overlay start ws buffer) ≡ overlaid (memory_of banks slots buffer) h ws
+  pub memory_there : (ws : List ℕ) → memory_of banks slots (overlay start ws buffer) ≡ with_bytes_written (memory_of banks slots buffer) h ws
   memory_there ws =
       let e = part_extent (memory_of banks slots buffer) h start end is_part in
       ap (λ n. memory_of banks slots (overlay n ws buffer)) e.2 ∙ lent_memory banks buffer slots bounded sound room h e.0 e.1 ws
 
   pub alone_there : (ws : List ℕ) → length ws ≡ length (bytes_at (memory_of banks slots buffer) h.slot)
-      → overlaid (memory_of banks slots buffer) h ws ≡ record { banks = banks; slots = slots; bytes = set (map (bytes_in banks buffer) slots) h.slot ws }
+      → with_bytes_written (memory_of banks slots buffer) h ws ≡ record { banks = banks; slots = slots; bytes = set (map (bytes_in banks buffer) slots) h.slot ws }
   alone_there ws len =
       let e = part_extent (memory_of banks slots buffer) h start end is_part in
       lent_alone banks buffer slots bounded sound room h e.0 e.1 ws len
@@ -170,16 +170,16 @@ module _ (banks buffer : List ℕ) (slots : List (Slot Block)) (arranged : IsArr
   pub store_bytes : part at.start (at.end - at.start) buffer ≡ bytes_at memory h.slot
   store_bytes = bytes_there banks buffer slots arranged.bounded arranged.sound store.room h at.start at.end part_here ∙ ap (λ m. bytes_at m h.slot) view
 
-  pub store_memory : (ws : List ℕ) → memory_of banks slots (overlay at.start ws buffer) ≡ overlaid memory h ws
-  store_memory ws = memory_there banks buffer slots arranged.bounded arranged.sound store.room h at.start at.end part_here ws ∙ ap (λ m. overlaid m h ws) view
+  pub store_memory : (ws : List ℕ) → memory_of banks slots (overlay at.start ws buffer) ≡ with_bytes_written memory h ws
+  store_memory ws = memory_there banks buffer slots arranged.bounded arranged.sound store.room h at.start at.end part_here ws ∙ ap (λ m. with_bytes_written m h ws) view
 
   pub store_refilled : (n : ℕ) → n ≡ length buffer → (ws : List ℕ)
-      → memory_of banks slots (take n (overlay at.start ws buffer ++ drop (length (overlay at.start ws buffer)) buffer)) ≡ overlaid memory h ws
+      → memory_of banks slots (take n (overlay at.start ws buffer ++ drop (length (overlay at.start ws buffer)) buffer)) ≡ with_bytes_written memory h ws
   store_refilled n is ws =
       let order = store_order in
       let within = store_within in
       refilled banks buffer slots arranged.bounded arranged.sound store.room n is (overlay at.start ws buffer) (drop (length (overlay at.start ws buffer)) buffer)
       (length-overlay at.start ws buffer (omega arith)) ∙ store_memory ws
 
-  pub store_alone : (ws : List ℕ) → length ws ≡ length (bytes_at memory h.slot) → overlaid memory h ws ≡ record memory { bytes = set memory.bytes h.slot ws }
+  pub store_alone : (ws : List ℕ) → length ws ≡ length (bytes_at memory h.slot) → with_bytes_written memory h ws ≡ record memory { bytes = set memory.bytes h.slot ws }
   store_alone ws = rw (← view) (alone_there banks buffer slots arranged.bounded arranged.sound store.room h at.start at.end part_here ws)

@@ -23,8 +23,8 @@ written_over start bytes other written = map
     (range_with_len 0 (length bytes))
 
 -- the memory with these bytes written from the start of the handle's block on, however many they are
-abbrev pub overlaid : Memory → Handle → List ℕ → Memory
-overlaid memory h written = record memory {
+abbrev pub with_bytes_written : Memory → Handle → List ℕ → Memory
+with_bytes_written memory h written = record memory {
   bytes = map
       (λ pair. written_over (start_of memory.banks pair.0) pair.1 (start_of memory.banks (slot_at memory.slots h.slot)) written)
       (zip memory.slots memory.bytes);
@@ -32,4 +32,4 @@ overlaid memory h written = record memory {
 
 -- the memory ends with what was written through r last
 abbrev pub lends_block : MutBor Memory → Handle → MutBor (List ℕ) → Fml
-lends_block memory h r = Lends the_row (Array u8 0) memory r (overlaid memory.now h)
+lends_block memory h r = Lends the_row (Array u8 0) memory r (with_bytes_written memory.now h)

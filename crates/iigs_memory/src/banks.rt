@@ -12,7 +12,7 @@ ghost use Rattle.iigs_meaning.specs.Puts.{Purges, IsPlaceRefusal, IsReplaceRefus
 ghost use Rattle.iigs_meaning.specs.Blocks.{IsBlockRefusal, IsStale, AreApart, new_slots, state_of};
 ghost use Rattle.iigs_meaning.specs.Banks.{IsBanksRefusal};
 ghost use Rattle.iigs_meaning.specs.Memory.{bytes_at, IsLent, KeepsBut, Changes, IsFreed, IsPurged, IsPlaced, AreAllPlaced, IsReplaced, IsNew};
-ghost use Rattle.iigs_meaning.specs.Placement.{emptied};
+ghost use Rattle.iigs_meaning.specs.Placement.{slots_after_purges};
 ghost use Rattle.iigs_meaning.specs.Moves.{count_there, IsNth, IsEmptied, IsEmptyRefusal, IsShifted, IsShiftRefusal};
 ghost use Rattle.iigs_meaning.specs.Room.{CountsBelow, IsRoom};
 
@@ -23,7 +23,7 @@ use iigs_meaning::{
     BanksFault, Block, BlockFault, BlockState, EmptyFault, Handle, PlaceFault, ShiftFault, Stale,
     Want,
 };
-use iigs_places::{Places, Put};
+use iigs_places::{PlacedBlock, Places};
 use std::alloc::{AllocError, Global};
 use std::marker::Model;
 use std::mem;
@@ -34,7 +34,7 @@ pub struct Banks {
     places: Places,
     // Scratch space for the placement of several blocks, all or none.
     plan: Places,
-    made: Vec<Put>,
+    made: Vec<PlacedBlock>,
     // The bytes of all configured banks.
     bytes: Vec<u8>,
     // Whether they are all zeros: none was ever lent to be written.
@@ -92,7 +92,7 @@ fn parts(alloc: Global, places: Places, plan: Places) -> Result<Banks, AllocErro
 }
 
 impl Banks {
-    ghost use Rattle.iigs_memory.specs.Overlay.{overlaid, lends_block};
+    ghost use Rattle.iigs_memory.specs.Overlay.{with_bytes_written, lends_block};
     ghost use Rattle.iigs_memory.specs.Store.{IsPart};
     ghost use Rattle.iigs_places.specs.Holder.{Has, IsHolder};
 
@@ -176,7 +176,7 @@ impl Banks {
         ensures* writes_back { sem 𝓛 (lends_block self.entry h result) }
         ensures value { result.now ≡ bytes_at self.old h.slot }
         ensures alone { (w : List ℕ) → length w ≡ length (bytes_at self.old h.slot)
-            → overlaid self.old h w ≡ record self.old { bytes = slice_set self.old.bytes h.slot w } }
+            → with_bytes_written self.old h w ≡ record self.old { bytes = slice_set self.old.bytes h.slot w } }
     {
         self.places.know_arranged();
         let part = match self.part_of(h) {
@@ -189,7 +189,7 @@ impl Banks {
     }
 
     // The block of a handle, which is there.
-    fn there(&self, h: Handle) -> Result<Block, BlockFault>
+    fn resident_block(&self, h: Handle) -> Result<Block, BlockFault>
         ensures there { IfOk result (λ block. (get self.now.slots h ≡ Some block) × IsSome block.at) }
         ensures level { IfOk result (λ block. block.level < 256) }
         ensures refused { IfErr result (IsBlockRefusal self.now.slots h) }
@@ -219,7 +219,7 @@ impl Banks {
         ensures refused { IfErr result (IsBlockRefusal self.old.slots h) }
         ensures err { OnErr result (self.new ≡ self.old) }
     {
-        let block = self.there(h)?;
+        let block = self.resident_block(h)?;
         self.change(
             h,
             Block {
@@ -236,7 +236,7 @@ impl Banks {
         ensures refused { IfErr result (IsBlockRefusal self.old.slots h) }
         ensures err { OnErr result (self.new ≡ self.old) }
     {
-        let block = self.there(h)?;
+        let block = self.resident_block(h)?;
         self.change(
             h,
             Block {
@@ -253,7 +253,7 @@ impl Banks {
         ensures refused { IfErr result (IsBlockRefusal self.old.slots h) }
         ensures err { OnErr result (self.new ≡ self.old) }
     {
-        let block = self.there(h)?;
+        let block = self.resident_block(h)?;
         self.change(h, Block { level, ..block });
         Ok(())
     }
@@ -415,7 +415,7 @@ impl Banks {
 
     /// Purges a block. Its handle stays.
     pub fn empty(&mut self, h: Handle) -> Result<(), EmptyFault>
-        ensures emptied { IfOk result (λ _. IsEmptied self.old h self.new) }
+        ensures slots_after_purges { IfOk result (λ _. IsEmptied self.old h self.new) }
         ensures refused { IfErr result (IsEmptyRefusal self.old.slots h) }
         ensures err { OnErr result (self.new ≡ self.old) }
     {
@@ -425,7 +425,7 @@ impl Banks {
 
     /// Purges the first so many purgeable blocks, whose handles stay.
     pub fn purge_first(&mut self, count: u32)
-        ensures slots { self.new.slots ≡ emptied self.old.slots count }
+        ensures slots { self.new.slots ≡ slots_after_purges self.old.slots count }
         ensures kept { KeepsBut self.old self.new [] }
     {
         self.places.purge_first(count);

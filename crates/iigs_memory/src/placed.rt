@@ -2,11 +2,11 @@
 
 ghost use Rattle.std.specs.Prelude.{◌≡◌, ◌++◌, ◌+◌, ◌≤◌, take, drop, replicate, map, length};
 ghost use Rattle.iigs_places.specs.Alls.{handle_of};
-ghost use Rattle.iigs_memory.specs.Cleared.{FitIn, cleared};
+ghost use Rattle.iigs_memory.specs.Cleared.{FitIn, with_zeroed_blocks};
 ghost use Rattle.iigs_memory.specs.Store.{IsBlank};
 
 use iigs_meaning::{Handle, Want};
-use iigs_places::{Places, Put};
+use iigs_places::{PlacedBlock, Places};
 
 fn fill(bytes: &mut Vec<u8>, start: usize, size: usize)
     requires { start + size ≤ length bytes.old.items }
@@ -49,11 +49,17 @@ pub fn copy_bytes(bytes: &mut Vec<u8>, blank: bool, from: usize, size: usize, st
 }
 
 /// Makes the bytes of all these blocks zeros. Where the buffer is blank they are zeros already.
-pub fn clear_all(places: &Places, bytes: &mut Vec<u8>, blank: bool, wants: &[Want], made: &[Put])
+pub fn clear_all(
+    places: &Places,
+    bytes: &mut Vec<u8>,
+    blank: bool,
+    wants: &[Want],
+    made: &[PlacedBlock],
+)
     requires lengths { length wants.now ≡ length made.now }
     requires blank { IsBlank blank bytes.old.items }
     requires inside { FitIn places.now.banks (length bytes.old.items) wants.now made.now }
-    ensures value { bytes.new.items ≡ cleared places.now.banks wants.now made.now bytes.old.items }
+    ensures value { bytes.new.items ≡ with_zeroed_blocks places.now.banks wants.now made.now bytes.old.items }
     ensures blank { IsBlank blank bytes.new.items }
 {
     for place in 0..made.len() {
@@ -67,7 +73,7 @@ pub fn clear_all(places: &Places, bytes: &mut Vec<u8>, blank: bool, wants: &[Wan
 }
 
 /// Gives the handles of what was put.
-pub fn give(made: &[Put], handles: &mut [Handle])
+pub fn give(made: &[PlacedBlock], handles: &mut [Handle])
     requires { length handles.old ≡ length made.now }
     ensures { handles.new ≡ map handle_of made.now }
 {

@@ -7,14 +7,14 @@ use Rattle.std.proofs.lemmas.List.Sums.{sum_by-set, sum_by-cons}
 use Rattle.std.proofs.lemmas.List.Quantifiers.{position-Some}
 use Rattle.iigs_meaning.specs.declared.handles.Handle.{Handle}
 use Rattle.iigs_meaning.specs.declared.slots.Slot.{Slot}
-use Rattle.iigs_meaning.specs.declared.slots.Content.TheVariants.{Used}
+use Rattle.iigs_meaning.specs.declared.slots.SlotContent.TheVariants.{Used}
 use Rattle.iigs_meaning.specs.declared.wants.Want.{Want}
 use Rattle.iigs_meaning.specs.declared.wants.Block.{Block}
 use Rattle.iigs_meaning.specs.Slots.{slot_at, new_slot, is_free, after_take, new_handle, lowest_free}
 use Rattle.iigs_meaning.specs.Fits.{IsWant, block_in}
-use Rattle.iigs_meaning.specs.Placement.{can_purge, emptied_where, emptied, is_gone, rank}
-use Rattle.iigs_meaning.specs.Puts.{placed, Purges, Puts, PutsAll}
-use Rattle.iigs_places.specs.declared.table.Put.{Put}
+use Rattle.iigs_meaning.specs.Placement.{can_purge, emptied_where, slots_after_purges, is_gone, rank}
+use Rattle.iigs_meaning.specs.Puts.{placed_block, Purges, Puts, PutsAll}
+use Rattle.iigs_places.specs.declared.table.PlacedBlock.{PlacedBlock}
 use Rattle.iigs_places.specs.Table.{IsPut}
 use Rattle.iigs_places.specs.Alls.{handle_of, BlocksAre, NotAmong, AllPut}
 use Rattle.iigs_places.proofs.Takes.{gone_handle, emptied_free}
@@ -54,33 +54,33 @@ locked_stays slots count slot block locked there = go (block_in slot) there
         rw (kept (nat_lt (rank slots one) count) one is) there
 
 -- in the slots after one more block was put
-module _ (banks : List ℕ) (now next : List (Slot Block)) (want : Want) (user : ℕ) (put : Put) (done : IsPut banks now want user true 0 false put next) where
+module _ (banks : List ℕ) (now next : List (Slot Block)) (want : Want) (user : ℕ) (put : PlacedBlock) (done : IsPut banks now want user true 0 false put next) where
   abbrev pub block : Block
-  block = placed want put.at user true 0 false
+  block = placed_block want put.at user true 0 false
 
-  took : (after_take (emptied now done.count) block ≡ set (emptied now done.count) put.handle.slot (record { generation = put.handle.generation; content = Used block }))
-      × (put.handle.slot < length (emptied now done.count)) × (block_in (slot_at (emptied now done.count) put.handle.slot) ≡ None)
-  took = taken (emptied now done.count) put.handle block (gone_handle done.count now ∙ done.handle)
+  took : (after_take (slots_after_purges now done.count) block ≡ set (slots_after_purges now done.count) put.handle.slot (record { generation = put.handle.generation; content = Used block }))
+      × (put.handle.slot < length (slots_after_purges now done.count)) × (block_in (slot_at (slots_after_purges now done.count) put.handle.slot) ≡ None)
+  took = taken (slots_after_purges now done.count) put.handle block (gone_handle done.count now ∙ done.handle)
 
-  next_is : next ≡ set (emptied now done.count) put.handle.slot (record { generation = put.handle.generation; content = Used block })
+  next_is : next ≡ set (slots_after_purges now done.count) put.handle.slot (record { generation = put.handle.generation; content = Used block })
   next_is = done.slots ∙ took.0
 
   pub block_here : block_in (slot_at next put.handle.slot) ≡ Some block
-  block_here = rw (next_is, set_here (emptied now done.count) put.handle.slot (record { generation = put.handle.generation; content = Used block }) took.1) refl
+  block_here = rw (next_is, set_here (slots_after_purges now done.count) put.handle.slot (record { generation = put.handle.generation; content = Used block }) took.1) refl
 
   pub block_stays : (place : ℕ) (one : Block) → one.locked ≡ true → block_in (slot_at now place) ≡ Some one → block_in (slot_at next place) ≡ Some one
-  unfolding emptied
+  unfolding slots_after_purges
   block_stays place one locked there =
-      let kept : block_in (slot_at (emptied now done.count) place) ≡ Some one =
+      let kept : block_in (slot_at (slots_after_purges now done.count) place) ≡ Some one =
       rw (slot_at-map (emptied_where (is_gone now done.count)) now place refl) (locked_stays now done.count (slot_at now place) one locked there) in
       let ne : place ≢ put.handle.slot = λ eq. let no : Some one ≡ None = sym kept ∙ rw eq took.2 in cc in
-      rw (next_is, set_other (emptied now done.count) put.handle.slot (record { generation = put.handle.generation; content = Used block }) place ne) kept
+      rw (next_is, set_other (slots_after_purges now done.count) put.handle.slot (record { generation = put.handle.generation; content = Used block }) place ne) kept
 
-  pub blocks_more : (wants : List Want) (puts : List Put) → BlocksAre user now wants puts → BlocksAre user next (wants ++ want ∷ []) (puts ++ put ∷ [])
+  pub blocks_more : (wants : List Want) (puts : List PlacedBlock) → BlocksAre user now wants puts → BlocksAre user next (wants ++ want ∷ []) (puts ++ put ∷ [])
   blocks_more [] [] blocks = (block_here, tt)
   blocks_more [] (p ∷ puts) blocks = absurd blocks
   blocks_more (w ∷ wants) [] blocks = absurd blocks
-  blocks_more (w ∷ wants) (p ∷ puts) blocks = (block_stays p.handle.slot (placed w p.at user true 0 false) refl blocks.0, blocks_more wants puts blocks.1)
+  blocks_more (w ∷ wants) (p ∷ puts) blocks = (block_stays p.handle.slot (placed_block w p.at user true 0 false) refl blocks.0, blocks_more wants puts blocks.1)
 
 -- how many slots are free
 count-map : (f : Slot Block → Slot Block) → ((slot : Slot Block) → is_free (f slot) ≡ is_free slot) → (slots : List (Slot Block)) → count_by is_free (map f slots) ≡ count_by is_free slots
@@ -90,8 +90,8 @@ count-map f same (slot ∷ slots) = sum_by-cons (λ s. cond (is_free s) 1 0) (f 
     ∙ ap (λ n. cond (is_free slot) 1 0 + n) (count-map f same slots)
     ∙ sym (sum_by-cons (λ s. cond (is_free s) 1 0) slot slots)
 
-count-emptied : (slots : List (Slot Block)) (count : ℕ) → count_by is_free (emptied slots count) ≡ count_by is_free slots
-unfolding emptied
+count-emptied : (slots : List (Slot Block)) (count : ℕ) → count_by is_free (slots_after_purges slots count) ≡ count_by is_free slots
+unfolding slots_after_purges
 count-emptied slots count = count-map (emptied_where (is_gone slots count)) (emptied_free (is_gone slots count)) slots
 
 -- a new handle takes a free slot
@@ -106,21 +106,21 @@ first_free_slot slots h is = go (lowest_free slots) refl is
         let found = position-Some is_free slots place new_slot there in
         subst (λ (p : ℕ). is_free (slot_at slots p) ≡ true) slot found.1
 
-pub free_less : (banks : List ℕ) (now next : List (Slot Block)) (want : Want) (user : ℕ) (put : Put) → IsPut banks now want user true 0 false put next
+pub free_less : (banks : List ℕ) (now next : List (Slot Block)) (want : Want) (user : ℕ) (put : PlacedBlock) → IsPut banks now want user true 0 false put next
     → count_by is_free next + 1 ≡ count_by is_free now
 free_less banks now next want user put done =
-    let took = taken (emptied now done.count) put.handle (placed want put.at user true 0 false) (gone_handle done.count now ∙ done.handle) in
-    let slot : Slot Block = record { generation = put.handle.generation; content = Used (placed want put.at user true 0 false) } in
-    let free : is_free (slot_at (emptied now done.count) put.handle.slot) ≡ true = first_free_slot (emptied now done.count) put.handle (gone_handle done.count now ∙ done.handle) in
-    let change : count_by is_free (set (emptied now done.count) put.handle.slot slot) + cond {A = ℕ} true 1 0 ≡ count_by is_free (emptied now done.count) + cond {A = ℕ} (is_free slot) 1 0 =
-    rw free at (sum_by-set (λ s. cond (is_free s) 1 0) (emptied now done.count) put.handle.slot slot new_slot took.1) in
-    let same : count_by is_free (emptied now done.count) ≡ count_by is_free now = count-emptied now done.count in
-    let next_is : count_by is_free next ≡ count_by is_free (set (emptied now done.count) put.handle.slot slot) = ap (count_by is_free) (done.slots ∙ took.0) in
+    let took = taken (slots_after_purges now done.count) put.handle (placed_block want put.at user true 0 false) (gone_handle done.count now ∙ done.handle) in
+    let slot : Slot Block = record { generation = put.handle.generation; content = Used (placed_block want put.at user true 0 false) } in
+    let free : is_free (slot_at (slots_after_purges now done.count) put.handle.slot) ≡ true = first_free_slot (slots_after_purges now done.count) put.handle (gone_handle done.count now ∙ done.handle) in
+    let change : count_by is_free (set (slots_after_purges now done.count) put.handle.slot slot) + cond {A = ℕ} true 1 0 ≡ count_by is_free (slots_after_purges now done.count) + cond {A = ℕ} (is_free slot) 1 0 =
+    rw free at (sum_by-set (λ s. cond (is_free s) 1 0) (slots_after_purges now done.count) put.handle.slot slot new_slot took.1) in
+    let same : count_by is_free (slots_after_purges now done.count) ≡ count_by is_free now = count-emptied now done.count in
+    let next_is : count_by is_free next ≡ count_by is_free (set (slots_after_purges now done.count) put.handle.slot slot) = ap (count_by is_free) (done.slots ∙ took.0) in
     let none : cond {A = ℕ} (is_free slot) 1 0 ≡ 0 = refl in
     omega arith
 
 -- what is among more isn't among fewer
-fewer : (puts : List Put) (put : Put) (place : ℕ) → NotAmong (puts ++ put ∷ []) place → NotAmong puts place × (place ≢ put.handle.slot)
+fewer : (puts : List PlacedBlock) (put : PlacedBlock) (place : ℕ) → NotAmong (puts ++ put ∷ []) place → NotAmong puts place × (place ≢ put.handle.slot)
 fewer [] put place not = (tt, not.0)
 fewer (p ∷ puts) put place not = let rest = fewer puts put place not.1 in ((not.0, rest.0), rest.1)
 
@@ -130,7 +130,7 @@ stays_on one two three (inl none) (inr same) = inl (same ∙ none)
 stays_on one two three (inr same') (inr same) = inr (same ∙ same')
 
 -- one more is placed
-pub all_more : (banks : List ℕ) (user : ℕ) (start now next : List (Slot Block)) (wants : List Want) (puts : List Put) (want : Want) (put : Put)
+pub all_more : (banks : List ℕ) (user : ℕ) (start now next : List (Slot Block)) (wants : List Want) (puts : List PlacedBlock) (want : Want) (put : PlacedBlock)
     → All (λ bank. bank < 256) banks → IsWant want → AllPut banks user start wants puts now → IsPut banks now want user true 0 false put next
     → AllPut banks user start (wants ++ want ∷ []) (puts ++ put ∷ []) next
 all_more banks user start now next wants puts want put small is_want all done =
@@ -145,7 +145,7 @@ all_more banks user start now next wants puts want put small is_want all done =
           stays_on (slot_at start place) (slot_at now place) (slot_at next place) (all.others place apart.0) (facts.others place apart.1);
     }
 
-pub all_next : (banks : List ℕ) (user : ℕ) (start now next : List (Slot Block)) (wants : List Want) (puts : List Put) (place : ℕ) (d : Want) (put : Put)
+pub all_next : (banks : List ℕ) (user : ℕ) (start now next : List (Slot Block)) (wants : List Want) (puts : List PlacedBlock) (place : ℕ) (d : Want) (put : PlacedBlock)
     → All (λ bank. bank < 256) banks → IsWant (get_or wants place d) → place < length wants → AllPut banks user start (take place wants) puts now
     → IsPut banks now (get_or wants place d) user true 0 false put next
     → AllPut banks user start (take (place + 1) wants) (puts ++ put ∷ []) next

@@ -8,12 +8,12 @@ use Rattle.std.proofs.lemmas.List.Elements.{All-map}
 use Rattle.std.proofs.lemmas.List.Quantifiers.{position-Some}
 use Rattle.iigs_meaning.specs.declared.handles.Handle.{Handle}
 use Rattle.iigs_meaning.specs.declared.slots.Slot.{Slot}
-use Rattle.iigs_meaning.specs.declared.slots.Content.{Content}
-use Rattle.iigs_meaning.specs.declared.slots.Content.TheVariants.{Free, Used, Retired}
+use Rattle.iigs_meaning.specs.declared.slots.SlotContent.{SlotContent}
+use Rattle.iigs_meaning.specs.declared.slots.SlotContent.TheVariants.{Free, Used, Retired}
 use Rattle.iigs_meaning.specs.declared.wants.Block.{Block}
 use Rattle.iigs_meaning.specs.Slots.{slot_at, new_slot, get, used_value, with_slot, released, after_take, after_release, is_free, is_free_content, new_handle, lowest_free}
 use Rattle.iigs_meaning.specs.Fits.{block_in}
-use Rattle.iigs_meaning.specs.Placement.{emptied_where, emptied, is_gone}
+use Rattle.iigs_meaning.specs.Placement.{emptied_where, slots_after_purges, is_gone}
 use Rattle.iigs_meaning.specs.Puts.{without_user, without_user_in}
 use Rattle.iigs_places.specs.Spots.{IsBounded, IsBoundedSlot}
 use Rattle.iigs_places.proofs.Extents.{each_slot, all_slots}
@@ -81,7 +81,7 @@ emptied_bounded test slot = go slot.generation slot.content
     used true generation block bounded = record { want = bounded.want; some = bounded.some; level = bounded.level; ends = tt }
     used false generation block bounded = bounded
 
-    go : (generation : ℕ) (content : Content Block) → IsBoundedSlot (record { generation = generation; content = content })
+    go : (generation : ℕ) (content : SlotContent Block) → IsBoundedSlot (record { generation = generation; content = content })
         → IsBoundedSlot (emptied_where test (record { generation = generation; content = content }))
     go generation Free bounded = tt
     go generation Retired bounded = tt
@@ -104,7 +104,7 @@ user_bounded user slot = go slot.generation slot.content
     used true generation block bounded = released_bounded generation
     used false generation block bounded = bounded
 
-    go : (generation : ℕ) (content : Content Block) → IsBoundedSlot (record { generation = generation; content = content })
+    go : (generation : ℕ) (content : SlotContent Block) → IsBoundedSlot (record { generation = generation; content = content })
         → IsBoundedSlot (without_user_in user (record { generation = generation; content = content }))
     go generation Free bounded = tt
     go generation Retired bounded = tt
@@ -113,8 +113,8 @@ user_bounded user slot = go slot.generation slot.content
 pub users_bounded : (user : ℕ) (slots : List (Slot Block)) → All IsBoundedSlot slots → All IsBoundedSlot (without_user slots user)
 users_bounded user slots bounded = All-map IsBoundedSlot (without_user_in user) slots (λ k d inside. user_bounded user (get_or slots k d) (bounded k d inside))
 
-pub gone_bounded : (count : ℕ) (slots : List (Slot Block)) → All IsBoundedSlot slots → All IsBoundedSlot (emptied slots count)
-unfolding emptied
+pub gone_bounded : (count : ℕ) (slots : List (Slot Block)) → All IsBoundedSlot slots → All IsBoundedSlot (slots_after_purges slots count)
+unfolding slots_after_purges
 gone_bounded count slots = map_bounded (is_gone slots count) slots
 
 -- a release
@@ -138,7 +138,7 @@ pub taken : (slots : List (Slot Block)) (h : Handle) (block : Block) → new_han
     × (block_in (slot_at slots h.slot) ≡ None)
 taken slots h block is = go (lowest_free slots) refl is
   where
-    free_none : (content : Content Block) → is_free_content content ≡ true → used_value content ≡ None
+    free_none : (content : SlotContent Block) → is_free_content content ≡ true → used_value content ≡ None
     free_none Free e = refl
     free_none (Used value) e = absurd (cc)
     free_none Retired e = absurd (cc)

@@ -13,15 +13,15 @@ use Rattle.iigs_meaning.specs.Slots.{slot_at, new_slot}
 use Rattle.iigs_meaning.specs.Fits.{block_in}
 use Rattle.iigs_meaning.specs.Blocks.{address_in}
 use Rattle.iigs_meaning.specs.Moves.{count_there, lies_below}
-use Rattle.iigs_places.specs.declared.marks.Mark.{Mark}
-use Rattle.iigs_places.specs.Extent.{extent, extent_of, sized}
+use Rattle.iigs_places.specs.declared.marks.BlockMark.{BlockMark}
+use Rattle.iigs_places.specs.Extent.{extent, extent_of, extent_of_size}
 use Rattle.iigs_places.specs.Marks.{mark, HaveMarks, IsMarked, IsSized, AreOnce, AreMarksApart}
 use Rattle.iigs_places.proofs.Turns.{count-same}
 use Rattle.iigs_places.proofs.Once.{count-cons, count_none, count_one, once_apart}
 use Rattle.iigs_places.proofs.Marked.{past_none}
 
 -- where a block begins is told by its extent
-address_block : (o : Option ℕ) (size : ℕ) → o ≡ option_map (λ (e : ℕ × ℕ). e.0) (sized size o)
+address_block : (o : Option ℕ) (size : ℕ) → o ≡ option_map (λ (e : ℕ × ℕ). e.0) (extent_of_size size o)
 address_block None size = refl
 address_block (Some at) size = refl
 
@@ -58,36 +58,36 @@ parted s n b = elim (cases_lt s n) [
   ]
 ]
 
-module _ (slots : List (Slot Block)) (marks : List Mark) (have : HaveMarks slots marks) (Q : ℕ → Bool) where
+module _ (slots : List (Slot Block)) (marks : List BlockMark) (have : HaveMarks slots marks) (Q : ℕ → Bool) where
   abbrev passes : Slot Block → Bool
   passes slot = option_map_or Q (address_in slot) false
 
   -- the marks of one slot
-  here : (n : ℕ) → count_by (λ (m : Mark). m.slot == n && Q m.at) marks ≡ cond {A = ℕ} (passes (slot_at slots n)) 1 0
+  here : (n : ℕ) → count_by (λ (m : BlockMark). m.slot == n && Q m.at) marks ≡ cond {A = ℕ} (passes (slot_at slots n)) 1 0
   here n = go (extent (slot_at slots n)) refl
     where
       clash : (e : ℕ × ℕ) → None ≡ Some e → ⊥
       clash e is = cc
 
-      one_place : (e : ℕ × ℕ) → extent (slot_at slots n) ≡ Some e → (m : Mark) → Contains marks m → m.slot ≡ n → m.at ≡ e.0
+      one_place : (e : ℕ × ℕ) → extent (slot_at slots n) ≡ Some e → (m : BlockMark) → Contains marks m → m.slot ≡ n → m.at ≡ e.0
       one_place e is m has same =
           let one = have.are m has in
           let both : Some one.0 ≡ Some e = sym one.1 ∙ ap (λ (k : ℕ). extent (slot_at slots k)) same ∙ is in
           let equal : one.0 ≡ e = cc in
-          ap (λ (x : Mark). x.at) one.2 ∙ ap (λ (x : ℕ × ℕ). x.0) equal
+          ap (λ (x : BlockMark). x.at) one.2 ∙ ap (λ (x : ℕ × ℕ). x.0) equal
 
-      counted : (e : ℕ × ℕ) → extent (slot_at slots n) ≡ Some e → (b : Bool) → Q e.0 ≡ b → count_by (λ (m : Mark). m.slot == n && Q m.at) marks ≡ cond {A = ℕ} b 1 0
+      counted : (e : ℕ × ℕ) → extent (slot_at slots n) ≡ Some e → (b : Bool) → Q e.0 ≡ b → count_by (λ (m : BlockMark). m.slot == n && Q m.at) marks ≡ cond {A = ℕ} b 1 0
       counted e is true q =
-          let alike : count_by (λ (m : Mark). m.slot == n && Q m.at) marks ≡ count_by (λ (m : Mark). m.slot == n) marks =
-          count-same (λ (m : Mark). m.slot == n && Q m.at) (λ (m : Mark). m.slot == n) marks (λ k d inside. same_test (get_or marks k d) (Contains-get_or marks k d inside)) in
+          let alike : count_by (λ (m : BlockMark). m.slot == n && Q m.at) marks ≡ count_by (λ (m : BlockMark). m.slot == n) marks =
+          count-same (λ (m : BlockMark). m.slot == n && Q m.at) (λ (m : BlockMark). m.slot == n) marks (λ k d inside. same_test (get_or marks k d) (Contains-get_or marks k d inside)) in
           let has = have.each n e is in
           let test : ((get_or marks has.0 (mark n e)).slot == n) ≡ true = rw has.2 (itself n) in
-          omega (arith, alike, have.once n, count_one (λ (m : Mark). m.slot == n) marks has.0 (mark n e) has.1 test)
+          omega (arith, alike, have.once n, count_one (λ (m : BlockMark). m.slot == n) marks has.0 (mark n e) has.1 test)
         where
           itself : (k : ℕ) → (k == k) ≡ true
           itself k = grind (arith, nat_tests)
 
-          same_test : (m : Mark) → Contains marks m → (m.slot == n && Q m.at) ≡ (m.slot == n)
+          same_test : (m : BlockMark) → Contains marks m → (m.slot == n && Q m.at) ≡ (m.slot == n)
           same_test m has = elim (cases_eq m.slot n) [
             | inl same ↦
                 let one : (m.slot == n) ≡ true = grind (arith, nat_tests) in
@@ -97,9 +97,9 @@ module _ (slots : List (Slot Block)) (marks : List Mark) (have : HaveMarks slots
                 let one : (m.slot == n) ≡ false = grind (arith, nat_tests) in
                 rw one refl
           ]
-      counted e is false q = count_none (λ (m : Mark). m.slot == n && Q m.at) marks (λ k d inside. no_test (get_or marks k d) (Contains-get_or marks k d inside))
+      counted e is false q = count_none (λ (m : BlockMark). m.slot == n && Q m.at) marks (λ k d inside. no_test (get_or marks k d) (Contains-get_or marks k d inside))
         where
-          no_test : (m : Mark) → Contains marks m → (m.slot == n && Q m.at) ≡ false
+          no_test : (m : BlockMark) → Contains marks m → (m.slot == n && Q m.at) ≡ false
           no_test m has = elim (cases_eq m.slot n) [
             | inl same ↦
                 let one : (m.slot == n) ≡ true = grind (arith, nat_tests) in
@@ -110,12 +110,12 @@ module _ (slots : List (Slot Block)) (marks : List Mark) (have : HaveMarks slots
                 rw one refl
           ]
 
-      go : (o : Option (ℕ × ℕ)) → extent (slot_at slots n) ≡ o → count_by (λ (m : Mark). m.slot == n && Q m.at) marks ≡ cond {A = ℕ} (passes (slot_at slots n)) 1 0
+      go : (o : Option (ℕ × ℕ)) → extent (slot_at slots n) ≡ o → count_by (λ (m : BlockMark). m.slot == n && Q m.at) marks ≡ cond {A = ℕ} (passes (slot_at slots n)) 1 0
       go None is =
           let none : address_in (slot_at slots n) ≡ None = address_extent (slot_at slots n) ∙ ap (option_map (λ (e : ℕ × ℕ). e.0)) is in
-          rw none (count_none (λ (m : Mark). m.slot == n && Q m.at) marks (λ k d inside. no_slot (get_or marks k d) (Contains-get_or marks k d inside)))
+          rw none (count_none (λ (m : BlockMark). m.slot == n && Q m.at) marks (λ k d inside. no_slot (get_or marks k d) (Contains-get_or marks k d inside)))
         where
-          no_slot : (m : Mark) → Contains marks m → (m.slot == n && Q m.at) ≡ false
+          no_slot : (m : BlockMark) → Contains marks m → (m.slot == n && Q m.at) ≡ false
           no_slot m has = elim (cases_eq m.slot n) [
             | inl same ↦ let one = have.are m has in absurd (clash one.0 (sym is ∙ ap (λ (k : ℕ). extent (slot_at slots k)) (sym same) ∙ one.1))
             | inr ne ↦ let one : (m.slot == n) ≡ false = grind (arith, nat_tests) in rw one refl
@@ -125,8 +125,8 @@ module _ (slots : List (Slot Block)) (marks : List Mark) (have : HaveMarks slots
           rw some (counted e is (Q e.0) refl)
 
   -- the marks of the first slots
-  upto : (n : ℕ) → n ≤ length slots → count_by (λ (m : Mark). nat_lt m.slot n && Q m.at) marks ≡ count_by passes (take n slots)
-  upto zero le = count_none (λ (m : Mark). nat_lt m.slot 0 && Q m.at) marks (λ k d inside. never (get_or marks k d).slot (Q (get_or marks k d).at))
+  upto : (n : ℕ) → n ≤ length slots → count_by (λ (m : BlockMark). nat_lt m.slot n && Q m.at) marks ≡ count_by passes (take n slots)
+  upto zero le = count_none (λ (m : BlockMark). nat_lt m.slot 0 && Q m.at) marks (λ k d inside. never (get_or marks k d).slot (Q (get_or marks k d).at))
     where
       never : (s : ℕ) (b : Bool) → (nat_lt s 0 && b) ≡ false
       never s b = let none : nat_lt s 0 ≡ false = grind (arith, nat_tests) in rw none refl
@@ -136,7 +136,7 @@ module _ (slots : List (Slot Block)) (marks : List Mark) (have : HaveMarks slots
       ap (count_by passes) more ∙ sum_by-append (λ s. cond (passes s) 1 0) (take n slots) (slot_at slots n ∷ []) in
       omega (
         arith,
-        count_split (λ (m : Mark). nat_lt m.slot (suc n) && Q m.at) (λ (m : Mark). nat_lt m.slot n && Q m.at) (λ (m : Mark). m.slot == n && Q m.at) (λ m. parted m.slot n (Q m.at)) marks,
+        count_split (λ (m : BlockMark). nat_lt m.slot (suc n) && Q m.at) (λ (m : BlockMark). nat_lt m.slot n && Q m.at) (λ (m : BlockMark). m.slot == n && Q m.at) (λ m. parted m.slot n (Q m.at)) marks,
         upto n (omega (arith, le)),
         here n,
         front,
@@ -144,12 +144,12 @@ module _ (slots : List (Slot Block)) (marks : List Mark) (have : HaveMarks slots
       )
 
   -- as many marks pass a test of their addresses as blocks
-  pub count_marks : count_by (λ (m : Mark). Q m.at) marks ≡ count_by passes slots
-  count_marks = count-same (λ (m : Mark). Q m.at) (λ (m : Mark). nat_lt m.slot (length slots) && Q m.at) marks
+  pub count_marks : count_by (λ (m : BlockMark). Q m.at) marks ≡ count_by passes slots
+  count_marks = count-same (λ (m : BlockMark). Q m.at) (λ (m : BlockMark). nat_lt m.slot (length slots) && Q m.at) marks
       (λ k d inside. inner (get_or marks k d) (Contains-get_or marks k d inside))
       ∙ upto (length slots) (omega arith) ∙ ap (count_by passes) (take_all (length slots) slots (omega arith))
     where
-      inner : (m : Mark) → Contains marks m → Q m.at ≡ (nat_lt m.slot (length slots) && Q m.at)
+      inner : (m : BlockMark) → Contains marks m → Q m.at ≡ (nat_lt m.slot (length slots) && Q m.at)
       inner m has =
           let one = have.are m has in
           let less = past_none slots m.slot one.0 one.1 in
@@ -162,7 +162,7 @@ count_all : {X : Type 0} (xs : List X) → count_by (λ (x : X). true) xs ≡ le
 count_all [] = refl
 count_all {X} (x ∷ xs) = omega (arith, count-cons (λ (x : X). true) x xs, count_all xs)
 
-pub count_is : (slots : List (Slot Block)) (marks : List Mark) → HaveMarks slots marks → length marks ≡ count_there slots
+pub count_is : (slots : List (Slot Block)) (marks : List BlockMark) → HaveMarks slots marks → length marks ≡ count_there slots
 count_is slots marks have = sym (count_all marks) ∙ count_marks slots marks have (λ at. true)
     ∙ count-same (λ slot. option_map_or (λ at. true) (address_in slot) false) (λ slot. is_some (address_in slot)) slots (λ k d inside. told (address_in (get_or slots k d)))
   where
@@ -172,19 +172,19 @@ count_is slots marks have = sym (count_all marks) ∙ count_marks slots marks ha
 
 -- ---- those below an address
 
-pub marks_apart : (slots : List (Slot Block)) (marks : List Mark) → IsMarked slots marks → HaveMarks slots marks → AreMarksApart marks
+pub marks_apart : (slots : List (Slot Block)) (marks : List BlockMark) → IsMarked slots marks → HaveMarks slots marks → AreMarksApart marks
 marks_apart slots marks made have m o has has' ne = elim (cases_lt o.at m.at) [
   | inl below ↦ inl below
   | inr above ↦ elim (cases_lt o.at m.end) [
     | inr behind ↦ inr behind
     | inl within ↦
         let one = have.are m has in
-        absurd (made.apart m.slot one.0 o one.1 has' (λ eq. ne (sym eq)) (omega (arith, above, ap (λ (x : Mark). x.at) one.2), omega (arith, within, ap (λ (x : Mark). x.end) one.2)))
+        absurd (made.apart m.slot one.0 o one.1 has' (λ eq. ne (sym eq)) (omega (arith, above, ap (λ (x : BlockMark). x.at) one.2), omega (arith, within, ap (λ (x : BlockMark). x.end) one.2)))
   ]
 ]
 
-rising : (marks : List Mark) → IsNonDecreasingBy (λ m. m.at) marks → AreOnce marks → All IsSized marks → AreMarksApart marks
-    → (i j : ℕ) (d : Mark) → i < j → j < length marks → (get_or marks i d).at < (get_or marks j d).at
+rising : (marks : List BlockMark) → IsNonDecreasingBy (λ m. m.at) marks → AreOnce marks → All IsSized marks → AreMarksApart marks
+    → (i j : ℕ) (d : BlockMark) → i < j → j < length marks → (get_or marks i d).at < (get_or marks j d).at
 rising marks order once sized' apart i j d less inside =
     let one = Contains-get_or marks i d (omega (arith, less, inside)) in
     let two = Contains-get_or marks j d inside in
@@ -193,15 +193,15 @@ rising marks order once sized' apart i j d less inside =
       | inr behind ↦ omega (arith, behind, (sized' i d (omega (arith, less, inside))).0)
     ]
 
-count_place : (marks : List Mark) (k : ℕ) (d : Mark) → k < length marks → ((i j : ℕ) → i < j → j < length marks → (get_or marks i d).at < (get_or marks j d).at)
-    → count_by (λ (m : Mark). nat_lt m.at (get_or marks k d).at) marks ≡ k
+count_place : (marks : List BlockMark) (k : ℕ) (d : BlockMark) → k < length marks → ((i j : ℕ) → i < j → j < length marks → (get_or marks i d).at < (get_or marks j d).at)
+    → count_by (λ (m : BlockMark). nat_lt m.at (get_or marks k d).at) marks ≡ k
 count_place [] k d inside rises = absurd (omega (arith, inside))
 count_place (m ∷ ms) zero d inside rises =
     let self : nat_lt m.at m.at ≡ false = grind (arith, nat_tests) in
     let first : cond {A = ℕ} (nat_lt m.at m.at) 1 0 ≡ 0 = rw self refl in
-    omega (arith, count-cons (λ (x : Mark). nat_lt x.at m.at) m ms, first, count_none (λ (x : Mark). nat_lt x.at m.at) ms (λ j e inside'. above j e inside'))
+    omega (arith, count-cons (λ (x : BlockMark). nat_lt x.at m.at) m ms, first, count_none (λ (x : BlockMark). nat_lt x.at m.at) ms (λ j e inside'. above j e inside'))
   where
-    above : (j : ℕ) (e : Mark) → j < length ms → nat_lt (get_or ms j e).at m.at ≡ false
+    above : (j : ℕ) (e : BlockMark) → j < length ms → nat_lt (get_or ms j e).at m.at ≡ false
     above j e inside' =
         let up : m.at < (get_or ms j d).at = rises 0 (suc j) (omega arith) (omega (arith, inside')) in
         let same : get_or ms j e ≡ get_or ms j d = get_or_default ms j e d inside' in
@@ -212,13 +212,13 @@ count_place (m ∷ ms) (suc k) d inside rises =
     let first : cond {A = ℕ} (nat_lt m.at (get_or ms k d).at) 1 0 ≡ 1 = rw test refl in
     omega (
       arith,
-      count-cons (λ (x : Mark). nat_lt x.at (get_or ms k d).at) m ms,
+      count-cons (λ (x : BlockMark). nat_lt x.at (get_or ms k d).at) m ms,
       first,
       count_place ms k d (omega (arith, inside)) (λ i j less inside'. rises (suc i) (suc j) (omega (arith, less)) (omega (arith, inside'))),
     )
 
 -- so many blocks lie below the one whose mark is at a place
-pub below_is : (slots : List (Slot Block)) (marks : List Mark) → IsMarked slots marks → HaveMarks slots marks → All IsSized marks → (k : ℕ) (d : Mark) → k < length marks
+pub below_is : (slots : List (Slot Block)) (marks : List BlockMark) → IsMarked slots marks → HaveMarks slots marks → All IsSized marks → (k : ℕ) (d : BlockMark) → k < length marks
     → count_by (lies_below (get_or marks k d).at) slots ≡ k
 below_is slots marks made have sized' k d inside =
     sym (count_marks slots marks have (λ at. nat_lt at (get_or marks k d).at))

@@ -10,14 +10,14 @@ use Rattle.iigs_meaning.specs.Slots.{slot_at, new_slot}
 use Rattle.iigs_meaning.specs.Fits.{HoldsByte, block_in}
 use Rattle.iigs_meaning.specs.Blocks.{address_in}
 use Rattle.iigs_places.specs.Spots.{IsBounded, IsBoundedSlot}
-use Rattle.iigs_places.specs.Extent.{sized, extent_of, extent, Spans}
+use Rattle.iigs_places.specs.Extent.{extent_of_size, extent_of, extent, Spans}
 
 module _ (i : ℕ) where
-  holds_block : (o : Option ℕ) (size : ℕ) → IsSomeAnd o (λ first. (first ≤ i) × (i < first + size)) → IsSomeAnd (sized size o) (Spans i)
+  holds_block : (o : Option ℕ) (size : ℕ) → IsSomeAnd o (λ first. (first ≤ i) × (i < first + size)) → IsSomeAnd (extent_of_size size o) (Spans i)
   holds_block None size holds = holds
   holds_block (Some at) size holds = holds
 
-  block_holds : (o : Option ℕ) (size : ℕ) → IsSomeAnd (sized size o) (Spans i) → IsSomeAnd o (λ first. (first ≤ i) × (i < first + size))
+  block_holds : (o : Option ℕ) (size : ℕ) → IsSomeAnd (extent_of_size size o) (Spans i) → IsSomeAnd o (λ first. (first ≤ i) × (i < first + size))
   block_holds None size holds = holds
   block_holds (Some at) size holds = holds
 
@@ -35,7 +35,7 @@ module _ (i : ℕ) where
   pub holds_from : (slot : Slot Block) → IsSomeAnd (extent slot) (Spans i) → HoldsByte i slot
   holds_from slot = in_holds (block_in slot)
 
-there_block : (o : Option ℕ) (size : ℕ) → is_some o ≡ is_some (sized size o)
+there_block : (o : Option ℕ) (size : ℕ) → is_some o ≡ is_some (extent_of_size size o)
 there_block None size = refl
 there_block (Some at) size = refl
 
@@ -46,7 +46,7 @@ there_is (Some block) = there_block block.at block.want.size
 pub there_extent : (slot : Slot Block) → is_some (address_in slot) ≡ is_some (extent slot)
 there_extent slot = there_is (block_in slot)
 
-bounded_block : (o : Option ℕ) (size : ℕ) → 0 < size → IfSome o (λ at. at + size ≤ 2 ^ 24) → IfSome (sized size o) (λ e. (0 < e.1) × (e.0 + e.1 ≤ 2 ^ 24))
+bounded_block : (o : Option ℕ) (size : ℕ) → 0 < size → IfSome o (λ at. at + size ≤ 2 ^ 24) → IfSome (extent_of_size size o) (λ e. (0 < e.1) × (e.0 + e.1 ≤ 2 ^ 24))
 bounded_block None size some ends = tt
 bounded_block (Some at) size some ends = (some, ends)
 
@@ -67,7 +67,7 @@ each_slot P slots none all place = elim (cases_lt place (length slots)) [
 pub all_slots : (P : Slot Block → Type 0) (slots : List (Slot Block)) → ((place : ℕ) → P (slot_at slots place)) → All P slots
 all_slots P slots each k d inside = rw (get_or_default slots k d new_slot inside) (each k)
 
-start_block : (o : Option ℕ) (size : ℕ) (f : ℕ × ℕ) → sized size o ≡ Some f → unwrap_or o 0 ≡ f.0
+start_block : (o : Option ℕ) (size : ℕ) (f : ℕ × ℕ) → extent_of_size size o ≡ Some f → unwrap_or o 0 ≡ f.0
 start_block None size f there = absurd (cc)
 start_block (Some at) size f there = cc
 

@@ -4,7 +4,7 @@ use Rattle.std.specs.List.Sorted.{IsNonDecreasingBy}
 use Rattle.std.proofs.lemmas.Bool.{cases_lt}
 use Rattle.std.proofs.lemmas.Bool.Decides.{nat_tests}
 use Rattle.iigs_meaning.specs.declared.wants.Want.{Want}
-use Rattle.iigs_places.specs.declared.spots.Spot.{Spot}
+use Rattle.iigs_places.specs.declared.spots.BlockSpot.{BlockSpot}
 use Rattle.iigs_places.specs.Spots.{FitsAmong, IsLeastAmong, IsFewestAmong, FitsWithNone, limit_of}
 
 pub limit_zero : (turns : List ℕ) → limit_of turns 0 ≡ 0
@@ -30,7 +30,7 @@ limit_rises turns i j rises le inside = elim (cases_lt 0 i) [
       rw (zero, limit_zero) (omega arith)
 ]
 
-module _ (banks : List ℕ) (want : Want) (spots : List Spot) where
+module _ (banks : List ℕ) (want : Want) (spots : List BlockSpot) where
   -- where more is purged, what fitted fits
   pub fits_rises : (low high address : ℕ) → low ≤ high → FitsAmong banks want spots low address → FitsAmong banks want spots high address
   fits_rises low high address le fits = record {

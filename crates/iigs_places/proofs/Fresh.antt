@@ -8,7 +8,7 @@ use Rattle.iigs_meaning.specs.Blocks.{AreApart, new_slots}
 use Rattle.iigs_places.specs.Spots.{IsBoundedSlot}
 use Rattle.iigs_places.specs.Extent.{extent}
 use Rattle.iigs_places.specs.Arranged.{IsArranged}
-use Rattle.iigs_places.specs.declared.layout.Layout.{Layout}
+use Rattle.iigs_places.specs.declared.layout.BlockLayout.{BlockLayout}
 use Rattle.iigs_places.specs.Marks.{HaveMarks}
 use Rattle.iigs_places.specs.Runs.{HasRoom, IsLayout}
 use Rattle.iigs_places.proofs.Extents.{all_slots}
@@ -61,7 +61,7 @@ new_have : HaveMarks new_slots []
 unfolding new_slots
 new_have = none_have 4096
 
-pub new_layout : (layout : Layout) → layout.marks.items ≡ [] → layout.runs.items ≡ [] → HasRoom layout → IsLayout new_slots layout
+pub new_layout : (layout : BlockLayout) → layout.marks.items ≡ [] → layout.runs.items ≡ [] → HasRoom layout → IsLayout new_slots layout
 new_layout layout marks runs room = record {
   laid = record {
     order = rw marks (λ i j d le lt. absurd (omega (arith, lt)));

@@ -18,9 +18,9 @@ use Rattle.iigs_meaning.specs.declared.wants.Block.{Block}
 use Rattle.iigs_meaning.specs.Slots.{slot_at, new_slot, used_value, get, released, after_release}
 use Rattle.iigs_meaning.specs.Fits.{HoldsByte, block_in}
 use Rattle.iigs_meaning.specs.Blocks.{AreApart, address_in}
-use Rattle.iigs_places.specs.declared.marks.Mark.{Mark}
+use Rattle.iigs_places.specs.declared.marks.BlockMark.{BlockMark}
 use Rattle.iigs_places.specs.Spots.{IsBoundedSlot}
-use Rattle.iigs_places.specs.declared.layout.Layout.{Layout}
+use Rattle.iigs_places.specs.declared.layout.BlockLayout.{BlockLayout}
 use Rattle.iigs_places.specs.Extent.{extent, Spans}
 use Rattle.iigs_places.specs.Arranged.{IsArranged}
 use Rattle.iigs_places.specs.Runs.{IsLayout}
@@ -33,7 +33,7 @@ use Rattle.iigs_places.proofs.Changed.{set_other, set_here, live_block, live_in,
 
 -- ---- marks that are gathered
 
-module _ (slots : List (Slot Block)) (place : ℕ) (marks : List Mark) (g : AreGathered slots place marks) where
+module _ (slots : List (Slot Block)) (place : ℕ) (marks : List BlockMark) (g : AreGathered slots place marks) where
   gathered_none : extent (slot_at slots place) ≡ None → AreGathered slots (place + 1) marks
   gathered_none none = record {
     each = λ k e lt is. elim (cases_lt k place) [
@@ -55,7 +55,7 @@ module _ (slots : List (Slot Block)) (place : ℕ) (marks : List Mark) (g : AreG
     ];
     are = λ m has. elim (Contains-push_cases marks (mark place e) m has) [
       | inl old ↦ (omega (arith, (g.are m old).0), (g.are m old).1, (g.are m old).2, (g.are m old).3)
-      | inr new ↦ subst (λ (x : Mark). (x.slot < place + 1) × (f : ℕ × ℕ) × (extent (slot_at slots x.slot) ≡ Some f) × (x ≡ mark x.slot f)) new (omega arith, e, here, refl)
+      | inr new ↦ subst (λ (x : BlockMark). (x.slot < place + 1) × (f : ℕ × ℕ) × (extent (slot_at slots x.slot) ≡ Some f) × (x ≡ mark x.slot f)) new (omega arith, e, here, refl)
     ];
     once = once_push marks (mark place e) (λ k d inside eq. absurd (omega (arith, (g.are (get_or marks k d) (Contains-get_or marks k d inside)).0, eq))) g.once;
   }
@@ -79,7 +79,7 @@ past_none slots place e is = elim (cases_lt place (length slots)) [
 ]
 
 -- where the other slots were never used those are all marks
-pub gathered_all : (slots : List (Slot Block)) (count : ℕ) (marks : List Mark) → AreGathered slots count marks → ((place : ℕ) → count ≤ place → slot_at slots place ≡ new_slot) → count ≤ length slots
+pub gathered_all : (slots : List (Slot Block)) (count : ℕ) (marks : List BlockMark) → AreGathered slots count marks → ((place : ℕ) → count ≤ place → slot_at slots place ≡ new_slot) → count ≤ length slots
     → AreGathered slots (length slots) marks
 gathered_all slots count marks g unused le = record {
   each = λ place e lt is. elim (cases_lt place count) [
@@ -90,7 +90,7 @@ gathered_all slots count marks g unused le = record {
   once = g.once;
 }
 
-pub sorted_marks : (slots : List (Slot Block)) (marks sorted : List Mark) → AreGathered slots (length slots) marks → IsPermutation marks sorted → HaveMarks slots sorted
+pub sorted_marks : (slots : List (Slot Block)) (marks sorted : List BlockMark) → AreGathered slots (length slots) marks → IsPermutation marks sorted → HaveMarks slots sorted
 sorted_marks slots marks sorted g moved = record {
   each = λ place e is. Contains-permutation marks sorted (mark place e) moved (g.each place e (past_none slots place e is) is);
   are = λ m has. let one = g.are m (Contains-permutation sorted marks m (IsPermutation-sym marks sorted moved) has) in (one.1, one.2, one.3);
@@ -99,14 +99,14 @@ sorted_marks slots marks sorted g moved = record {
 
 -- ---- changes of marks
 
-pub have_moved : (slots : List (Slot Block)) (marks moved : List Mark) → IsPermutation marks moved → HaveMarks slots marks → HaveMarks slots moved
+pub have_moved : (slots : List (Slot Block)) (marks moved : List BlockMark) → IsPermutation marks moved → HaveMarks slots marks → HaveMarks slots moved
 have_moved slots marks moved same have = record {
   each = λ place e is. Contains-permutation marks moved (mark place e) same (have.each place e is);
   are = λ m has. have.are m (Contains-permutation moved marks m (IsPermutation-sym marks moved same) has);
   once = once_moved marks moved same have.once;
 }
 
-pub have_same : (old new : List (Slot Block)) (marks : List Mark) → ((place : ℕ) → extent (slot_at new place) ≡ extent (slot_at old place)) → HaveMarks old marks → HaveMarks new marks
+pub have_same : (old new : List (Slot Block)) (marks : List BlockMark) → ((place : ℕ) → extent (slot_at new place) ≡ extent (slot_at old place)) → HaveMarks old marks → HaveMarks new marks
 have_same old new marks same have = record {
   each = λ place e is. have.each place e (sym (same place) ∙ is);
   are = λ m has. let one = have.are m has in (one.0, same m.slot ∙ one.1, one.2);
@@ -127,16 +127,16 @@ pub cons_rest : {X : Type 0} (y : X) (xs : List X) (x : X) → Contains xs x →
 cons_rest y xs x has = (suc has.0, omega (arith, has.1), has.2)
 
 -- a block more in a slot that had none
-pub have_set : (slots : List (Slot Block)) (at : ℕ) (slot : Slot Block) (e : ℕ × ℕ) (marks : List Mark) → at < length slots → extent (slot_at slots at) ≡ None → extent slot ≡ Some e
+pub have_set : (slots : List (Slot Block)) (at : ℕ) (slot : Slot Block) (e : ℕ × ℕ) (marks : List BlockMark) → at < length slots → extent (slot_at slots at) ≡ None → extent slot ≡ Some e
     → HaveMarks slots marks → HaveMarks (set slots at slot) (mark at e ∷ marks)
 have_set slots at slot e marks inside none is have = record {
   each = λ place f there. elim (cases_eq place at) [
     | inl eq ↦ (let one : Some e ≡ Some f = sym is ∙ ap extent (sym (set_here slots at slot inside)) ∙ ap (λ n. extent (slot_at (set slots at slot) n)) (sym eq) ∙ there in
-        subst (λ (x : Mark). Contains (mark at e ∷ marks) x) (ap (λ n. mark n e) (sym eq) ∙ ap (mark place) (same_Some e f one)) (cons_first (mark at e) marks))
+        subst (λ (x : BlockMark). Contains (mark at e ∷ marks) x) (ap (λ n. mark n e) (sym eq) ∙ ap (mark place) (same_Some e f one)) (cons_first (mark at e) marks))
     | inr ne ↦ cons_rest (mark at e) marks (mark place f) (have.each place f (ap extent (sym (set_other slots at slot place ne)) ∙ there))
   ];
   are = λ m has. elim (cons_cases (mark at e) marks m has) [
-    | inl new ↦ subst (λ (x : Mark). (f : ℕ × ℕ) × (extent (slot_at (set slots at slot) x.slot) ≡ Some f) × (x ≡ mark x.slot f)) new (e, ap extent (set_here slots at slot inside) ∙ is, refl)
+    | inl new ↦ subst (λ (x : BlockMark). (f : ℕ × ℕ) × (extent (slot_at (set slots at slot) x.slot) ≡ Some f) × (x ≡ mark x.slot f)) new (e, ap extent (set_here slots at slot inside) ∙ is, refl)
     | inr old ↦ (let one = have.are m old in
         let ne : m.slot ≢ at = λ eq. clash one.0 (sym none ∙ ap (λ n. extent (slot_at slots n)) (sym eq) ∙ one.1) in
         (one.0, ap extent (set_other slots at slot m.slot ne) ∙ one.1, one.2))
@@ -179,36 +179,36 @@ filter_all p (x ∷ xs) all = rw (All-head (λ y. p y ≡ true) x xs all) (ap (�
 
 module _ (slot : ℕ) where
   -- a mark of the slot fewer
-  pub drop_one : (marks : List Mark) (place : ℕ) (d : Mark) → place < length marks → (get_or marks place d).slot ≡ slot
-      → filter (λ (m : Mark). not (m.slot == slot)) (remove marks place) ≡ filter (λ (m : Mark). not (m.slot == slot)) marks
+  pub drop_one : (marks : List BlockMark) (place : ℕ) (d : BlockMark) → place < length marks → (get_or marks place d).slot ≡ slot
+      → filter (λ (m : BlockMark). not (m.slot == slot)) (remove marks place) ≡ filter (λ (m : BlockMark). not (m.slot == slot)) marks
   drop_one marks place d inside is =
       let test : ((get_or marks place d).slot == slot) ≡ true = grind (arith, nat_tests) in
-      filter_remove (λ (m : Mark). not (m.slot == slot)) marks place d inside (rw test refl)
+      filter_remove (λ (m : BlockMark). not (m.slot == slot)) marks place d inside (rw test refl)
 
-  pub drop_none : (marks : List Mark) → All (λ m. m.slot ≢ slot) marks → filter (λ (m : Mark). not (m.slot == slot)) marks ≡ marks
-  drop_none marks all = filter_all (λ (m : Mark). not (m.slot == slot)) marks
+  pub drop_none : (marks : List BlockMark) → All (λ m. m.slot ≢ slot) marks → filter (λ (m : BlockMark). not (m.slot == slot)) marks ≡ marks
+  drop_none marks all = filter_all (λ (m : BlockMark). not (m.slot == slot)) marks
       (λ k d inside. let ne : (get_or marks k d).slot ≢ slot = all k d inside in let test : ((get_or marks k d).slot == slot) ≡ false = grind (arith, nat_tests) in rw test refl)
 
 -- the marks of a live handle's slot are at its block's address
-pub marks_at : (slots : List (Slot Block)) (h : Handle) (block : Block) (marks : List Mark) → get slots h ≡ Some block → HaveMarks slots marks
-    → All (λ (m : Mark). m.slot ≡ h.slot → m.at ≡ unwrap_or block.at 0) marks
+pub marks_at : (slots : List (Slot Block)) (h : Handle) (block : Block) (marks : List BlockMark) → get slots h ≡ Some block → HaveMarks slots marks
+    → All (λ (m : BlockMark). m.slot ≡ h.slot → m.at ≡ unwrap_or block.at 0) marks
 marks_at slots h block marks was have = λ k d inside same.
-    let m : Mark = get_or marks k d in
+    let m : BlockMark = get_or marks k d in
     let one = have.are m (Contains-get_or marks k d inside) in
     let there : block_in (slot_at slots h.slot) ≡ Some block = live_block slots h block was in
     let is : extent (slot_at slots h.slot) ≡ Some one.0 = ap (λ n. extent (slot_at slots n)) (sym same) ∙ one.1 in
     let start : unwrap_or (address_in (slot_at slots h.slot)) 0 ≡ one.0.0 = start_extent (slot_at slots h.slot) one.0 is in
-    ap (λ (x : Mark). x.at) one.2 ∙ sym (rw there at start)
+    ap (λ (x : BlockMark). x.at) one.2 ∙ sym (rw there at start)
 
 -- behind a mark behind the address no mark is at it
-pub none_behind : (marks : List Mark) (slot address count place : ℕ) (d : Mark) → IsNonDecreasingBy (λ m. m.at) marks → All (λ m. m.slot ≡ slot → m.at ≡ address) marks
+pub none_behind : (marks : List BlockMark) (slot address count place : ℕ) (d : BlockMark) → IsNonDecreasingBy (λ m. m.at) marks → All (λ m. m.slot ≡ slot → m.at ≡ address) marks
     → CountsBefore marks address count → count ≤ place → place < length marks → (get_or marks place d).at ≢ address
-    → ((k : ℕ) (e : Mark) → k < place → (get_or marks k e).slot ≢ slot) → All (λ m. m.slot ≢ slot) marks
+    → ((k : ℕ) (e : BlockMark) → k < place → (get_or marks k e).slot ≢ slot) → All (λ m. m.slot ≢ slot) marks
 none_behind marks slot address count place d order same counts from inside ne before = λ k e lt. elim (cases_lt k place) [
   | inl lt' ↦ before k e lt'
   | inr ge ↦ λ is.
       let up : (get_or marks place e).at ≤ (get_or marks k e).at = order place k e ge lt in
-      let one : (get_or marks place d).at ≡ (get_or marks place e).at = ap (λ (m : Mark). m.at) (get_or_default marks place d e inside) in
+      let one : (get_or marks place d).at ≡ (get_or marks place e).at = ap (λ (m : BlockMark). m.at) (get_or_default marks place d e inside) in
       let low : address ≤ (get_or marks place d).at = counts.behind place d from inside in
       ne (omega (arith, up, one, low, same k e lt is))
 ]
@@ -229,19 +229,19 @@ pub All-remove : {X : Type 0} (P : X → Type 0) (xs : List X) (i : ℕ) → All
 All-remove P xs i all = All-append P (take i xs) (drop (suc i) xs) (All-take P i xs all) (All-drop P (suc i) xs all)
 
 -- a slot's block is gone
-pub have_gone : (slots : List (Slot Block)) (at : ℕ) (slot : Slot Block) (marks : List Mark) → at < length slots → extent slot ≡ None → HaveMarks slots marks
-    → HaveMarks (set slots at slot) (filter (λ (m : Mark). not (m.slot == at)) marks)
+pub have_gone : (slots : List (Slot Block)) (at : ℕ) (slot : Slot Block) (marks : List BlockMark) → at < length slots → extent slot ≡ None → HaveMarks slots marks
+    → HaveMarks (set slots at slot) (filter (λ (m : BlockMark). not (m.slot == at)) marks)
 have_gone slots at slot marks inside gone have = record {
   each = λ place e there. elim (cases_eq place at) [
     | inl eq ↦ absurd (clash e (sym gone ∙ ap extent (sym (set_here slots at slot inside)) ∙ ap (λ n. extent (slot_at (set slots at slot) n)) (sym eq) ∙ there))
-    | inr ne ↦ filter_has (λ (m : Mark). not (m.slot == at)) marks (mark place e) (differ place ne)
+    | inr ne ↦ filter_has (λ (m : BlockMark). not (m.slot == at)) marks (mark place e) (differ place ne)
         (have.each place e (ap extent (sym (set_other slots at slot place ne)) ∙ there))
   ];
   are = λ m has.
-      let one = have.are m (filter_from (λ (m : Mark). not (m.slot == at)) marks m has) in
-      let ne : m.slot ≢ at = other m.slot (filter_pass (λ (m : Mark). not (m.slot == at)) marks m has) in
+      let one = have.are m (filter_from (λ (m : BlockMark). not (m.slot == at)) marks m has) in
+      let ne : m.slot ≢ at = other m.slot (filter_pass (λ (m : BlockMark). not (m.slot == at)) marks m has) in
       (one.0, ap extent (set_other slots at slot m.slot ne) ∙ one.1, one.2);
-  once = once_filter (λ (m : Mark). not (m.slot == at)) marks have.once;
+  once = once_filter (λ (m : BlockMark). not (m.slot == at)) marks have.once;
 }
   where
     clash : (f : ℕ × ℕ) → None ≡ Some f → ⊥
@@ -257,40 +257,40 @@ have_gone slots at slot marks inside gone have = record {
         go true eq e = absurd (cc)
         go false ne e = grind (arith, nat_tests)
 
-pub have_released : (slots : List (Slot Block)) (h : Handle) (marks : List Mark) → is_some (get slots h) ≡ true → HaveMarks slots marks
-    → HaveMarks (after_release slots h) (filter (λ (m : Mark). not (m.slot == h.slot)) marks)
+pub have_released : (slots : List (Slot Block)) (h : Handle) (marks : List BlockMark) → is_some (get slots h) ≡ true → HaveMarks slots marks
+    → HaveMarks (after_release slots h) (filter (λ (m : BlockMark). not (m.slot == h.slot)) marks)
 have_released slots h marks live have = rw (with_is slots h (released h.generation) live)
     (have_gone slots h.slot (released h.generation) marks (live_in slots h live) (released_none h.generation) have)
 
 -- ---- their sizes
 
-pub marks_sized : (slots : List (Slot Block)) (marks : List Mark) → All IsBoundedSlot slots → HaveMarks slots marks → All IsSized marks
+pub marks_sized : (slots : List (Slot Block)) (marks : List BlockMark) → All IsBoundedSlot slots → HaveMarks slots marks → All IsSized marks
 marks_sized slots marks bounded have = λ k d inside.
-    let m : Mark = get_or marks k d in
+    let m : BlockMark = get_or marks k d in
     let one = have.are m (Contains-get_or marks k d inside) in
     let limit : IfSome (extent (slot_at slots m.slot)) (λ f. (0 < f.1) × (f.0 + f.1 ≤ 2 ^ 24)) = bounded_extent (slot_at slots m.slot) (each_slot IsBoundedSlot slots tt bounded m.slot) in
     let some : (0 < one.0.1) × (one.0.0 + one.0.1 ≤ 2 ^ 24) = rw one.1 at limit in
-    let at_is : m.at ≡ one.0.0 = ap (λ (x : Mark). x.at) one.2 in
-    let end_is : m.end ≡ one.0.0 + one.0.1 = ap (λ (x : Mark). x.end) one.2 in
+    let at_is : m.at ≡ one.0.0 = ap (λ (x : BlockMark). x.at) one.2 in
+    let end_is : m.end ≡ one.0.0 + one.0.1 = ap (λ (x : BlockMark). x.end) one.2 in
     (omega (arith, at_is, end_is, some.0), omega (arith, end_is, some.1))
 
 -- ---- the last mark
 
-pub counted : (marks : List Mark) (address count : ℕ) → IsPartitionPoint (λ (m : Mark). leb m.at address ≡ true) (λ (m : Mark). leb m.at address ≡ false) marks count → count ≤ length marks
+pub counted : (marks : List BlockMark) (address count : ℕ) → IsPartitionPoint (λ (m : BlockMark). leb m.at address ≡ true) (λ (m : BlockMark). leb m.at address ≡ false) marks count → count ≤ length marks
     → CountsUpTo marks address count
 counted marks address count point within = record {
   before = λ i d lt. leb-true (get_or marks i d).at address (point.0 i d (omega (arith, lt, within)) lt);
   behind = λ i d le inside. leb-false (get_or marks i d).at address (point.1 i d le inside);
 }
 
-module _ (marks : List Mark) (address count : ℕ) (c : CountsUpTo marks address count) where
-  before_it : (m : Mark) → (has : Contains marks m) → m.at ≤ address → has.0 < count
+module _ (marks : List BlockMark) (address count : ℕ) (c : CountsUpTo marks address count) where
+  before_it : (m : BlockMark) → (has : Contains marks m) → m.at ≤ address → has.0 < count
   before_it m has le = elim (cases_lt has.0 count) [
     | inl lt ↦ lt
-    | inr behind ↦ absurd (omega (arith, c.behind has.0 m behind has.1, ap (λ (x : Mark). x.at) has.2, le))
+    | inr behind ↦ absurd (omega (arith, c.behind has.0 m behind has.1, ap (λ (x : BlockMark). x.at) has.2, le))
   ]
 
-  pub last_at : (d : Mark) → 0 < count → count ≤ length marks → IsNonDecreasingBy (λ m. m.at) marks → IsLast marks address (get_or marks (count - 1) d)
+  pub last_at : (d : BlockMark) → 0 < count → count ≤ length marks → IsNonDecreasingBy (λ m. m.at) marks → IsLast marks address (get_or marks (count - 1) d)
   last_at d some within order = record {
     is = Contains-get_or marks (count - 1) d (omega (arith, some, within));
     before = c.before (count - 1) d (omega (arith, some));
@@ -298,12 +298,12 @@ module _ (marks : List Mark) (address count : ℕ) (c : CountsUpTo marks address
         let before = before_it m has le in
         let both = order has.0 (count - 1) d (omega (arith, before)) (omega (arith, some, within)) in
         let one : get_or marks has.0 d ≡ m = get_or_default marks has.0 d m has.1 ∙ has.2 in
-        omega (arith, both, ap (λ (x : Mark). x.at) one);
+        omega (arith, both, ap (λ (x : BlockMark). x.at) one);
   }
 
 -- ---- marks of a store
 
-marked_of : (banks : List ℕ) (slots : List (Slot Block)) (marks : List Mark) → length slots ≡ 4096 → All IsBoundedSlot slots → AreApart banks slots
+marked_of : (banks : List ℕ) (slots : List (Slot Block)) (marks : List BlockMark) → length slots ≡ 4096 → All IsBoundedSlot slots → AreApart banks slots
     → IsNonDecreasingBy (λ m. m.at) marks → HaveMarks slots marks → IsMarked slots marks
 marked_of banks slots marks count bounded sound order have = record {
   order = order;
@@ -312,12 +312,12 @@ marked_of banks slots marks count bounded sound order have = record {
   apart = λ place e m is has not spans. let one = have.are m has in
       let limit : IfSome (extent (slot_at slots m.slot)) (λ f. (0 < f.1) × (f.0 + f.1 ≤ 2 ^ 24)) = bounded_extent (slot_at slots m.slot) (each_slot IsBoundedSlot slots tt bounded m.slot) in
       let some : (0 < one.0.1) × (one.0.0 + one.0.1 ≤ 2 ^ 24) = rw one.1 at limit in
-      let at_is : m.at ≡ one.0.0 = ap (λ (x : Mark). x.at) one.2 in
+      let at_is : m.at ≡ one.0.0 = ap (λ (x : BlockMark). x.at) one.2 in
       let own : Spans m.at one.0 = (omega (arith, at_is), omega (arith, at_is, some.0)) in
       not (sound.apart m.slot place m.at (holds_from m.at (slot_at slots m.slot) (rw one.1 own)) (holds_from m.at (slot_at slots place) (rw is spans)));
 }
 
-pub is_marked : (banks : List ℕ) (slots : List (Slot Block)) (layout : Layout) → IsArranged banks slots → IsLayout slots layout → IsMarked slots layout.marks.items
+pub is_marked : (banks : List ℕ) (slots : List (Slot Block)) (layout : BlockLayout) → IsArranged banks slots → IsLayout slots layout → IsMarked slots layout.marks.items
 is_marked banks slots layout arranged lies = marked_of banks slots layout.marks.items arranged.count arranged.bounded arranged.sound lies.laid.order lies.have
 
 -- ---- the block that has a byte
@@ -329,13 +329,13 @@ extent_in i slot spans = go (extent slot) refl spans
     go None is spans = absurd spans
     go (Some e) is spans = (e, is, spans)
 
-module _ (slots : List (Slot Block)) (marks : List Mark) (made : IsMarked slots marks) (address : ℕ) where
-  pub no_block : ((m : Mark) → Contains marks m → address < m.at) → (place : ℕ) → ¬ HoldsByte address (slot_at slots place)
+module _ (slots : List (Slot Block)) (marks : List BlockMark) (made : IsMarked slots marks) (address : ℕ) where
+  pub no_block : ((m : BlockMark) → Contains marks m → address < m.at) → (place : ℕ) → ¬ HoldsByte address (slot_at slots place)
   no_block behind place holds =
       let e = extent_in address (slot_at slots place) (holds_to address (slot_at slots place) holds) in
       absurd (omega (arith, behind (mark place e.0) (made.each place e.0 e.1), e.2.0))
 
-  pub last_block : (last : Mark) → IsLast marks address last → (place : ℕ) → HoldsByte address (slot_at slots place) → place ≡ last.slot
+  pub last_block : (last : BlockMark) → IsLast marks address last → (place : ℕ) → HoldsByte address (slot_at slots place) → place ≡ last.slot
   last_block last is place holds = go (last.slot == place) refl
     where
       go : (b : Bool) → (last.slot == place) ≡ b → place ≡ last.slot
@@ -371,12 +371,12 @@ module _ (slots : List (Slot Block)) (address : ℕ) where
         ap (λ n. record { slot = n; generation = k.generation }) same ∙ ap (λ n. record { slot = h.slot; generation = n }) generation;
   }
 
-module _ (slots : List (Slot Block)) (marks : List Mark) (made : IsMarked slots marks) (address : ℕ) where
-  pub no_holder : ((m : Mark) → Contains marks m → address < m.at) → (h : Handle) → ¬ Has slots address h
+module _ (slots : List (Slot Block)) (marks : List BlockMark) (made : IsMarked slots marks) (address : ℕ) where
+  pub no_holder : ((m : BlockMark) → Contains marks m → address < m.at) → (h : Handle) → ¬ Has slots address h
   no_holder behind h has = no_block slots marks made address behind h.slot (has_byte slots address h has).1
 
   -- what the last mark's slot tells is so of all
-  pub held_is : (last : Mark) → IsLast marks address last → (result : Option Handle)
+  pub held_is : (last : BlockMark) → IsLast marks address last → (result : Option Handle)
       → MatchOption result (¬ HoldsByte address (slot_at slots last.slot)) (λ h. (h.slot ≡ last.slot) × Has slots address h)
       → MatchOption result ((h : Handle) → ¬ Has slots address h) (IsHolder slots address)
   held_is last is None none = λ h has.

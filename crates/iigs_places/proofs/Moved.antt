@@ -7,15 +7,15 @@ use Rattle.std.proofs.lemmas.List.{set-set}
 use Rattle.std.proofs.lemmas.Bool.{cases_eq}
 use Rattle.iigs_meaning.specs.declared.handles.Handle.{Handle}
 use Rattle.iigs_meaning.specs.declared.slots.Slot.{Slot}
-use Rattle.iigs_meaning.specs.declared.slots.Content.TheVariants.{Used}
+use Rattle.iigs_meaning.specs.declared.slots.SlotContent.TheVariants.{Used}
 use Rattle.iigs_meaning.specs.declared.wants.Want.{Want}
 use Rattle.iigs_meaning.specs.declared.wants.Block.{Block}
 use Rattle.iigs_meaning.specs.Slots.{slot_at, get, with_value}
 use Rattle.iigs_meaning.specs.Fits.{Fits, IsApart, HoldsByte, block_in}
-use Rattle.iigs_meaning.specs.Placement.{emptied}
+use Rattle.iigs_meaning.specs.Placement.{slots_after_purges}
 use Rattle.iigs_meaning.specs.Moves.{Empties}
 use Rattle.iigs_meaning.specs.Blocks.{AreApart}
-use Rattle.iigs_places.specs.declared.marks.Mark.{Mark}
+use Rattle.iigs_places.specs.declared.marks.BlockMark.{BlockMark}
 use Rattle.iigs_places.specs.Extent.{extent}
 use Rattle.iigs_places.specs.Spots.{IsBounded, IsBoundedSlot}
 use Rattle.iigs_places.specs.Arranged.{IsArranged}
@@ -35,7 +35,7 @@ some_and o x P is holds = rw is holds
 
 -- ---- what marks tell of blocks
 
-module _ (slots : List (Slot Block)) (marks : List Mark) (have : HaveMarks slots marks) (slot address size : ℕ) where
+module _ (slots : List (Slot Block)) (marks : List BlockMark) (have : HaveMarks slots marks) (slot address size : ℕ) where
   pub beside_apart : LiesBeside marks slot address size → (place : ℕ) → place ≢ slot → IsApart address size (slot_at slots place)
   beside_apart beside place ne i from to holds =
       let e = extent_in i (slot_at slots place) (holds_to i (slot_at slots place) holds) in
@@ -48,9 +48,9 @@ module _ (slots : List (Slot Block)) (marks : List Mark) (have : HaveMarks slots
   shares_byte some sized s =
       let one = have.are s.mark s.is in
       let its = sized s.is.0 s.mark s.is.1 in
-      let at_is : s.mark.at ≡ one.0.0 = ap (λ (x : Mark). x.at) one.2 in
-      let end_is : s.mark.end ≡ one.0.0 + one.0.1 = ap (λ (x : Mark). x.end) one.2 in
-      let some' : s.mark.at < s.mark.end = omega (arith, its.0, ap (λ (x : Mark). x.at) s.is.2, ap (λ (x : Mark). x.end) s.is.2) in
+      let at_is : s.mark.at ≡ one.0.0 = ap (λ (x : BlockMark). x.at) one.2 in
+      let end_is : s.mark.end ≡ one.0.0 + one.0.1 = ap (λ (x : BlockMark). x.end) one.2 in
+      let some' : s.mark.at < s.mark.end = omega (arith, its.0, ap (λ (x : BlockMark). x.at) s.is.2, ap (λ (x : BlockMark). x.end) s.is.2) in
       let i : ℕ = max address s.mark.at in
       let holds : HoldsByte i (slot_at slots s.mark.slot) = holds_from i (slot_at slots s.mark.slot) (rw one.1 (omega (arith, at_is), omega (arith, end_is, s.behind, some'))) in
       (s.mark.slot, s.other, λ apart. apart i (omega arith) (omega (arith, s.before, some)) holds)
@@ -85,7 +85,7 @@ module _ (slots : List (Slot Block)) (h : Handle) (block : Block) (was : get slo
   fits_apart banks want to fits = apart_others to want.size fits.apart
 
   -- where it isn't open, or a byte is another block's, it doesn't fit
-  pub fits_not : (marks : List Mark) → HaveMarks slots marks → All IsSized marks → (banks : List ℕ) (want : Want) (to : ℕ) → 0 < want.size
+  pub fits_not : (marks : List BlockMark) → HaveMarks slots marks → All IsSized marks → (banks : List ℕ) (want : Want) (to : ℕ) → 0 < want.size
       → (¬ IsOpen banks want to) ⊎ SharesByte marks h.slot to want.size → ¬ Fits banks (with_value slots h (record block { at = None })) want to
   fits_not marks have sized banks want to some (inl shut) fits = shut (fits_open banks (with_value slots h (record block { at = None })) want to some fits)
   fits_not marks have sized banks want to some (inr s) fits =
@@ -117,7 +117,7 @@ module _ (slots : List (Slot Block)) (h : Handle) (block : Block) (was : get slo
     arranged_emptied = arranged_stays banks slots (with_value slots h (record block { at = None })) arranged
         (length-with_slot slots h (record { generation = h.generation; content = Used (record block { at = None }) })) emptied_bounded emptied_stays
 
-  pub have_emptied : (marks : List Mark) → HaveMarks slots marks → HaveMarks (with_value slots h (record block { at = None })) (filter (λ (m : Mark). not (m.slot == h.slot)) marks)
+  pub have_emptied : (marks : List BlockMark) → HaveMarks slots marks → HaveMarks (with_value slots h (record block { at = None })) (filter (λ (m : BlockMark). not (m.slot == h.slot)) marks)
   unfolding empty
   have_emptied marks have = rw (with_is slots h empty live) (have_gone slots h.slot empty marks (live_in slots h live) refl have)
 
@@ -127,16 +127,16 @@ module _ (slots : List (Slot Block)) (h : Handle) (block : Block) (was : get slo
     there : Slot Block
     there = record { generation = h.generation; content = Used (record block { at = Some to }) }
 
-    pub have_shifted : (marks moved : List Mark) → HaveMarks slots marks
-        → IsPermutation (mark h.slot (to, block.want.size) ∷ filter (λ (m : Mark). not (m.slot == h.slot)) marks) moved → HaveMarks (with_value slots h (record block { at = Some to })) moved
+    pub have_shifted : (marks moved : List BlockMark) → HaveMarks slots marks
+        → IsPermutation (mark h.slot (to, block.want.size) ∷ filter (λ (m : BlockMark). not (m.slot == h.slot)) marks) moved → HaveMarks (with_value slots h (record block { at = Some to })) moved
     unfolding empty there
     have_shifted marks moved have same =
         let inside = live_in slots h live in
         let without = have_gone slots h.slot empty marks inside refl have in
         let gone : extent (slot_at (set slots h.slot empty) h.slot) ≡ None = rw (set_here slots h.slot empty inside) refl in
         let within : h.slot < length (set slots h.slot empty) = subst (λ (n : ℕ). h.slot < n) (sym (length-set slots h.slot empty)) inside in
-        let placed = have_set (set slots h.slot empty) h.slot there (to, block.want.size) (filter (λ (m : Mark). not (m.slot == h.slot)) marks) within gone refl without in
-        let one = have_moved (set (set slots h.slot empty) h.slot there) (mark h.slot (to, block.want.size) ∷ filter (λ (m : Mark). not (m.slot == h.slot)) marks) moved same placed in
+        let placed = have_set (set slots h.slot empty) h.slot there (to, block.want.size) (filter (λ (m : BlockMark). not (m.slot == h.slot)) marks) within gone refl without in
+        let one = have_moved (set (set slots h.slot empty) h.slot there) (mark h.slot (to, block.want.size) ∷ filter (λ (m : BlockMark). not (m.slot == h.slot)) marks) moved same placed in
         rw (with_is slots h there live) (subst (λ (s : List (Slot Block)). HaveMarks s moved) (set-set slots h.slot empty there) one)
 
     module _ (banks : List ℕ) (arranged : IsArranged banks slots) (fits : Fits banks (with_value slots h (record block { at = None })) block.want to) where
@@ -179,5 +179,5 @@ arranged_either banks old new h (Ok a) did err arranged = subst (IsArranged bank
 arranged_either banks old new h (Err e) did err arranged = subst (IsArranged banks) (sym err) arranged
 
 -- the first so many purgeable blocks are emptied
-pub arranged_gone : (banks : List ℕ) (slots : List (Slot Block)) (count : ℕ) → IsArranged banks slots → IsArranged banks (emptied slots count)
-arranged_gone banks slots count arranged = arranged_stays banks slots (emptied slots count) arranged (length-emptied slots count) (gone_bounded count slots arranged.bounded) (gone_stays slots count)
+pub arranged_gone : (banks : List ℕ) (slots : List (Slot Block)) (count : ℕ) → IsArranged banks slots → IsArranged banks (slots_after_purges slots count)
+arranged_gone banks slots count arranged = arranged_stays banks slots (slots_after_purges slots count) arranged (length-emptied slots count) (gone_bounded count slots arranged.bounded) (gone_stays slots count)

@@ -8,7 +8,7 @@ use Rattle.std.proofs.lemmas.List.Elements.{All-head, All-tail}
 use Rattle.std.proofs.lemmas.List.{get_or_default}
 use Rattle.std.proofs.lemmas.List.Sums.{sum_by-cons, sum_by-append, length-filter, count_by-le-length}
 use Rattle.std.proofs.lemmas.List.Sorted.{sum_by-IsPermutation}
-use Rattle.iigs_places.specs.declared.marks.Mark.{Mark}
+use Rattle.iigs_places.specs.declared.marks.BlockMark.{BlockMark}
 use Rattle.iigs_places.specs.Marks.{AreOnce}
 
 module _ {X : Type 0} (p : X → Bool) where
@@ -57,65 +57,65 @@ module _ {X : Type 0} (p : X → Bool) where
 pub once_none : AreOnce []
 once_none slot = omega arith
 
-pub once_filter : (q : Mark → Bool) (marks : List Mark) → AreOnce marks → AreOnce (filter q marks)
-once_filter q marks once slot = omega (arith, count-filter (λ (m : Mark). m.slot == slot) q marks, once slot)
+pub once_filter : (q : BlockMark → Bool) (marks : List BlockMark) → AreOnce marks → AreOnce (filter q marks)
+once_filter q marks once slot = omega (arith, count-filter (λ (m : BlockMark). m.slot == slot) q marks, once slot)
 
-pub once_moved : (marks moved : List Mark) → IsPermutation marks moved → AreOnce marks → AreOnce moved
-once_moved marks moved same once slot = omega (arith, sum_by-IsPermutation (λ (m : Mark). cond (m.slot == slot) 1 0) marks moved same, once slot)
+pub once_moved : (marks moved : List BlockMark) → IsPermutation marks moved → AreOnce marks → AreOnce moved
+once_moved marks moved same once slot = omega (arith, sum_by-IsPermutation (λ (m : BlockMark). cond (m.slot == slot) 1 0) marks moved same, once slot)
 
 -- a mark of a slot that has none comes to them
-pub once_more : (marks : List Mark) (mark : Mark) → All (λ (m : Mark). m.slot ≢ mark.slot) marks → AreOnce marks → AreOnce (mark ∷ marks)
+pub once_more : (marks : List BlockMark) (mark : BlockMark) → All (λ (m : BlockMark). m.slot ≢ mark.slot) marks → AreOnce marks → AreOnce (mark ∷ marks)
 once_more marks mark none once slot = elim (cases_eq mark.slot slot) [
   | inl same ↦
-      let no : count_by (λ (m : Mark). m.slot == slot) marks ≡ 0 = count_none (λ (m : Mark). m.slot == slot) marks
+      let no : count_by (λ (m : BlockMark). m.slot == slot) marks ≡ 0 = count_none (λ (m : BlockMark). m.slot == slot) marks
       (λ k d inside. let ne : (get_or marks k d).slot ≢ slot = λ eq. none k d inside (eq ∙ sym same) in grind (arith, nat_tests)) in
-      omega (arith, count-cons (λ (m : Mark). m.slot == slot) mark marks, no, at_most (mark.slot == slot))
+      omega (arith, count-cons (λ (m : BlockMark). m.slot == slot) mark marks, no, at_most (mark.slot == slot))
   | inr ne ↦
       let test : (mark.slot == slot) ≡ false = grind (arith, nat_tests) in
       let first : cond {A = ℕ} (mark.slot == slot) 1 0 ≡ 0 = rw test refl in
-      omega (arith, count-cons (λ (m : Mark). m.slot == slot) mark marks, first, once slot)
+      omega (arith, count-cons (λ (m : BlockMark). m.slot == slot) mark marks, first, once slot)
 ]
   where
     at_most : (b : Bool) → cond {A = ℕ} b 1 0 ≤ 1
     at_most true = omega arith
     at_most false = omega arith
 
-pub once_push : (marks : List Mark) (mark : Mark) → All (λ (m : Mark). m.slot ≢ mark.slot) marks → AreOnce marks → AreOnce (marks ++ mark ∷ [])
+pub once_push : (marks : List BlockMark) (mark : BlockMark) → All (λ (m : BlockMark). m.slot ≢ mark.slot) marks → AreOnce marks → AreOnce (marks ++ mark ∷ [])
 once_push marks mark none once slot =
     let front = once_more marks mark none once slot in
-    omega (arith, front, sum_by-append (λ (m : Mark). cond (m.slot == slot) 1 0) marks (mark ∷ []), count-cons (λ (m : Mark). m.slot == slot) mark marks, count-cons (λ (m : Mark). m.slot == slot) mark [])
+    omega (arith, front, sum_by-append (λ (m : BlockMark). cond (m.slot == slot) 1 0) marks (mark ∷ []), count-cons (λ (m : BlockMark). m.slot == slot) mark marks, count-cons (λ (m : BlockMark). m.slot == slot) mark [])
 
-module _ (marks : List Mark) (once : AreOnce marks) where
+module _ (marks : List BlockMark) (once : AreOnce marks) where
   -- two marks of one slot stand at one place
-  once_place : (i j : ℕ) (d : Mark) → i < j → j < length marks → (get_or marks i d).slot ≡ (get_or marks j d).slot → ⊥
+  once_place : (i j : ℕ) (d : BlockMark) → i < j → j < length marks → (get_or marks i d).slot ≡ (get_or marks j d).slot → ⊥
   once_place i j d less inside same =
       let slot : ℕ = (get_or marks j d).slot in
       let one : ((get_or marks i d).slot == slot) ≡ true = grind (arith, nat_tests) in
       let two : ((get_or marks j d).slot == slot) ≡ true = grind (arith, nat_tests) in
-      omega (arith, once slot, count_two (λ (m : Mark). m.slot == slot) marks i j d less inside one two)
+      omega (arith, once slot, count_two (λ (m : BlockMark). m.slot == slot) marks i j d less inside one two)
 
-  pub once_apart : (i j : ℕ) (d : Mark) → i ≢ j → i < length marks → j < length marks → (get_or marks i d).slot ≢ (get_or marks j d).slot
+  pub once_apart : (i j : ℕ) (d : BlockMark) → i ≢ j → i < length marks → j < length marks → (get_or marks i d).slot ≢ (get_or marks j d).slot
   once_apart i j d ne inside inside' same = elim (cases_lt i j) [
     | inl less ↦ once_place i j d less inside' same
     | inr ge ↦ once_place j i d (omega (arith, ge, ne)) inside (sym same)
   ]
 
   -- and are the same
-  pub once_same : (m o : Mark) → Contains marks m → Contains marks o → m.slot ≡ o.slot → m ≡ o
+  pub once_same : (m o : BlockMark) → Contains marks m → Contains marks o → m.slot ≡ o.slot → m ≡ o
   once_same m o has has' same = elim (cases_eq has.0 has'.0) [
     | inl eq ↦ sym has.2 ∙ ap (λ (n : ℕ). get_or marks n m) eq ∙ get_or_default marks has'.0 m o has'.1 ∙ has'.2
     | inr ne ↦
         let one : get_or marks has.0 m ≡ m = has.2 in
         let two : get_or marks has'.0 m ≡ o = get_or_default marks has'.0 m o has'.1 ∙ has'.2 in
-        absurd (once_apart has.0 has'.0 m ne has.1 has'.1 (ap (λ (x : Mark). x.slot) one ∙ same ∙ ap (λ (x : Mark). x.slot) (sym two)))
+        absurd (once_apart has.0 has'.0 m ne has.1 has'.1 (ap (λ (x : BlockMark). x.slot) one ∙ same ∙ ap (λ (x : BlockMark). x.slot) (sym two)))
   ]
 
 -- where a mark of the slot is dropped there are fewer
-pub dropped_less : (marks : List Mark) (slot : ℕ) → (m : Mark) × Contains marks m × (m.slot ≡ slot) → length (filter (λ (o : Mark). not (o.slot == slot)) marks) < length marks
+pub dropped_less : (marks : List BlockMark) (slot : ℕ) → (m : BlockMark) × Contains marks m × (m.slot ≡ slot) → length (filter (λ (o : BlockMark). not (o.slot == slot)) marks) < length marks
 dropped_less marks slot found =
-    let m : Mark = found.0 in
+    let m : BlockMark = found.0 in
     let test : ((get_or marks found.1.0 m).slot == slot) ≡ true = rw found.1.2 (same found.0.slot found.2) in
-    filter_less (λ (o : Mark). not (o.slot == slot)) marks found.1.0 m found.1.1 (rw test refl)
+    filter_less (λ (o : BlockMark). not (o.slot == slot)) marks found.1.0 m found.1.1 (rw test refl)
   where
     same : (n : ℕ) → n ≡ slot → (n == slot) ≡ true
     same n e = grind (arith, nat_tests)

@@ -11,7 +11,7 @@ use Rattle.iigs_meaning.specs.Slots.{slot_at, get}
 use Rattle.iigs_meaning.specs.Fits.{block_in}
 use Rattle.iigs_meaning.specs.Blocks.{address_in}
 use Rattle.iigs_meaning.specs.Moves.{count_there, lies_below, IsNth}
-use Rattle.iigs_places.specs.declared.marks.Mark.{Mark}
+use Rattle.iigs_places.specs.declared.marks.BlockMark.{BlockMark}
 use Rattle.iigs_places.specs.Extent.{extent, extent_of}
 use Rattle.iigs_places.specs.Marks.{mark, HaveMarks, IsMarked, IsSized, IsFirstFrom}
 use Rattle.iigs_places.specs.Lowest.{IsFirstPut}
@@ -34,9 +34,9 @@ extent_at slot at is = go (extent slot) refl (sym (address_extent slot) ∙ is)
     go None there begins = absurd cc
     go (Some e) there begins = let same : e.0 ≡ at = same_Some e.0 at begins in (e.1, there ∙ ap (λ (n : ℕ). Some (n, e.1)) same)
 
-module _ (slots : List (Slot Block)) (marks : List Mark) (have : HaveMarks slots marks) where
+module _ (slots : List (Slot Block)) (marks : List BlockMark) (have : HaveMarks slots marks) where
   -- the handle of a mark's slot has its block
-  pub mark_held : (m : Mark) → Contains marks m → (h : Handle) → (h.slot ≡ m.slot) × (h.generation ≡ (slot_at slots m.slot).generation)
+  pub mark_held : (m : BlockMark) → Contains marks m → (h : Handle) → (h.slot ≡ m.slot) × (h.generation ≡ (slot_at slots m.slot).generation)
       → IsSomeAnd (get slots h) (λ block. block.at ≡ Some m.at)
   mark_held m has h of =
       let alike : ((slot_at slots h.slot).generation == h.generation) ≡ true = rw (of.1, of.0) (itself (slot_at slots m.slot).generation) in
@@ -48,22 +48,22 @@ module _ (slots : List (Slot Block)) (marks : List Mark) (have : HaveMarks slots
   pub nth_none : (place : ℕ) → length marks ≤ place → count_there slots ≤ place
   nth_none place le = omega (arith, count_is slots marks have, le)
 
-  pub nth_is : IsMarked slots marks → All IsSized marks → (place : ℕ) (m : Mark) → place < length marks → get_or marks place m ≡ m
+  pub nth_is : IsMarked slots marks → All IsSized marks → (place : ℕ) (m : BlockMark) → place < length marks → get_or marks place m ≡ m
       → (h : Handle) → (h.slot ≡ m.slot) × (h.generation ≡ (slot_at slots m.slot).generation) → IsNth slots place h
   nth_is made sized place m inside is h of = record {
     address = m.at;
     there = mark_held m (subst (Contains marks) is (Contains-get_or marks place m inside)) h of;
-    below = subst (λ (x : Mark). count_by (lies_below x.at) slots ≡ place) is (below_is slots marks made have sized place m inside);
+    below = subst (λ (x : BlockMark). count_by (lies_below x.at) slots ≡ place) is (below_is slots marks made have sized place m inside);
   }
 
   -- ---- the lowest from an address on
 
-  pub first_none : (address : ℕ) → ((m : Mark) → Contains marks m → m.at < address) → (place at : ℕ) → address_in (slot_at slots place) ≡ Some at → at < address
+  pub first_none : (address : ℕ) → ((m : BlockMark) → Contains marks m → m.at < address) → (place at : ℕ) → address_in (slot_at slots place) ≡ Some at → at < address
   first_none address below place at is =
       let e = extent_at (slot_at slots place) at is in
       below (mark place (at, e.0)) (have.each place (at, e.0) e.1)
 
-  pub first_put : (address : ℕ) (m : Mark) → IsFirstFrom marks address m → (h : Handle) → (h.slot ≡ m.slot) × (h.generation ≡ (slot_at slots m.slot).generation)
+  pub first_put : (address : ℕ) (m : BlockMark) → IsFirstFrom marks address m → (h : Handle) → (h.slot ≡ m.slot) × (h.generation ≡ (slot_at slots m.slot).generation)
       → IsFirstPut slots address (record { handle = h; at = m.at })
   first_put address m first h of = record {
     there = mark_held m first.is h of;

@@ -6,17 +6,17 @@ use Rattle.std.proofs.lemmas.Bool.Decides.{nat_tests}
 use Rattle.std.proofs.lemmas.List.Elements.{All-cons, All-head, All-tail, All-map}
 use Rattle.std.proofs.lemmas.List.Sorted.{All-permutation, IsPermutation-sym}
 use Rattle.iigs_meaning.specs.declared.slots.Slot.{Slot}
-use Rattle.iigs_meaning.specs.declared.slots.Content.{Content}
-use Rattle.iigs_meaning.specs.declared.slots.Content.TheVariants.{Free, Used, Retired}
+use Rattle.iigs_meaning.specs.declared.slots.SlotContent.{SlotContent}
+use Rattle.iigs_meaning.specs.declared.slots.SlotContent.TheVariants.{Free, Used, Retired}
 use Rattle.iigs_meaning.specs.declared.wants.Want.{Want}
 use Rattle.iigs_meaning.specs.declared.wants.Block.{Block}
 use Rattle.iigs_meaning.specs.Free.{bank_of}
 use Rattle.iigs_meaning.specs.Fits.{Fits, IsWant, IsApart, HoldsByte, block_in}
-use Rattle.iigs_meaning.specs.Placement.{can_purge, is_gone, rank, emptied_where, emptied, HasNoRoom}
-use Rattle.iigs_places.specs.declared.spots.Spot.{Spot}
-use Rattle.iigs_places.specs.declared.search.Found.{Found}
+use Rattle.iigs_meaning.specs.Placement.{can_purge, is_gone, rank, emptied_where, slots_after_purges, HasNoRoom}
+use Rattle.iigs_places.specs.declared.spots.BlockSpot.{BlockSpot}
+use Rattle.iigs_places.specs.declared.search.FoundAddress.{FoundAddress}
 use Rattle.iigs_places.specs.Open.{IsOpen}
-use Rattle.iigs_places.specs.Spots.{never, turn_of, spot_of, spot_in, spots_of, turn_in, turns_of, limit_of, IsBounded, IsBoundedSlot, IsSurvey, FitsAmong, IsFewestAmong, FitsWithNone, IsBeside, IsFound}
+use Rattle.iigs_places.specs.Spots.{turn_of_unpurgeable, turn_of, spot_of, spot_in, spots_of, turn_in, turns_of, limit_of, IsBounded, IsBoundedSlot, IsSurvey, FitsAmong, IsFewestAmong, FitsWithNone, IsBeside, IsFound}
 use Rattle.iigs_places.proofs.Gathered.{All-gathered, All-from_gathered}
 use Rattle.iigs_places.proofs.Turns.{gone_is, turn_small, turn_never}
 use Rattle.iigs_places.proofs.Fewest.{limit_more}
@@ -45,7 +45,7 @@ emptied-same test other slot same = go (block_in slot) same
     go None same = refl
     go (Some block) same = rw same refl
 
-module _ (slots : List (Slot Block)) (spots : List Spot) (turns : List ℕ) (survey : IsSurvey slots spots turns) (bounded : All IsBoundedSlot slots) where
+module _ (slots : List (Slot Block)) (spots : List BlockSpot) (turns : List ℕ) (survey : IsSurvey slots spots turns) (bounded : All IsBoundedSlot slots) where
   gone_in : (o : Option Block) (count : ℕ) → count ≤ length turns → IfSome o IsBounded
       → IfSome o (λ block. nat_lt (turn_of block) (limit_of turns count) ≡ is_gone slots count block)
   gone_in None count within one = tt
@@ -53,8 +53,8 @@ module _ (slots : List (Slot Block)) (spots : List Spot) (turns : List ℕ) (sur
 
   -- emptying the first so many is emptying those below the limit
   pub emptied_is : (count : ℕ) → count ≤ length turns
-      → map (emptied_where (λ block. nat_lt (turn_of block) (limit_of turns count))) slots ≡ emptied slots count
-  unfolding emptied
+      → map (emptied_where (λ block. nat_lt (turn_of block) (limit_of turns count))) slots ≡ slots_after_purges slots count
+  unfolding slots_after_purges
   emptied_is count within = map-same _ _ slots (λ k d inside.
       emptied-same (λ block. nat_lt (turn_of block) (limit_of turns count)) (is_gone slots count) (get_or slots k d)
       (gone_in (block_in (get_or slots k d)) count within (bounded k d inside)))
@@ -82,7 +82,7 @@ module _ (limit address size : ℕ) (some : 0 < size) where
   kept_block generation block bounded apart = go block.at refl
     where
       go : (o : Option ℕ) → block.at ≡ o
-          → IfSome (option_map (λ at. record { at = at; end = at + block.want.size; turn = turn_of block }) o) (λ (spot : Spot). limit ≤ spot.turn → IsBeside address size spot)
+          → IfSome (option_map (λ at. record { at = at; end = at + block.want.size; turn = turn_of block }) o) (λ (spot : BlockSpot). limit ≤ spot.turn → IsBeside address size spot)
       go None there = tt
       go (Some at) there = λ kept.
           let stays : nat_lt (turn_of block) limit ≡ false = grind (arith, nat_tests) in
@@ -94,7 +94,7 @@ module _ (limit address size : ℕ) (some : 0 < size) where
   block_kept generation block beside i from to = go (nat_lt (turn_of block) limit) refl
     where
       at_it : (o : Option ℕ) → block.at ≡ o
-          → IfSome (option_map (λ at. record { at = at; end = at + block.want.size; turn = turn_of block }) o) (λ (spot : Spot). limit ≤ spot.turn → IsBeside address size spot)
+          → IfSome (option_map (λ at. record { at = at; end = at + block.want.size; turn = turn_of block }) o) (λ (spot : BlockSpot). limit ≤ spot.turn → IsBeside address size spot)
           → limit ≤ turn_of block → IsSomeAnd o (λ first. (first ≤ i) × (i < first + block.want.size)) → ⊥
       at_it None there beside kept holds = absurd holds
       at_it (Some at) there beside kept holds = elim (beside kept) [ inl before ↦ omega (arith, holds.0) | inr after ↦ omega (arith, holds.1) ]
@@ -108,7 +108,7 @@ module _ (limit address size : ℕ) (some : 0 < size) where
       → IfSome (spot_in slot) (λ spot. limit ≤ spot.turn → IsBeside address size spot)
   kept_beside slot = go slot.generation slot.content
     where
-      go : (generation : ℕ) (content : Content Block) → IsBoundedSlot (record { generation = generation; content = content })
+      go : (generation : ℕ) (content : SlotContent Block) → IsBoundedSlot (record { generation = generation; content = content })
           → IsApart address size (emptied_where (below limit) (record { generation = generation; content = content }))
           → IfSome (spot_in (record { generation = generation; content = content })) (λ spot. limit ≤ spot.turn → IsBeside address size spot)
       go generation Free bounded apart = tt
@@ -119,7 +119,7 @@ module _ (limit address size : ℕ) (some : 0 < size) where
       → IsApart address size (emptied_where (below limit) slot)
   beside_kept slot = go slot.generation slot.content
     where
-      go : (generation : ℕ) (content : Content Block)
+      go : (generation : ℕ) (content : SlotContent Block)
           → IfSome (spot_in (record { generation = generation; content = content })) (λ spot. limit ≤ spot.turn → IsBeside address size spot)
           → IsApart address size (emptied_where (below limit) (record { generation = generation; content = content }))
       go generation Free beside = λ i from to holds. absurd holds
@@ -162,7 +162,7 @@ open_fits banks slots want address open_ apart = record {
     all_at None one = tt
     all_at (Some bank) one = one
 
-module _ (banks : List ℕ) (want : Want) (is_want : IsWant want) (slots : List (Slot Block)) (spots : List Spot) (turns : List ℕ)
+module _ (banks : List ℕ) (want : Want) (is_want : IsWant want) (slots : List (Slot Block)) (spots : List BlockSpot) (turns : List ℕ)
     (survey : IsSurvey slots spots turns) (bounded : All IsBoundedSlot slots) where
   fits_limit_to : (limit address : ℕ) → Fits banks (map (emptied_where (below limit)) slots) want address → FitsAmong banks want spots limit address
   unfolding spots_of
@@ -183,43 +183,43 @@ module _ (banks : List ℕ) (want : Want) (is_want : IsWant want) (slots : List 
       (All-permutation (λ spot. limit ≤ spot.turn → IsBeside address want.size spot) spots (spots_of slots)
       (IsPermutation-sym (spots_of slots) spots survey.blocks) among.beside) k d inside)))
 
-  pub fits_to : (count address : ℕ) → count ≤ length turns → Fits banks (emptied slots count) want address → FitsAmong banks want spots (limit_of turns count) address
+  pub fits_to : (count address : ℕ) → count ≤ length turns → Fits banks (slots_after_purges slots count) want address → FitsAmong banks want spots (limit_of turns count) address
   fits_to count address within fits = fits_limit_to (limit_of turns count) address (rw (emptied_is slots spots turns survey bounded count within) fits)
 
-  pub fits_from : (count address : ℕ) → count ≤ length turns → FitsAmong banks want spots (limit_of turns count) address → Fits banks (emptied slots count) want address
+  pub fits_from : (count address : ℕ) → count ≤ length turns → FitsAmong banks want spots (limit_of turns count) address → Fits banks (slots_after_purges slots count) want address
   fits_from count address within among = rw (← emptied_is slots spots turns survey bounded count within) (fits_limit_from (limit_of turns count) address among)
 
 module _ (limit address size : ℕ) where
   -- a block that isn't purgeable stays, whatever number is purged
   apart_block : (slots : List (Slot Block)) (count generation : ℕ) (block : Block) → IsBounded block
       → IsApart address size (emptied_where (is_gone slots count) (record { generation = generation; content = Used block }))
-      → IsApart address size (emptied_where (below never) (record { generation = generation; content = Used block }))
+      → IsApart address size (emptied_where (below turn_of_unpurgeable) (record { generation = generation; content = Used block }))
   unfolding is_gone
   apart_block slots count generation block bounded = go (can_purge block) refl
     where
       go : (b : Bool) → can_purge block ≡ b
           → IsApart address size (emptied_where (λ one. can_purge one && nat_lt (rank slots one) count) (record { generation = generation; content = Used block }))
-          → IsApart address size (emptied_where (below never) (record { generation = generation; content = Used block }))
+          → IsApart address size (emptied_where (below turn_of_unpurgeable) (record { generation = generation; content = Used block }))
       go true can apart =
-          let goes : nat_lt (turn_of block) never ≡ true = grind (arith, nat_tests, turn_small block bounded can) in
+          let goes : nat_lt (turn_of block) turn_of_unpurgeable ≡ true = grind (arith, nat_tests, turn_small block bounded can) in
           rw goes (λ i from to holds. absurd holds)
       go false cannot apart =
-          let stays : nat_lt (turn_of block) never ≡ false = rw (turn_never block cannot) refl in
+          let stays : nat_lt (turn_of block) turn_of_unpurgeable ≡ false = rw (turn_never block cannot) refl in
           let apart' : IsApart address size (record { generation = generation; content = Used block }) = rw cannot at apart in
           rw stays apart'
 
   apart_never : (slots : List (Slot Block)) (count : ℕ) (slot : Slot Block) → IsBoundedSlot slot
-      → IsApart address size (emptied_where (is_gone slots count) slot) → IsApart address size (emptied_where (below never) slot)
+      → IsApart address size (emptied_where (is_gone slots count) slot) → IsApart address size (emptied_where (below turn_of_unpurgeable) slot)
   apart_never slots count slot = go slot.generation slot.content
     where
-      go : (generation : ℕ) (content : Content Block) → IsBoundedSlot (record { generation = generation; content = content })
+      go : (generation : ℕ) (content : SlotContent Block) → IsBoundedSlot (record { generation = generation; content = content })
           → IsApart address size (emptied_where (is_gone slots count) (record { generation = generation; content = content }))
-          → IsApart address size (emptied_where (below never) (record { generation = generation; content = content }))
+          → IsApart address size (emptied_where (below turn_of_unpurgeable) (record { generation = generation; content = content }))
       go generation Free bounded apart = apart
       go generation Retired bounded apart = apart
       go generation (Used block) bounded apart = apart_block slots count generation block bounded apart
 
-module _ (banks : List ℕ) (want : Want) (is_want : IsWant want) (slots : List (Slot Block)) (spots : List Spot) (turns : List ℕ)
+module _ (banks : List ℕ) (want : Want) (is_want : IsWant want) (slots : List (Slot Block)) (spots : List BlockSpot) (turns : List ℕ)
     (survey : IsSurvey slots spots turns) (bounded : All IsBoundedSlot slots) where
   all_below : All (λ turn. turn < limit_of turns (length turns)) turns
   all_below k d inside =
@@ -233,20 +233,20 @@ module _ (banks : List ℕ) (want : Want) (is_want : IsWant want) (slots : List 
   spot_below = All-from_gathered turn_in (λ turn. turn < limit_of turns (length turns)) spots
       (All-permutation (λ turn. turn < limit_of turns (length turns)) turns (turns_of spots) (IsPermutation-sym (turns_of spots) turns survey.counted) all_below)
 
-  never_above : (spot : Spot) → IfSome (turn_in spot) (λ turn. turn < limit_of turns (length turns)) → limit_of turns (length turns) ≤ spot.turn → never ≤ spot.turn
-  never_above spot under kept = go (nat_lt spot.turn never) refl under
+  never_above : (spot : BlockSpot) → IfSome (turn_in spot) (λ turn. turn < limit_of turns (length turns)) → limit_of turns (length turns) ≤ spot.turn → turn_of_unpurgeable ≤ spot.turn
+  never_above spot under kept = go (nat_lt spot.turn turn_of_unpurgeable) refl under
     where
-      go : (b : Bool) → nat_lt spot.turn never ≡ b → IfSome (cond b (Some spot.turn) None) (λ turn. turn < limit_of turns (length turns)) → never ≤ spot.turn
+      go : (b : Bool) → nat_lt spot.turn turn_of_unpurgeable ≡ b → IfSome (cond b (Some spot.turn) None) (λ turn. turn < limit_of turns (length turns)) → turn_of_unpurgeable ≤ spot.turn
       go true is under = absurd (omega arith)
       go false is under = grind (arith, nat_tests)
 
   -- where more are purged than may be, nothing more fits
-  fits_beyond : (count address : ℕ) → Fits banks (emptied slots count) want address → FitsAmong banks want spots (limit_of turns (length turns)) address
-  unfolding emptied
+  fits_beyond : (count address : ℕ) → Fits banks (slots_after_purges slots count) want address → FitsAmong banks want spots (limit_of turns (length turns)) address
+  unfolding slots_after_purges
   fits_beyond count address fits =
-      let among : FitsAmong banks want spots never address = fits_limit_to banks want is_want slots spots turns survey bounded never address
-      (open_fits banks (map (emptied_where (below never)) slots) want address (fits_open banks (emptied slots count) want address is_want.some fits)
-      (All-map (IsApart address want.size) (emptied_where (below never)) slots
+      let among : FitsAmong banks want spots turn_of_unpurgeable address = fits_limit_to banks want is_want slots spots turns survey bounded turn_of_unpurgeable address
+      (open_fits banks (map (emptied_where (below turn_of_unpurgeable)) slots) want address (fits_open banks (slots_after_purges slots count) want address is_want.some fits)
+      (All-map (IsApart address want.size) (emptied_where (below turn_of_unpurgeable)) slots
       (λ k d inside. apart_never 0 address want.size slots count (get_or slots k d) (bounded k d inside)
       (All-from_map (IsApart address want.size) (emptied_where (is_gone slots count)) slots fits.apart k d inside)))) in
       record {
@@ -260,7 +260,7 @@ module _ (banks : List ℕ) (want : Want) (is_want : IsWant want) (slots : List 
     | inr ge ↦ none count ge address (fits_to banks want is_want slots spots turns survey bounded count address ge fits)
   ]
 
-  pub is_found : (found : Found) → IsFewestAmong banks want spots turns found → IsFound banks slots want found
+  pub is_found : (found : FoundAddress) → IsFewestAmong banks want spots turns found → IsFound banks slots want found
   is_found found fewest = record {
     count = fewest.count;
     goes = record {
@@ -275,7 +275,7 @@ module _ (banks : List ℕ) (want : Want) (is_want : IsWant want) (slots : List 
       under : (fewer count size : ℕ) → fewer < count → count ≤ size → fewer ≤ size
       under fewer count size less within = omega arith
 
-  pub found_in : (o : Option Found) → MatchOption o (FitsWithNone banks want spots turns) (IsFewestAmong banks want spots turns)
+  pub found_in : (o : Option FoundAddress) → MatchOption o (FitsWithNone banks want spots turns) (IsFewestAmong banks want spots turns)
       → MatchOption o (HasNoRoom banks slots want) (IsFound banks slots want)
   found_in None none = no_room none
   found_in (Some found) fewest = is_found found fewest
@@ -286,7 +286,7 @@ module _ (banks : List ℕ) (want : Want) (is_want : IsWant want) (slots : List 
       (All-gathered spot_in (λ spot. spot.end ≤ 2 ^ 24) slots (λ k d inside. end_in (block_in (get_or slots k d)) (bounded k d inside)))
     where
       end_at : (o : Option ℕ) (size t : ℕ) → IfSome o (λ at. at + size ≤ 2 ^ 24)
-          → IfSome (option_map (λ at. record { at = at; end = at + size; turn = t }) o) (λ (spot : Spot). spot.end ≤ 2 ^ 24)
+          → IfSome (option_map (λ at. record { at = at; end = at + size; turn = t }) o) (λ (spot : BlockSpot). spot.end ≤ 2 ^ 24)
       end_at None size t ends = tt
       end_at (Some at) size t ends = ends
 

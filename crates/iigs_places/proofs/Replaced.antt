@@ -7,20 +7,20 @@ use Rattle.std.proofs.lemmas.Bool.{cases_eq, cases_lt}
 use Rattle.std.proofs.lemmas.Bool.Decides.{nat_tests}
 use Rattle.std.proofs.lemmas.List.{get_or_default, get_or-set_same, get_or-set_other, length-set}
 use Rattle.std.proofs.lemmas.List.Sorted.{IsPermutation-refl, IsPermutation-cons, IsPermutation-trans, IsPermutation-middle}
-use Rattle.iigs_places.specs.declared.marks.Mark.{Mark}
+use Rattle.iigs_places.specs.declared.marks.BlockMark.{BlockMark}
 use Rattle.iigs_places.specs.Marks.{AreOnce}
 use Rattle.iigs_places.proofs.Marked.{drop_none}
 use Rattle.iigs_places.proofs.Once.{count_two}
 
 -- the other marks are of other slots
-others : (marks : List Mark) (slot place : ℕ) (d : Mark) → AreOnce marks → place < length marks → (get_or marks place d).slot ≡ slot → (k : ℕ) → k < length marks → k ≢ place → (get_or marks k d).slot ≢ slot
+others : (marks : List BlockMark) (slot place : ℕ) (d : BlockMark) → AreOnce marks → place < length marks → (get_or marks place d).slot ≡ slot → (k : ℕ) → k < length marks → k ≢ place → (get_or marks k d).slot ≢ slot
 others marks slot place d once inside is k within ne same =
     let one : ((get_or marks place d).slot == slot) ≡ true = equal (get_or marks place d).slot slot is in
     let two : ((get_or marks k d).slot == slot) ≡ true = equal (get_or marks k d).slot slot same in
     elim (cases_lt k place) [
-      | inl less ↦ omega (arith, once slot, count_two (λ (m : Mark). m.slot == slot) marks k place d less inside two one)
+      | inl less ↦ omega (arith, once slot, count_two (λ (m : BlockMark). m.slot == slot) marks k place d less inside two one)
       | inr le ↦ elim (cases_lt place k) [
-        | inl less ↦ omega (arith, once slot, count_two (λ (m : Mark). m.slot == slot) marks place k d less within one two)
+        | inl less ↦ omega (arith, once slot, count_two (λ (m : BlockMark). m.slot == slot) marks place k d less within one two)
         | inr ge ↦ ne (omega (arith, le, ge))
       ]
     ]
@@ -28,12 +28,12 @@ others marks slot place d once inside is k within ne same =
     equal : (n m : ℕ) → n ≡ m → (n == m) ≡ true
     equal n m e = grind (arith, nat_tests)
 
-moved_there : (m : Mark) (xs : List Mark) (place : ℕ) (d : Mark) → place < length xs → (get_or xs place d).slot ≡ m.slot → ((k : ℕ) → k < length xs → k ≢ place → (get_or xs k d).slot ≢ m.slot)
+moved_there : (m : BlockMark) (xs : List BlockMark) (place : ℕ) (d : BlockMark) → place < length xs → (get_or xs place d).slot ≡ m.slot → ((k : ℕ) → k < length xs → k ≢ place → (get_or xs k d).slot ≢ m.slot)
     → IsPermutation (m ∷ filter (λ o. not (o.slot == m.slot)) xs) (slice_set xs place m)
 moved_there m [] place d inside is ne = absurd (omega (arith, inside))
 moved_there m (x ∷ xs) zero d inside is ne =
     let test : (x.slot == m.slot) ≡ true = grind (arith, nat_tests) in
-    let all : All (λ o. o.slot ≢ m.slot) xs = λ k e within same. ne (suc k) (omega (arith, within)) (omega arith) (ap (λ (o : Mark). o.slot) (get_or_default xs k d e within) ∙ same) in
+    let all : All (λ o. o.slot ≢ m.slot) xs = λ k e within same. ne (suc k) (omega (arith, within)) (omega arith) (ap (λ (o : BlockMark). o.slot) (get_or_default xs k d e within) ∙ same) in
     rw (test, drop_none m.slot xs all) (IsPermutation-refl (m ∷ xs))
 moved_there m (x ∷ xs) (suc place) d inside is ne =
     let differ : x.slot ≢ m.slot = ne 0 (omega arith) (omega arith) in
@@ -42,14 +42,14 @@ moved_there m (x ∷ xs) (suc place) d inside is ne =
     rw test (IsPermutation-trans (m ∷ x ∷ filter (λ o. not (o.slot == m.slot)) xs) (x ∷ m ∷ filter (λ o. not (o.slot == m.slot)) xs) (x ∷ slice_set xs place m)
     (IsPermutation-middle (m ∷ []) x (filter (λ o. not (o.slot == m.slot)) xs)) (IsPermutation-cons x (m ∷ filter (λ o. not (o.slot == m.slot)) xs) (slice_set xs place m) rest))
 
-module _ (marks : List Mark) (place : ℕ) (m : Mark) (inside : place < length marks) where
+module _ (marks : List BlockMark) (place : ℕ) (m : BlockMark) (inside : place < length marks) where
   -- the marks are those without the slot's, and this one
-  pub replaced_moved : AreOnce marks → ((d : Mark) → (get_or marks place d).slot ≡ m.slot) → IsPermutation (m ∷ filter (λ o. not (o.slot == m.slot)) marks) (slice_set marks place m)
+  pub replaced_moved : AreOnce marks → ((d : BlockMark) → (get_or marks place d).slot ≡ m.slot) → IsPermutation (m ∷ filter (λ o. not (o.slot == m.slot)) marks) (slice_set marks place m)
   replaced_moved once is = moved_there m marks place m inside (is m) (others marks m.slot place m once inside (is m))
 
   -- and they stand in order
-  pub replaced_order : IsNonDecreasingBy (λ (o : Mark). o.at) marks → ((d : Mark) → 0 < place → (get_or marks (place - 1) d).at ≤ m.at)
-      → ((d : Mark) → place + 1 < length marks → m.at ≤ (get_or marks (place + 1) d).at) → IsNonDecreasingBy (λ (o : Mark). o.at) (slice_set marks place m)
+  pub replaced_order : IsNonDecreasingBy (λ (o : BlockMark). o.at) marks → ((d : BlockMark) → 0 < place → (get_or marks (place - 1) d).at ≤ m.at)
+      → ((d : BlockMark) → place + 1 < length marks → m.at ≤ (get_or marks (place + 1) d).at) → IsNonDecreasingBy (λ (o : BlockMark). o.at) (slice_set marks place m)
   replaced_order up below above i j d le lt =
       let lt' : j < length marks = omega (arith, lt, length-set marks place m) in
       elim (cases_eq i place) [

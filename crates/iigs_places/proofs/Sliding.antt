@@ -10,18 +10,18 @@ use Rattle.std.proofs.lemmas.List.Elements.{Contains-get_or, All-contains}
 use Rattle.std.proofs.lemmas.List.Sums.{count_by-le-length}
 use Rattle.iigs_meaning.specs.declared.handles.Handle.{Handle}
 use Rattle.iigs_meaning.specs.declared.slots.Slot.{Slot}
-use Rattle.iigs_meaning.specs.declared.slots.Content.{Content}
-use Rattle.iigs_meaning.specs.declared.slots.Content.TheVariants.{Free, Used, Retired}
+use Rattle.iigs_meaning.specs.declared.slots.SlotContent.{SlotContent}
+use Rattle.iigs_meaning.specs.declared.slots.SlotContent.TheVariants.{Free, Used, Retired}
 use Rattle.iigs_meaning.specs.declared.wants.Block.{Block}
 use Rattle.iigs_meaning.specs.Slots.{slot_at, new_slot, used_value, get, with_value}
 use Rattle.iigs_meaning.specs.Fits.{Slots, IsWant, Fits, IsApart, HoldsByte, block_in}
 use Rattle.iigs_meaning.specs.Blocks.{AreApart, address_in}
 use Rattle.iigs_meaning.specs.Moves.{lies_below}
-use Rattle.iigs_meaning.specs.Slide.{can_move, mover, place_of, holding, moved_to, Slides, AreSettled}
+use Rattle.iigs_meaning.specs.Slide.{can_move, movable_block, place_of, holding, moved_to, Slides, AreSettled}
 use Rattle.iigs_meaning.specs.laws.PurgeLaws.{count_more}
 use Rattle.iigs_meaning.specs.laws.SlideLaws.{mover_in, lies, are_low, without, with_moved, AreSlidTo, SinksTo, IsNext, slid_next, slid_all, all_at}
-use Rattle.iigs_places.specs.declared.marks.Mark.{Mark}
-use Rattle.iigs_places.specs.declared.spots.Spot.{Spot}
+use Rattle.iigs_places.specs.declared.marks.BlockMark.{BlockMark}
+use Rattle.iigs_places.specs.declared.spots.BlockSpot.{BlockSpot}
 use Rattle.iigs_places.specs.Extent.{extent, extent_of}
 use Rattle.iigs_places.specs.Spots.{IsBoundedSlot, FitsAmong, IsLeastAmong, IsBeside}
 use Rattle.iigs_places.specs.Arranged.{IsArranged}
@@ -45,7 +45,7 @@ there_extent block at is = rw is refl
 pub block_extent : (slot : Slot Block) (block : Block) (at : ℕ) → block_in slot ≡ Some block → block.at ≡ Some at → extent slot ≡ Some (at, block.want.size)
 block_extent slot block at is lies' = ap (option_and_then extent_of) is ∙ there_extent block at lies'
 
-mover_extent : (slot : Slot Block) (block : Block) → mover slot ≡ Some block → extent slot ≡ Some (place_of block, block.want.size)
+mover_extent : (slot : Slot Block) (block : Block) → movable_block slot ≡ Some block → extent slot ≡ Some (place_of block, block.want.size)
 mover_extent slot block m = block_extent slot block (place_of block) (mover_in slot block m).0 (lies slot block m)
 
 same_extent : (e f : ℕ × ℕ) → Some e ≡ Some f → e ≡ f
@@ -61,10 +61,10 @@ extent_block slot block e is there = go block.at refl (sym (ap (option_and_then 
         let both : (at, block.want.size) ≡ e = same_extent (at, block.want.size) e (rw lies' at is') in
         (ap (λ (x : ℕ × ℕ). Some x.0) both, ap (λ (x : ℕ × ℕ). x.1) both)
 
-pub is_mover : (slot : Slot Block) (block : Block) → block_in slot ≡ Some block → can_move block ≡ true → mover slot ≡ Some block
+pub is_mover : (slot : Slot Block) (block : Block) → block_in slot ≡ Some block → can_move block ≡ true → movable_block slot ≡ Some block
 is_mover slot block is can = rw (is, can) refl
 
-pub no_mover : (slot : Slot Block) (block : Block) → block_in slot ≡ Some block → can_move block ≡ false → mover slot ≡ None
+pub no_mover : (slot : Slot Block) (block : Block) → block_in slot ≡ Some block → can_move block ≡ false → movable_block slot ≡ None
 no_mover slot block is cannot = rw (is, cannot) refl
 
 -- two blocks that begin at one address are one
@@ -100,9 +100,9 @@ module _ (slots : Slots) (h : Handle) (block : Block) (was : get slots h ≡ Som
 
 module _ (banks : List ℕ) (old now : Slots) (apart : AreApart banks old) (settled : AreSettled banks old) (limit : ℕ) (slid : AreSlidTo banks old now limit) where
   pub unmoved : (place : ℕ) (e : ℕ × ℕ) → extent (slot_at now place) ≡ Some e → limit ≤ e.0 → slot_at now place ≡ slot_at old place
-  unmoved place e is late = go (mover (slot_at old place)) refl
+  unmoved place e is late = go (movable_block (slot_at old place)) refl
     where
-      go : (o : Option Block) → mover (slot_at old place) ≡ o → slot_at now place ≡ slot_at old place
+      go : (o : Option Block) → movable_block (slot_at old place) ≡ o → slot_at now place ≡ slot_at old place
       go None m = slid.stay place m
       go (Some was) m = elim (cases_lt (place_of was) limit) [
         | inr waits ↦ slid.wait place was m waits
@@ -113,7 +113,7 @@ module _ (banks : List ℕ) (old now : Slots) (apart : AreApart banks old) (sett
       ]
 
   -- the want of each block that is there fits where it lies but for others
-  now_settled : (place : ℕ) (o : Option Block) → mover (slot_at old place) ≡ o → (block : Block) → block_in (slot_at now place) ≡ Some block
+  now_settled : (place : ℕ) (o : Option Block) → movable_block (slot_at old place) ≡ o → (block : Block) → block_in (slot_at now place) ≡ Some block
       → IsWant block.want × ((at : ℕ) → block.at ≡ Some at → Fits banks [] block.want at)
   now_settled place None m block is =
       let was : block_in (slot_at old place) ≡ Some block = sym (ap block_in (slid.stay place m)) ∙ is in
@@ -134,27 +134,27 @@ module _ (banks : List ℕ) (old now : Slots) (apart : AreApart banks old) (sett
 
   pub slid_settled : AreSettled banks now
   slid_settled = record {
-    wants = λ place block is. (now_settled place (mover (slot_at old place)) refl block is).0;
-    fits = λ place block at is lies'. (now_settled place (mover (slot_at old place)) refl block is).1 at lies';
+    wants = λ place block is. (now_settled place (movable_block (slot_at old place)) refl block is).0;
+    fits = λ place block at is lies'. (now_settled place (movable_block (slot_at old place)) refl block is).1 at lies';
   }
 
-  module _ (marks : List Mark) (have : HaveMarks now marks) where
-    waits_marked : (place : ℕ) (block : Block) → mover (slot_at old place) ≡ Some block → limit ≤ place_of block → Contains marks (mark place (place_of block, block.want.size))
+  module _ (marks : List BlockMark) (have : HaveMarks now marks) where
+    waits_marked : (place : ℕ) (block : Block) → movable_block (slot_at old place) ≡ Some block → limit ≤ place_of block → Contains marks (mark place (place_of block, block.want.size))
     waits_marked place block m late = have.each place (place_of block, block.want.size) (ap extent (slid.wait place block m late) ∙ mover_extent (slot_at old place) block m)
 
     -- where no mark is left, all are slid down
-    pub slid_whole : ((m : Mark) → Contains marks m → m.at < limit) → Slides banks old now
+    pub slid_whole : ((m : BlockMark) → Contains marks m → m.at < limit) → Slides banks old now
     slid_whole none = slid_all banks old now limit slid (λ place block m. elim (cases_lt (place_of block) limit) [
       | inl below ↦ below
       | inr late ↦ none (mark place (place_of block, block.want.size)) (waits_marked place block m late)
     ])
 
-    module _ (arranged : IsArranged banks now) (first : Mark) (is : IsFirstFrom marks limit first) (to : ℕ) (next : Slots) (s : Sinks banks now first.slot first.at to next) where
+    module _ (arranged : IsArranged banks now) (first : BlockMark) (is : IsFirstFrom marks limit first) (to : ℕ) (next : Slots) (s : Sinks banks now first.slot first.at to next) where
       its : (e : ℕ × ℕ) × (extent (slot_at now first.slot) ≡ Some e) × (first ≡ mark first.slot e)
       its = have.are first is.is
 
       starts : first.at ≡ its.0.0
-      starts = ap (λ (x : Mark). x.at) its.2
+      starts = ap (λ (x : BlockMark). x.at) its.2
 
       still : slot_at now first.slot ≡ slot_at old first.slot
       still = unmoved first.slot its.0 its.1 (omega (arith, starts, is.from))
@@ -168,7 +168,7 @@ module _ (banks : List ℕ) (old now : Slots) (apart : AreApart banks old) (sett
       place_first : place_of s.block ≡ first.at
       place_first = rw lies_first refl
 
-      late_others : (place : ℕ) (other : Block) → mover (slot_at old place) ≡ Some other → limit ≤ place_of other → first.at ≤ place_of other
+      late_others : (place : ℕ) (other : Block) → movable_block (slot_at old place) ≡ Some other → limit ≤ place_of other → first.at ≤ place_of other
       late_others place other m late = is.least (mark place (place_of other, other.want.size)) (waits_marked place other m late) late
 
       is_next : IsNext old limit s.block
@@ -187,8 +187,8 @@ module _ (banks : List ℕ) (old now : Slots) (apart : AreApart banks old) (sett
                 let at : place_of block ≡ first.at = omega (arith, late_others place block m late, below) in
                 let there : extent (slot_at now place) ≡ Some (place_of block, block.want.size) = ap extent (slid.wait place block m late) ∙ mover_extent (slot_at old place) block m in
                 let same : place ≡ first.slot = one_start banks now arranged place first.slot (place_of block, block.want.size) its.0 there its.1 (omega (arith, at, starts)) in
-                let none : mover (slot_at old first.slot) ≡ None = no_mover (slot_at old first.slot) s.block block_there cannot in
-                let no : Some block ≡ None = sym m ∙ ap (λ (n : ℕ). mover (slot_at old n)) same ∙ none in
+                let none : movable_block (slot_at old first.slot) ≡ None = no_mover (slot_at old first.slot) s.block block_there cannot in
+                let no : Some block ≡ None = sym m ∙ ap (λ (n : ℕ). movable_block (slot_at old n)) same ∙ none in
                 absurd cc
           ];
         };
@@ -220,7 +220,7 @@ passed_none slots = record {
 }
 
 -- up to the first mark nothing more is
-pub passed_to : (slots : Slots) (marks : List Mark) → HaveMarks slots marks → (limit : ℕ) (first : Mark) → IsFirstFrom marks limit first → (runs : List Spot) → ArePassed slots limit runs → ArePassed slots first.at runs
+pub passed_to : (slots : Slots) (marks : List BlockMark) → HaveMarks slots marks → (limit : ℕ) (first : BlockMark) → IsFirstFrom marks limit first → (runs : List BlockSpot) → ArePassed slots limit runs → ArePassed slots first.at runs
 passed_to slots marks have limit first is runs passed = record {
   are = passed.are;
   to = λ i has. elim (cases_lt has.at.0 limit) [
@@ -254,7 +254,7 @@ module _ (banks : List ℕ) (slots : Slots) (arranged : IsArranged banks slots) 
           ∙ ap extent (get_or-set_same slots place (holding (slot_at slots place) (moved_to to s.block)) new_slot within)
           ∙ ap (λ (n : ℕ). Some (to, n)) size_is
 
-  module _ (low : to ≤ address) (runs added : List Spot) (passed : ArePassed slots address runs) (are : AreRuns added) (adds : RunsAdd runs to (to + size) added) where
+  module _ (low : to ≤ address) (runs added : List BlockSpot) (passed : ArePassed slots address runs) (are : AreRuns added) (adds : RunsAdd runs to (to + size) added) where
     pub passed_next : ArePassed next (suc address) added
     passed_next = record {
       are = are;
@@ -310,7 +310,7 @@ passed_count banks slots next place address size to limit there arranged s len l
 -- ---- where a block goes
 
 module _ (banks : List ℕ) (slots : Slots) (arranged : IsArranged banks slots) (settled : AreSettled banks slots) (place address size : ℕ) (there : extent (slot_at slots place) ≡ Some (address, size))
-    (block : Block) (is : block_in (slot_at slots place) ≡ Some block) (runs : List Spot) (passed : ArePassed slots address runs) where
+    (block : Block) (is : block_in (slot_at slots place) ≡ Some block) (runs : List BlockSpot) (passed : ArePassed slots address runs) where
   its_size : block.want.size ≡ size
   its_size = (extent_block (slot_at slots place) block (address, size) is there).1
 
@@ -337,7 +337,7 @@ module _ (banks : List ℕ) (slots : Slots) (arranged : IsArranged banks slots) 
   among at open_ apart = record {
     open_ = open_;
     beside = λ k d inside' kept.
-        let run : Spot = get_or runs k d in
+        let run : BlockSpot = get_or runs k d in
         let some : run.at < run.end = passed.are.some k d inside' in
         elim (cases_lt run.at (at + block.want.size)) [
           | inr ge ↦ inl ge
@@ -371,7 +371,7 @@ module _ (banks : List ℕ) (slots : Slots) (arranged : IsArranged banks slots) 
         elim (cases_lt e.0.0 address) [
           | inl lower ↦
               let r = passed.to i (record { place = p; at = e.0; is = e.1; before = lower; spans = e.2 }) in
-              elim (All-contains (λ (run : Spot). 0 ≤ run.turn → IsBeside to block.want.size run) runs r.0 least.fits.beside r.1 (omega arith)) [
+              elim (All-contains (λ (run : BlockSpot). 0 ≤ run.turn → IsBeside to block.want.size run) runs r.0 least.fits.beside r.1 (omega arith)) [
                 | inl ends ↦ absurd (omega (arith, ends, r.2, before))
                 | inr behind ↦ absurd (omega (arith, behind, r.3, from))
               ]
@@ -411,7 +411,7 @@ held_same slot block at is lies' = ap (holding slot) same_block ∙ holds slot.g
     same_block : moved_to at block ≡ block
     same_block = rw (← lies') refl
 
-    holds : (generation : ℕ) (content : Content Block) → used_value content ≡ Some block
+    holds : (generation : ℕ) (content : SlotContent Block) → used_value content ≡ Some block
         → ◌≡◌ {A = Slot Block} (record { generation = generation; content = Used block }) (record { generation = generation; content = content })
     holds generation Free used = absurd cc
     holds generation Retired used = absurd cc
@@ -445,7 +445,7 @@ module _ (banks : List ℕ) (slots : Slots) (arranged : IsArranged banks slots) 
     sinks = λ can. let clash : true ≡ false = sym can ∙ cannot in absurd cc;
   }
 
-  module _ (runs : List Spot) (passed : ArePassed slots address runs) (can : can_move block ≡ true) (to : ℕ) (least : IsLeastAmong banks block.want runs 0 to) where
+  module _ (runs : List BlockSpot) (passed : ArePassed slots address runs) (can : can_move block ≡ true) (to : ℕ) (least : IsLeastAmong banks block.want runs 0 to) where
     pub sinks_there : (next : Slots) → next ≡ with_moved slots place block to → Sinks banks slots place address to next
     sinks_there next moved = record {
       block = block;
@@ -460,7 +460,7 @@ module _ (banks : List ℕ) (slots : Slots) (arranged : IsArranged banks slots) 
 
 -- ---- a mark's block
 
-module _ (slots : Slots) (marks : List Mark) (have : HaveMarks slots marks) (m : Mark) (has : Contains marks m) where
+module _ (slots : Slots) (marks : List BlockMark) (have : HaveMarks slots marks) (m : BlockMark) (has : Contains marks m) where
   pub mark_size : ℕ
   mark_size = (have.are m has).0.1
 
@@ -468,13 +468,13 @@ module _ (slots : Slots) (marks : List Mark) (have : HaveMarks slots marks) (m :
   unfolding mark_size
   mark_extent =
       let one = have.are m has in
-      one.1 ∙ ap (λ (n : ℕ). Some (n, one.0.1)) (sym (ap (λ (x : Mark). x.at) one.2))
+      one.1 ∙ ap (λ (n : ℕ). Some (n, one.0.1)) (sym (ap (λ (x : BlockMark). x.at) one.2))
 
   pub mark_ends : m.end ≡ m.at + mark_size
   unfolding mark_size
   mark_ends =
       let one = have.are m has in
-      omega (arith, ap (λ (x : Mark). x.at) one.2, ap (λ (x : Mark). x.end) one.2)
+      omega (arith, ap (λ (x : BlockMark). x.at) one.2, ap (λ (x : BlockMark). x.end) one.2)
 
   pub mark_there : IsSome (block_in (slot_at slots m.slot))
   mark_there = extent_there (slot_at slots m.slot) (m.at, mark_size) mark_extent
@@ -488,7 +488,7 @@ module _ (banks : List ℕ) (slots : Slots) (arranged : IsArranged banks slots) 
   sink_moved = set_is slots h block was (moved_to to block)
 
 -- one mark further
-module _ (banks : List ℕ) (now : Slots) (arranged : IsArranged banks now) (marks : List Mark) (have : HaveMarks now marks) (limit : ℕ) (m : Mark) (first : IsFirstFrom marks limit m)
+module _ (banks : List ℕ) (now : Slots) (arranged : IsArranged banks now) (marks : List BlockMark) (have : HaveMarks now marks) (limit : ℕ) (m : BlockMark) (first : IsFirstFrom marks limit m)
     (to : ℕ) (low : to ≤ m.at) (next : Slots) (after : IsArranged banks next) (s : Sinks banks now m.slot m.at to next) where
   step_there : extent (slot_at now m.slot) ≡ Some (m.at, mark_size now marks have m first.is)
   step_there = mark_extent now marks have m first.is
@@ -499,19 +499,19 @@ module _ (banks : List ℕ) (now : Slots) (arranged : IsArranged banks now) (mar
   pub step_room : count_by (lies_below limit) now < 4096
   step_room = omega (arith, step_count, count_by-le-length (lies_below (suc m.at)) next, after.count)
 
-  pub step_passed : (end : ℕ) → end ≡ to + (m.end - m.at) → (runs added : List Spot) → ArePassed now limit runs → AreRuns added → RunsAdd runs to end added → ArePassed next (suc m.at) added
+  pub step_passed : (end : ℕ) → end ≡ to + (m.end - m.at) → (runs added : List BlockSpot) → ArePassed now limit runs → AreRuns added → RunsAdd runs to end added → ArePassed next (suc m.at) added
   step_passed end is runs added passed are adds =
       let ends : end ≡ to + mark_size now marks have m first.is = omega (arith, is, mark_ends now marks have m first.is) in
       passed_next banks now arranged m.slot m.at (mark_size now marks have m first.is) to step_there next s low runs added (passed_to now marks have limit m first runs passed) are
       (subst (λ (n : ℕ). RunsAdd runs to n added) ends adds)
 
 -- a mark's block has a byte, and ends within the addresses of banks
-pub mark_sized : (slots : Slots) (marks : List Mark) → All IsBoundedSlot slots → HaveMarks slots marks → (m : Mark) → Contains marks m → IsSized m
+pub mark_sized : (slots : Slots) (marks : List BlockMark) → All IsBoundedSlot slots → HaveMarks slots marks → (m : BlockMark) → Contains marks m → IsSized m
 mark_sized slots marks bounded have m has = All-contains IsSized marks m (marks_sized slots marks bounded have) has
 
 -- ---- the block that lies at a mark, under its handle
 
-module _ (banks : List ℕ) (slots : Slots) (arranged : IsArranged banks slots) (settled : AreSettled banks slots) (marks : List Mark) (have : HaveMarks slots marks) (m : Mark) (has : Contains marks m)
+module _ (banks : List ℕ) (slots : Slots) (arranged : IsArranged banks slots) (settled : AreSettled banks slots) (marks : List BlockMark) (have : HaveMarks slots marks) (m : BlockMark) (has : Contains marks m)
     (generation : ℕ) (block : Block) (was : get slots (record { slot = m.slot; generation = generation }) ≡ Some block) where
   held_is : block_in (slot_at slots m.slot) ≡ Some block
   held_is = live_block slots (record { slot = m.slot; generation = generation }) block was
@@ -528,7 +528,7 @@ module _ (banks : List ℕ) (slots : Slots) (arranged : IsArranged banks slots) 
   pub held_stays : can_move block ≡ false → Sinks banks slots m.slot m.at m.at slots
   held_stays cannot = sinks_none banks slots arranged settled m.slot m.at (mark_size slots marks have m has) held_lies block held_is cannot
 
-  module _ (runs : List Spot) (passed : ArePassed slots m.at runs) where
+  module _ (runs : List BlockSpot) (passed : ArePassed slots m.at runs) where
     pub held_fits : FitsAmong banks block.want runs 0 m.at
     held_fits = present_among banks slots arranged settled m.slot m.at (mark_size slots marks have m has) held_lies block held_is runs passed
 

@@ -4,8 +4,8 @@ use Rattle.std.proofs.Math.ListN.{get_or-eq_default}
 use Rattle.std.proofs.lemmas.List.{get_or-map, length-map}
 use Rattle.std.proofs.lemmas.Bool.{cases_lt, cases_eq}
 use Rattle.iigs_meaning.specs.declared.slots.Slot.{Slot}
-use Rattle.iigs_meaning.specs.declared.slots.Content.{Content}
-use Rattle.iigs_meaning.specs.declared.slots.Content.TheVariants.{Free, Used, Retired}
+use Rattle.iigs_meaning.specs.declared.slots.SlotContent.{SlotContent}
+use Rattle.iigs_meaning.specs.declared.slots.SlotContent.TheVariants.{Free, Used, Retired}
 use Rattle.iigs_meaning.specs.declared.wants.Block.{Block}
 use Rattle.iigs_meaning.specs.Slots.{slot_at, new_slot, released}
 use Rattle.iigs_meaning.specs.Free.{IsFree}
@@ -81,7 +81,7 @@ emptied_stays test slot = go slot.generation slot.content
     used true generation block = inl refl
     used false generation block = inr refl
 
-    go : (generation : ℕ) (content : Content Block) → StaysIn (record { generation = generation; content = content }) (emptied_where test (record { generation = generation; content = content }))
+    go : (generation : ℕ) (content : SlotContent Block) → StaysIn (record { generation = generation; content = content }) (emptied_where test (record { generation = generation; content = content }))
     go generation Free = inl refl
     go generation Retired = inl refl
     go generation (Used block) = used (test block) generation block
@@ -104,7 +104,7 @@ user_stays user slot = go slot.generation slot.content
     used true generation block = inl (released_none generation)
     used false generation block = inr refl
 
-    go : (generation : ℕ) (content : Content Block) → StaysIn (record { generation = generation; content = content }) (without_user_in user (record { generation = generation; content = content }))
+    go : (generation : ℕ) (content : SlotContent Block) → StaysIn (record { generation = generation; content = content }) (without_user_in user (record { generation = generation; content = content }))
     go generation Free = inl refl
     go generation Retired = inl refl
     go generation (Used block) = used (block.user == user) generation block

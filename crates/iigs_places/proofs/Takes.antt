@@ -7,11 +7,11 @@ use Rattle.std.proofs.lemmas.Bool.{cases_lt}
 use Rattle.std.proofs.lemmas.Bool.Decides.{nat_tests}
 use Rattle.iigs_meaning.specs.declared.handles.Handle.{Handle}
 use Rattle.iigs_meaning.specs.declared.slots.Slot.{Slot}
-use Rattle.iigs_meaning.specs.declared.slots.Content.{Content}
-use Rattle.iigs_meaning.specs.declared.slots.Content.TheVariants.{Free, Used, Retired}
+use Rattle.iigs_meaning.specs.declared.slots.SlotContent.{SlotContent}
+use Rattle.iigs_meaning.specs.declared.slots.SlotContent.TheVariants.{Free, Used, Retired}
 use Rattle.iigs_meaning.specs.declared.wants.Block.{Block}
 use Rattle.iigs_meaning.specs.Slots.{slot_at, new_slot, is_free, is_free_content, new_handle}
-use Rattle.iigs_meaning.specs.Placement.{emptied_where, emptied, is_gone}
+use Rattle.iigs_meaning.specs.Placement.{emptied_where, slots_after_purges, is_gone}
 
 module _ {X : Type 0} (p : X → Bool) where
   step_none : (x : X) (n rest long : ℕ) (b : Bool) → p x ≡ b → cond (p x) 1 0 + n ≡ 0 → (n ≡ 0 → rest ≡ long) → cond (not b) (1 + rest) 0 ≡ suc long
@@ -73,7 +73,7 @@ emptied_free test slot = go slot.generation slot.content
     used true generation block = refl
     used false generation block = refl
 
-    go : (generation : ℕ) (content : Content Block) → is_free (emptied_where test (record { generation = generation; content = content })) ≡ is_free_content content
+    go : (generation : ℕ) (content : SlotContent Block) → is_free (emptied_where test (record { generation = generation; content = content })) ≡ is_free_content content
     go generation Free = refl
     go generation Retired = refl
     go generation (Used block) = used (test block) generation block
@@ -85,7 +85,7 @@ emptied_generation test slot = go slot.generation slot.content
     used true generation block = refl
     used false generation block = refl
 
-    go : (generation : ℕ) (content : Content Block) → (emptied_where test (record { generation = generation; content = content })).generation ≡ generation
+    go : (generation : ℕ) (content : SlotContent Block) → (emptied_where test (record { generation = generation; content = content })).generation ≡ generation
     go generation Free = refl
     go generation Retired = refl
     go generation (Used block) = used (test block) generation block
@@ -94,6 +94,6 @@ emptied_generation test slot = go slot.generation slot.content
 pub emptied_handle : (test : Block → Bool) (slots : List (Slot Block)) → new_handle (map (emptied_where test) slots) ≡ new_handle slots
 emptied_handle test slots = same_handle (emptied_where test) (emptied_free test) (emptied_generation test) slots
 
-pub gone_handle : (count : ℕ) (slots : List (Slot Block)) → new_handle (emptied slots count) ≡ new_handle slots
-unfolding emptied
+pub gone_handle : (count : ℕ) (slots : List (Slot Block)) → new_handle (slots_after_purges slots count) ≡ new_handle slots
+unfolding slots_after_purges
 gone_handle count slots = emptied_handle (is_gone slots count) slots

@@ -11,8 +11,8 @@ use Rattle.iigs_meaning.specs.declared.slots.Slot.{Slot}
 use Rattle.iigs_meaning.specs.declared.wants.Block.{Block}
 use Rattle.iigs_meaning.specs.Fits.{block_in}
 use Rattle.iigs_meaning.specs.Placement.{can_purge, goes_before, rank, is_gone}
-use Rattle.iigs_places.specs.declared.spots.Spot.{Spot}
-use Rattle.iigs_places.specs.Spots.{never, turn_of, spot_of, spot_in, spots_of, turn_in, turns_of, limit_of, IsBounded, IsBoundedSlot, IsSurvey}
+use Rattle.iigs_places.specs.declared.spots.BlockSpot.{BlockSpot}
+use Rattle.iigs_places.specs.Spots.{turn_of_unpurgeable, turn_of, spot_of, spot_in, spots_of, turn_in, turns_of, limit_of, IsBounded, IsBoundedSlot, IsSurvey}
 use Rattle.iigs_places.proofs.Gathered.{count-gathered, All-gathered}
 use Rattle.iigs_places.proofs.Fewest.{limit_zero, limit_more}
 
@@ -20,7 +20,7 @@ pub turn_purge : (block : Block) → can_purge block ≡ true → turn_of block 
 unfolding turn_of
 turn_purge block can = rw can refl
 
-pub turn_never : (block : Block) → can_purge block ≡ false → turn_of block ≡ never
+pub turn_never : (block : Block) → can_purge block ≡ false → turn_of block ≡ turn_of_unpurgeable
 unfolding turn_of
 turn_never block cannot = rw cannot refl
 
@@ -42,7 +42,7 @@ address_small : (o : Option ℕ) (size : ℕ) → 0 < size → IfSome o (λ at. 
 address_small None size some ends = omega arith
 address_small (Some at) size some ends = omega arith
 
-pub turn_small : (block : Block) → IsBounded block → can_purge block ≡ true → turn_of block < never
+pub turn_small : (block : Block) → IsBounded block → can_purge block ≡ true → turn_of block < turn_of_unpurgeable
 turn_small block bounded can =
     let is : turn_of block ≡ (255 - block.level) * 2 ^ 24 + unwrap_or block.at 0 = turn_purge block can in
     let some : 0 < block.level = level_some block can in
@@ -78,7 +78,7 @@ before_is one block first second can can' = rw (turn_purge, turn_purge block can
     (order_is one.level block.level (unwrap_or one.at 0) (unwrap_or block.at 0) first.level second.level
     (address_small one.at one.want.size first.some first.ends) (address_small block.at block.want.size second.some second.ends))
 
-never_before : (t : ℕ) → t < never → nat_lt never t ≡ false
+never_before : (t : ℕ) → t < turn_of_unpurgeable → nat_lt turn_of_unpurgeable t ≡ false
 never_before t less = grind (arith, nat_tests)
 
 first_true : (a b c : Bool) → (a && b && c) ≡ true → a ≡ true
@@ -90,7 +90,7 @@ unfolding can_purge
 there_purge one can = first_true (is_some one.at) (not one.locked) (not (one.level == 0)) can
 
 spot_before : (o : Option ℕ) (size t x : ℕ)
-    → option_map_or (λ (spot : Spot). nat_lt spot.turn x) (option_map (λ at. record { at = at; end = at + size; turn = t }) o) false
+    → option_map_or (λ (spot : BlockSpot). nat_lt spot.turn x) (option_map (λ at. record { at = at; end = at + size; turn = t }) o) false
     ≡ (is_some o && nat_lt t x)
 spot_before None size t x = refl
 spot_before (Some at) size t x = refl
@@ -127,21 +127,21 @@ count-same p q (x ∷ xs) all =
     ∙ ap (λ n. cond (q x) 1 0 + n) (count-same p q xs (All-tail (λ x. p x ≡ q x) x xs all))
     ∙ sym (sum_by-cons (λ x. cond (q x) 1 0) x xs)
 
-turn_below : (x : ℕ) → x ≤ never → (spot : Spot) → option_map_or (λ turn. nat_lt turn x) (turn_in spot) false ≡ nat_lt spot.turn x
-turn_below x small spot = elim (cases_lt spot.turn never) [
-  | inl lt ↦ let kept : nat_lt spot.turn never ≡ true = grind (arith, nat_tests) in rw kept refl
+turn_below : (x : ℕ) → x ≤ turn_of_unpurgeable → (spot : BlockSpot) → option_map_or (λ turn. nat_lt turn x) (turn_in spot) false ≡ nat_lt spot.turn x
+turn_below x small spot = elim (cases_lt spot.turn turn_of_unpurgeable) [
+  | inl lt ↦ let kept : nat_lt spot.turn turn_of_unpurgeable ≡ true = grind (arith, nat_tests) in rw kept refl
   | inr ge ↦
-      let dropped : nat_lt spot.turn never ≡ false = grind (arith, nat_tests) in
+      let dropped : nat_lt spot.turn turn_of_unpurgeable ≡ false = grind (arith, nat_tests) in
       let above : nat_lt spot.turn x ≡ false = grind (arith, nat_tests) in
       rw (dropped, above) refl
 ]
 
-module _ (slots : List (Slot Block)) (spots : List Spot) (turns : List ℕ) (survey : IsSurvey slots spots turns) (bounded : All IsBoundedSlot slots) where
+module _ (slots : List (Slot Block)) (spots : List BlockSpot) (turns : List ℕ) (survey : IsSurvey slots spots turns) (bounded : All IsBoundedSlot slots) where
   -- so many turns lie below a purgeable block's as purgeable blocks go before it
   rank_is : (block : Block) → IsBounded block → can_purge block ≡ true → rank slots block ≡ count_by (λ turn. nat_lt turn (turn_of block)) turns
   unfolding rank spots_of turns_of
   rank_is block second can =
-      let small : turn_of block ≤ never = omega (arith, turn_small block second can) in
+      let small : turn_of block ≤ turn_of_unpurgeable = omega (arith, turn_small block second can) in
       count-same _ _ slots (λ k d inside. slot_before (block_in (get_or slots k d)) block (bounded k d inside) second can)
       ∙ sym (count-gathered spot_in (λ spot. nat_lt spot.turn (turn_of block)) slots)
       ∙ sym (sum_by-IsPermutation (λ spot. cond (nat_lt spot.turn (turn_of block)) 1 0) (spots_of slots) spots survey.blocks)
@@ -209,25 +209,25 @@ below_limit c count last x some same = elim (cases_lt (count - 1) c) [
       grind (arith, nat_tests)
 ]
 
-turn_in_small : (spot : Spot) → IfSome (turn_in spot) (λ turn. turn < never)
-turn_in_small spot = go (nat_lt spot.turn never) refl
+turn_in_small : (spot : BlockSpot) → IfSome (turn_in spot) (λ turn. turn < turn_of_unpurgeable)
+turn_in_small spot = go (nat_lt spot.turn turn_of_unpurgeable) refl
   where
-    go : (b : Bool) → nat_lt spot.turn never ≡ b → IfSome (cond b (Some spot.turn) None) (λ turn. turn < never)
+    go : (b : Bool) → nat_lt spot.turn turn_of_unpurgeable ≡ b → IfSome (cond b (Some spot.turn) None) (λ turn. turn < turn_of_unpurgeable)
     go true e = grind (arith, nat_tests)
     go false e = tt
 
-module _ (slots : List (Slot Block)) (spots : List Spot) (turns : List ℕ) (survey : IsSurvey slots spots turns) where
+module _ (slots : List (Slot Block)) (spots : List BlockSpot) (turns : List ℕ) (survey : IsSurvey slots spots turns) where
   -- no turn of a block that may be purged is that of one that isn't
-  pub turns_small : All (λ turn. turn < never) turns
+  pub turns_small : All (λ turn. turn < turn_of_unpurgeable) turns
   unfolding turns_of
-  turns_small = All-permutation (λ turn. turn < never) (turns_of spots) turns survey.counted
-      (All-gathered turn_in (λ turn. turn < never) spots (λ k d inside. turn_in_small (get_or spots k d)))
+  turns_small = All-permutation (λ turn. turn < turn_of_unpurgeable) (turns_of spots) turns survey.counted
+      (All-gathered turn_in (λ turn. turn < turn_of_unpurgeable) spots (λ k d inside. turn_in_small (get_or spots k d)))
 
-  limit_small : (count : ℕ) → count ≤ length turns → limit_of turns count ≤ never
+  limit_small : (count : ℕ) → count ≤ length turns → limit_of turns count ≤ turn_of_unpurgeable
   limit_small count within = elim (cases_lt 0 count) [
     | inl some ↦
         let is : limit_of turns count ≡ slice_index turns (count - 1) + 1 = limit_more turns count some in
-        let last : slice_index turns (count - 1) < never = turns_small (count - 1) 0 (omega arith) in
+        let last : slice_index turns (count - 1) < turn_of_unpurgeable = turns_small (count - 1) 0 (omega arith) in
         omega arith
     | inr le ↦
         let zero : count ≡ 0 = omega arith in
@@ -255,6 +255,6 @@ module _ (slots : List (Slot Block)) (spots : List Spot) (turns : List ℕ) (sur
       go : (b : Bool) → can_purge block ≡ b → (b && nat_lt (rank slots block) count) ≡ nat_lt (turn_of block) (limit_of turns count)
       go true can = rw (rank_is slots spots turns survey bounded block second can) (gone_count (turn_of block) count within)
       go false cannot =
-          let small : limit_of turns count ≤ never = limit_small count within in
-          let above : nat_lt never (limit_of turns count) ≡ false = grind (arith, nat_tests) in
+          let small : limit_of turns count ≤ turn_of_unpurgeable = limit_small count within in
+          let above : nat_lt turn_of_unpurgeable (limit_of turns count) ≡ false = grind (arith, nat_tests) in
           rw (turn_never block cannot, above) refl

@@ -5,12 +5,12 @@ use Rattle.iigs_meaning.specs.declared.slots.Slot.{Slot}
 use Rattle.iigs_meaning.specs.declared.wants.Block.{Block}
 use Rattle.iigs_meaning.specs.Fits.{block_in}
 
-abbrev pub sized : ℕ → Option ℕ → Option (ℕ × ℕ)
-sized size o = option_map (λ at. (at, size)) o
+abbrev pub extent_of_size : ℕ → Option ℕ → Option (ℕ × ℕ)
+extent_of_size size o = option_map (λ at. (at, size)) o
 
 -- where a block begins and how many bytes it has, if it is there
 abbrev pub extent_of : Block → Option (ℕ × ℕ)
-extent_of block = sized block.want.size block.at
+extent_of block = extent_of_size block.want.size block.at
 
 abbrev pub extent : Slot Block → Option (ℕ × ℕ)
 extent slot = option_and_then extent_of (block_in slot)

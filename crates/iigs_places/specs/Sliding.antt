@@ -5,7 +5,7 @@ use Rattle.iigs_meaning.specs.Slots.{slot_at}
 use Rattle.iigs_meaning.specs.Fits.{Slots, block_in}
 use Rattle.iigs_meaning.specs.Slide.{can_move}
 use Rattle.iigs_meaning.specs.laws.SlideLaws.{SinksTo, with_moved}
-use Rattle.iigs_places.specs.declared.spots.Spot.{Spot}
+use Rattle.iigs_places.specs.declared.spots.BlockSpot.{BlockSpot}
 use Rattle.iigs_places.specs.Extent.{extent, Spans}
 use Rattle.iigs_places.specs.Runs.{AreRuns, InRuns}
 
@@ -18,7 +18,7 @@ pub record HasPassed (slots : Slots) (limit i : ℕ) : Type 0 where
   pub spans : Spans i at
 
 -- the bytes of the runs are those of the blocks that begin before the address
-pub record ArePassed (slots : Slots) (limit : ℕ) (runs : List Spot) : Type 0 where
+pub record ArePassed (slots : Slots) (limit : ℕ) (runs : List BlockSpot) : Type 0 where
   pub are : AreRuns runs
   pub to : (i : ℕ) → HasPassed slots limit i → InRuns runs i
   pub from : (i : ℕ) → InRuns runs i → HasPassed slots limit i

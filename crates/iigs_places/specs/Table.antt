@@ -5,16 +5,16 @@ use Rattle.iigs_meaning.specs.declared.slots.Slot.{Slot}
 use Rattle.iigs_meaning.specs.declared.wants.Want.{Want}
 use Rattle.iigs_meaning.specs.declared.wants.Block.{Block}
 use Rattle.iigs_meaning.specs.Slots.{new_handle, after_take, get, with_value}
-use Rattle.iigs_meaning.specs.Placement.{emptied, GoesTo}
-use Rattle.iigs_meaning.specs.Puts.{placed}
-use Rattle.iigs_places.specs.declared.table.Put.{Put}
+use Rattle.iigs_meaning.specs.Placement.{slots_after_purges, GoesTo}
+use Rattle.iigs_meaning.specs.Puts.{placed_block}
+use Rattle.iigs_places.specs.declared.table.PlacedBlock.{PlacedBlock}
 
 -- a new handle has the block where the want goes
-pub record IsPut (banks : List ℕ) (old : List (Slot Block)) (want : Want) (user : ℕ) (locked : Bool) (level : ℕ) (movable : Bool) (put : Put) (new : List (Slot Block)) : Type 0 where
+pub record IsPut (banks : List ℕ) (old : List (Slot Block)) (want : Want) (user : ℕ) (locked : Bool) (level : ℕ) (movable : Bool) (put : PlacedBlock) (new : List (Slot Block)) : Type 0 where
   pub count : ℕ
   pub goes : GoesTo banks old want count put.at
   pub handle : new_handle old ≡ Some put.handle
-  pub slots : new ≡ after_take (emptied old count) (placed want put.at user locked level movable)
+  pub slots : new ≡ after_take (slots_after_purges old count) (placed_block want put.at user locked level movable)
 
 -- the handle's empty block is where the want goes
 pub record IsReput (banks : List ℕ) (old : List (Slot Block)) (h : Handle) (want : Want) (address : ℕ) (new : List (Slot Block)) : Type 0 where
@@ -23,4 +23,4 @@ pub record IsReput (banks : List ℕ) (old : List (Slot Block)) (h : Handle) (wa
   pub empty : block.at ≡ None
   pub count : ℕ
   pub goes : GoesTo banks old want count address
-  pub slots : new ≡ with_value (emptied old count) h (placed want address block.user block.locked block.level false)
+  pub slots : new ≡ with_value (slots_after_purges old count) h (placed_block want address block.user block.locked block.level false)

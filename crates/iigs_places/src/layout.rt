@@ -3,37 +3,37 @@
 ghost use Rattle.std.specs.Prelude.{◌≡◌, ◌≢◌, ◌==◌, ◌<◌, ◌∷◌, [], ℕ, not, filter, All, Contains, IfOk, IsTrue, vec_len};
 ghost use Rattle.std.specs.List.Sorted.{IsPermutation};
 ghost use Rattle.iigs_places.specs.Spots.{IsBoundedSlot};
-ghost use Rattle.iigs_places.specs.declared.marks.Mark as declared;
+ghost use Rattle.iigs_places.specs.declared.marks.BlockMark as declared;
 ghost use Rattle.iigs_places.specs.Marks.{AreOnce, HaveMarks, IsSized};
 ghost use Rattle.iigs_places.specs.Runs.{HasRoom, IsLaid, IsLayout};
 
-use crate::marks::{Mark, add_mark, drop_mark, mark_all, move_mark};
+use crate::marks::{BlockMark, add_mark, drop_mark, mark_all, move_mark};
 use crate::runs::{add_run, join_marks};
-use crate::spots::Spot;
+use crate::spots::BlockSpot;
 use iigs_handles::{Handles, SLOTS};
 use iigs_meaning::Block;
 use std::alloc::{AllocError, Global};
 
 /// Where the blocks of a table lie.
 #[derive(Drop)]
-pub struct Layout {
+pub struct BlockLayout {
     /// The blocks that are there, in order of address.
-    pub marks: Vec<Mark>,
+    pub marks: Vec<BlockMark>,
     /// Their bytes, in order of address, where they were joined.
-    pub runs: Vec<Spot>,
+    pub runs: Vec<BlockSpot>,
     /// Whether the runs are those of the blocks.
     pub joined: bool,
 }
 
 /// Where no block lies, with room for all.
-pub fn new_layout(alloc: Global) -> Result<Layout, AllocError>
+pub fn new_layout(alloc: Global) -> Result<BlockLayout, AllocError>
     ensures marks { IfOk result (λ layout. layout.marks.items ≡ []) }
     ensures runs { IfOk result (λ layout. layout.runs.items ≡ []) }
     ensures room { IfOk result HasRoom }
 {
     let marks = Vec::with_capacity(alloc, SLOTS)?;
     let runs = Vec::with_capacity(alloc, SLOTS)?;
-    Ok(Layout {
+    Ok(BlockLayout {
         marks,
         runs,
         joined: true,
@@ -41,7 +41,7 @@ pub fn new_layout(alloc: Global) -> Result<Layout, AllocError>
 }
 
 /// Lays out the blocks of a table.
-pub fn lay_all(layout: &mut Layout, table: &Handles<Block>)
+pub fn lay_all(layout: &mut BlockLayout, table: &Handles<Block>)
     requires bounded { All IsBoundedSlot table.now }
     requires room { HasRoom layout.old }
     ensures laid { IsLayout table.now layout.new }
@@ -53,7 +53,7 @@ pub fn lay_all(layout: &mut Layout, table: &Handles<Block>)
 }
 
 /// Joins the runs, if they aren't those of the blocks.
-pub fn join(layout: &mut Layout)
+pub fn join(layout: &mut BlockLayout)
     requires laid { IsLaid layout.old }
     requires sized { All IsSized layout.old.marks.items }
     ensures laid { IsLaid layout.new }
@@ -67,14 +67,14 @@ pub fn join(layout: &mut Layout)
 }
 
 // Whether a mark and a run have room still.
-fn has_more(layout: &Layout) -> bool
+fn has_more(layout: &BlockLayout) -> bool
     ensures { IsTrue result → (vec_len layout.now.marks < 4096) × (vec_len layout.now.runs < 4096) }
 {
     layout.marks.len() < SLOTS && layout.runs.len() < SLOTS
 }
 
 // Adds a block.
-fn lay_more(layout: &mut Layout, mark: Mark)
+fn lay_more(layout: &mut BlockLayout, mark: BlockMark)
     requires laid { IsLaid layout.old }
     requires joined { IsTrue layout.old.joined }
     requires sized { IsSized mark }
@@ -88,7 +88,7 @@ fn lay_more(layout: &mut Layout, mark: Mark)
 }
 
 /// Lays out a table in which a block was put. Blocks with a turn below the limit were purged for it.
-pub fn lay_put(layout: &mut Layout, table: &Handles<Block>, mark: Mark, limit: u32)
+pub fn lay_put(layout: &mut BlockLayout, table: &Handles<Block>, mark: BlockMark, limit: u32)
     requires laid { IsLaid layout.old }
     requires joined { IsTrue layout.old.joined }
     requires bounded { All IsBoundedSlot table.now }
@@ -104,7 +104,7 @@ pub fn lay_put(layout: &mut Layout, table: &Handles<Block>, mark: Mark, limit: u
 }
 
 /// Lets the block of a slot go, which is at an address if it is there.
-pub fn lay_less(layout: &mut Layout, slot: u16, at: u32)
+pub fn lay_less(layout: &mut BlockLayout, slot: u16, at: u32)
     requires laid { IsLaid layout.old }
     requires same { All (λ mark. mark.slot ≡ slot → mark.at ≡ at) layout.old.marks.items }
     requires sized { All IsSized layout.old.marks.items }
@@ -117,7 +117,7 @@ pub fn lay_less(layout: &mut Layout, slot: u16, at: u32)
 }
 
 /// Lets the block of a slot go, which is at an address if it is there, and leaves the runs for later.
-pub fn lay_gone(layout: &mut Layout, slot: u16, at: u32)
+pub fn lay_gone(layout: &mut BlockLayout, slot: u16, at: u32)
     requires laid { IsLaid layout.old }
     requires same { All (λ mark. mark.slot ≡ slot → mark.at ≡ at) layout.old.marks.items }
     ensures laid { IsLaid layout.new }
@@ -128,11 +128,11 @@ pub fn lay_gone(layout: &mut Layout, slot: u16, at: u32)
 }
 
 /// Moves the block of a slot, which is at an address, and leaves the runs for later.
-pub fn lay_moved(layout: &mut Layout, at: u32, mark: Mark)
+pub fn lay_moved(layout: &mut BlockLayout, at: u32, mark: BlockMark)
     requires laid { IsLaid layout.old }
     requires same { All (λ other. other.slot ≡ mark.slot → other.at ≡ at) layout.old.marks.items }
     requires once { AreOnce layout.old.marks.items }
-    requires marked { (other : declared.Mark) × Contains layout.old.marks.items other × (other.slot ≡ mark.slot) }
+    requires marked { (other : declared.BlockMark) × Contains layout.old.marks.items other × (other.slot ≡ mark.slot) }
     ensures laid { IsLaid layout.new }
     ensures marks { IsPermutation (mark ∷ filter (λ other. not (other.slot == mark.slot)) layout.old.marks.items) layout.new.marks.items }
 {

@@ -17,4 +17,4 @@ mod spots;
 mod table;
 
 pub use places::Places;
-pub use table::Put;
+pub use table::PlacedBlock;

@@ -3,17 +3,17 @@
 ghost use Rattle.std.specs.Prelude.{◌≡◌, ◌≢◌, ℕ, ◌-◌, ◌+◌, ◌^◌, ◌<◌, ◌≤◌, ◌==◌, ◌∷◌, not, false, IsTrue, slice_index_or, filter, length, Contains, MatchOption, All, vec_len, vec_capacity};
 ghost use Rattle.std.specs.List.Sorted.{IsNonDecreasingBy, IsPermutation};
 ghost use Rattle.iigs_meaning.specs.Slots.{slot_at};
-ghost use Rattle.iigs_places.specs.declared.marks.Mark as declared;
+ghost use Rattle.iigs_places.specs.declared.marks.BlockMark as declared;
 ghost use Rattle.iigs_places.specs.Spots.{IsBoundedSlot};
 ghost use Rattle.iigs_places.specs.Marks.{mark_in, AreGathered, HaveMarks, AreOnce, AreMarksApart, IsSized, CountsUpTo, CountsBefore, IsLast, IsFirstFrom, IsLastOther, LiesBeside, SharesByte};
 
 use crate::spots::{insert_reserved, push_some};
 use iigs_handles::Handles;
-use iigs_meaning::{Block, Content, Slot};
+use iigs_meaning::{Block, Slot, SlotContent};
 
 /// Where a block begins and ends, and in which slot it is.
 #[derive(Clone, Copy)]
-pub struct Mark {
+pub struct BlockMark {
     /// The address of its first byte.
     pub at: u32,
     /// The address after its last byte.
@@ -22,19 +22,19 @@ pub struct Mark {
 }
 
 // The mark of the block in a slot, if one is there.
-fn mark_of(slots: &[Slot<Block>], place: usize) -> Option<Mark>
+fn mark_of(slots: &[Slot<Block>], place: usize) -> Option<BlockMark>
     requires inside { place < length slots.now }
     requires few { length slots.now ≤ 4096 }
     requires bounded { IsBoundedSlot (slot_at slots.now place) }
     ensures { result ≡ mark_in place (slot_at slots.now place) }
 {
-    let Content::Used(block) = &slots[place].content else {
+    let SlotContent::Used(block) = &slots[place].content else {
         return None;
     };
     let Some(at) = block.at else {
         return None;
     };
-    Some(Mark {
+    Some(BlockMark {
         at,
         end: at + block.want.size,
         slot: place as u16,
@@ -42,7 +42,7 @@ fn mark_of(slots: &[Slot<Block>], place: usize) -> Option<Mark>
 }
 
 // The marks of the blocks that are there in the first so many slots, in their order.
-fn gather_marks(slots: &[Slot<Block>], count: usize, marks: &mut Vec<Mark>)
+fn gather_marks(slots: &[Slot<Block>], count: usize, marks: &mut Vec<BlockMark>)
     requires few { length slots.now ≤ 4096 }
     requires inside { count ≤ length slots.now }
     requires bounded { All IsBoundedSlot slots.now }
@@ -58,7 +58,7 @@ fn gather_marks(slots: &[Slot<Block>], count: usize, marks: &mut Vec<Mark>)
 }
 
 /// Marks the blocks that are there. Slots that were never used have none.
-pub fn mark_all(table: &Handles<Block>, marks: &mut Vec<Mark>)
+pub fn mark_all(table: &Handles<Block>, marks: &mut Vec<BlockMark>)
     requires bounded { All IsBoundedSlot table.now }
     requires room { 4096 ≤ vec_capacity marks.old }
     ensures order { IsNonDecreasingBy (λ mark. mark.at) marks.new.items }
@@ -71,7 +71,7 @@ pub fn mark_all(table: &Handles<Block>, marks: &mut Vec<Mark>)
 }
 
 // How many marks are at an address or before it.
-fn count_up_to(marks: &[Mark], address: u32) -> usize
+fn count_up_to(marks: &[BlockMark], address: u32) -> usize
     requires { IsNonDecreasingBy (λ mark. mark.at) marks.now }
     ensures count { CountsUpTo marks.now address result }
     ensures bound { result ≤ length marks.now }
@@ -80,9 +80,9 @@ fn count_up_to(marks: &[Mark], address: u32) -> usize
 }
 
 /// The last mark at an address or before it.
-pub fn last_mark(marks: &[Mark], address: u32) -> Option<Mark>
+pub fn last_mark(marks: &[BlockMark], address: u32) -> Option<BlockMark>
     requires { IsNonDecreasingBy (λ mark. mark.at) marks.now }
-    ensures { MatchOption result ((mark : declared.Mark) → Contains marks.now mark → address < mark.at) (IsLast marks.now address) }
+    ensures { MatchOption result ((mark : declared.BlockMark) → Contains marks.now mark → address < mark.at) (IsLast marks.now address) }
 {
     let count = count_up_to(marks, address);
     if count == 0 {
@@ -92,7 +92,7 @@ pub fn last_mark(marks: &[Mark], address: u32) -> Option<Mark>
 }
 
 /// Adds a mark to marks in order.
-pub fn add_mark(marks: &mut Vec<Mark>, mark: Mark)
+pub fn add_mark(marks: &mut Vec<BlockMark>, mark: BlockMark)
     requires order { IsNonDecreasingBy (λ mark. mark.at) marks.old.items }
     requires room { vec_len marks.old < vec_capacity marks.old }
     ensures order { IsNonDecreasingBy (λ mark. mark.at) marks.new.items }
@@ -104,7 +104,7 @@ pub fn add_mark(marks: &mut Vec<Mark>, mark: Mark)
 }
 
 // How many marks are before an address.
-fn count_before(marks: &[Mark], address: u32) -> usize
+fn count_before(marks: &[BlockMark], address: u32) -> usize
     requires { IsNonDecreasingBy (λ mark. mark.at) marks.now }
     ensures { CountsBefore marks.now address result }
 {
@@ -112,9 +112,9 @@ fn count_before(marks: &[Mark], address: u32) -> usize
 }
 
 /// The first mark at an address or behind it.
-pub fn first_from(marks: &[Mark], address: u32) -> Option<Mark>
+pub fn first_from(marks: &[BlockMark], address: u32) -> Option<BlockMark>
     requires { IsNonDecreasingBy (λ mark. mark.at) marks.now }
-    ensures { MatchOption result ((mark : declared.Mark) → Contains marks.now mark → mark.at < address) (IsFirstFrom marks.now address) }
+    ensures { MatchOption result ((mark : declared.BlockMark) → Contains marks.now mark → mark.at < address) (IsFirstFrom marks.now address) }
 {
     let count = count_before(marks, address);
     if count == marks.len() {
@@ -124,10 +124,10 @@ pub fn first_from(marks: &[Mark], address: u32) -> Option<Mark>
 }
 
 // Of the marks of other slots the last one before an address.
-fn last_other(marks: &[Mark], address: u32, slot: u16) -> Option<Mark>
+fn last_other(marks: &[BlockMark], address: u32, slot: u16) -> Option<BlockMark>
     requires order { IsNonDecreasingBy (λ mark. mark.at) marks.now }
     requires once { AreOnce marks.now }
-    ensures { MatchOption result ((mark : declared.Mark) → Contains marks.now mark → mark.slot ≢ slot → address ≤ mark.at) (IsLastOther marks.now address slot) }
+    ensures { MatchOption result ((mark : declared.BlockMark) → Contains marks.now mark → mark.slot ≢ slot → address ≤ mark.at) (IsLastOther marks.now address slot) }
 {
     let count = count_before(marks, address);
     if count == 0 {
@@ -143,7 +143,7 @@ fn last_other(marks: &[Mark], address: u32, slot: u16) -> Option<Mark>
 }
 
 /// Whether so many bytes from an address on lie in none of the blocks of other slots.
-pub fn lies_beside(marks: &[Mark], slot: u16, address: u32, size: u32) -> bool
+pub fn lies_beside(marks: &[BlockMark], slot: u16, address: u32, size: u32) -> bool
     requires order { IsNonDecreasingBy (λ mark. mark.at) marks.now }
     requires once { AreOnce marks.now }
     requires sized { All IsSized marks.now }
@@ -159,11 +159,11 @@ pub fn lies_beside(marks: &[Mark], slot: u16, address: u32, size: u32) -> bool
 }
 
 // The place of a mark of a slot, whose marks are all at one address.
-fn place_of(marks: &[Mark], slot: u16, at: u32) -> Option<usize>
+fn place_of(marks: &[BlockMark], slot: u16, at: u32) -> Option<usize>
     requires order { IsNonDecreasingBy (λ mark. mark.at) marks.now }
     requires same { All (λ mark. mark.slot ≡ slot → mark.at ≡ at) marks.now }
     ensures { MatchOption result (All (λ mark. mark.slot ≢ slot) marks.now)
-        (λ place. (place < length marks.now) × ((d : declared.Mark) → (slice_index_or marks.now place d).slot ≡ slot)) }
+        (λ place. (place < length marks.now) × ((d : declared.BlockMark) → (slice_index_or marks.now place d).slot ≡ slot)) }
 {
     let count = count_before(marks, at);
     for place in count..marks.len() {
@@ -178,7 +178,7 @@ fn place_of(marks: &[Mark], slot: u16, at: u32) -> Option<usize>
 }
 
 /// Drops the mark of the block in a slot, which is at an address if it is there.
-pub fn drop_mark(marks: &mut Vec<Mark>, slot: u16, at: u32)
+pub fn drop_mark(marks: &mut Vec<BlockMark>, slot: u16, at: u32)
     requires order { IsNonDecreasingBy (λ mark. mark.at) marks.old.items }
     requires same { All (λ mark. mark.slot ≡ slot → mark.at ≡ at) marks.old.items }
     ensures items { marks.new.items ≡ filter (λ mark. not (mark.slot == slot)) marks.old.items }
@@ -191,21 +191,21 @@ pub fn drop_mark(marks: &mut Vec<Mark>, slot: u16, at: u32)
 }
 
 // Whether a mark that is put at a place keeps the order, where it is at an address.
-fn keeps_order(marks: &[Mark], place: usize, address: u32) -> bool
+fn keeps_order(marks: &[BlockMark], place: usize, address: u32) -> bool
     requires { place < length marks.now }
-    ensures below { IsTrue result → (d : declared.Mark) → 0 < place → (slice_index_or marks.now (place - 1) d).at ≤ address }
-    ensures above { IsTrue result → (d : declared.Mark) → place + 1 < length marks.now → address ≤ (slice_index_or marks.now (place + 1) d).at }
+    ensures below { IsTrue result → (d : declared.BlockMark) → 0 < place → (slice_index_or marks.now (place - 1) d).at ≤ address }
+    ensures above { IsTrue result → (d : declared.BlockMark) → place + 1 < length marks.now → address ≤ (slice_index_or marks.now (place + 1) d).at }
 {
     (place == 0 || marks[place - 1].at <= address)
         && (place + 1 == marks.len() || address <= marks[place + 1].at)
 }
 
 /// Moves the one mark of a slot, which is at an address. Where the order stays, no other mark is touched.
-pub fn move_mark(marks: &mut Vec<Mark>, at: u32, mark: Mark)
+pub fn move_mark(marks: &mut Vec<BlockMark>, at: u32, mark: BlockMark)
     requires order { IsNonDecreasingBy (λ mark. mark.at) marks.old.items }
     requires same { All (λ other. other.slot ≡ mark.slot → other.at ≡ at) marks.old.items }
     requires once { AreOnce marks.old.items }
-    requires marked { (other : declared.Mark) × Contains marks.old.items other × (other.slot ≡ mark.slot) }
+    requires marked { (other : declared.BlockMark) × Contains marks.old.items other × (other.slot ≡ mark.slot) }
     ensures order { IsNonDecreasingBy (λ mark. mark.at) marks.new.items }
     ensures moved { IsPermutation (mark ∷ filter (λ other. not (other.slot == mark.slot)) marks.old.items) marks.new.items }
     ensures capacity { vec_capacity marks.old ≤ vec_capacity marks.new }

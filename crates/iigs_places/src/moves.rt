@@ -5,7 +5,7 @@ ghost use Rattle.std.specs.Option.{option_map_or};
 ghost use Rattle.std.specs.List.Sorted.{IsNonDecreasingBy};
 ghost use Rattle.iigs_meaning.specs.Slots.{get, with_value};
 ghost use Rattle.iigs_meaning.specs.Fits.{IsWant, block_in};
-ghost use Rattle.iigs_meaning.specs.Placement.{can_purge, emptied, count_purgeable as purgeable};
+ghost use Rattle.iigs_meaning.specs.Placement.{can_purge, slots_after_purges, count_purgeable as purgeable};
 ghost use Rattle.iigs_meaning.specs.Moves.{Empties, IsEmptyRefusal, Shifts, IsShiftRefusal};
 ghost use Rattle.iigs_places.specs.Arranged.{IsArranged};
 ghost use Rattle.iigs_places.specs.Spots.{IsBoundedSlot};
@@ -14,20 +14,20 @@ ghost use Rattle.iigs_places.specs.Marks.{AreOnce, AreMarksApart, IsSized, LiesB
 ghost use Rattle.iigs_places.specs.Runs.{IsLayout};
 
 use crate::bank_map::BankMap;
-use crate::layout::{Layout, lay_all, lay_gone, lay_moved};
-use crate::marks::{Mark, lies_beside};
+use crate::layout::{BlockLayout, lay_all, lay_gone, lay_moved};
+use crate::marks::{BlockMark, lies_beside};
 use crate::open::is_open;
 use crate::search::limit_at;
-use crate::spots::{Spot, survey};
+use crate::spots::{BlockSpot, gather_blocks};
 use crate::table::{can_be_purged, empty_below, set};
 use iigs_handles::Handles;
-use iigs_meaning::{Block, Content, EmptyFault, Handle, ShiftFault, Slot, Stale, Want};
+use iigs_meaning::{Block, EmptyFault, Handle, ShiftFault, Slot, SlotContent, Stale, Want};
 
 // Whether the block in a slot may be purged.
 fn may_purge(slot: &Slot<Block>) -> bool
     ensures { result ≡ option_map_or can_purge (block_in slot.now) false }
 {
-    let Content::Used(block) = &slot.content else {
+    let SlotContent::Used(block) = &slot.content else {
         return false;
     };
     can_be_purged(block)
@@ -51,8 +51,8 @@ pub fn count_purgeable(slots: &[Slot<Block>]) -> u32
 /// Empties the first so many purgeable blocks. `spots` and `turns` are scratch space.
 pub fn purge_first(
     table: &mut Handles<Block>,
-    layout: &mut Layout,
-    spots: &mut Vec<Spot>,
+    layout: &mut BlockLayout,
+    spots: &mut Vec<BlockSpot>,
     turns: &mut Vec<u32>,
     count: u32,
 )
@@ -60,12 +60,12 @@ pub fn purge_first(
     requires laid { IsLayout table.old layout.old }
     requires spots_room { 4096 ≤ vec_capacity spots.old }
     requires turns_room { 4096 ≤ vec_capacity turns.old }
-    ensures after { table.new ≡ emptied table.old count }
+    ensures after { table.new ≡ slots_after_purges table.old count }
     ensures laid { IsLayout table.new layout.new }
     ensures spots_capacity { vec_capacity spots.old ≤ vec_capacity spots.new }
     ensures turns_capacity { vec_capacity turns.old ≤ vec_capacity turns.new }
 {
-    survey(table, spots, turns);
+    gather_blocks(table, spots, turns);
     let limit = limit_at(turns, turns.len().min(count as usize));
     empty_below(table, limit);
     lay_all(layout, table);
@@ -74,11 +74,11 @@ pub fn purge_first(
 /// Empties a purgeable block. Its handle stays.
 pub fn empty_block(
     table: &mut Handles<Block>,
-    layout: &mut Layout,
+    layout: &mut BlockLayout,
     h: Handle,
 ) -> Result<(), EmptyFault>
     requires laid { IsLayout table.old layout.old }
-    ensures emptied { OnOk result (Empties table.old h table.new) }
+    ensures slots_after_purges { OnOk result (Empties table.old h table.new) }
     ensures refused { IfErr result (IsEmptyRefusal table.old h) }
     ensures err { OnErr result (table.new ≡ table.old) }
     ensures laid { IsLayout table.new layout.new }
@@ -99,7 +99,7 @@ pub fn empty_block(
 }
 
 // Whether a want fits at an address beside the blocks of other slots.
-fn fits_beside(map: &BankMap, marks: &[Mark], slot: u16, want: &Want, to: u32) -> bool
+fn fits_beside(map: &BankMap, marks: &[BlockMark], slot: u16, want: &Want, to: u32) -> bool
     requires want { IsWant want.now }
     requires to { to ≤ 2 ^ 24 }
     requires small { want.now.size ≤ 2 ^ 24 }
@@ -116,7 +116,7 @@ fn fits_beside(map: &BankMap, marks: &[Mark], slot: u16, want: &Want, to: u32) -
 /// Moves a live handle's block, which is at an address, to another.
 pub fn move_to(
     table: &mut Handles<Block>,
-    layout: &mut Layout,
+    layout: &mut BlockLayout,
     h: Handle,
     block: &Block,
     at: u32,
@@ -135,7 +135,7 @@ pub fn move_to(
         ..*block
     };
     set(table, h, moved);
-    let mark = Mark {
+    let mark = BlockMark {
         at: to,
         end,
         slot: h.slot,
@@ -148,7 +148,7 @@ pub fn move_to(
 pub fn shift_block(
     map: &BankMap,
     table: &mut Handles<Block>,
-    layout: &mut Layout,
+    layout: &mut BlockLayout,
     h: Handle,
     to: u32,
 ) -> Result<Block, ShiftFault>

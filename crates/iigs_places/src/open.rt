@@ -93,7 +93,7 @@ fn barred_in(map: &BankMap, want: &Want, bank: u32, at: u32, end: u32) -> Option
 }
 
 // The first address after `at` at which a block is clear, if it isn't clear at `at`.
-fn barred(map: &BankMap, want: &Want, at: u32) -> Option<u32>
+fn next_clear_address(map: &BankMap, want: &Want, at: u32) -> Option<u32>
     requires want { IsWant want.now }
     requires limit { at + want.now.size ≤ 2 ^ 24 }
     ensures { MatchOption result (IsClear map.now want.now at) (BarredUpTo map.now want.now at) }
@@ -113,7 +113,7 @@ fn barred(map: &BankMap, want: &Want, at: u32) -> Option<u32>
 }
 
 // Whether a block of this want may begin at the address, whatever bytes it has.
-fn stands(want: &Want, place: u32) -> bool
+fn is_allowed_start(want: &Want, place: u32) -> bool
     requires { IsWant want.now }
     ensures yes { IsTrue result → Stands want.now place }
     ensures no { result ≡ false → ¬ Stands want.now place }
@@ -174,7 +174,7 @@ fn next_stand(want: &Want, at: u32) -> Option<u32>
         (None, Some(low)) => next_low(at, low),
         (None, None) => next_aligned(at, want.align),
     };
-    if at <= place && stands(want, place) {
+    if at <= place && is_allowed_start(want, place) {
         Some(place)
     } else {
         None
@@ -193,7 +193,7 @@ pub fn next_open(map: &BankMap, want: &Want, from: u32) -> Option<u32>
         if u64::from(limit) < u64::from(place) + u64::from(want.size) {
             return None;
         }
-        match barred(map, want, place) {
+        match next_clear_address(map, want, place) {
             None => return Some(place),
             Some(later) => at = later,
         }

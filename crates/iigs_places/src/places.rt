@@ -6,7 +6,7 @@ ghost use Rattle.std.specs.Result.{result_ok};
 ghost use Rattle.iigs_meaning.specs.declared.handles.Handle as declared;
 ghost use Rattle.iigs_meaning.specs.Slots.{get, slot_at, with_value, after_release, is_free};
 ghost use Rattle.iigs_meaning.specs.Fits.{IsWant, Fits, HoldsByte, block_in};
-ghost use Rattle.iigs_meaning.specs.Placement.{emptied_where, emptied, count_purgeable as purgeable_of};
+ghost use Rattle.iigs_meaning.specs.Placement.{emptied_where, slots_after_purges, count_purgeable as purgeable_of};
 ghost use Rattle.iigs_meaning.specs.Slide.{Slides, AreSettled};
 ghost use Rattle.iigs_meaning.specs.Moves.{count_there, IsNth, Empties, IsEmptyRefusal, Shifts, IsShiftRefusal};
 ghost use Rattle.iigs_meaning.specs.Puts.{Purges, IsPlaceRefusal, IsReplaceRefusal, IsPlaceAllRefusal, slots_for};
@@ -20,18 +20,19 @@ ghost use Rattle.iigs_places.specs.Table.{IsPut, IsReput};
 ghost use Rattle.iigs_places.specs.Alls.{AllPut};
 
 use crate::bank_map::BankMap;
-use crate::layout::{Layout, join, lay_all, lay_less, new_layout};
+use crate::layout::{BlockLayout, join, lay_all, lay_less, new_layout};
 use crate::marks::{first_from, last_mark};
 use crate::moves::{count_purgeable, empty_block, purge_first, shift_block};
 use crate::search::least_among;
 use crate::slide::slide_all;
-use crate::spots::Spot;
+use crate::spots::BlockSpot;
 use crate::table::{
-    Put, lasting_bytes, purge_user, put_all, put_block, replace_block, set, start_plan, used_bytes,
+    PlacedBlock, lasting_bytes, purge_user, put_all, put_block, replace_block, set, start_plan,
+    used_bytes,
 };
 use iigs_handles::{Handles, HandlesFault, SLOTS};
 use iigs_meaning::{
-    BanksFault, Block, Content, EmptyFault, Handle, PlaceFault, ShiftFault, Stale, Want,
+    BanksFault, Block, EmptyFault, Handle, PlaceFault, ShiftFault, SlotContent, Stale, Want,
 };
 use std::alloc::{AllocError, Global};
 use std::marker::Model;
@@ -41,9 +42,9 @@ use std::marker::Model;
 pub struct Places {
     map: BankMap,
     table: Handles<Block>,
-    layout: Layout,
+    layout: BlockLayout,
     // Scratch space for a search.
-    spots: Vec<Spot>,
+    spots: Vec<BlockSpot>,
     turns: Vec<u32>,
 }
 
@@ -149,7 +150,7 @@ impl Places {
         ensures { MatchOption result (¬ HoldsByte address (slot_at self.now.slots place)) (λ h. (h.slot ≡ place) × Has self.now.slots address h) }
     {
         let slot = &self.table.slots()[usize::from(place)];
-        let Content::Used(block) = &slot.content else {
+        let SlotContent::Used(block) = &slot.content else {
             return None;
         };
         let Some(at) = block.at else {
@@ -215,7 +216,7 @@ impl Places {
         locked: bool,
         level: u8,
         movable: bool,
-    ) -> Result<Put, PlaceFault>
+    ) -> Result<PlacedBlock, PlaceFault>
         requires want { IsWant want.now }
         ensures put { IfOk result (λ put. IsPut self.old.banks self.old.slots want.now user locked level movable put self.new.slots) }
         ensures banks { self.new.banks ≡ self.old.banks }
@@ -279,7 +280,7 @@ impl Places {
         &mut self,
         user: u16,
         wants: &[Want],
-        made: &mut Vec<Put>,
+        made: &mut Vec<PlacedBlock>,
     ) -> Result<(), PlaceFault>
         requires wants { All IsWant wants.now }
         requires free { length wants.now ≤ count_by is_free self.old.slots }
@@ -330,12 +331,12 @@ impl Places {
     }
 
     /// The lowest block from an address on.
-    pub fn first_from(&self, address: u32) -> Option<Put>
+    pub fn first_from(&self, address: u32) -> Option<PlacedBlock>
         ensures found { MatchOption result ((place at : ℕ) → address_in (slot_at self.now.slots place) ≡ Some at → at < address) (IsFirstPut self.now.slots address) }
         ensures small { IfSome result (λ put. put.at < 2 ^ 24) }
     {
         match first_from(&self.layout.marks, address) {
-            Some(mark) => Some(Put {
+            Some(mark) => Some(PlacedBlock {
                 handle: self.handle_in(mark.slot),
                 at: mark.at,
             }),
@@ -353,7 +354,7 @@ impl Places {
 
     /// Empties the first so many purgeable blocks, whose handles stay.
     pub fn purge_first(&mut self, count: u32)
-        ensures { self.new ≡ record self.old { slots = emptied self.old.slots count } }
+        ensures { self.new ≡ record self.old { slots = slots_after_purges self.old.slots count } }
     {
         purge_first(
             &mut self.table,
@@ -366,7 +367,7 @@ impl Places {
 
     /// Empties a purgeable block. Its handle stays.
     pub fn empty(&mut self, h: Handle) -> Result<(), EmptyFault>
-        ensures emptied { OnOk result (Empties self.old.slots h self.new.slots) }
+        ensures slots_after_purges { OnOk result (Empties self.old.slots h self.new.slots) }
         ensures banks { self.new.banks ≡ self.old.banks }
         ensures refused { IfErr result (IsEmptyRefusal self.old.slots h) }
         ensures err { OnErr result (self.new ≡ self.old) }

@@ -2,25 +2,25 @@
 
 ghost use Rattle.std.specs.Prelude.{◌≡◌, ℕ, ◌-◌, ◌+◌, ◌<◌, ◌≤◌, ◌^◌, All, IsTrue, length, slice_index_or, slice_set, vec_len, vec_capacity};
 ghost use Rattle.std.specs.List.Sorted.{IsNonDecreasingBy};
-ghost use Rattle.iigs_places.specs.declared.spots.Spot.{Spot};
+ghost use Rattle.iigs_places.specs.declared.spots.BlockSpot.{BlockSpot};
 ghost use Rattle.iigs_places.specs.Marks.{IsSized};
 ghost use Rattle.iigs_places.specs.Runs.{AreRuns, RunsAdd, StandsAt, IsStretch, Cover};
 
-use crate::marks::Mark;
-use crate::spots::{NEVER, Spot, insert_reserved};
+use crate::marks::BlockMark;
+use crate::spots::{BlockSpot, NEVER, insert_reserved};
 
 // Whether the last of the first so many runs ends at an address.
-fn ends_at(runs: &[Spot], count: usize, address: u32) -> bool
+fn ends_at(runs: &[BlockSpot], count: usize, address: u32) -> bool
     requires { count ≤ length runs.now }
-    ensures { IsTrue result → (0 < count) × ((d : Spot) → (slice_index_or runs.now (count - 1) d).end ≡ address) }
+    ensures { IsTrue result → (0 < count) × ((d : BlockSpot) → (slice_index_or runs.now (count - 1) d).end ≡ address) }
 {
     count > 0 && runs[count - 1].end == address
 }
 
 // Lets a run end at another address.
-fn extend(runs: &mut Vec<Spot>, place: usize, end: u32)
+fn extend(runs: &mut Vec<BlockSpot>, place: usize, end: u32)
     requires { place < vec_len runs.old }
-    ensures items { (d : Spot) → runs.new.items ≡ slice_set runs.old.items place (record (slice_index_or runs.old.items place d) { end = end }) }
+    ensures items { (d : BlockSpot) → runs.new.items ≡ slice_set runs.old.items place (record (slice_index_or runs.old.items place d) { end = end }) }
     ensures len { vec_len runs.new ≡ vec_len runs.old }
     ensures capacity { vec_capacity runs.old ≤ vec_capacity runs.new }
 {
@@ -28,7 +28,7 @@ fn extend(runs: &mut Vec<Spot>, place: usize, end: u32)
 }
 
 // Adds the bytes of a block, before which the first so many runs begin, and behind which the others do.
-fn add_at(runs: &mut Vec<Spot>, count: usize, at: u32, end: u32)
+fn add_at(runs: &mut Vec<BlockSpot>, count: usize, at: u32, end: u32)
     requires runs { AreRuns runs.old.items }
     requires stands { StandsAt runs.old.items count at }
     requires some { at < end }
@@ -45,7 +45,7 @@ fn add_at(runs: &mut Vec<Spot>, count: usize, at: u32, end: u32)
         insert_reserved(
             runs,
             count,
-            Spot {
+            BlockSpot {
                 at,
                 end,
                 turn: NEVER,
@@ -55,7 +55,7 @@ fn add_at(runs: &mut Vec<Spot>, count: usize, at: u32, end: u32)
 }
 
 // How many runs begin at an address or before it.
-fn count_up_to(runs: &[Spot], address: u32) -> usize
+fn count_up_to(runs: &[BlockSpot], address: u32) -> usize
     requires { IsNonDecreasingBy (λ run. run.at) runs.now }
     ensures { StandsAt runs.now result address }
 {
@@ -63,7 +63,7 @@ fn count_up_to(runs: &[Spot], address: u32) -> usize
 }
 
 /// Adds the bytes of a block.
-pub fn add_run(runs: &mut Vec<Spot>, at: u32, end: u32)
+pub fn add_run(runs: &mut Vec<BlockSpot>, at: u32, end: u32)
     requires runs { AreRuns runs.old.items }
     requires some { at < end }
     requires ends { end ≤ 2 ^ 24 }
@@ -87,7 +87,7 @@ pub struct Stretch {
 }
 
 // The blocks that begin with the one whose mark is at a place and have no byte between them.
-fn stretch_from(marks: &[Mark], first: usize) -> Stretch
+fn stretch_from(marks: &[BlockMark], first: usize) -> Stretch
     requires inside { first < length marks.now }
     requires sized { All IsSized marks.now }
     ensures { IsStretch marks.now first result }
@@ -106,7 +106,7 @@ fn stretch_from(marks: &[Mark], first: usize) -> Stretch
 }
 
 /// Makes runs of the blocks with these marks, which stand in order.
-pub fn join_marks(marks: &[Mark], runs: &mut Vec<Spot>)
+pub fn join_marks(marks: &[BlockMark], runs: &mut Vec<BlockSpot>)
     requires order { IsNonDecreasingBy (λ mark. mark.at) marks.now }
     requires sized { All IsSized marks.now }
     requires room { length marks.now ≤ vec_capacity runs.old }
@@ -117,7 +117,7 @@ pub fn join_marks(marks: &[Mark], runs: &mut Vec<Spot>)
     let mut first = 0;
     while first < marks.len() {
         let stretch = stretch_from(marks, first);
-        runs.push_reserved(Spot {
+        runs.push_reserved(BlockSpot {
             at: marks[first].at,
             end: stretch.end,
             turn: NEVER,

@@ -4,20 +4,20 @@ ghost use Rattle.std.specs.Prelude.{◌≡◌, ◌⊎◌, ℕ, IsTrue, ◌+◌, 
 ghost use Rattle.iigs_meaning.specs.Placement.{HasNoRoom};
 ghost use Rattle.std.specs.List.Sorted.{IsNonDecreasingBy};
 ghost use Rattle.iigs_meaning.specs.Fits.{IsWant};
-ghost use Rattle.iigs_places.specs.declared.spots.Spot.{Spot};
-ghost use Rattle.iigs_places.specs.Spots.{FitsAmong, IsLeastAmong, IsPast, HasNoPlace, IsFewestAmong, FitsWithNone, limit_of, never, IsBoundedSlot, IsFound};
+ghost use Rattle.iigs_places.specs.declared.spots.BlockSpot.{BlockSpot};
+ghost use Rattle.iigs_places.specs.Spots.{FitsAmong, IsLeastAmong, IsPast, HasNoPlace, IsFewestAmong, FitsWithNone, limit_of, turn_of_unpurgeable, IsBoundedSlot, IsFound};
 ghost use Rattle.iigs_places.specs.Runs.{IsLayout};
 
 use crate::bank_map::BankMap;
-use crate::layout::Layout;
+use crate::layout::BlockLayout;
 use crate::open::next_open;
-use crate::spots::{Spot, survey};
+use crate::spots::{BlockSpot, gather_blocks};
 use iigs_handles::Handles;
 use iigs_meaning::{Block, Want};
 
 /// Where a want goes, and which blocks are purged for it.
 #[derive(Clone, Copy)]
-pub struct Found {
+pub struct FoundAddress {
     /// Blocks with a turn below this one are purged.
     pub limit: u32,
     /// The address.
@@ -25,12 +25,12 @@ pub struct Found {
 }
 
 // The place of the first block from `from` on that isn't purged and ends after the address.
-fn first_after(spots: &[Spot], from: usize, limit: u32, address: u32) -> usize
+fn first_after(spots: &[BlockSpot], from: usize, limit: u32, address: u32) -> usize
     requires { from ≤ length spots.now }
     ensures after { from ≤ result }
     ensures within { result ≤ length spots.now }
-    ensures past { (k : ℕ) (d : Spot) → from ≤ k → k < result → IsPast limit address (slice_index_or spots.now k d) }
-    ensures here { (d : Spot) → result < length spots.now → (limit ≤ (slice_index_or spots.now result d).turn) × (address < (slice_index_or spots.now result d).end) }
+    ensures past { (k : ℕ) (d : BlockSpot) → from ≤ k → k < result → IsPast limit address (slice_index_or spots.now k d) }
+    ensures here { (d : BlockSpot) → result < length spots.now → (limit ≤ (slice_index_or spots.now result d).turn) × (address < (slice_index_or spots.now result d).end) }
 {
     for place in from..spots.len() {
         let spot = &spots[place];
@@ -52,15 +52,15 @@ struct Run {
 
 // The blocks that begin with the one at a place and leave no room for so many bytes between them. Those with a turn below
 // the limit don't count.
-fn run_from(spots: &[Spot], first: usize, limit: u32, size: u32) -> Run
+fn run_from(spots: &[BlockSpot], first: usize, limit: u32, size: u32) -> Run
     requires inside { first < length spots.now }
     requires size { size ≤ 2 ^ 24 }
     requires ends { All (λ spot. spot.end ≤ 2 ^ 24) spots.now }
-    ensures after { (d : Spot) → (slice_index_or spots.now first d).end ≤ result.end }
+    ensures after { (d : BlockSpot) → (slice_index_or spots.now first d).end ≤ result.end }
     ensures within { result.end ≤ 2 ^ 24 }
     ensures inside { result.next ≤ length spots.now }
-    ensures past { (k : ℕ) (d : Spot) → first ≤ k → k < result.next → IsPast limit result.end (slice_index_or spots.now k d) }
-    ensures full { (d : Spot) (address : ℕ) → (slice_index_or spots.now first d).end ≤ address → address < result.end → HasNoPlace spots.now limit size address }
+    ensures past { (k : ℕ) (d : BlockSpot) → first ≤ k → k < result.next → IsPast limit result.end (slice_index_or spots.now k d) }
+    ensures full { (d : BlockSpot) (address : ℕ) → (slice_index_or spots.now first d).end ≤ address → address < result.end → HasNoPlace spots.now limit size address }
 {
     let mut end = spots[first].end;
     for place in first + 1..spots.len() {
@@ -80,7 +80,7 @@ fn run_from(spots: &[Spot], first: usize, limit: u32, size: u32) -> Run
 
 /// The least address at which the want fits beside all blocks whose turn isn't below the limit. The blocks stand in
 /// order of address.
-pub fn least_among(map: &BankMap, want: &Want, spots: &[Spot], limit: u32) -> Option<u32>
+pub fn least_among(map: &BankMap, want: &Want, spots: &[BlockSpot], limit: u32) -> Option<u32>
     requires want { IsWant want.now }
     requires order { IsNonDecreasingBy (λ spot. spot.at) spots.now }
     requires ends { All (λ spot. spot.end ≤ 2 ^ 24) spots.now }
@@ -108,7 +108,7 @@ pub fn least_among(map: &BankMap, want: &Want, spots: &[Spot], limit: u32) -> Op
 #[tactic(auto, unfolding(crate::specs::Spots::limit_of))]
 pub fn limit_at(turns: &[u32], count: usize) -> u32
     requires count { count ≤ length turns.now }
-    requires small { All (λ turn. turn < never) turns.now }
+    requires small { All (λ turn. turn < turn_of_unpurgeable) turns.now }
     ensures { result ≡ limit_of turns.now count }
 {
     if count == 0 { 0 } else { turns[count - 1] + 1 }
@@ -116,17 +116,22 @@ pub fn limit_at(turns: &[u32], count: usize) -> u32
 
 /// The least address at which the want fits, and the fewest blocks that are purged for it. The turns of those that may
 /// be purged stand in order.
-pub fn fewest(map: &BankMap, want: &Want, spots: &[Spot], turns: &[u32]) -> Option<Found>
+pub fn fewest_purges(
+    map: &BankMap,
+    want: &Want,
+    spots: &[BlockSpot],
+    turns: &[u32],
+) -> Option<FoundAddress>
     requires want { IsWant want.now }
     requires order { IsNonDecreasingBy (λ spot. spot.at) spots.now }
     requires ends { All (λ spot. spot.end ≤ 2 ^ 24) spots.now }
     requires rises { IsNonDecreasingBy (λ turn. turn) turns.now }
-    requires small { All (λ turn. turn < never) turns.now }
+    requires small { All (λ turn. turn < turn_of_unpurgeable) turns.now }
     ensures { MatchOption result (FitsWithNone map.now want.now spots.now turns.now)
         (IsFewestAmong map.now want.now spots.now turns.now) }
 {
     if let Some(at) = least_among(map, want, spots, 0) {
-        return Some(Found { limit: 0, at });
+        return Some(FoundAddress { limit: 0, at });
     }
     let all = limit_at(turns, turns.len());
     let Some(mut at) = least_among(map, want, spots, all) else {
@@ -144,7 +149,7 @@ pub fn fewest(map: &BankMap, want: &Want, spots: &[Spot], turns: &[u32]) -> Opti
             }
         }
     }
-    Some(Found {
+    Some(FoundAddress {
         limit: limit_at(turns, count),
         at,
     })
@@ -156,10 +161,10 @@ pub fn find(
     map: &BankMap,
     want: &Want,
     table: &Handles<Block>,
-    layout: &Layout,
-    spots: &mut Vec<Spot>,
+    layout: &BlockLayout,
+    spots: &mut Vec<BlockSpot>,
     turns: &mut Vec<u32>,
-) -> Option<Found>
+) -> Option<FoundAddress>
     requires want { IsWant want.now }
     requires bounded { All IsBoundedSlot table.now }
     requires laid { IsLayout table.now layout.now }
@@ -171,8 +176,8 @@ pub fn find(
     ensures turns_capacity { vec_capacity turns.old ≤ vec_capacity turns.new }
 {
     if let Some(at) = least_among(map, want, &layout.runs, 0) {
-        return Some(Found { limit: 0, at });
+        return Some(FoundAddress { limit: 0, at });
     }
-    survey(table, spots, turns);
-    fewest(map, want, spots, turns)
+    gather_blocks(table, spots, turns);
+    fewest_purges(map, want, spots, turns)
 }

@@ -9,14 +9,14 @@ ghost use Rattle.iigs_places.specs.Sliding.{ArePassed, Sinks};
 ghost use Rattle.iigs_places.specs.Runs.{IsLayout};
 
 use crate::bank_map::BankMap;
-use crate::layout::Layout;
-use crate::marks::{Mark, first_from};
+use crate::layout::BlockLayout;
+use crate::marks::{BlockMark, first_from};
 use crate::moves::move_to;
 use crate::runs::add_run;
 use crate::search::least_among;
-use crate::spots::Spot;
+use crate::spots::BlockSpot;
 use iigs_handles::Handles;
-use iigs_meaning::{Block, Content, Handle};
+use iigs_meaning::{Block, Handle, SlotContent};
 
 #[tactic(auto, unfolding(iigs_meaning::specs::Slide::can_move))]
 fn can_be_moved(block: &Block) -> bool
@@ -27,22 +27,22 @@ fn can_be_moved(block: &Block) -> bool
 
 // A block, and the generation of its handle.
 #[derive(Clone, Copy)]
-struct Held {
+struct MarkedBlock {
     generation: u8,
     block: Block,
 }
 
 // The block in a slot.
-fn held_in(table: &Handles<Block>, slot: u16) -> Held
+fn held_in(table: &Handles<Block>, slot: u16) -> MarkedBlock
     requires place { slot < 4096 }
     requires there { IsSome (block_in (slot_at table.now slot)) }
     ensures { get table.now (record { slot = slot; generation = result.generation }) ≡ Some result.block }
 {
     let held = &table.slots()[usize::from(slot)];
-    let Content::Used(block) = &held.content else {
+    let SlotContent::Used(block) = &held.content else {
         unreachable!();
     };
-    Held {
+    MarkedBlock {
         generation: held.generation,
         block: *block,
     }
@@ -50,12 +50,12 @@ fn held_in(table: &Handles<Block>, slot: u16) -> Held
 
 // Moves the block with a mark, if it moves, to the least address at which its want fits beside the blocks below it, which
 // were passed. Gives its address then.
-fn sink(
+fn slide_block(
     map: &BankMap,
     table: &mut Handles<Block>,
-    layout: &mut Layout,
-    passed: &[Spot],
-    mark: Mark,
+    layout: &mut BlockLayout,
+    passed: &[BlockSpot],
+    mark: BlockMark,
 ) -> u32
     requires arranged { IsArranged map.now table.old }
     requires settled { AreSettled map.now table.old }
@@ -89,8 +89,8 @@ fn sink(
 pub fn slide_all(
     map: &BankMap,
     table: &mut Handles<Block>,
-    layout: &mut Layout,
-    passed: &mut Vec<Spot>,
+    layout: &mut BlockLayout,
+    passed: &mut Vec<BlockSpot>,
 )
     requires arranged { IsArranged map.now table.old }
     requires settled { AreSettled map.now table.old }
@@ -104,7 +104,7 @@ pub fn slide_all(
     passed.clear();
     let mut limit = 0;
     while let Some(mark) = first_from(&layout.marks, limit) {
-        let at = sink(map, table, layout, passed, mark);
+        let at = slide_block(map, table, layout, passed, mark);
         add_run(passed, at, at + (mark.end - mark.at));
         limit = mark.at + 1;
     }

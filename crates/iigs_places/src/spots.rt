@@ -4,14 +4,14 @@ ghost use Rattle.std.specs.Prelude.{◌≡◌, ◌++◌, ◌+◌, ◌^◌, ◌<�
 ghost use Rattle.std.specs.List.{insert};
 ghost use Rattle.std.specs.Option.{option_to_list};
 ghost use Rattle.std.specs.List.Sorted.{IsPermutation, IsNonDecreasingBy};
-ghost use Rattle.iigs_places.specs.Spots.{never, turn_of as turn_in_order, spot_in, turn_in as kept_turn, spots_of, turns_of, IsBounded, IsBoundedSlot, IsSurvey};
+ghost use Rattle.iigs_places.specs.Spots.{turn_of_unpurgeable, turn_of as turn_in_order, spot_in, turn_in as kept_turn, spots_of, turns_of, IsBounded, IsBoundedSlot, IsSurvey};
 
 use iigs_handles::Handles;
-use iigs_meaning::{Block, Content, Slot};
+use iigs_meaning::{Block, Slot, SlotContent};
 
 /// A block that is there, or several with no byte between them.
 #[derive(Clone, Copy)]
-pub struct Spot {
+pub struct BlockSpot {
     /// The address of its first byte.
     pub at: u32,
     /// The address after its last byte.
@@ -38,17 +38,17 @@ pub fn turn_of(block: &Block) -> u32
     u32::from(255 - block.level) * 0x100_0000 + at
 }
 
-fn spot_of(slot: &Slot<Block>) -> Option<Spot>
+fn spot_of(slot: &Slot<Block>) -> Option<BlockSpot>
     requires { IsBoundedSlot slot.now }
     ensures { result ≡ spot_in slot.now }
 {
-    let Content::Used(block) = &slot.content else {
+    let SlotContent::Used(block) = &slot.content else {
         return None;
     };
     let Some(at) = block.at else {
         return None;
     };
-    Some(Spot {
+    Some(BlockSpot {
         at,
         end: at + block.want.size,
         turn: turn_of(block),
@@ -84,7 +84,7 @@ pub fn insert_reserved<T: Drop>(items: &mut Vec<T>, place: usize, item: T)
 // The blocks that are there, in the order of their slots.
 
 #[tactic(auto, unfolding(crate::specs::Spots::spots_of))]
-fn gather_spots(slots: &[Slot<Block>], spots: &mut Vec<Spot>)
+fn gather_spots(slots: &[Slot<Block>], spots: &mut Vec<BlockSpot>)
     requires bounded { All IsBoundedSlot slots.now }
     requires room { length slots.now ≤ vec_capacity spots.old }
     ensures items { spots.new.items ≡ spots_of slots.now }
@@ -97,7 +97,7 @@ fn gather_spots(slots: &[Slot<Block>], spots: &mut Vec<Spot>)
 }
 
 // Those of a table. Slots that were never used have none.
-fn gather_all(table: &Handles<Block>, spots: &mut Vec<Spot>)
+fn gather_all(table: &Handles<Block>, spots: &mut Vec<BlockSpot>)
     requires bounded { All IsBoundedSlot table.now }
     requires room { 4096 ≤ vec_capacity spots.old }
     ensures items { spots.new.items ≡ spots_of table.now }
@@ -107,7 +107,7 @@ fn gather_all(table: &Handles<Block>, spots: &mut Vec<Spot>)
     gather_spots(&table.slots()[..table.end()], spots);
 }
 
-fn turn_in(spot: &Spot) -> Option<u32>
+fn turn_in(spot: &BlockSpot) -> Option<u32>
     ensures { result ≡ kept_turn spot.now }
 {
     if spot.turn < NEVER {
@@ -120,7 +120,7 @@ fn turn_in(spot: &Spot) -> Option<u32>
 // The turns of the blocks that may be purged, in the order of the blocks.
 
 #[tactic(auto, unfolding(crate::specs::Spots::turns_of))]
-fn gather_turns(spots: &[Spot], turns: &mut Vec<u32>)
+fn gather_turns(spots: &[BlockSpot], turns: &mut Vec<u32>)
     requires room { length spots.now ≤ vec_capacity turns.old }
     ensures items { turns.new.items ≡ turns_of spots.now }
     ensures capacity { vec_capacity turns.old ≤ vec_capacity turns.new }
@@ -132,7 +132,7 @@ fn gather_turns(spots: &[Spot], turns: &mut Vec<u32>)
 }
 
 /// Gathers the blocks that are there, in order of address, and the turns of those that may be purged, in order.
-pub fn survey(table: &Handles<Block>, spots: &mut Vec<Spot>, turns: &mut Vec<u32>)
+pub fn gather_blocks(table: &Handles<Block>, spots: &mut Vec<BlockSpot>, turns: &mut Vec<u32>)
     requires bounded { All IsBoundedSlot table.now }
     requires spots_room { 4096 ≤ vec_capacity spots.old }
     requires turns_room { 4096 ≤ vec_capacity turns.old }

@@ -15,12 +15,12 @@ ghost use Rattle.iigs_places.specs.Runs.{IsLayout};
 ghost use Rattle.iigs_places.specs.Arranged.{IsArranged};
 
 use crate::bank_map::BankMap;
-use crate::layout::{Layout, join, lay_put};
-use crate::marks::Mark;
+use crate::layout::{BlockLayout, join, lay_put};
+use crate::marks::BlockMark;
 use crate::search::find;
-use crate::spots::{Spot, turn_of};
+use crate::spots::{BlockSpot, turn_of};
 use iigs_handles::Handles;
-use iigs_meaning::{Block, Content, Handle, PlaceFault, Slot, Stale, Want};
+use iigs_meaning::{Block, Handle, PlaceFault, Slot, SlotContent, Stale, Want};
 
 /// Puts a block in the place of a live handle's.
 pub fn set(table: &mut Handles<Block>, h: Handle, block: Block)
@@ -39,7 +39,7 @@ fn empty_slot(table: &mut Handles<Block>, place: usize)
     ensures { table.new ≡ slice_set table.old place (emptied_where (λ block. true) (slot_at table.old place)) }
 {
     let slot = &table.slots()[place];
-    if let Content::Used(block) = &slot.content {
+    if let SlotContent::Used(block) = &slot.content {
         let block = Block { at: None, ..*block };
         let h = Handle {
             slot: place as u16,
@@ -55,7 +55,7 @@ fn is_below(table: &Handles<Block>, place: usize, limit: u32) -> bool
     requires bounded { IsBoundedSlot (slot_at table.now place) }
     ensures { result ≡ option_map_or (λ block. nat_lt (turn_in_order block) limit) (block_in (slot_at table.now place)) false }
 {
-    let Content::Used(block) = &table.slots()[place].content else {
+    let SlotContent::Used(block) = &table.slots()[place].content else {
         return false;
     };
     turn_of(block) < limit
@@ -78,7 +78,7 @@ pub fn empty_below(table: &mut Handles<Block>, limit: u32)
 
 /// A block that was placed: its handle and its address.
 #[derive(Clone, Copy)]
-pub struct Put {
+pub struct PlacedBlock {
     pub handle: Handle,
     pub at: u32,
 }
@@ -89,7 +89,7 @@ fn release_slot(table: &mut Handles<Block>, place: usize, user: u16)
     ensures { table.new ≡ slice_set table.old place (without_user_in user (slot_at table.old place)) }
 {
     let slot = &table.slots()[place];
-    if let Content::Used(block) = &slot.content {
+    if let SlotContent::Used(block) = &slot.content {
         if block.user == user {
             let h = Handle {
                 slot: place as u16,
@@ -117,7 +117,7 @@ fn is_purgeable(table: &Handles<Block>, place: usize, user: u16) -> bool
     requires place { place < 4096 }
     ensures { result ≡ option_map_or (can_purge_of user) (block_in (slot_at table.now place)) false }
 {
-    let Content::Used(block) = &table.slots()[place].content else {
+    let SlotContent::Used(block) = &table.slots()[place].content else {
         return false;
     };
     can_be_purged(block) && block.user == user
@@ -151,15 +151,15 @@ pub fn purge_user(table: &mut Handles<Block>, user: u16) -> u32
 pub fn put_block(
     map: &BankMap,
     table: &mut Handles<Block>,
-    layout: &mut Layout,
-    spots: &mut Vec<Spot>,
+    layout: &mut BlockLayout,
+    spots: &mut Vec<BlockSpot>,
     turns: &mut Vec<u32>,
     want: &Want,
     user: u16,
     locked: bool,
     level: u8,
     movable: bool,
-) -> Result<Put, PlaceFault>
+) -> Result<PlacedBlock, PlaceFault>
     requires want { IsWant want.now }
     requires arranged { IsArranged map.now table.old }
     requires laid { IsLayout table.old layout.old }
@@ -194,13 +194,13 @@ pub fn put_block(
         Ok(handle) => handle,
         Err(_) => unreachable!(),
     };
-    let mark = Mark {
+    let mark = BlockMark {
         at: found.at,
         end,
         slot: handle.slot,
     };
     lay_put(layout, table, mark, found.limit);
-    Ok(Put {
+    Ok(PlacedBlock {
         handle,
         at: found.at,
     })
@@ -210,8 +210,8 @@ pub fn put_block(
 pub fn replace_block(
     map: &BankMap,
     table: &mut Handles<Block>,
-    layout: &mut Layout,
-    spots: &mut Vec<Spot>,
+    layout: &mut BlockLayout,
+    spots: &mut Vec<BlockSpot>,
     turns: &mut Vec<u32>,
     h: Handle,
     want: &Want,
@@ -249,7 +249,7 @@ pub fn replace_block(
         ..block
     };
     set(table, h, block);
-    let mark = Mark {
+    let mark = BlockMark {
         at: found.at,
         end,
         slot: h.slot,
@@ -263,7 +263,7 @@ fn size_of(slot: &Slot<Block>) -> u32
     ensures value { result ≡ size_in slot.now }
     ensures small { result ≤ 2 ^ 24 }
 {
-    let Content::Used(block) = &slot.content else {
+    let SlotContent::Used(block) = &slot.content else {
         return 0;
     };
     if block.at.is_none() {
@@ -298,7 +298,7 @@ fn lasting_of(slot: &Slot<Block>) -> u32
     ensures value { result ≡ lasting_in slot.now }
     ensures small { result ≤ 2 ^ 24 }
 {
-    if let Content::Used(block) = &slot.content {
+    if let SlotContent::Used(block) = &slot.content {
         if can_be_purged(block) {
             return 0;
         }
@@ -332,10 +332,10 @@ pub fn lasting_bytes(table: &Handles<Block>) -> u64
 pub fn put_all(
     map: &BankMap,
     table: &mut Handles<Block>,
-    layout: &mut Layout,
-    spots: &mut Vec<Spot>,
+    layout: &mut BlockLayout,
+    spots: &mut Vec<BlockSpot>,
     turns: &mut Vec<u32>,
-    made: &mut Vec<Put>,
+    made: &mut Vec<PlacedBlock>,
     user: u16,
     wants: &[Want],
 ) -> Result<(), PlaceFault>

@@ -89,7 +89,7 @@ pub fn is_unloaded(bytes: &[u8], at: usize) -> bool
 }
 
 // Writes bytes over others from a displacement on.
-fn put(bytes: &mut [u8], at: usize, piece: &[u8])
+fn overwrite_bytes(bytes: &mut [u8], at: usize, piece: &[u8])
     requires { at + length piece.now ≤ length bytes.old }
     ensures { bytes.new ≡ written_at at piece.now bytes.old }
 {
@@ -142,7 +142,7 @@ pub fn put_entry(bytes: &mut [u8], at: usize, user: u16, target: Target)
     LittleEndian::write_u16(&mut entry[4..], target.segment);
     LittleEndian::write_u32(&mut entry[6..], target.offset);
     entry[10..].copy_from_slice(&UNLOADED);
-    put(bytes, at, &entry);
+    overwrite_bytes(bytes, at, &entry);
 }
 
 /// Sets the user ID of the entry that begins at a displacement.
@@ -153,7 +153,7 @@ pub fn set_user(bytes: &mut [u8], at: usize, user: u16)
 {
     let mut number = [0; 2];
     LittleEndian::write_u16(&mut number, user);
-    put(bytes, at, &number);
+    overwrite_bytes(bytes, at, &number);
 }
 
 /// Makes the entry that begins at a displacement jump to its target's address.
@@ -166,7 +166,7 @@ pub fn set_loaded(bytes: &mut [u8], at: usize, address: u32)
     let mut number = [0; 3];
     LittleEndian::write_u24(&mut number, address);
     let [low, middle, high] = number;
-    put(bytes, at + 10, &[0x5C, low, middle, high]);
+    overwrite_bytes(bytes, at + 10, &[0x5C, low, middle, high]);
 }
 
 /// Makes the entry that begins at a displacement call the loader.
@@ -175,5 +175,5 @@ pub fn set_unloaded(bytes: &mut [u8], at: usize)
     ensures written { bytes.new ≡ written_at (at + 10) (code_bytes None) bytes.old }
     ensures entry { (entry : Entry) → IsEntryAt entry at bytes.old → IsEntryAt (record entry { loaded = None }) at bytes.new }
 {
-    put(bytes, at + 10, &UNLOADED);
+    overwrite_bytes(bytes, at + 10, &UNLOADED);
 }

@@ -151,12 +151,12 @@ impl Table {
         ensures laid_out { IfOk result (λ bytes. IsTableOf (map file_entry self.now) bytes.items) }
         ensures memory_alone { IfErr result (λ fault. fault ≡ TableFault.Memory) }
     {
-        self.written(alloc)
+        self.body_bytes(alloc)
     }
 
     // The zeros and the entries.
     #[tactic(auto, unfolding(load_meaning::specs::Table::table_bytes))]
-    fn written(&self, alloc: Global) -> Result<Vec<u8>, TableFault>
+    fn body_bytes(&self, alloc: Global) -> Result<Vec<u8>, TableFault>
         ensures bytes { IfOk result (λ bytes. bytes.items ≡ table_bytes (map file_entry self.now)) }
         ensures memory_alone { IfErr result (λ fault. fault ≡ TableFault.Memory) }
         ensures fit { All FitsTarget self.now }

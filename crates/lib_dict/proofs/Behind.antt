@@ -6,7 +6,7 @@ use Rattle.std.proofs.lemmas.List.{append-nil}
 use Rattle.std.proofs.lemmas.List.Concat.{flat_map-cons}
 use Rattle.omf_format.specs.File.{Segment, segment_at}
 use Rattle.omf_records.specs.declared.segment.SegmentView.{SegmentView}
-use Rattle.omf_records.specs.Segments.{shown}
+use Rattle.omf_records.specs.Segments.{segment_of_view}
 use Rattle.omf_records.specs.SegmentLaws.{shown_at, none_past}
 use Rattle.lib_dict.specs.declared.listed.Outer.{Outer}
 use Rattle.lib_dict.specs.Library.{LibraryRow}
@@ -38,25 +38,25 @@ within-at (t ∷ list) zero s is = omega arith
 within-at (t ∷ list) (suc k) s is = let rest = within-at list k s is in omega arith
 
 -- a segment more
-pub passed_next : (list : List Segment) (passed : ℕ) (rows new : List Outer) (v : SegmentView) → PassedRows list passed rows → Some (shown v) ≡ segment_at list (passed + 1)
-    → map outer_row new ≡ map outer_row rows ++ other_rows (shown v) → PassedRows list (passed + 1) new
+pub passed_next : (list : List Segment) (passed : ℕ) (rows new : List Outer) (v : SegmentView) → PassedRows list passed rows → Some (segment_of_view v) ≡ segment_at list (passed + 1)
+    → map outer_row new ≡ map outer_row rows ++ other_rows (segment_of_view v) → PassedRows list (passed + 1) new
 passed_next list passed rows new v p is more =
     let here = shown_at list passed v is in
-    let lt = within-at list passed (shown v) here in
+    let lt = within-at list passed (segment_of_view v) here in
     record {
       some = omega (arith, p.some);
       within = omega arith;
       whole =
           p.whole
-          ∙ ap (λ (l : List Segment). map outer_row rows ++ flat_map other_rows l) (drop-at list passed (shown v) here)
-          ∙ ap (λ (l : List LibraryRow). map outer_row rows ++ l) (flat_map-cons other_rows (shown v) (drop (passed + 1) list))
-          ∙ sym (append_assoc (map outer_row rows) (other_rows (shown v)) (flat_map other_rows (drop (passed + 1) list)))
+          ∙ ap (λ (l : List Segment). map outer_row rows ++ flat_map other_rows l) (drop-at list passed (segment_of_view v) here)
+          ∙ ap (λ (l : List LibraryRow). map outer_row rows ++ l) (flat_map-cons other_rows (segment_of_view v) (drop (passed + 1) list))
+          ∙ sym (append_assoc (map outer_row rows) (other_rows (segment_of_view v)) (flat_map other_rows (drop (passed + 1) list)))
           ∙ ap (λ (l : List LibraryRow). l ++ flat_map other_rows (drop (passed + 1) list)) (sym more);
     }
 
 -- and no more of them is within the list
-pub passed_within : (list : List Segment) (passed : ℕ) (v : SegmentView) → Some (shown v) ≡ segment_at list (passed + 1) → passed < length list
-passed_within list passed v is = within-at list passed (shown v) (shown_at list passed v is)
+pub passed_within : (list : List Segment) (passed : ℕ) (v : SegmentView) → Some (segment_of_view v) ≡ segment_at list (passed + 1) → passed < length list
+passed_within list passed v is = within-at list passed (segment_of_view v) (shown_at list passed v is)
 
 -- all were passed
 pub passed_all : (list : List Segment) (passed : ℕ) (rows : List Outer) → PassedRows list passed rows → None ≡ segment_at list (passed + 1) → map outer_row rows ≡ behind_rows list

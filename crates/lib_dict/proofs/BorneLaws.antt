@@ -17,7 +17,7 @@ use Rattle.link_meaning.specs.First.{IsIn}
 use Rattle.link_meaning.specs.Member.{Row}
 use Rattle.link_meaning.specs.Defines.{Scope, ForSegment, ForUnit, ForAll, Definition, title_of, defined_in}
 use Rattle.lib_dict.specs.Library.{LibraryRow, told_row, name_in, outer_name, outer_names, segment_rows, LibraryFile, rows_from, files_text, names_text, row_text, rows_text, is_dictionary}
-use Rattle.lib_dict.specs.DictionaryLayout.{counted, AreFileNumbers, DefinesSo, IsRow, AreRows}
+use Rattle.lib_dict.specs.DictionaryLayout.{counted_name, AreFileNumbers, DefinesSo, IsRow, AreRows}
 use Rattle.lib_dict.specs.View.{outer_of}
 use Rattle.lib_dict.proofs.Outers.{names-parts}
 use Rattle.lib_dict.proofs.SizeLaws.{length-row}
@@ -191,13 +191,13 @@ file_numbers_are number (file ∷ files) some few =
 abbrev pub row_name : LibraryRow → List ℕ
 row_name row = row.name
 
-pub names_are : (rows : List LibraryRow) → names_text rows ≡ flat_map counted (map row_name rows)
+pub names_are : (rows : List LibraryRow) → names_text rows ≡ flat_map counted_name (map row_name rows)
 unfolding names_text
 names_are [] = refl
 names_are (row ∷ rows) =
     flat_map-cons (λ (r : LibraryRow). length r.name ∷ r.name) row rows
-    ∙ ap (λ (l : List ℕ). counted row.name ++ l) (names_are rows)
-    ∙ sym (flat_map-cons counted row.name (map row_name rows))
+    ∙ ap (λ (l : List ℕ). counted_name row.name ++ l) (names_are rows)
+    ∙ sym (flat_map-cons counted_name row.name (map row_name rows))
 
 -- ---- the second record
 
@@ -240,7 +240,7 @@ told_is segments numbers (row ∷ rows) all =
 abbrev pub StartsLow : LibraryRow → Type 0
 StartsLow row = row.at < 4294967296
 
-row_is : (segments : List Segment) (numbers : List ℕ) (done rows : List LibraryRow) (row : LibraryRow) (at : ℕ) (b : IsBorne segments numbers row) → at ≡ length (flat_map counted (map row_name done)) → at < 4294967296
+row_is : (segments : List Segment) (numbers : List ℕ) (done rows : List LibraryRow) (row : LibraryRow) (at : ℕ) (b : IsBorne segments numbers row) → at ≡ length (flat_map counted_name (map row_name done)) → at < 4294967296
     → StartsLow row → IsRow segments numbers (map row_name done ++ row.name ∷ map row_name rows) (row_text at row) (record { name = row.name; from = row.file; private = row.private; segment = b.place })
 row_is segments numbers done rows row at b place small low = record {
   name = record { before = map row_name done; behind = map row_name rows; parts = refl; place = number_in at row 0 4 at refl (omega arith) ∙ place };
@@ -256,17 +256,17 @@ row_is segments numbers done rows row at b place small low = record {
 }
 
 pub rows_are : (segments : List Segment) (numbers : List ℕ) (names : List (List ℕ)) (done rows : List LibraryRow) (at : ℕ) (all : AllByRecursion (IsBorne segments numbers) rows)
-    → names ≡ map row_name done ++ map row_name rows → at ≡ length (flat_map counted (map row_name done)) → at + length (flat_map counted (map row_name rows)) < 4294967296 → AllByRecursion StartsLow rows
+    → names ≡ map row_name done ++ map row_name rows → at ≡ length (flat_map counted_name (map row_name done)) → at + length (flat_map counted_name (map row_name rows)) < 4294967296 → AllByRecursion StartsLow rows
     → AreRows segments numbers names (linked segments numbers rows all) (rows_text at rows)
 rows_are segments numbers names done [] at all is place small low = refl
 rows_are segments numbers names done (row ∷ rows) at all is place small low =
     let more = done ++ row ∷ [] in
-    let size = ap length (flat_map-cons counted row.name (map row_name rows)) in
-    let len : length (flat_map counted (map row_name (row ∷ rows))) ≡ 1 + length row.name + length (flat_map counted (map row_name rows)) = omega (arith, size, length-append (counted row.name) (flat_map counted (map row_name rows))) in
+    let size = ap length (flat_map-cons counted_name row.name (map row_name rows)) in
+    let len : length (flat_map counted_name (map row_name (row ∷ rows))) ≡ 1 + length row.name + length (flat_map counted_name (map row_name rows)) = omega (arith, size, length-append (counted_name row.name) (flat_map counted_name (map row_name rows))) in
     let is' : names ≡ map row_name more ++ map row_name rows =
     is ∙ sym (append_assoc (map row_name done) (row.name ∷ []) (map row_name rows)) ∙ ap (λ (l : List (List ℕ)). l ++ map row_name rows) (sym (map_more done)) in
-    let place' : at + 1 + length row.name ≡ length (flat_map counted (map row_name more)) =
-    omega (arith, place, ap (λ (l : List (List ℕ)). length (flat_map counted l)) (map_more done), ap length (flat_more (map row_name done)), length-append (flat_map counted (map row_name done)) (counted row.name)) in (
+    let place' : at + 1 + length row.name ≡ length (flat_map counted_name (map row_name more)) =
+    omega (arith, place, ap (λ (l : List (List ℕ)). length (flat_map counted_name l)) (map_more done), ap length (flat_more (map row_name done)), length-append (flat_map counted_name (map row_name done)) (counted_name row.name)) in (
       row_text at row,
       rows_text (at + 1 + length row.name) rows,
       refl,
@@ -280,10 +280,10 @@ rows_are segments numbers names done (row ∷ rows) at all is place small low =
     map_more [] = refl
     map_more (x ∷ l) = ap (λ (r : List (List ℕ)). row_name x ∷ r) (map_more l)
 
-    flat_more : (l : List (List ℕ)) → flat_map counted (l ++ row.name ∷ []) ≡ flat_map counted l ++ counted row.name
-    flat_more [] = flat_map-cons counted row.name [] ∙ append-nil (counted row.name)
+    flat_more : (l : List (List ℕ)) → flat_map counted_name (l ++ row.name ∷ []) ≡ flat_map counted_name l ++ counted_name row.name
+    flat_more [] = flat_map-cons counted_name row.name [] ∙ append-nil (counted_name row.name)
     flat_more (x ∷ l) =
-        flat_map-cons counted x (l ++ row.name ∷ [])
-        ∙ ap (λ (r : List ℕ). counted x ++ r) (flat_more l)
-        ∙ sym (append_assoc (counted x) (flat_map counted l) (counted row.name))
-        ∙ ap (λ (r : List ℕ). r ++ counted row.name) (sym (flat_map-cons counted x l))
+        flat_map-cons counted_name x (l ++ row.name ∷ [])
+        ∙ ap (λ (r : List ℕ). counted_name x ++ r) (flat_more l)
+        ∙ sym (append_assoc (counted_name x) (flat_map counted_name l) (counted_name row.name))
+        ∙ ap (λ (r : List ℕ). r ++ counted_name row.name) (sym (flat_map-cons counted_name x l))

@@ -8,10 +8,10 @@ use Rattle.std.proofs.lemmas.List.Concat.{flat_map-cons}
 use Rattle.byteorder.specs.Endian.{little_bytes}
 use Rattle.omf_format.specs.File.{Segment, segment_at}
 use Rattle.omf_records.specs.declared.segment.SegmentView.{SegmentView}
-use Rattle.omf_records.specs.Segments.{shown}
+use Rattle.omf_records.specs.Segments.{segment_of_view}
 use Rattle.omf_records.specs.SegmentLaws.{shown_at, none_past}
 use Rattle.lib_dict.specs.declared.listed.Outer.{Outer}
-use Rattle.lib_dict.specs.declared.members.Read.{Read}
+use Rattle.lib_dict.specs.declared.members.MemberRead.{MemberRead}
 use Rattle.lib_dict.specs.View.{outer_row}
 use Rattle.lib_dict.specs.Library.{LibraryRow, LibraryFile, segment_rows, rows_from, files_text, names_text, row_text, rows_text}
 use Rattle.lib_dict.specs.Made.{library_file}
@@ -58,19 +58,19 @@ drop-past [] (suc k) past = refl
 drop-past (t ∷ list) zero past = absurd (omega arith)
 drop-past (t ∷ list) (suc k) past = drop-past list k (omega arith)
 
-pub file_next : (file front : ℕ) (list : List Segment) (k : ℕ) (v : SegmentView) (old rows new : List LibraryRow) → PassedFile file front list k old rows → Some (shown v) ≡ segment_at list (k + 1)
-    → new ≡ rows ++ segment_rows file front (shown v) → PassedFile file front list (k + 1) old new
+pub file_next : (file front : ℕ) (list : List Segment) (k : ℕ) (v : SegmentView) (old rows new : List LibraryRow) → PassedFile file front list k old rows → Some (segment_of_view v) ≡ segment_at list (k + 1)
+    → new ≡ rows ++ segment_rows file front (segment_of_view v) → PassedFile file front list (k + 1) old new
 file_next file front list k v old rows new p is more =
     let here = shown_at list k v is in
-    let lt = within-here list k (shown v) here in
+    let lt = within-here list k (segment_of_view v) here in
     let F = segment_rows file front in
     record {
       within = omega arith;
       whole =
           p.whole
-          ∙ ap (λ (l : List Segment). rows ++ flat_map F l) (drop-here list k (shown v) here)
-          ∙ ap (λ (l : List LibraryRow). rows ++ l) (flat_map-cons F (shown v) (drop (k + 1) list))
-          ∙ sym (append_assoc rows (F (shown v)) (flat_map F (drop (k + 1) list)))
+          ∙ ap (λ (l : List Segment). rows ++ flat_map F l) (drop-here list k (segment_of_view v) here)
+          ∙ ap (λ (l : List LibraryRow). rows ++ l) (flat_map-cons F (segment_of_view v) (drop (k + 1) list))
+          ∙ sym (append_assoc rows (F (segment_of_view v)) (flat_map F (drop (k + 1) list)))
           ∙ ap (λ (l : List LibraryRow). l ++ flat_map F (drop (k + 1) list)) (sym more);
     }
 
@@ -81,12 +81,12 @@ file_all file front list k old rows p none =
 
 -- ---- the rows of all files
 
-pub record PassedFiles (reads : List Read) (i file front : ℕ) (rows : List Outer) : Type 0 where
+pub record PassedFiles (reads : List MemberRead) (i file front : ℕ) (rows : List Outer) : Type 0 where
   pub number : file ≡ i + 1
   pub front' : front ≤ i * 4294967296
   pub whole : rows_from 1 0 (map library_file reads) ≡ map outer_row rows ++ rows_from file front (drop i (map library_file reads))
 
-pub files_none : (reads : List Read) (rows : List Outer) → rows ≡ [] → PassedFiles reads 0 1 0 rows
+pub files_none : (reads : List MemberRead) (rows : List Outer) → rows ≡ [] → PassedFiles reads 0 1 0 rows
 files_none reads rows none = record {
   number = refl;
   front' = omega arith;
@@ -94,10 +94,10 @@ files_none reads rows none = record {
 }
 
 -- a file of so few bytes
-pub file_is : (reads : List Read) (i : ℕ) (r : Read) → AreFiles (map library_file reads) → i < length reads → r ≡ get_or reads i r → IsReadFile (library_file r)
+pub file_is : (reads : List MemberRead) (i : ℕ) (r : MemberRead) → AreFiles (map library_file reads) → i < length reads → r ≡ get_or reads i r → IsReadFile (library_file r)
 file_is reads i r are lt is = each_at IsReadFile library_file reads i r are.each lt is
 
-pub files_next : (reads : List Read) (i file front : ℕ) (rows new : List Outer) (r : Read) → PassedFiles reads i file front rows → AreFiles (map library_file reads) → i < length reads → r ≡ get_or reads i r
+pub files_next : (reads : List MemberRead) (i file front : ℕ) (rows new : List Outer) (r : MemberRead) → PassedFiles reads i file front rows → AreFiles (map library_file reads) → i < length reads → r ≡ get_or reads i r
     → map outer_row new ≡ map outer_row rows ++ flat_map (segment_rows file front) r.list → PassedFiles reads (i + 1) (file + 1) (front + length r.member.now.bytes.items) new
 files_next reads i file front rows new r p are lt is more =
     let one = file_is reads i r are lt is in
@@ -112,17 +112,17 @@ files_next reads i file front rows new r p are lt is more =
           ∙ ap (λ (l : List LibraryRow). l ++ rows_from (file + 1) (front + length r.member.now.bytes.items) rest) (sym more);
     }
 
-pub files_all : (reads : List Read) (i file front : ℕ) (rows : List Outer) → PassedFiles reads i file front rows → length reads ≤ i → map outer_row rows ≡ rows_from 1 0 (map library_file reads)
+pub files_all : (reads : List MemberRead) (i file front : ℕ) (rows : List Outer) → PassedFiles reads i file front rows → length reads ≤ i → map outer_row rows ≡ rows_from 1 0 (map library_file reads)
 files_all reads i file front rows p past =
     sym (p.whole ∙ ap (λ (l : List LibraryFile). map outer_row rows ++ rows_from file front l) (drop_end library_file reads i past) ∙ append-nil (map outer_row rows))
 
 -- ---- how many bytes
 
-pub record Counted (reads : List Read) (i total : ℕ) : Type 0 where
+pub record Counted (reads : List MemberRead) (i total : ℕ) : Type 0 where
   pub small : total ≤ i * 4294967296
   pub whole : total + total_bytes (drop i (map library_file reads)) ≡ total_bytes (map library_file reads)
 
-pub counted_next : (reads : List Read) (i total : ℕ) (r : Read) → Counted reads i total → AreFiles (map library_file reads) → i < length reads → r ≡ get_or reads i r
+pub counted_next : (reads : List MemberRead) (i total : ℕ) (r : MemberRead) → Counted reads i total → AreFiles (map library_file reads) → i < length reads → r ≡ get_or reads i r
     → Counted reads (i + 1) (total + length r.member.now.bytes.items)
 counted_next reads i total r so_far are lt is =
     let one = file_is reads i r are lt is in
@@ -131,19 +131,19 @@ counted_next reads i total r so_far are lt is =
       whole = omega (arith, so_far.whole, ap total_bytes (drop_at library_file reads i r lt is));
     }
 
-pub counted_all : (reads : List Read) (i total : ℕ) → Counted reads i total → length reads ≤ i → total ≡ total_bytes (map library_file reads)
+pub counted_all : (reads : List MemberRead) (i total : ℕ) → Counted reads i total → length reads ≤ i → total ≡ total_bytes (map library_file reads)
 counted_all reads i total so_far past = omega (arith, so_far.whole, ap total_bytes (drop_end library_file reads i past))
 
 -- ---- the first record
 
-pub record WrittenFiles (reads : List Read) (i file : ℕ) (out : List ℕ) : Type 0 where
+pub record WrittenFiles (reads : List MemberRead) (i file : ℕ) (out : List ℕ) : Type 0 where
   pub number : file ≡ i + 1
   pub whole : files_text 1 (map library_file reads) ≡ out ++ files_text file (drop i (map library_file reads))
 
-pub written_none : (reads : List Read) (out : List ℕ) → out ≡ [] → WrittenFiles reads 0 1 out
+pub written_none : (reads : List MemberRead) (out : List ℕ) → out ≡ [] → WrittenFiles reads 0 1 out
 written_none reads out none = record { number = refl; whole = ap (λ (l : List ℕ). l ++ files_text 1 (map library_file reads)) (sym none) }
 
-pub written_next : (reads : List Read) (i file : ℕ) (out new : List ℕ) (r : Read) → WrittenFiles reads i file out → i < length reads → r ≡ get_or reads i r
+pub written_next : (reads : List MemberRead) (i file : ℕ) (out new : List ℕ) (r : MemberRead) → WrittenFiles reads i file out → i < length reads → r ≡ get_or reads i r
     → new ≡ out ++ (little_bytes 2 file ++ length r.member.now.name ∷ r.member.now.name) → WrittenFiles reads (i + 1) (file + 1) new
 written_next reads i file out new r w lt is more =
     let name = r.member.now.name in
@@ -158,7 +158,7 @@ written_next reads i file out new r w lt is more =
           ∙ ap (λ (l : List ℕ). l ++ rest) (sym more);
     }
 
-pub written_all : (reads : List Read) (i file : ℕ) (out new : List ℕ) → WrittenFiles reads i file out → length reads ≤ i → new ≡ out ++ 0 ∷ 0 ∷ [] → new ≡ files_text 1 (map library_file reads)
+pub written_all : (reads : List MemberRead) (i file : ℕ) (out new : List ℕ) → WrittenFiles reads i file out → length reads ≤ i → new ≡ out ++ 0 ∷ 0 ∷ [] → new ≡ files_text 1 (map library_file reads)
 written_all reads i file out new w past is = is ∙ sym (w.whole ∙ ap (λ (l : List LibraryFile). out ++ files_text file l) (drop_end library_file reads i past))
 
 -- ---- the third record
@@ -261,10 +261,10 @@ rows_all rows base i name out w past =
 abbrev bytes_of : LibraryFile → List ℕ
 bytes_of file = file.bytes
 
-pub record WrittenBytes (reads : List Read) (i : ℕ) (old out : List ℕ) : Type 0 where
+pub record WrittenBytes (reads : List MemberRead) (i : ℕ) (old out : List ℕ) : Type 0 where
   pub whole : old ++ flat_map bytes_of (map library_file reads) ≡ out ++ flat_map bytes_of (drop i (map library_file reads))
 
-pub bytes_next : (reads : List Read) (i : ℕ) (old out new : List ℕ) (r : Read) → WrittenBytes reads i old out → i < length reads → r ≡ get_or reads i r → new ≡ out ++ r.member.now.bytes.items → WrittenBytes reads (i + 1) old new
+pub bytes_next : (reads : List MemberRead) (i : ℕ) (old out new : List ℕ) (r : MemberRead) → WrittenBytes reads i old out → i < length reads → r ≡ get_or reads i r → new ≡ out ++ r.member.now.bytes.items → WrittenBytes reads (i + 1) old new
 bytes_next reads i old out new r w lt is more =
     let rest = drop (i + 1) (map library_file reads) in
     record {
@@ -276,6 +276,6 @@ bytes_next reads i old out new r w lt is more =
           ∙ ap (λ (l : List ℕ). l ++ flat_map bytes_of rest) (sym more);
     }
 
-pub bytes_all : (reads : List Read) (i : ℕ) (old out : List ℕ) → WrittenBytes reads i old out → length reads ≤ i → out ≡ old ++ flat_map bytes_of (map library_file reads)
+pub bytes_all : (reads : List MemberRead) (i : ℕ) (old out : List ℕ) → WrittenBytes reads i old out → length reads ≤ i → out ≡ old ++ flat_map bytes_of (map library_file reads)
 bytes_all reads i old out w past =
     sym (w.whole ∙ ap (λ (l : List LibraryFile). out ++ flat_map bytes_of l) (drop_end library_file reads i past) ∙ append-nil out)

@@ -18,7 +18,7 @@ use Rattle.link_meaning.specs.Member.{Row, is_library}
 use Rattle.link_meaning.specs.Defines.{Scope, ForSegment, ForUnit, ForAll, Definition, outer_scope, defined_in}
 use Rattle.load_meaning.specs.Pathnames.{long_bytes}
 use Rattle.link_meaning.specs.Dictionary.{file_numbers, names_from, numbered_from, has_scope, first_pair, or_false, row_at, rows_from, rows_in, rows_of_records, rows_of}
-use Rattle.lib_dict.specs.DictionaryLayout.{counted, AreFileNumbers, AreNames, IsRow, AreRows, IsDictionary}
+use Rattle.lib_dict.specs.DictionaryLayout.{counted_name, AreFileNumbers, AreNames, IsRow, AreRows, IsDictionary}
 
 -- ---- the first record
 
@@ -205,8 +205,8 @@ are_named (suc n) at (b ∷ bytes) placed e =
       text =
           ap (λ (l : List ℕ). b ∷ l) (take-drop b bytes)
           ∙ ap (λ (l : List ℕ). b ∷ (name ++ l)) more.text
-          ∙ ap (λ (k : ℕ). k ∷ (name ++ flat_map counted more.names)) (sym len)
-          ∙ sym (flat_map-cons counted name more.names);
+          ∙ ap (λ (k : ℕ). k ∷ (name ++ flat_map counted_name more.names)) (sym len)
+          ∙ sym (flat_map-cons counted_name name more.names);
       are = step.are ∙ ap (λ (l : Placed). (at, name) ∷ l) (more.are ∙ ap (λ (k : ℕ). placed_from (at + 1 + k) more.names) (sym len));
     }
 
@@ -214,7 +214,7 @@ are_named (suc n) at (b ∷ bytes) placed e =
 
 -- a name that is found starts there
 starts : (names : List (List ℕ)) (at d : ℕ) (x : ℕ × List ℕ) → first_pair (λ y. y.0 == d) (placed_from at names) ≡ Some x
-    → (before : List (List ℕ)) × (behind : List (List ℕ)) × (names ≡ before ++ x.1 ∷ behind) × (d ≡ at + length (flat_map counted before))
+    → (before : List (List ℕ)) × (behind : List (List ℕ)) × (names ≡ before ++ x.1 ∷ behind) × (d ≡ at + length (flat_map counted_name before))
 starts [] at d x e = absurd cc
 starts (name ∷ names) at d x e = by (at == d) refl e (starts names (at + 1 + length name) d x)
   where
@@ -226,8 +226,8 @@ starts (name ∷ names) at d x e = by (at == d) refl e (starts names (at + 1 + l
 
     by : (t : Bool) → t ≡ (at == d) → (if t then Some (at, name) else first_pair (λ y. y.0 == d) (placed_from (at + 1 + length name) names)) ≡ Some x
         → (first_pair (λ y. y.0 == d) (placed_from (at + 1 + length name) names) ≡ Some x
-        → (before : List (List ℕ)) × (behind : List (List ℕ)) × (names ≡ before ++ x.1 ∷ behind) × (d ≡ at + 1 + length name + length (flat_map counted before)))
-        → (before : List (List ℕ)) × (behind : List (List ℕ)) × (name ∷ names ≡ before ++ x.1 ∷ behind) × (d ≡ at + length (flat_map counted before))
+        → (before : List (List ℕ)) × (behind : List (List ℕ)) × (names ≡ before ++ x.1 ∷ behind) × (d ≡ at + 1 + length name + length (flat_map counted_name before)))
+        → (before : List (List ℕ)) × (behind : List (List ℕ)) × (name ∷ names ≡ before ++ x.1 ∷ behind) × (d ≡ at + length (flat_map counted_name before))
     by true is e go =
         let same = some_same (at, name) x e in
         ([], names, ap (λ (y : ℕ × List ℕ). y.1 ∷ names) same, omega (arith, eqb-true at d (sym is)))
@@ -236,7 +236,7 @@ starts (name ∷ names) at d x e = by (at == d) refl e (starts names (at + 1 + l
           name ∷ r.0,
           r.1,
           ap (λ (l : List (List ℕ)). name ∷ l) r.2,
-          omega (arith, r.3, ap length (flat_map-cons counted name r.0), length-append (counted name) (flat_map counted r.0)),
+          omega (arith, r.3, ap length (flat_map-cons counted_name name r.0), length-append (counted_name name) (flat_map counted_name r.0)),
         )
 
 -- a segment that is found

@@ -15,7 +15,7 @@ use Rattle.link_meaning.specs.First.{IsIn}
 use Rattle.link_meaning.specs.Member.{Row}
 use Rattle.link_meaning.specs.Defines.{Scope, Definition, outer_scope, defined_in}
 use Rattle.link_meaning.specs.Dictionary.{file_numbers, names_from, numbered_from, has_scope, first_pair, row_at, rows_from, rows_in, rows_of_records, rows_of}
-use Rattle.lib_dict.specs.DictionaryLayout.{counted, AreFileNumbers, IsRow, AreRows, IsDictionary}
+use Rattle.lib_dict.specs.DictionaryLayout.{counted_name, AreFileNumbers, IsRow, AreRows, IsDictionary}
 use Rattle.lib_dict.proofs.Forms.{step_end, step_more, names_more, names_none}
 use Rattle.lib_dict.proofs.LayoutLaws.{placed_from, Placed, fits_row, two_digits, third_byte}
 
@@ -26,10 +26,10 @@ suc_of zero k le = absurd (omega arith)
 suc_of (suc m) k le = (m, refl)
 
 one_number : (n x y : ℕ) (name rest numbers : List ℕ) → (number_at 2 0 (x ∷ y ∷ []) ≡ 0 → ⊥) → file_numbers n rest ≡ Some numbers
-    → file_numbers (suc n) (x ∷ y ∷ (counted name ++ rest)) ≡ Some (number_at 2 0 (x ∷ y ∷ []) ∷ numbers)
+    → file_numbers (suc n) (x ∷ y ∷ (counted_name name ++ rest)) ≡ Some (number_at 2 0 (x ∷ y ∷ []) ∷ numbers)
 one_number n x y name rest numbers some more =
-    let text = x ∷ y ∷ (counted name ++ rest) in
-    let tail = counted name ++ rest in
+    let text = x ∷ y ∷ (counted_name name ++ rest) in
+    let tail = counted_name name ++ rest in
     let number = two_digits x y tail in
     let size = third_byte x y (length name) (name ++ rest) in
     let len : length text ≡ 3 + length name + length rest = omega (arith, length-append name rest) in
@@ -43,8 +43,8 @@ one_number n x y name rest numbers some more =
     some_list : List ℕ → Option (List ℕ)
     some_list l = Some l
 
-    skip : (k : ℕ) → drop (3 + k) (x ∷ y ∷ (counted name ++ rest)) ≡ drop k (name ++ rest)
-    skip k = let same : 3 + k ≡ suc (suc (suc k)) = omega arith in ap (λ (m : ℕ). drop m (x ∷ y ∷ (counted name ++ rest))) same
+    skip : (k : ℕ) → drop (3 + k) (x ∷ y ∷ (counted_name name ++ rest)) ≡ drop k (name ++ rest)
+    skip k = let same : 3 + k ≡ suc (suc (suc k)) = omega arith in ap (λ (m : ℕ). drop m (x ∷ y ∷ (counted_name name ++ rest))) same
 
 read_numbers : (numbers bytes : List ℕ) (n : ℕ) → AreFileNumbers numbers bytes → length bytes ≤ n → file_numbers n bytes ≡ Some numbers
 read_numbers [] bytes n are le =
@@ -53,7 +53,7 @@ read_numbers [] bytes n are le =
 read_numbers (number ∷ numbers) bytes n are le =
     let name = are.1 in
     let rest = are.2 in
-    let len : length bytes ≡ 3 + length name + length rest = omega (arith, ap length are.3, are.4, length-append are.0 (counted name ++ rest), length-append name rest) in
+    let len : length bytes ≡ 3 + length name + length rest = omega (arith, ap length are.3, are.4, length-append are.0 (counted_name name ++ rest), length-append name rest) in
     let m = suc_of n 2 (omega arith) in
     ap (λ (k : ℕ). file_numbers k bytes) m.1
     ∙ ap (file_numbers (suc m.0)) are.3
@@ -62,7 +62,7 @@ read_numbers (number ∷ numbers) bytes n are le =
     some_list : List ℕ → Option (List ℕ)
     some_list l = Some l
 
-    by : (digits : List ℕ) → length digits ≡ 2 → number_at 2 0 digits ≡ number → (number ≡ 0 → ⊥) → (k : ℕ) → file_numbers k are.2 ≡ Some numbers → file_numbers (suc k) (digits ++ (counted are.1 ++ are.2)) ≡ Some (number ∷ numbers)
+    by : (digits : List ℕ) → length digits ≡ 2 → number_at 2 0 digits ≡ number → (number ≡ 0 → ⊥) → (k : ℕ) → file_numbers k are.2 ≡ Some numbers → file_numbers (suc k) (digits ++ (counted_name are.1 ++ are.2)) ≡ Some (number ∷ numbers)
     by [] two is some k more = absurd (omega arith)
     by (x ∷ []) two is some k more = absurd (omega arith)
     by (x ∷ y ∷ []) two is some k more = one_number k x y are.1 are.2 numbers (λ e. some (sym is ∙ e)) more ∙ ap (λ (j : ℕ). some_list (j ∷ numbers)) is
@@ -70,16 +70,16 @@ read_numbers (number ∷ numbers) bytes n are le =
 
 -- ---- the third record
 
-read_names : (names : List (List ℕ)) (n at : ℕ) → length (flat_map counted names) ≤ n → names_from n at (flat_map counted names) ≡ Some (placed_from at names)
+read_names : (names : List (List ℕ)) (n at : ℕ) → length (flat_map counted_name names) ≤ n → names_from n at (flat_map counted_name names) ≡ Some (placed_from at names)
 read_names [] n at le = names_none n at
 read_names (name ∷ names) n at le =
-    let rest = flat_map counted names in
-    let all : flat_map counted (name ∷ names) ≡ counted name ++ rest = flat_map-cons counted name names in
-    let len : length (flat_map counted (name ∷ names)) ≡ 1 + length name + length rest = omega (arith, ap length all, length-append name rest) in
+    let rest = flat_map counted_name names in
+    let all : flat_map counted_name (name ∷ names) ≡ counted_name name ++ rest = flat_map-cons counted_name name names in
+    let len : length (flat_map counted_name (name ∷ names)) ≡ 1 + length name + length rest = omega (arith, ap length all, length-append name rest) in
     let m = suc_of n 0 (omega arith) in
     let more = read_names names m.0 (at + 1 + length name) (omega (arith, m.1)) in
     ap (names_from n at) all
-    ∙ ap (λ (k : ℕ). names_from k at (counted name ++ rest)) m.1
+    ∙ ap (λ (k : ℕ). names_from k at (counted_name name ++ rest)) m.1
     ∙ names_more m.0 at (length name) (name ++ rest) (omega (arith, length-append name rest))
     ∙ ap (λ (l : List ℕ). option_map (λ ns. (at, l) ∷ ns) (names_from m.0 (at + 1 + length name) (drop (length name) (name ++ rest)))) (take_at name rest (length name) refl)
     ∙ ap (λ (l : List ℕ). option_map (λ ns. (at, name) ∷ ns) (names_from m.0 (at + 1 + length name) l)) (drop_at name rest (length name) refl)
@@ -87,7 +87,7 @@ read_names (name ∷ names) n at le =
 
 -- ---- what is found
 
-name_found : (before : List (List ℕ)) (name : List ℕ) (behind : List (List ℕ)) (at d : ℕ) → d ≡ at + length (flat_map counted before)
+name_found : (before : List (List ℕ)) (name : List ℕ) (behind : List (List ℕ)) (at d : ℕ) → d ≡ at + length (flat_map counted_name before)
     → first_pair (λ x. x.0 == d) (placed_from at (before ++ name ∷ behind)) ≡ Some (d, name)
 name_found [] name behind at d place = by (at == d) (eq-eqb at d (omega arith))
   where
@@ -98,8 +98,8 @@ name_found [] name behind at d place = by (at == d) (eq-eqb at d (omega arith))
     by true e = let same : at ≡ d = omega arith in ap (λ (k : ℕ). some (k, name)) same
     by false e = absurd cc
 name_found (b ∷ before) name behind at d place =
-    let size = ap length (flat_map-cons counted b before) in
-    let len : d ≡ at + 1 + length b + length (flat_map counted before) = omega (arith, size, length-append (counted b) (flat_map counted before)) in
+    let size = ap length (flat_map-cons counted_name b before) in
+    let len : d ≡ at + 1 + length b + length (flat_map counted_name before) = omega (arith, size, length-append (counted_name b) (flat_map counted_name before)) in
     by (at == d) (ne_eqb at d (λ e. absurd (omega arith))) (name_found before name behind (at + 1 + length b) d len)
   where
     by : (t : Bool) → t ≡ false → first_pair (λ x. x.0 == d) (placed_from (at + 1 + length b) (before ++ name ∷ behind)) ≡ Some (d, name)

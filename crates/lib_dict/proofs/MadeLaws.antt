@@ -19,10 +19,10 @@ use Rattle.link_meaning.specs.Member.{Row, is_library}
 use Rattle.link_meaning.specs.Dictionary.{rows_of}
 use Rattle.lib_dict.specs.declared.fault.DictFault.{DictFault}
 use Rattle.lib_dict.specs.declared.fault.DictFault.TheVariants as dict
-use Rattle.lib_dict.specs.Library.{LibraryRow, told_row, HasRows, Given, LibraryFile, AreMembers, IsLibraryOf, files_text, names_text, rows_text, rows_from, dictionary_fields, dictionary_body, dictionary_text, dictionary_size, library_rows, library_bytes, most_bytes}
+use Rattle.lib_dict.specs.Library.{LibraryRow, told_row, HasRows, LibraryInput, LibraryFile, AreMembers, IsLibraryOf, files_text, names_text, rows_text, rows_from, dictionary_fields, dictionary_body, dictionary_text, dictionary_size, library_rows, library_bytes, most_bytes}
 use Rattle.lib_dict.specs.Rows.{HasNoRows}
 use Rattle.lib_dict.specs.Sizes.{IsReadFile, total_bytes}
-use Rattle.lib_dict.specs.DictionaryLayout.{counted, AreFileNumbers, AreRows, IsDictionary}
+use Rattle.lib_dict.specs.DictionaryLayout.{counted_name, AreFileNumbers, AreRows, IsDictionary}
 use Rattle.lib_dict.specs.MadeReads.{IsReadBack}
 use Rattle.lib_dict.proofs.LayoutReads.{laid_out_is_read}
 use Rattle.lib_dict.proofs.SizeLaws.{length-rows, length-body, length-dictionary, length-library, size_is, library_moved, names_moved, rows_before}
@@ -134,7 +134,7 @@ dictionary_stands first second third rest small =
 
 -- ---- the files
 
-members_whole : (given : List Given) (files : List LibraryFile) → AreMembers given files → IsBytes (flat_map bytes_of files) → AllByRecursion IsWhole files
+members_whole : (given : List LibraryInput) (files : List LibraryFile) → AreMembers given files → IsBytes (flat_map bytes_of files) → AllByRecursion IsWhole files
 members_whole [] [] are fit = tt
 members_whole [] (file ∷ files) are fit = absurd are
 members_whole (g ∷ given) [] are fit = absurd are
@@ -144,25 +144,25 @@ members_whole (g ∷ given) (file ∷ files) are fit =
     let behind : IsBytes rest = subst IsBytes (ap (drop (length file.bytes)) parts ∙ drop_at file.bytes rest (length file.bytes) refl) (IsBytes-drop (length file.bytes) (flat_map bytes_of (file ∷ files)) fit) in
     (record { segments = are.0.segments; fits = IsBytes-front (flat_map bytes_of (file ∷ files)) file.bytes rest fit parts }, members_whole given files are.1 behind)
 
-members_other : (given : List Given) (files : List LibraryFile) → AreMembers given files → AllByRecursion IsOther files
+members_other : (given : List LibraryInput) (files : List LibraryFile) → AreMembers given files → AllByRecursion IsOther files
 members_other [] [] are = tt
 members_other [] (file ∷ files) are = absurd are
 members_other (g ∷ given) [] are = absurd are
 members_other (g ∷ given) (file ∷ files) are = (are.0.others, members_other given files are.1)
 
-members_read : (given : List Given) (files : List LibraryFile) → AreMembers given files → total_bytes files < 4294967296 → AllByRecursion IsReadFile files
+members_read : (given : List LibraryInput) (files : List LibraryFile) → AreMembers given files → total_bytes files < 4294967296 → AllByRecursion IsReadFile files
 members_read [] [] are small = tt
 members_read [] (file ∷ files) are small = absurd are
 members_read (g ∷ given) [] are small = absurd are
 members_read (g ∷ given) (file ∷ files) are small = (record { segments = are.0.segments; short = omega arith }, members_read given files are.1 (omega arith))
 
-members_length : (given : List Given) (files : List LibraryFile) → AreMembers given files → length files ≡ length given
+members_length : (given : List LibraryInput) (files : List LibraryFile) → AreMembers given files → length files ≡ length given
 members_length [] [] are = refl
 members_length [] (file ∷ files) are = absurd are
 members_length (g ∷ given) [] are = absurd are
 members_length (g ∷ given) (file ∷ files) are = ap suc (members_length given files are.1)
 
-given_bytes : (given : List Given) (files : List LibraryFile) → AreMembers given files → flat_map bytes_of files ≡ flat_map (λ (g : Given). g.bytes) given
+given_bytes : (given : List LibraryInput) (files : List LibraryFile) → AreMembers given files → flat_map bytes_of files ≡ flat_map (λ (g : LibraryInput). g.bytes) given
 given_bytes [] [] are = refl
 given_bytes [] (file ∷ files) are = absurd are
 given_bytes (g ∷ given) [] are = absurd are
@@ -170,7 +170,7 @@ given_bytes (g ∷ given) (file ∷ files) are =
     flat_map-cons bytes_of file files
     ∙ ap (λ (l : List ℕ). l ++ flat_map bytes_of files) are.0.bytes
     ∙ ap (λ (l : List ℕ). g.bytes ++ l) (given_bytes given files are.1)
-    ∙ sym (flat_map-cons (λ (g : Given). g.bytes) g given)
+    ∙ sym (flat_map-cons (λ (g : LibraryInput). g.bytes) g given)
 
 -- ---- the whole
 
@@ -254,7 +254,7 @@ made_is_dictionary files m few low b =
     let rows = library_rows files in
     let names = map row_name rows in
     let segments = segments_in files m in
-    let third : m.third ≡ flat_map counted names = m.third_is ∙ names_are rows in
+    let third : m.third ≡ flat_map counted_name names = m.third_is ∙ names_are rows in
     let end = 0x37 + 10 + length (dictionary_body m.first m.second m.third) in
     let numbers = numbers_of 1 files in
     record {
@@ -328,7 +328,7 @@ never_refused bytes rows (dict.BadLibrary at) h why =
     differ found at e = cc
 never_refused bytes rows dict.Memory h why = refl
 
-pub made_is_read : (given : List Given) (bytes : List ℕ) → IsBytes bytes → length given ≤ 65535 → (made : IsLibraryOf given bytes) → IsReadBack given made.files bytes
+pub made_is_read : (given : List LibraryInput) (bytes : List ℕ) → IsBytes bytes → length given ≤ 65535 → (made : IsLibraryOf given bytes) → IsReadBack given made.files bytes
 made_is_read given bytes fit few made =
     let files = made.files in
     let rest = flat_map bytes_of files in

@@ -6,14 +6,14 @@ use Rattle.std.proofs.lemmas.List.{take_more, map-append, length-take, length-ma
 use Rattle.omf_format.specs.File.{Segment, IsFile, segment_at}
 use Rattle.omf_format.specs.laws.FileLaws.{segments_fit}
 use Rattle.omf_records.specs.declared.segment.SegmentView.{SegmentView}
-use Rattle.omf_records.specs.Segments.{shown}
+use Rattle.omf_records.specs.Segments.{segment_of_view}
 use Rattle.omf_records.specs.SegmentLaws.{shown_at}
 use Rattle.lib_dict.specs.declared.fault.LibCause.{LibCause}
 use Rattle.lib_dict.specs.declared.fault.LibCause.TheVariants.{Truncated, BadHeader, Unsupported, BadRecord, TooLong, Memory}
 use Rattle.lib_dict.specs.declared.fault.LibFault.{LibFault}
 use Rattle.lib_dict.specs.declared.member.Member.{Member}
-use Rattle.lib_dict.specs.declared.members.Read.{Read}
-use Rattle.lib_dict.specs.Library.{Given, LibraryFile, is_dictionary, IsMember, AreMembers}
+use Rattle.lib_dict.specs.declared.members.MemberRead.{MemberRead}
+use Rattle.lib_dict.specs.Library.{LibraryInput, LibraryFile, is_dictionary, IsMember, AreMembers}
 use Rattle.lib_dict.specs.Made.{given_file, library_file, FirstDictionary, HasMemberFault, IsFirstMemberFault, ByCause, IsMemberRefused, IsLibRefused}
 use Rattle.lib_dict.proofs.Sets.{list_any-append, or_false}
 
@@ -41,25 +41,25 @@ within-at [] k s is = absurd cc
 within-at (t ∷ list) zero s is = omega arith
 within-at (t ∷ list) (suc k) s is = let rest = within-at list k s is in omega arith
 
-pub passed_next : (list : List Segment) (k : ℕ) (v : SegmentView) → PassedOthers list k → Some (shown v) ≡ segment_at list (k + 1) → is_dictionary (shown v) ≡ false → PassedOthers list (k + 1)
+pub passed_next : (list : List Segment) (k : ℕ) (v : SegmentView) → PassedOthers list k → Some (segment_of_view v) ≡ segment_at list (k + 1) → is_dictionary (segment_of_view v) ≡ false → PassedOthers list (k + 1)
 passed_next list k v p is other =
     let here = shown_at list k v is in
-    let lt = within-at list k (shown v) here in
+    let lt = within-at list k (segment_of_view v) here in
     record {
       within = omega arith;
       none =
-          ap (list_any is_dictionary) (take-at list k (shown v) here)
-          ∙ list_any-append is_dictionary (take k list) (shown v ∷ [])
-          ∙ ap (λ (b : Bool). b || (is_dictionary (shown v) || false)) p.none
-          ∙ or_false (is_dictionary (shown v))
+          ap (list_any is_dictionary) (take-at list k (segment_of_view v) here)
+          ∙ list_any-append is_dictionary (take k list) (segment_of_view v ∷ [])
+          ∙ ap (λ (b : Bool). b || (is_dictionary (segment_of_view v) || false)) p.none
+          ∙ or_false (is_dictionary (segment_of_view v))
           ∙ other;
     }
 
-pub passed_found : (list : List Segment) (k : ℕ) (v : SegmentView) → PassedOthers list k → Some (shown v) ≡ segment_at list (k + 1) → is_dictionary (shown v) ≡ true → FirstDictionary list (Some (k + 1, v.start))
+pub passed_found : (list : List Segment) (k : ℕ) (v : SegmentView) → PassedOthers list k → Some (segment_of_view v) ≡ segment_at list (k + 1) → is_dictionary (segment_of_view v) ≡ true → FirstDictionary list (Some (k + 1, v.start))
 passed_found list k v p is found =
     let here = shown_at list k v is in
-    let lt = within-at list k (shown v) here in
-    (take k list, shown v, drop (k + 1) list, parts-at list k (shown v) here, p.none, found, omega (arith, length-take k list), refl)
+    let lt = within-at list k (segment_of_view v) here in
+    (take k list, segment_of_view v, drop (k + 1) list, parts-at list k (segment_of_view v) here, p.none, found, omega (arith, length-take k list), refl)
 
 -- ---- a file
 
@@ -70,18 +70,18 @@ few_in list bytes is short = omega (arith, segments_fit list 0 bytes (length byt
 -- ---- all files
 
 -- one file more
-AreMembers-push : (given : List Given) (files : List LibraryFile) (g : Given) (f : LibraryFile) → AreMembers given files → IsMember g f → AreMembers (given ++ g ∷ []) (files ++ f ∷ [])
+AreMembers-push : (given : List LibraryInput) (files : List LibraryFile) (g : LibraryInput) (f : LibraryFile) → AreMembers given files → IsMember g f → AreMembers (given ++ g ∷ []) (files ++ f ∷ [])
 AreMembers-push [] [] g f are is = (is, tt)
 AreMembers-push [] (x ∷ files) g f are is = absurd are
 AreMembers-push (y ∷ given) [] g f are is = absurd are
 AreMembers-push (y ∷ given) (x ∷ files) g f are is = (are.0, AreMembers-push given files g f are.1 is)
 
 -- the files so far were read
-pub record ReadSoFar (members : List Member) (i file : ℕ) (reads : List Read) : Type 0 where
+pub record ReadSoFar (members : List Member) (i file : ℕ) (reads : List MemberRead) : Type 0 where
   pub number : file ≡ i + 1
   pub are : AreMembers (map given_file (take i members)) (map library_file reads)
 
-pub read_more : (members : List Member) (i file : ℕ) (reads new : List Read) (m : Member) (r : Read) → ReadSoFar members i file reads → i < length members → m ≡ get_or members i m
+pub read_more : (members : List Member) (i file : ℕ) (reads new : List MemberRead) (m : Member) (r : MemberRead) → ReadSoFar members i file reads → i < length members → m ≡ get_or members i m
     → IsMember (given_file m) (library_file r) → new ≡ reads ++ r ∷ [] → ReadSoFar members (i + 1) (file + 1) new
 read_more members i file reads new m r so_far lt is one is_new =
     let front : map given_file (take (i + 1) members) ≡ map given_file (take i members) ++ given_file m ∷ [] =
@@ -90,7 +90,7 @@ read_more members i file reads new m r so_far lt is one is_new =
     record {
       number = omega (arith, so_far.number);
       are =
-          subst (λ (l : List Given). AreMembers l (map library_file new)) (sym front)
+          subst (λ (l : List LibraryInput). AreMembers l (map library_file new)) (sym front)
           (subst (AreMembers (map given_file (take i members) ++ given_file m ∷ [])) (sym back)
           (AreMembers-push (map given_file (take i members)) (map library_file reads) (given_file m) (library_file r) so_far.are one));
     }
@@ -101,7 +101,7 @@ parts-member (x ∷ members) zero m lt is = ap (λ (y : Member). y ∷ members) 
 parts-member (x ∷ members) (suc i) m lt is = ap (λ (l : List Member). x ∷ l) (parts-member members i m (omega arith) is)
 
 -- a file at fault
-pub read_fails : (members : List Member) (i file : ℕ) (reads : List Read) (m : Member) (fault : LibFault) → ReadSoFar members i file reads → i < length members → m ≡ get_or members i m
+pub read_fails : (members : List Member) (i file : ℕ) (reads : List MemberRead) (m : Member) (fault : LibFault) → ReadSoFar members i file reads → i < length members → m ≡ get_or members i m
     → IsMemberRefused fault file m.bytes.items → IsLibRefused fault (map given_file members)
 read_fails members i file reads m fault so_far lt is refused = by fault.cause _ _ refused
   where

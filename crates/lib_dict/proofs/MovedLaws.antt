@@ -16,7 +16,7 @@ use Rattle.omf_format.specs.Number.{IsBytes}
 use Rattle.omf_format.specs.laws.HeaderLaws.{sound_from_none, each_false, none_holds}
 use Rattle.omf_format.specs.Record.{Record, spelling}
 use Rattle.omf_format.specs.laws.RecordLaws.{front-takes}
-use Rattle.omf_format.specs.Reading.{Reader, front, told, moved, next_answer, after_next, HandsOut}
+use Rattle.omf_format.specs.Reading.{Reader, first_record, answer_of_reader, reader_after, next_answer, after_next, HandsOut}
 use Rattle.omf_format.specs.File.{Segment, body_reader, IsSegment, AreSegments, IsFile}
 use Rattle.omf_format.specs.laws.FileLaws.{Answer, gave, same_found, header_lies, AreSegments-append}
 use Rattle.omf_format.specs.laws.BodyLaws.{found_by, body_fits}
@@ -152,40 +152,40 @@ next_up k r found le e = by_end r.ended e
     nothing : Answer
     nothing = Ok None
 
-    by_answer : (answer : Result (Record × List ℕ) Flaw) → told r answer ≡ Ok (Some found) → told (up k r) answer ≡ Ok (Some (moved_found k found))
+    by_answer : (answer : Result (Record × List ℕ) Flaw) → answer_of_reader r answer ≡ Ok (Some found) → answer_of_reader (up k r) answer ≡ Ok (Some (moved_found k found))
     by_answer (Ok f) e =
         let same : (r.end - length r.left, f.0) ≡ found = same_found (r.end - length r.left, f.0) found e in
         let place : k + r.end - length r.left ≡ k + (r.end - length r.left) = omega arith in
         ap (λ (n : ℕ). gave (n, f.0)) place ∙ ap (λ (x : ℕ × Record). gave (moved_found k x)) same
     by_answer (Err flaw) e = absurd cc
 
-    by_end : (b : Bool) → cond b nothing (told r (front r.layout r.left)) ≡ Ok (Some found) → cond b nothing (told (up k r) (front r.layout r.left)) ≡ Ok (Some (moved_found k found))
+    by_end : (b : Bool) → cond b nothing (answer_of_reader r (first_record r.layout r.left)) ≡ Ok (Some found) → cond b nothing (answer_of_reader (up k r) (first_record r.layout r.left)) ≡ Ok (Some (moved_found k found))
     by_end true e = absurd cc
-    by_end false e = by_answer (front r.layout r.left) e
+    by_end false e = by_answer (first_record r.layout r.left) e
 
 after_up : (k : ℕ) (r : Reader) → after_next (up k r) ≡ up k (after_next r)
 unfolding after_next
 after_up k r = by_end r.ended
   where
-    by_answer : (answer : Result (Record × List ℕ) Flaw) → moved (up k r) answer ≡ up k (moved r answer)
+    by_answer : (answer : Result (Record × List ℕ) Flaw) → reader_after (up k r) answer ≡ up k (reader_after r answer)
     by_answer (Ok f) = refl
     by_answer (Err flaw) = refl
 
-    by_end : (b : Bool) → cond b (up k r) (moved (up k r) (front r.layout r.left)) ≡ up k (cond b r (moved r (front r.layout r.left)))
+    by_end : (b : Bool) → cond b (up k r) (reader_after (up k r) (first_record r.layout r.left)) ≡ up k (cond b r (reader_after r (first_record r.layout r.left)))
     by_end true = refl
-    by_end false = by_answer (front r.layout r.left)
+    by_end false = by_answer (first_record r.layout r.left)
 
 after_end : (r : Reader) → (after_next r).end ≡ r.end
 unfolding after_next
 after_end r = by_end r.ended
   where
-    by_answer : (answer : Result (Record × List ℕ) Flaw) → (moved r answer).end ≡ r.end
+    by_answer : (answer : Result (Record × List ℕ) Flaw) → (reader_after r answer).end ≡ r.end
     by_answer (Ok f) = refl
     by_answer (Err flaw) = refl
 
-    by_end : (b : Bool) → (cond b r (moved r (front r.layout r.left))).end ≡ r.end
+    by_end : (b : Bool) → (cond b r (reader_after r (first_record r.layout r.left))).end ≡ r.end
     by_end true = refl
-    by_end false = by_answer (front r.layout r.left)
+    by_end false = by_answer (first_record r.layout r.left)
 
 run_up : (k : ℕ) (r : Reader) (founds : List (ℕ × Record)) (last : Reader) → IsBytes r.left → length r.left ≤ r.end → HandsOut r founds last → HandsOut (up k r) (map (moved_found k) founds) (up k last)
 run_up k r [] last fits le run = ap (up k) run
@@ -257,8 +257,8 @@ segments_up before file behind (s ∷ segments) at next fits are =
 
 -- the segments of these files, the first of which begins there
 abbrev pub members_of : ℕ → List LibraryFile → List Segment
-members_of front [] = []
-members_of front (file ∷ files) = map (moved_segment front) file.segments ++ members_of (front + length file.bytes) files
+members_of first_record [] = []
+members_of first_record (file ∷ files) = map (moved_segment first_record) file.segments ++ members_of (first_record + length file.bytes) files
 
 abbrev pub bytes_of : LibraryFile → List ℕ
 bytes_of file = file.bytes

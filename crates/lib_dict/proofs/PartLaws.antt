@@ -8,7 +8,7 @@ use Rattle.omf_format.specs.Field.{Layout}
 use Rattle.omf_format.specs.Number.{IsBytes}
 use Rattle.omf_format.specs.Record.{Record, End, Const, LongConst, Align, Org, Space, Reloc, InterSeg, ShortReloc, ShortInterSeg, Super, Using, Strong, Label, Equate, Formula, Entry, spelling}
 use Rattle.omf_format.specs.laws.RecordLaws.{front-takes}
-use Rattle.omf_format.specs.Reading.{Reader, front, told, moved, place_of, next_answer, after_next, HandsOut}
+use Rattle.omf_format.specs.Reading.{Reader, first_record, answer_of_reader, reader_after, place_of, next_answer, after_next, HandsOut}
 use Rattle.omf_format.specs.laws.FileLaws.{Answer, gave, same_found}
 use Rattle.omf_format.specs.laws.BodyLaws.{found_by, none_at_end}
 use Rattle.load_meaning.specs.Pathnames.{long_bytes}
@@ -129,26 +129,26 @@ told_place : (r : Reader) (found : ℕ × Record) → next_answer r ≡ Ok (Some
 unfolding next_answer
 told_place r found e = by_end r.ended e
   where
-    by_answer : (answer : Result (Record × List ℕ) Flaw) → told r answer ≡ Ok (Some found) → found.0 ≡ place_of r
+    by_answer : (answer : Result (Record × List ℕ) Flaw) → answer_of_reader r answer ≡ Ok (Some found) → found.0 ≡ place_of r
     by_answer (Ok f) is = let same : (place_of r, f.0) ≡ found = same_found (place_of r, f.0) found is in sym (ap (λ (x : ℕ × Record). x.0) same)
     by_answer (Err flaw) is = absurd cc
 
-    by_end : (b : Bool) → cond b nothing (told r (front r.layout r.left)) ≡ Ok (Some found) → found.0 ≡ place_of r
+    by_end : (b : Bool) → cond b nothing (answer_of_reader r (first_record r.layout r.left)) ≡ Ok (Some found) → found.0 ≡ place_of r
     by_end true is = absurd cc
-    by_end false is = by_answer (front r.layout r.left) is
+    by_end false is = by_answer (first_record r.layout r.left) is
 
 -- a step doesn't move the segment's end
 same_end : (r : Reader) → (after_next r).end ≡ r.end
 unfolding after_next
 same_end r = by_end r.ended
   where
-    by_answer : (answer : Result (Record × List ℕ) Flaw) → (moved r answer).end ≡ r.end
+    by_answer : (answer : Result (Record × List ℕ) Flaw) → (reader_after r answer).end ≡ r.end
     by_answer (Ok f) = refl
     by_answer (Err flaw) = refl
 
-    by_end : (b : Bool) → (cond b r (moved r (front r.layout r.left))).end ≡ r.end
+    by_end : (b : Bool) → (cond b r (reader_after r (first_record r.layout r.left))).end ≡ r.end
     by_end true = refl
-    by_end false = by_answer (front r.layout r.left)
+    by_end false = by_answer (first_record r.layout r.left)
 
 -- a step takes the record's bytes
 record Steps (r : Reader) (found : ℕ × Record) : Type 0 where

@@ -12,26 +12,26 @@ use Rattle.link_meaning.specs.Defines.{Definition, outer_scope, defined_in}
 use Rattle.link_meaning.specs.Dictionary.{rows_of}
 
 -- a name as it stands in a dictionary: its length, and its bytes
-abbrev pub counted : List ℕ → List ℕ
-counted name = length name ∷ name
+abbrev pub counted_name : List ℕ → List ℕ
+counted_name name = length name ∷ name
 
 -- the first record: file numbers of two bytes, none of them 0, each with a name behind it, and 0 at the end
 abbrev pub AreFileNumbers : List ℕ → List ℕ → Type 0
 AreFileNumbers [] bytes = (length bytes ≡ 2) × (number_at 2 0 bytes ≡ 0)
 AreFileNumbers (number ∷ numbers) bytes =
-    (digits : List ℕ) × (name : List ℕ) × (rest : List ℕ) × (bytes ≡ digits ++ (counted name ++ rest)) × (length digits ≡ 2) × (number_at 2 0 digits ≡ number) × (number ≢ 0)
+    (digits : List ℕ) × (name : List ℕ) × (rest : List ℕ) × (bytes ≡ digits ++ (counted_name name ++ rest)) × (length digits ≡ 2) × (number_at 2 0 digits ≡ number) × (number ≢ 0)
     × AreFileNumbers numbers rest
 
 -- the third record: names one behind another
 abbrev pub AreNames : List (List ℕ) → List ℕ → Type 0
-AreNames names bytes = bytes ≡ flat_map counted names
+AreNames names bytes = bytes ≡ flat_map counted_name names
 
 -- one of the names starts there
 pub record StartsAt (names : List (List ℕ)) (name : List ℕ) (at : ℕ) : Type 0 where
   pub before : List (List ℕ)
   pub behind : List (List ℕ)
   pub parts : names ≡ before ++ name ∷ behind
-  pub place : at ≡ length (flat_map counted before)
+  pub place : at ≡ length (flat_map counted_name before)
 
 -- the segment defines the name by SEGNAME, GLOBAL or GEQU, private or not
 pub record DefinesSo (s : Segment) (name : List ℕ) (private : Bool) : Type 0 where

@@ -152,7 +152,7 @@ library_bytes files =
 -- ---- what is made of files
 
 -- a file that is given, by its name and its bytes
-pub record Given : Type 0 where
+pub record LibraryInput : Type 0 where
   pub name : List ℕ
   pub bytes : List ℕ
 
@@ -161,13 +161,13 @@ abbrev pub is_dictionary : Segment → Bool
 is_dictionary s = form_of s.fields.kind == 0x08
 
 -- the file is the one that was given, and each segment of it may stand in a library: none is a dictionary
-pub record IsMember (given : Given) (file : LibraryFile) : Type 0 where
+pub record IsMember (given : LibraryInput) (file : LibraryFile) : Type 0 where
   pub name : file.name ≡ given.name
   pub bytes : file.bytes ≡ given.bytes
   pub segments : IsFile file.segments file.bytes
   pub others : list_any is_dictionary file.segments ≡ false
 
-abbrev pub AreMembers : List Given → List LibraryFile → Type 0
+abbrev pub AreMembers : List LibraryInput → List LibraryFile → Type 0
 AreMembers [] [] = Unit {0}
 AreMembers [] (file ∷ files) = ⊥
 AreMembers (given ∷ all) [] = ⊥
@@ -178,14 +178,14 @@ abbrev pub most_bytes : ℕ
 most_bytes = 16777216
 
 -- the bytes are the library of the given files
-pub record IsLibraryOf (given : List Given) (bytes : List ℕ) : Type 0 where
+pub record IsLibraryOf (given : List LibraryInput) (bytes : List ℕ) : Type 0 where
   pub files : List LibraryFile
   pub members : AreMembers given files
   pub short : length bytes ≤ most_bytes
   pub made : bytes ≡ library_bytes files
 
 -- the library of the given files would be longer than a file may be
-pub record IsTooLong (given : List Given) : Type 0 where
+pub record IsTooLong (given : List LibraryInput) : Type 0 where
   pub files : List LibraryFile
   pub members : AreMembers given files
   pub long : most_bytes < length (library_bytes files)

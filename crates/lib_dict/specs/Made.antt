@@ -11,15 +11,15 @@ use Rattle.lib_dict.specs.declared.fault.LibCause.{LibCause}
 use Rattle.lib_dict.specs.declared.fault.LibCause.TheVariants.{Truncated, BadHeader, Unsupported, BadRecord, TooLong, Memory}
 use Rattle.lib_dict.specs.declared.fault.LibFault.{LibFault}
 use Rattle.lib_dict.specs.declared.member.Member.{Member}
-use Rattle.lib_dict.specs.declared.members.Read.{Read}
-use Rattle.lib_dict.specs.Library.{Given, LibraryFile, is_dictionary, AreMembers, IsLibraryOf, IsTooLong, HasDictionary, most_bytes, library_bytes}
+use Rattle.lib_dict.specs.declared.members.MemberRead.{MemberRead}
+use Rattle.lib_dict.specs.Library.{LibraryInput, LibraryFile, is_dictionary, AreMembers, IsLibraryOf, IsTooLong, HasDictionary, most_bytes, library_bytes}
 
 -- a file that is given, by its name and its bytes
-abbrev pub given_file : Member → Given
+abbrev pub given_file : Member → LibraryInput
 given_file m = record { name = m.name; bytes = m.bytes.items }
 
 -- a file that was read
-abbrev pub library_file : Read → LibraryFile
+abbrev pub library_file : MemberRead → LibraryFile
 library_file r = record { name = r.member.now.name; bytes = r.member.now.bytes.items; segments = r.list }
 
 -- no place
@@ -42,10 +42,10 @@ pub data HasMemberFault (bytes : List ℕ) (cause : LibCause) (segment at : ℕ)
   OfDictionary : HasDictionary bytes segment at → cause ≡ BadRecord → HasMemberFault bytes cause segment at
 
 -- the first file at fault has this one
-pub record IsFirstMemberFault (given : List Given) (fault : LibFault) : Type 0 where
-  pub before : List Given
-  pub file : Given
-  pub behind : List Given
+pub record IsFirstMemberFault (given : List LibraryInput) (fault : LibFault) : Type 0 where
+  pub before : List LibraryInput
+  pub file : LibraryInput
+  pub behind : List LibraryInput
   pub parts : given ≡ before ++ file ∷ behind
   pub files : List LibraryFile
   pub sound : AreMembers before files
@@ -62,12 +62,12 @@ ByCause TooLong file long memory = long
 ByCause Memory file long memory = memory
 
 -- no library is made of the files, for this reason, or memory ran out
-abbrev pub IsLibRefused : LibFault → List Given → Type 0
+abbrev pub IsLibRefused : LibFault → List LibraryInput → Type 0
 IsLibRefused fault given = ByCause fault.cause (IsFirstMemberFault given fault) (IsTooLong given × IsNowhere fault.spot) (IsNowhere fault.spot)
 
 -- files of which a library is made are refused for want of memory alone
 abbrev pub MadeIsRefusedForMemoryAlone : Type 0
-MadeIsRefusedForMemoryAlone = (given : List Given) (bytes : List ℕ) (fault : LibFault)
+MadeIsRefusedForMemoryAlone = (given : List LibraryInput) (bytes : List ℕ) (fault : LibFault)
     → IsLibraryOf given bytes → IsLibRefused fault given → fault.cause ≡ Memory
 
 -- ---- on the way

@@ -8,7 +8,7 @@ ghost use Rattle.lib_dict.specs.Made.{library_file};
 ghost use Rattle.lib_dict.specs.Sizes.{AreFiles, total_bytes};
 
 use crate::listed::Outer;
-use crate::members::Read;
+use crate::members::MemberRead;
 use crate::outer::put_rows;
 use omf_records::SegmentList;
 use std::alloc::{AllocError, Global};
@@ -37,7 +37,7 @@ fn put_file<'a>(
 /// The rows of all files, in order; the first file begins at the displacement 0.
 pub fn rows_of_files<'a>(
     alloc: Global,
-    reads: &'a Vec<Read<'a>>,
+    reads: &'a Vec<MemberRead<'a>>,
 ) -> Result<Vec<Outer<'a>>, AllocError>
     requires few { length reads.now.items ≤ 65535 }
     requires files { AreFiles (map library_file reads.now.items) }
@@ -55,7 +55,7 @@ pub fn rows_of_files<'a>(
 }
 
 /// How many bytes the files have together.
-pub fn total_bytes(reads: &Vec<Read>) -> u64
+pub fn total_bytes(reads: &Vec<MemberRead>) -> u64
     requires few { length reads.now.items ≤ 65535 }
     requires files { AreFiles (map library_file reads.now.items) }
     ensures { result ≡ total_bytes (map library_file reads.now.items) }

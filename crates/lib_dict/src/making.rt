@@ -14,7 +14,7 @@ ghost use Rattle.lib_dict.specs.Sizes.{AreFiles, first_place, PlaceFits};
 use crate::fault::{LibCause, LibFault, NOWHERE};
 use crate::files::{rows_of_files, total_bytes};
 use crate::member::Member;
-use crate::members::{Read, read_members};
+use crate::members::{MemberRead, read_members};
 use crate::names_behind::DICTIONARY;
 use crate::texts::{files_record, names_record, put_files, rows_record};
 use omf_base::Name;
@@ -108,7 +108,7 @@ fn library_of(
     first: &[u8],
     second: &[u8],
     third: &[u8],
-    reads: &Vec<Read>,
+    reads: &Vec<MemberRead>,
 ) -> Result<Vec<u8>, AllocError>
     requires { length first.now + length second.now + length third.now ≤ 16777216 - 81 }
     ensures { IfOk result (λ out. out.items ≡ dictionary_text first.now second.now third.now
@@ -125,7 +125,7 @@ fn library_of(
 }
 
 /// The library of the files that were read.
-fn library_from(alloc: Global, reads: &Vec<Read>) -> Result<Vec<u8>, LibFault>
+fn library_from(alloc: Global, reads: &Vec<MemberRead>) -> Result<Vec<u8>, LibFault>
     requires few { length reads.now.items ≤ 65535 }
     requires files { AreFiles (map library_file reads.now.items) }
     ensures ok { IfOk result (λ out. (length out.items ≤ most_bytes) × (out.items ≡ library_bytes (map library_file reads.now.items))) }

@@ -14,7 +14,7 @@ use std::alloc::Global;
 
 /// A file that was read: its name and its bytes, and its segments.
 #[derive(Drop)]
-pub struct Read<'a> {
+pub struct MemberRead<'a> {
     pub member: &'a Member,
     pub list: SegmentList<'a>,
 }
@@ -69,7 +69,7 @@ fn file_fault(fault: FileFault, file: u32) -> LibFault
 }
 
 /// The file with this number, read: its own first fault comes first, and then a dictionary among its segments.
-fn read_member<'a>(alloc: Global, member: &'a Member, file: u32) -> Result<Read<'a>, LibFault>
+fn read_member<'a>(alloc: Global, member: &'a Member, file: u32) -> Result<MemberRead<'a>, LibFault>
     requires { length member.now.bytes.items < 2 ^ 32 }
     ensures ok { IfOk result (λ read. IsMember (given_file member.now) (library_file read)) }
     ensures err { IfErr result (λ fault. IsMemberRefused fault file member.now.bytes.items) }
@@ -79,7 +79,7 @@ fn read_member<'a>(alloc: Global, member: &'a Member, file: u32) -> Result<Read<
         Err(fault) => return Err(file_fault(fault, file)),
     };
     match dictionary_in(&list) {
-        None => Ok(Read { member, list }),
+        None => Ok(MemberRead { member, list }),
         Some((segment, at)) => Err(LibFault {
             cause: LibCause::BadRecord,
             spot: Spot { file, segment, at },
@@ -88,7 +88,10 @@ fn read_member<'a>(alloc: Global, member: &'a Member, file: u32) -> Result<Read<
 }
 
 /// All files, read in order.
-pub fn read_members<'a>(alloc: Global, members: &'a Vec<Member>) -> Result<Vec<Read<'a>>, LibFault>
+pub fn read_members<'a>(
+    alloc: Global,
+    members: &'a Vec<Member>,
+) -> Result<Vec<MemberRead<'a>>, LibFault>
     requires few { length members.now.items ≤ 65535 }
     requires short { All (λ m. length m.bytes.items < 2 ^ 32) members.now.items }
     ensures ok { IfOk result (λ reads. AreMembers (map given_file members.now.items) (map library_file reads.items)) }

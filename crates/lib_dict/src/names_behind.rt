@@ -1,7 +1,7 @@
 //! What the segments of a library define for others.
 
 ghost use Rattle.std.specs.Prelude.{◌≡◌, ◌<◌, ◌+◌, ◌^◌, ◌++◌, length, map, IfOk, OnOk};
-ghost use Rattle.omf_records.specs.Segments.{shown, IsSound};
+ghost use Rattle.omf_records.specs.Segments.{segment_of_view, IsSound};
 ghost use Rattle.lib_dict.specs.View.{outer_row};
 ghost use Rattle.lib_dict.specs.Tables.{other_rows, behind_rows};
 
@@ -16,7 +16,7 @@ pub const DICTIONARY: u8 = 0x08;
 /// Appends the rows of a segment that isn't a dictionary.
 fn put_other<'a>(rows: &mut Vec<Outer<'a>>, view: &'a SegmentView<'a>) -> Result<(), AllocError>
     requires { IsSound view.now }
-    ensures { OnOk result (map outer_row rows.new.items ≡ map outer_row rows.old.items ++ other_rows (shown view.now)) }
+    ensures { OnOk result (map outer_row rows.new.items ≡ map outer_row rows.old.items ++ other_rows (segment_of_view view.now)) }
 {
     if view.header.kind.form() == DICTIONARY {
         return Ok(());

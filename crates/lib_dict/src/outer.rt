@@ -2,7 +2,7 @@
 
 ghost use Rattle.std.specs.Prelude.{◌≡◌, ◌<◌, ◌≤◌, ◌+◌, ◌^◌, ◌++◌, length, map, option_map, OnOk};
 ghost use Rattle.omf_records.specs.View.{view};
-ghost use Rattle.omf_records.specs.Segments.{shown, IsSound};
+ghost use Rattle.omf_records.specs.Segments.{segment_of_view, IsSound};
 ghost use Rattle.omf_format.specs.Reading.{IsBody, records_of};
 ghost use Rattle.lib_dict.specs.View.{outer_row, outer_of, record_rows};
 ghost use Rattle.lib_dict.specs.Library.{segment_rows};
@@ -88,7 +88,7 @@ pub fn put_rows<'a>(
 ) -> Result<(), AllocError>
     requires sound { IsSound view.now }
     requires fits { front + view.now.start < 2 ^ 64 }
-    ensures { OnOk result (map outer_row rows.new.items ≡ map outer_row rows.old.items ++ segment_rows file front (shown view.now)) }
+    ensures { OnOk result (map outer_row rows.new.items ≡ map outer_row rows.old.items ++ segment_rows file front (segment_of_view view.now)) }
 {
     let at = front + u64::from(view.start);
     let title = view.header.name.bytes();

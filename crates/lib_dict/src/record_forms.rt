@@ -4,7 +4,7 @@ ghost use Rattle.std.specs.Prelude.{◌≡◌, ◌<◌, ◌≤◌, ◌+◌, ◌^
 ghost use Rattle.lib_dict.specs.Tables.{AreNumbers, AreStarts};
 
 use indexmap::IndexSet;
-use omf_base::{behind, number};
+use omf_base::{items_after, number};
 use std::alloc::{AllocError, Global};
 
 /// The file numbers of the first record, where it has its form: each with a name behind it, and 0 at the very end.
@@ -33,7 +33,7 @@ pub fn file_numbers(alloc: Global, bytes: &[u8]) -> Result<Option<IndexSet<u16>>
             return Ok(None);
         }
         numbers.insert(file as u16)?;
-        rest = behind(rest, size);
+        rest = items_after(rest, size);
     }
 }
 

@@ -11,7 +11,7 @@ use crate::fault::DictFault;
 use crate::known::is_known;
 use crate::listed::Outer;
 use indexmap::IndexSet;
-use omf_base::{behind, front, number};
+use omf_base::{first_items, items_after, number};
 use omf_records::SegmentList;
 use std::alloc::Global;
 
@@ -37,7 +37,7 @@ fn name_at(third: &[u8], at: usize) -> &[u8]
     ensures short { length result.now ≤ 255 }
 {
     let size = number(third, at, 1) as usize;
-    let name = behind(third, at + 1);
+    let name = items_after(third, at + 1);
     &name[..size]
 }
 
@@ -94,11 +94,11 @@ pub fn rows_of<'a>(
     let mut rest = second;
     let mut place = at;
     'rows: while rest.len() >= ROW {
-        match row_of(tables, front(rest, ROW)) {
+        match row_of(tables, first_items(rest, ROW)) {
             Some(row) => rows.push(row)?,
             None => return Err(DictFault::BadLibrary(place)),
         }
-        rest = behind(rest, ROW);
+        rest = items_after(rest, ROW);
         place += ROW as u32;
     }
     Ok(rows)

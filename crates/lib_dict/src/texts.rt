@@ -9,7 +9,7 @@ ghost use Rattle.lib_dict.specs.Made.{library_file};
 ghost use Rattle.lib_dict.specs.Sizes.{moved_row, StartBefore};
 
 use crate::listed::Outer;
-use crate::members::Read;
+use crate::members::MemberRead;
 use std::alloc::{AllocError, Global};
 
 /// Appends a name behind its length.
@@ -31,7 +31,7 @@ fn put_file(out: &mut Vec<u8>, file: u16, name: &[u8]) -> Result<(), AllocError>
 }
 
 /// What stands in the first record.
-pub fn files_record(alloc: Global, reads: &Vec<Read>) -> Result<Vec<u8>, AllocError>
+pub fn files_record(alloc: Global, reads: &Vec<MemberRead>) -> Result<Vec<u8>, AllocError>
     requires { length reads.now.items ≤ 65535 }
     ensures { IfOk result (λ out. out.items ≡ files_text 1 (map library_file reads.now.items)) }
 {
@@ -100,7 +100,7 @@ pub fn rows_record(alloc: Global, rows: &Vec<Outer>, base: u32) -> Result<Vec<u8
 }
 
 /// Appends the bytes of all files.
-pub fn put_files(out: &mut Vec<u8>, reads: &Vec<Read>) -> Result<(), AllocError>
+pub fn put_files(out: &mut Vec<u8>, reads: &Vec<MemberRead>) -> Result<(), AllocError>
     ensures { OnOk result (out.new.items ≡ out.old.items ++ flat_map (λ file. file.bytes) (map library_file reads.now.items)) }
 {
     'files: for read in reads {

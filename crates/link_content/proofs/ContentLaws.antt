@@ -9,8 +9,8 @@ use Rattle.omf_format.specs.Field.{is_count}
 use Rattle.load_meaning.specs.Cells.{Cell, Byte, Part, Patch, parts_from}
 use Rattle.link_meaning.specs.Fitting.{parts}
 use Rattle.link_meaning.specs.LinkedCells.{zeros}
-use Rattle.written_bodies.specs.declared.written.Patch as kept
-use Rattle.written_bodies.specs.WrittenParts.{seen}
+use Rattle.load_writer.specs.declared.written.Patch as kept
+use Rattle.load_writer.specs.WrittenParts.{seen}
 use Rattle.link_content.specs.Holding.{Holding}
 use Rattle.link_content.specs.Contents.{HoldsCells}
 use Rattle.link_meaning.specs.LinkWritten.{run_length, patch_at, patches_from, patches_of_cells, byte_under}

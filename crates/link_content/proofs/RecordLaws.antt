@@ -6,16 +6,16 @@ use Rattle.omf_format.specs.Record.{Formula}
 use Rattle.load_meaning.specs.Cells.{Cell, Byte, Part}
 use Rattle.link_meaning.specs.declared.fault.LinkCause.{LinkCause}
 use Rattle.load_meaning.specs.declared.table.Target.{Target}
-use Rattle.link_meaning.specs.Fitting.{Fit, Frame, is_jsl_byte, ends_in_jsl, fitted, fit_cells, targets_behind}
-use Rattle.link_meaning.specs.Member.{Setting, Member, setting_in}
+use Rattle.link_meaning.specs.Fitting.{Fit, PatchPlace, is_jsl_byte, ends_in_jsl, fit_value, fit_cells, targets_behind}
+use Rattle.link_meaning.specs.Member.{LinkSetting, Member, setting_in}
 use Rattle.link_meaning.specs.Layout.{load_headers, load_of, offset_of}
 use Rattle.link_meaning.specs.LinkValues.{Told, value_in}
-use Rattle.link_meaning.specs.LinkedCells.{State, Item, bank_of, table_number, frame_of, cells_before, made_by}
+use Rattle.link_meaning.specs.LinkedCells.{LinkState, Item, bank_of, table_number, frame_of, cells_before, made_by}
 use Rattle.link_meaning.specs.LinkWritten.{byte_under}
 use Rattle.link_content.specs.Holding.{Holding, last_of}
-use Rattle.link_content.specs.declared.fit.Formula as kept
-use Rattle.link_content.specs.declared.fit.Load.{Load}
-use Rattle.link_content.specs.declared.record.Site.{Site}
+use Rattle.link_content.specs.declared.fit.FormulaRecord as kept
+use Rattle.link_content.specs.declared.fit.LoadLimits.{LoadLimits}
+use Rattle.link_content.specs.declared.record.MemberTarget.{MemberTarget}
 use Rattle.link_content.specs.Contents.{HoldsCells}
 use Rattle.link_content.specs.Puts.{PutsValue}
 use Rattle.link_content.specs.Records.{IsSite, StandsAt, PutsMade}
@@ -48,17 +48,17 @@ jsl_there front (c ∷ cells) bytes is more =
 
 -- ---- expressions
 
-pub formula_gives : (list : List Member) (told : List Told) (state : State) (i : Item) (code count n : ℕ) (expr : List ℕ) (v : Value) (fit : Fit) → value_in list told i.place i.member i.here.location expr ≡ Ok v
-    → fitted (load_headers list) (frame_of list i) state.targets (cells_before state i) code count n v ≡ Ok fit
+pub formula_gives : (list : List Member) (told : List Told) (state : LinkState) (i : Item) (code count n : ℕ) (expr : List ℕ) (v : Value) (fit : Fit) → value_in list told i.place i.member i.here.location expr ≡ Ok v
+    → fit_value (load_headers list) (frame_of list i) state.targets (cells_before state i) code count n v ≡ Ok fit
     → made_by list told state i (Formula code count n expr) ≡ Ok (fit_cells (table_number list) count (targets_behind state.targets fit) fit, targets_behind state.targets fit)
 formula_gives list told state i code count n expr v fit value fits = rw (value, fits) refl
 
 -- ---- what was put is what the record gives
 
-abbrev frame : ℕ → ℕ → ℕ → Setting → Frame
+abbrev frame : ℕ → ℕ → ℕ → LinkSetting → PatchPlace
 frame own bank_size place setting = record { own = own; bank_size = bank_size; place = place; setting = setting }
 
-frame_is : (list : List Member) (i : Item) (site : Site) (location : ℕ) → IsSite list i.place i.member site → i.here.location ≡ location → frame site.own site.bank_size (site.offset + location) (setting_in list) ≡ frame_of list i
+frame_is : (list : List Member) (i : Item) (site : MemberTarget) (location : ℕ) → IsSite list i.place i.member site → i.here.location ≡ location → frame site.own site.bank_size (site.offset + location) (setting_in list) ≡ frame_of list i
 frame_is list i site location is here =
     let setting = setting_in list in
     ap (λ (n : ℕ). frame n site.bank_size (site.offset + location) setting) is.own'
@@ -66,19 +66,19 @@ frame_is list i site location is here =
     ∙ ap (λ (n : ℕ). frame (load_of list i.member) (bank_of (load_headers list) (load_of list i.member)) (n + location) setting) is.offset'
     ∙ ap (λ (n : ℕ). frame (load_of list i.member) (bank_of (load_headers list) (load_of list i.member)) (offset_of list i.place i.member + n) setting) (sym here)
 
-module _ (list : List Member) (told : List Told) (state : State) (i : Item) (site : Site) (setting : Setting) (loads : List Load) (targets new : List Target) (front : List Cell) (location : ℕ) (before after : Holding)
-    (stands : StandsAt list told state i site setting loads targets front location before) (formula : kept.Formula) (expr : List ℕ) (v : Value) (value : value_in list told i.place i.member i.here.location expr ≡ Ok v) where
+module _ (list : List Member) (told : List Told) (state : LinkState) (i : Item) (site : MemberTarget) (setting : LinkSetting) (loads : List LoadLimits) (targets new : List Target) (front : List Cell) (location : ℕ) (before after : Holding)
+    (stands : StandsAt list told state i site setting loads targets front location before) (formula : kept.FormulaRecord) (expr : List ℕ) (v : Value) (value : value_in list told i.place i.member i.here.location expr ≡ Ok v) where
   here : frame site.own site.bank_size (site.offset + location) setting ≡ frame_of list i
   here =
       ap (frame site.own site.bank_size (site.offset + location)) (sym stands.setting')
       ∙ frame_is list i site location stands.site' stands.location'
 
   -- the fit is the same in the words of the list
-  same_fit : (r : Result Fit LinkCause) → fitted (load_headers list) (frame site.own site.bank_size (site.offset + location) setting) targets (cells_before state i) formula.code formula.count formula.n v ≡ r
-      → fitted (load_headers list) (frame_of list i) state.targets (cells_before state i) formula.code formula.count formula.n v ≡ r
+  same_fit : (r : Result Fit LinkCause) → fit_value (load_headers list) (frame site.own site.bank_size (site.offset + location) setting) targets (cells_before state i) formula.code formula.count formula.n v ≡ r
+      → fit_value (load_headers list) (frame_of list i) state.targets (cells_before state i) formula.code formula.count formula.n v ≡ r
   same_fit r is =
-      ap (λ (f : Frame). fitted (load_headers list) f state.targets (cells_before state i) formula.code formula.count formula.n v) (sym here)
-      ∙ ap (λ (ts : List Target). fitted (load_headers list) (frame site.own site.bank_size (site.offset + location) setting) ts (cells_before state i) formula.code formula.count formula.n v) stands.targets'
+      ap (λ (f : PatchPlace). fit_value (load_headers list) f state.targets (cells_before state i) formula.code formula.count formula.n v) (sym here)
+      ∙ ap (λ (ts : List Target). fit_value (load_headers list) (frame site.own site.bank_size (site.offset + location) setting) ts (cells_before state i) formula.code formula.count formula.n v) stands.targets'
       ∙ is
 
   pub value_put : PutsValue (load_headers list) (frame site.own site.bank_size (site.offset + location) setting) (cells_before state i) formula v site.table targets new before after

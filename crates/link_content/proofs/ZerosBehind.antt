@@ -6,12 +6,12 @@ use Rattle.std.proofs.lemmas.List.{take-append-le, drop-append-le, length-append
 use Rattle.std.proofs.lemmas.List.Folds.{list_all-append}
 use Rattle.omf_format.specs.Field.{written_layout}
 use Rattle.omf_format.specs.Record.{spelling}
-use Rattle.load_meaning.specs.Cells.{Cell, Byte, Patch, parts_from, patched}
-use Rattle.load_meaning.specs.WrittenBody.{AreWritten, stored, with_stored, is_zero, data_records, lone_record, lone, supers_from, zeros_behind, written_cells, written_data, body_records, body_text}
+use Rattle.load_meaning.specs.Cells.{Cell, Byte, Patch, parts_from, patched_cells}
+use Rattle.load_meaning.specs.WrittenBody.{AreWritten, stored_bytes, with_stored, is_zero, data_records, lone_record, patches_stored_alone, supers_from, zeros_behind, written_cells, written_data, body_records, body_text}
 use Rattle.load_meaning.specs.laws.FormLaws.{length-stored}
 use Rattle.load_meaning.specs.laws.StoredLaws.{length-data, cells_size, zeros-le}
-use Rattle.written_bodies.specs.declared.written.Patch as kept
-use Rattle.written_bodies.specs.WrittenParts.{seen}
+use Rattle.load_writer.specs.declared.written.Patch as kept
+use Rattle.load_writer.specs.WrittenParts.{seen}
 use Rattle.link_content.specs.Holding.{Holding, AreInside, or_lent, or_before, last_of}
 use Rattle.link_content.proofs.ContentBytes.{last_two}
 
@@ -44,18 +44,18 @@ stored_more : (own low size : ℕ) (xs behind : List ℕ) (patches : List Patch)
 stored_more own low size xs behind [] long are = refl
 stored_more own low size xs behind (p ∷ patches) long are =
     let inside : p.location + p.count ≤ length xs = omega (arith, long, are.0.inside) in
-    ap (λ (l : List ℕ). with_stored own l patches) (over_more p.location p.count (stored own p) xs behind inside)
-    ∙ stored_more own (p.location + p.count) size (take p.location xs ++ stored own p ++ drop (p.location + p.count) xs) behind patches (over_size p.location p.count (stored own p) xs (length-stored own p) inside ∙ long) are.2
+    ap (λ (l : List ℕ). with_stored own l patches) (over_more p.location p.count (stored_bytes own p) xs behind inside)
+    ∙ stored_more own (p.location + p.count) size (take p.location xs ++ stored_bytes own p ++ drop (p.location + p.count) xs) behind patches (over_size p.location p.count (stored_bytes own p) xs (length-stored own p) inside ∙ long) are.2
 
 length-parts : (p : Patch) (index n : ℕ) → length (parts_from p index n) ≡ n
 length-parts p index zero = refl
 length-parts p index (suc n) = ap suc (length-parts p (index + 1) n)
 
-cells_more : (low size : ℕ) (xs behind : List Cell) (patches : List Patch) → length xs ≡ size → AreWritten size low patches → patched (xs ++ behind) patches ≡ patched xs patches ++ behind
+cells_more : (low size : ℕ) (xs behind : List Cell) (patches : List Patch) → length xs ≡ size → AreWritten size low patches → patched_cells (xs ++ behind) patches ≡ patched_cells xs patches ++ behind
 cells_more low size xs behind [] long are = refl
 cells_more low size xs behind (p ∷ patches) long are =
     let inside : p.location + p.count ≤ length xs = omega (arith, long, are.0.inside) in
-    ap (λ (l : List Cell). patched l patches) (over_more p.location p.count (parts_from p 0 p.count) xs behind inside)
+    ap (λ (l : List Cell). patched_cells l patches) (over_more p.location p.count (parts_from p 0 p.count) xs behind inside)
     ∙ cells_more (p.location + p.count) size (take p.location xs ++ parts_from p 0 p.count ++ drop (p.location + p.count) xs) behind patches (over_size p.location p.count (parts_from p 0 p.count) xs (length-parts p 0 p.count) inside ∙ long) are.2
 
 -- ---- zeros
@@ -106,7 +106,7 @@ module _ (own n : ℕ) (front : List ℕ) (patches : List Patch) (are : AreWritt
   written_more : written_cells (front ++ replicate n 0) patches ≡ written_cells front patches ++ replicate n (Byte 0)
   unfolding written_cells
   written_more =
-      ap (λ (l : List Cell). patched l patches) (map-append Byte front (replicate n 0) ∙ ap (λ (l : List Cell). map Byte front ++ l) (bytes_zero n))
+      ap (λ (l : List Cell). patched_cells l patches) (map-append Byte front (replicate n 0) ∙ ap (λ (l : List Cell). map Byte front ++ l) (bytes_zero n))
       ∙ cells_more 0 (length front) (map Byte front) (replicate n (Byte 0)) patches (length-map front (λ (b : ℕ). Byte b)) are
 
   pub behind_more : zeros_behind (written_cells (front ++ replicate n 0) patches) ≡ zeros_behind (written_cells front patches) + n
@@ -131,7 +131,7 @@ module _ (own n : ℕ) (front : List ℕ) (patches : List Patch) (are : AreWritt
 
   pub body_same : body_text own (front ++ replicate n 0) patches ≡ body_text own front patches
   unfolding body_text body_records
-  body_same = ap (λ (bytes : List ℕ). flat_map (spelling written_layout) (data_records bytes ++ (map (lone_record own) (lone own patches) ++ supers_from own patches 0 38))) data_same
+  body_same = ap (λ (bytes : List ℕ). flat_map (spelling written_layout) (data_records bytes ++ (map (lone_record own) (patches_stored_alone own patches) ++ supers_from own patches 0 38))) data_same
 
 -- ---- a content and the zeros behind it
 

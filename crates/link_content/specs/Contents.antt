@@ -2,10 +2,10 @@
 use Rattle.std.specs.Prelude.{◌≡◌, ℕ, List, [], ◌++◌, length, map, replicate}
 use Rattle.load_meaning.specs.Cells.{Cell}
 use Rattle.link_meaning.specs.LinkWritten.{byte_under, patches_of_cells}
-use Rattle.written_bodies.specs.Joined.{joined}
-use Rattle.written_bodies.specs.WrittenParts.{seen}
-use Rattle.link_content.specs.declared.content.Place.{Place}
-use Rattle.link_content.specs.declared.content.Place.TheVariants.{Lent, Own}
+use Rattle.load_writer.specs.Joined.{joined}
+use Rattle.load_writer.specs.WrittenParts.{seen}
+use Rattle.link_content.specs.declared.content.ByteStorage.{ByteStorage}
+use Rattle.link_content.specs.declared.content.ByteStorage.TheVariants.{Lent, Own}
 use Rattle.link_content.specs.Holding.{Holding, AreInside}
 
 -- these are the cells: the bytes under the patches, and the patches
@@ -14,6 +14,6 @@ pub record HoldsCells (cells : List Cell) (content : Holding) : Type 0 where
   pub patches' : map seen content.patches ≡ patches_of_cells cells
 
 -- its bytes stand there, but for so many zeros behind them, under which no patch lies; where they are lent, there is no patch
-abbrev pub IsPlaced : Place → ℕ → Holding → Type 0
+abbrev pub IsPlaced : ByteStorage → ℕ → Holding → Type 0
 IsPlaced (Lent pieces) behind content = (content.bytes ≡ joined pieces.now ++ replicate behind 0) × (content.patches ≡ [])
 IsPlaced (Own bytes) behind content = (content.bytes ≡ bytes.now ++ replicate behind 0) × AreInside (length bytes.now) content.patches

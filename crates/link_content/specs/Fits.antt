@@ -4,30 +4,30 @@ use Rattle.omf_format.specs.Header.{Fields, is_dynamic}
 use Rattle.load_meaning.specs.declared.table.Target.{Target}
 use Rattle.link_meaning.specs.declared.fault.LinkCause.{LinkCause}
 use Rattle.link_meaning.specs.declared.fault.LinkCause.TheVariants.{TooManyEntries}
-use Rattle.link_meaning.specs.Member.{Setting}
+use Rattle.link_meaning.specs.Member.{LinkSetting}
 use Rattle.link_meaning.specs.Fitting as meaning
 use Rattle.link_content.specs.declared.fit.Fit.{Fit}
 use Rattle.link_content.specs.declared.fit.Fit.TheVariants.{Number, Place, Entry}
-use Rattle.link_content.specs.declared.fit.Load.{Load}
-use Rattle.link_content.specs.declared.fit.Frame.{Frame}
+use Rattle.link_content.specs.declared.fit.LoadLimits.{LoadLimits}
+use Rattle.link_content.specs.declared.fit.PatchPlace.{PatchPlace}
 
-abbrev pub shown : Fit → meaning.Fit
-shown (Number n) = meaning.Number n
-shown (Place segment offset shift) = meaning.Place segment offset shift
-shown (Entry target) = meaning.Entry target
+abbrev pub to_fit_meaning : Fit → meaning.Fit
+to_fit_meaning (Number n) = meaning.Number n
+to_fit_meaning (Place segment offset shift) = meaning.Place segment offset shift
+to_fit_meaning (Entry target) = meaning.Entry target
 
 -- a frame in what is linked so
-abbrev pub shown_frame : Setting → Frame → meaning.Frame
+abbrev pub shown_frame : LinkSetting → PatchPlace → meaning.PatchPlace
 shown_frame setting f = record { own = f.own; bank_size = f.bank_size; place = f.place; setting = setting }
 
 -- what becomes of a value, or why it doesn't fit
-abbrev pub told_fit : Result Fit LinkCause → Result meaning.Fit LinkCause
-told_fit (Ok fit) = Ok (shown fit)
-told_fit (Err cause) = Err cause
+abbrev pub to_fit : Result Fit LinkCause → Result meaning.Fit LinkCause
+to_fit (Ok fit) = Ok (to_fit_meaning fit)
+to_fit (Err cause) = Err cause
 
 -- what is kept of a load segment's header
-abbrev pub told_load : Fields → Load
-told_load f = record { dynamic = is_dynamic f.kind; length = f.length; bank_size = f.bank_size }
+abbrev pub to_load_limits : Fields → LoadLimits
+to_load_limits f = record { dynamic = is_dynamic f.kind; length = f.length; bank_size = f.bank_size }
 
 -- an entry needs room for its target
 abbrev pub with_room : List Target → meaning.Fit → Result meaning.Fit LinkCause
@@ -36,6 +36,6 @@ with_room targets (meaning.Place segment offset shift) = Ok (meaning.Place segme
 with_room targets (meaning.Entry target) = if not (meaning.has_room_for targets target) then Err TooManyEntries else Ok (meaning.Entry target)
 
 -- what becomes of a value once its target has room
-abbrev pub answered : List Target → Result Fit LinkCause → Result meaning.Fit LinkCause
-answered targets (Ok fit) = with_room targets (shown fit)
-answered targets (Err cause) = Err cause
+abbrev pub fit_with_room : List Target → Result Fit LinkCause → Result meaning.Fit LinkCause
+fit_with_room targets (Ok fit) = with_room targets (to_fit_meaning fit)
+fit_with_room targets (Err cause) = Err cause

@@ -1,7 +1,7 @@
 -- What a content is to contracts: its bytes, and the patches over them.
 use Rattle.std.specs.Prelude.{ℕ, ◌+◌, ◌≤◌, List, [], ◌∷◌, Option, Some, None}
 use Rattle.std.specs.List.{AllByRecursion}
-use Rattle.written_bodies.specs.declared.written.Patch.{Patch}
+use Rattle.load_writer.specs.declared.written.Patch.{Patch}
 
 pub record Holding : Type 0 where
   pub bytes : List ℕ

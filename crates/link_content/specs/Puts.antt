@@ -7,9 +7,9 @@ use Rattle.load_meaning.specs.declared.table.Target.{Target}
 use Rattle.load_meaning.specs.Table.{entry_place, with_target}
 use Rattle.link_meaning.specs.declared.fault.LinkCause.{LinkCause}
 use Rattle.link_meaning.specs.Fitting as meaning
-use Rattle.link_meaning.specs.Fitting.{entry_of, fitted, fit_cells, targets_behind}
+use Rattle.link_meaning.specs.Fitting.{entry_of, fit_value, fit_cells, targets_behind}
 use Rattle.link_content.specs.Holding.{Holding}
-use Rattle.link_content.specs.declared.fit.Formula.{Formula}
+use Rattle.link_content.specs.declared.fit.FormulaRecord.{FormulaRecord}
 use Rattle.link_content.specs.Contents.{HoldsCells}
 use Rattle.link_content.specs.Fits.{with_room}
 
@@ -30,8 +30,8 @@ pub record PutsFit (number count : ℕ) (old new : List Target) (fit : meaning.F
   pub cells' : (cells : List Cell) → HoldsCells cells before → HoldsCells (cells ++ fit_cells number count new fit) after
 
 -- those of what the value became in the record
-pub record PutsValue (headers : List Fields) (frame : meaning.Frame) (behind : List Cell) (formula : Formula) (value : Value) (number : ℕ) (old new : List Target) (before after : Holding) : Type 0 where
+pub record PutsValue (headers : List Fields) (frame : meaning.PatchPlace) (behind : List Cell) (formula : FormulaRecord) (value : Value) (number : ℕ) (old new : List Target) (before after : Holding) : Type 0 where
   pub fit : meaning.Fit
-  pub fits : fitted headers frame old behind formula.code formula.count formula.n value ≡ Ok fit
+  pub fits : fit_value headers frame old behind formula.code formula.count formula.n value ≡ Ok fit
   pub targets' : new ≡ targets_behind old fit
   pub cells' : (cells : List Cell) → HoldsCells cells before → HoldsCells (cells ++ fit_cells number formula.count new fit) after

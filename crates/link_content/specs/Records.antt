@@ -5,17 +5,17 @@ use Rattle.omf_format.specs.Field.{is_count}
 use Rattle.load_meaning.specs.Cells.{Cell}
 use Rattle.load_meaning.specs.declared.table.Target.{Target}
 use Rattle.link_meaning.specs.declared.fault.LinkCause.{LinkCause}
-use Rattle.link_meaning.specs.Member.{Setting, Member, setting_in}
+use Rattle.link_meaning.specs.Member.{LinkSetting, Member, setting_in}
 use Rattle.link_meaning.specs.Layout.{load_headers, load_of, offset_of}
 use Rattle.omf_format.specs.declared.value.Value.{Value}
 use Rattle.omf_format.specs.declared.value.ValueFault.{ValueFault}
 use Rattle.link_meaning.specs.LinkValues.{Told, value_in}
-use Rattle.link_meaning.specs.LinkedCells.{State, Item, Made, bank_of, table_number, cells_before}
+use Rattle.link_meaning.specs.LinkedCells.{LinkState, Item, Made, bank_of, table_number, cells_before}
 use Rattle.link_content.specs.Holding.{Holding}
-use Rattle.link_content.specs.declared.fit.Load.{Load}
-use Rattle.link_content.specs.declared.record.Site.{Site}
+use Rattle.link_content.specs.declared.fit.LoadLimits.{LoadLimits}
+use Rattle.link_content.specs.declared.record.MemberTarget.{MemberTarget}
 use Rattle.link_content.specs.Contents.{HoldsCells}
-use Rattle.link_content.specs.Fits.{told_load}
+use Rattle.link_content.specs.Fits.{to_load_limits}
 
 -- a count is 1 to 4
 abbrev pub IsCounted : Record → Type 0
@@ -29,7 +29,7 @@ IsWorth list told i (Formula code count n expr) worth = value_in list told i.pla
 IsWorth _ _ _ _ _ = Unit {0}
 
 -- the member's records go there
-pub record IsSite (list : List Member) (place : ℕ) (m : Member) (site : Site) : Type 0 where
+pub record IsSite (list : List Member) (place : ℕ) (m : Member) (site : MemberTarget) : Type 0 where
   pub table' : site.table ≡ table_number list
   pub own' : site.own ≡ load_of list m
   pub bank_size' : site.bank_size ≡ bank_of (load_headers list) (load_of list m)
@@ -37,9 +37,9 @@ pub record IsSite (list : List Member) (place : ℕ) (m : Member) (site : Site) 
 
 -- a record of the member at a site stands at this location, behind what the records before it left: their targets, and the cells of
 -- the load segment, of which so many are in front of the member
-pub record StandsAt (list : List Member) (told : List Told) (state : State) (i : Item) (site : Site) (setting : Setting) (loads : List Load) (targets : List Target) (front : List Cell) (location : ℕ) (content : Holding) : Type 0 where
+pub record StandsAt (list : List Member) (told : List Told) (state : LinkState) (i : Item) (site : MemberTarget) (setting : LinkSetting) (loads : List LoadLimits) (targets : List Target) (front : List Cell) (location : ℕ) (content : Holding) : Type 0 where
   pub setting' : setting_in list ≡ setting
-  pub loads' : loads ≡ map told_load (load_headers list)
+  pub loads' : loads ≡ map to_load_limits (load_headers list)
   pub site' : IsSite list i.place i.member site
   pub location' : i.here.location ≡ location
   pub targets' : state.targets ≡ targets

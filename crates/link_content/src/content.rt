@@ -5,44 +5,44 @@ ghost use Rattle.omf_format.specs.Field.{is_count};
 ghost use Rattle.load_meaning.specs.Cells.{Cell, Byte};
 ghost use Rattle.link_meaning.specs.Fitting.{parts};
 ghost use Rattle.link_meaning.specs.LinkedCells.{zeros};
-ghost use Rattle.written_bodies.specs.Joined.{joined};
+ghost use Rattle.load_writer.specs.Joined.{joined};
 ghost use Rattle.link_content.specs.Contents.{HoldsCells, IsPlaced};
 ghost use Rattle.link_content.specs.Holding.{Holding, or_lent, or_before, last_of};
 
+use load_writer::Patch;
 use std::alloc::{AllocError, Global};
 use std::marker::Model;
-use written_bodies::Patch;
 
 /// The bytes of a load segment so far, and the patches over them. As long as they are constants of inputs, one behind another,
 /// none is copied, and zeros at the end are only counted. Contracts see the bytes and the patches.
 #[derive(Drop)]
-pub struct Content<'a> {
+pub struct LoadContent<'a> {
     /// Constants of inputs, which are all bytes as long as there are none in `own`.
-    lent: Vec<&'a [u8]>,
+    borrowed: Vec<&'a [u8]>,
     /// How many bytes those are.
-    lent_size: usize,
+    borrowed_size: usize,
     /// All bytes, if there are any here.
     own: Vec<u8>,
     /// How many zeros stand behind these, and aren't held.
-    behind: usize,
+    trailing_zeros: usize,
     patches: Vec<Patch>,
 }
 
-impl<'a> Model for Content<'a> {
+impl<'a> Model for LoadContent<'a> {
     ghost use Rattle.std.specs.Prelude.{◌≡◌, ◌++◌, ◌<◌, ◌^◌, [], length, replicate};
-    ghost use Rattle.written_bodies.specs.Joined.{joined};
+    ghost use Rattle.load_writer.specs.Joined.{joined};
     ghost use Rattle.link_content.specs.Holding.{Holding, AreInside, or_lent};
 
     ghost Value = { Holding };
 
-    ghost view = { λ content. record { bytes = or_lent content.own.items (joined content.lent.items) ++ replicate content.behind 0; patches = content.patches.items } };
+    ghost view = { λ content. record { bytes = or_lent content.own.items (joined content.borrowed.items) ++ replicate content.trailing_zeros 0; patches = content.patches.items } };
 
-    ghost invariant = { λ content. (content.lent_size ≡ length (joined content.lent.items)) × (content.own.items ≡ [] → content.patches.items ≡ [])
-        × AreInside (length content.own.items) content.patches.items × (content.lent_size < 2 ^ 33) × (content.behind < 2 ^ 33) };
+    ghost invariant = { λ content. (content.borrowed_size ≡ length (joined content.borrowed.items)) × (content.own.items ≡ [] → content.patches.items ≡ [])
+        × AreInside (length content.own.items) content.patches.items × (content.borrowed_size < 2 ^ 33) × (content.trailing_zeros < 2 ^ 33) };
 }
 
 /// Where the bytes of a content stand.
-pub enum Place<'h, 'a> {
+pub enum ByteStorage<'h, 'a> {
     /// In inputs, piece by piece.
     Lent(&'h [&'a [u8]]),
     /// Side by side.
@@ -89,7 +89,7 @@ fn take_in(own: &mut Vec<u8>, lent: &[&[u8]]) -> Result<(), AllocError>
 }
 
 /// Copies what is lent, unless there are bytes of one's own, and appends so many zeros.
-fn settle(own: &mut Vec<u8>, lent: &[&[u8]], zeros: usize) -> Result<(), AllocError>
+fn own_bytes(own: &mut Vec<u8>, lent: &[&[u8]], zeros: usize) -> Result<(), AllocError>
     requires { zeros < 2 ^ 34 }
     ensures ok { OnOk result (own.new.items ≡ or_lent own.old.items (joined lent.now) ++ replicate zeros 0) }
     ensures longer { own.old.items ≢ [] → length own.old.items ≤ length own.new.items }
@@ -124,7 +124,7 @@ fn last_of(bytes: &[u8]) -> Option<u8>
 }
 
 /// A byte, or else the one before it.
-fn later(byte: Option<u8>, before: Option<u8>) -> Option<u8>
+fn last_of_two(byte: Option<u8>, before: Option<u8>) -> Option<u8>
     ensures { result ≡ or_before byte before }
 {
     match byte {
@@ -139,7 +139,7 @@ fn last_in(pieces: &[&[u8]]) -> Option<u8>
 {
     let mut found = None;
     for piece in pieces {
-        found = later(last_of(*piece), found);
+        found = last_of_two(last_of(*piece), found);
     }
     found
 }
@@ -154,28 +154,28 @@ fn room_for(alloc: Global, count: usize) -> Vec<u8>
     }
 }
 
-impl<'a> Content<'a> {
+impl<'a> LoadContent<'a> {
     /// Without cells, with room for so many.
-    pub fn with_room(alloc: Global, count: usize) -> Content<'a>
+    pub fn with_room(alloc: Global, count: usize) -> LoadContent<'a>
         ensures { HoldsCells [] result }
     {
-        Content {
-            lent: Vec::new(alloc),
-            lent_size: 0,
+        LoadContent {
+            borrowed: Vec::new(alloc),
+            borrowed_size: 0,
             own: room_for(alloc, count),
-            behind: 0,
+            trailing_zeros: 0,
             patches: Vec::new(alloc),
         }
     }
 
-    pub fn new(alloc: Global) -> Content<'a>
+    pub fn new(alloc: Global) -> LoadContent<'a>
         ensures { HoldsCells [] result }
     {
-        Content {
-            lent: Vec::new(alloc),
-            lent_size: 0,
+        LoadContent {
+            borrowed: Vec::new(alloc),
+            borrowed_size: 0,
             own: Vec::new(alloc),
-            behind: 0,
+            trailing_zeros: 0,
             patches: Vec::new(alloc),
         }
     }
@@ -185,9 +185,9 @@ impl<'a> Content<'a> {
         ensures { result ≡ length (self.now).bytes }
     {
         if self.own.is_empty() {
-            return self.lent_size + self.behind;
+            return self.borrowed_size + self.trailing_zeros;
         }
-        self.own.as_slice().len() + self.behind
+        self.own.as_slice().len() + self.trailing_zeros
     }
 
     /// How many cells there are.
@@ -199,24 +199,27 @@ impl<'a> Content<'a> {
 
     /// The bytes but for zeros at their end, and how many zeros these are; under a patch they don't count. Where the bytes stand in
     /// inputs, there is no patch.
-    pub fn place(&self) -> (Place<'_, 'a>, usize)
+    pub fn place(&self) -> (ByteStorage<'_, 'a>, usize)
         ensures { IsPlaced result.0 result.1 self.now }
     {
         if self.own.is_empty() {
-            return (Place::Lent(self.lent.as_slice()), self.behind);
+            return (
+                ByteStorage::Lent(self.borrowed.as_slice()),
+                self.trailing_zeros,
+            );
         }
-        (Place::Own(self.own.as_slice()), self.behind)
+        (ByteStorage::Own(self.own.as_slice()), self.trailing_zeros)
     }
 
     /// The last byte, if there is one.
     pub fn last(&self) -> Option<u8>
         ensures { result ≡ last_of (self.now).bytes }
     {
-        if self.behind > 0 {
+        if self.trailing_zeros > 0 {
             return Some(0);
         }
         if self.own.is_empty() {
-            return last_in(self.lent.as_slice());
+            return last_in(self.borrowed.as_slice());
         }
         last_of(self.own.as_slice())
     }
@@ -232,8 +235,8 @@ impl<'a> Content<'a> {
         ensures bytes { OnOk result ((self.new).bytes ≡ (self.old).bytes ++ bytes.now) }
         ensures patches { (self.new).patches ≡ (self.old).patches }
     {
-        settle(&mut self.own, self.lent.as_slice(), self.behind)?;
-        self.behind = 0;
+        own_bytes(&mut self.own, self.borrowed.as_slice(), self.trailing_zeros)?;
+        self.trailing_zeros = 0;
         append(&mut self.own, bytes)
     }
 
@@ -243,9 +246,9 @@ impl<'a> Content<'a> {
         ensures bytes { OnOk result ((self.new).bytes ≡ (self.old).bytes ++ bytes.now) }
         ensures patches { (self.new).patches ≡ (self.old).patches }
     {
-        if self.own.is_empty() && self.behind == 0 {
-            append_piece(&mut self.lent, bytes)?;
-            self.lent_size += bytes.len();
+        if self.own.is_empty() && self.trailing_zeros == 0 {
+            append_piece(&mut self.borrowed, bytes)?;
+            self.borrowed_size += bytes.len();
             return Ok(());
         }
         self.append(bytes)
@@ -259,8 +262,12 @@ impl<'a> Content<'a> {
         ensures bytes { OnOk result ((self.new).bytes ≡ (self.old).bytes ++ replicate count 0) }
         ensures patches { OnOk result ((self.new).patches ≡ (self.old).patches ++ patch ∷ []) }
     {
-        settle(&mut self.own, self.lent.as_slice(), self.behind + count)?;
-        self.behind = 0;
+        own_bytes(
+            &mut self.own,
+            self.borrowed.as_slice(),
+            self.trailing_zeros + count,
+        )?;
+        self.trailing_zeros = 0;
         append_patch(&mut self.patches, patch)
     }
 
@@ -284,7 +291,7 @@ impl<'a> Content<'a> {
         requires { length (self.old).bytes + count < 2 ^ 32 }
         ensures { (cells : List Cell) → HoldsCells cells self.old → HoldsCells (cells ++ zeros count) self.new }
     {
-        self.behind += count;
+        self.trailing_zeros += count;
     }
 
     /// So many bytes of a place more.

@@ -6,9 +6,9 @@ ghost use Rattle.omf_format.specs.Header.{Fields};
 ghost use Rattle.omf_format.specs.Value.{is_unshifted};
 ghost use Rattle.load_meaning.specs.Cells.{Cell};
 ghost use Rattle.load_meaning.specs.declared.table.Target.{Target};
-ghost use Rattle.link_meaning.specs.Member.{Setting, setting_in};
-ghost use Rattle.link_meaning.specs.Fitting.{number_fit, distance_fit, place_fit, is_dynamic_load, length_of, length_outside, length_there, may_call, is_far, is_call, ends_in_jsl, or_does_not_fit, call_fit, fitted};
-ghost use Rattle.link_content.specs.Fits.{shown, shown_frame, told_fit, told_load, answered};
+ghost use Rattle.link_meaning.specs.Member.{LinkSetting, setting_in};
+ghost use Rattle.link_meaning.specs.Fitting.{number_fit, distance_fit, place_fit, is_dynamic_load, length_of, length_outside, length_there, may_call, is_far, is_call, ends_in_jsl, or_does_not_fit, call_fit, fit_value};
+ghost use Rattle.link_content.specs.Fits.{to_fit_meaning, shown_frame, to_fit, to_load_limits, fit_with_room};
 
 use jump_table::Target;
 use link_meaning::{LinkCause, LinkForm};
@@ -41,7 +41,7 @@ pub enum Fit {
 
 /// What fitting asks of a load segment.
 #[derive(Clone, Copy)]
-pub struct Load {
+pub struct LoadLimits {
     pub dynamic: bool,
     pub length: u32,
     pub bank_size: u32,
@@ -49,7 +49,7 @@ pub struct Load {
 
 /// Where an expression record stands.
 #[derive(Clone, Copy)]
-pub struct Frame {
+pub struct PatchPlace {
     /// Its load segment's number, from 1.
     pub own: u16,
     /// Its load segment's BANKSIZE.
@@ -60,7 +60,7 @@ pub struct Frame {
 
 /// What an expression record asks for: its code, how many bytes it gives, and RELEXPR's displacement.
 #[derive(Clone, Copy)]
-pub struct Formula {
+pub struct FormulaRecord {
     pub code: u8,
     pub count: u8,
     pub n: u32,
@@ -83,8 +83,8 @@ fn numbers_of(count: u8) -> u64
 }
 
 /// What a number becomes.
-fn number_fit(formula: Formula, n: u32) -> Option<Fit>
-    ensures { option_map shown result ≡ number_fit formula.code formula.count n }
+fn number_fit(formula: FormulaRecord, n: u32) -> Option<Fit>
+    ensures { option_map to_fit_meaning result ≡ number_fit formula.code formula.count n }
 {
     if formula.code == EXPR {
         return Some(Fit::Number(n));
@@ -102,7 +102,7 @@ fn number_fit(formula: Formula, n: u32) -> Option<Fit>
 fn distance_fit(count: u8, to: u32, from: u64) -> Option<Fit>
     requires counted { IsTrue (is_count count) }
     requires small { from < 2 ^ 33 }
-    ensures { option_map shown result ≡ distance_fit count to from }
+    ensures { option_map to_fit_meaning result ≡ distance_fit count to from }
 {
     let numbers = numbers_of(count);
     let to = u64::from(to);
@@ -113,8 +113,14 @@ fn distance_fit(count: u8, to: u32, from: u64) -> Option<Fit>
 }
 
 /// What a place becomes that isn't in another dynamic segment.
-fn place_fit(frame: Frame, formula: Formula, segment: u16, offset: u32, shift: i8) -> Option<Fit>
-    ensures { (setting : Setting) → option_map shown result ≡ place_fit (shown_frame setting frame) formula.code formula.count formula.n segment offset shift }
+fn place_fit(
+    frame: PatchPlace,
+    formula: FormulaRecord,
+    segment: u16,
+    offset: u32,
+    shift: i8,
+) -> Option<Fit>
+    ensures { (setting : LinkSetting) → option_map to_fit_meaning result ≡ place_fit (shown_frame setting frame) formula.code formula.count formula.n segment offset shift }
 {
     let place = Fit::Place {
         segment,
@@ -147,8 +153,8 @@ fn place_fit(frame: Frame, formula: Formula, segment: u16, offset: u32, shift: i
 }
 
 /// Whether the load segment with this number is dynamic.
-fn is_dynamic(loads: &[Load], number: u16) -> bool
-    ensures { (headers : List Fields) → loads.now ≡ map told_load headers → result ≡ is_dynamic_load headers number }
+fn is_dynamic(loads: &[LoadLimits], number: u16) -> bool
+    ensures { (headers : List Fields) → loads.now ≡ map to_load_limits headers → result ≡ is_dynamic_load headers number }
 {
     match loads.get(usize::from(number).saturating_sub(1)) {
         Some(load) => load.dynamic,
@@ -157,15 +163,15 @@ fn is_dynamic(loads: &[Load], number: u16) -> bool
 }
 
 /// Whether a place is in a run-time library file, or in another load segment that is dynamic.
-fn is_far(loads: &[Load], own: u16, file: u16, segment: u16) -> bool
-    ensures { (headers : List Fields) → loads.now ≡ map told_load headers → result ≡ is_far headers own file segment }
+fn is_far(loads: &[LoadLimits], own: u16, file: u16, segment: u16) -> bool
+    ensures { (headers : List Fields) → loads.now ≡ map to_load_limits headers → result ≡ is_far headers own file segment }
 {
     file != 1 || (segment != own && is_dynamic(loads, segment))
 }
 
 /// LENGTH of the load segment with this number.
-pub fn length_of(loads: &[Load], number: u16) -> u32
-    ensures { (headers : List Fields) → loads.now ≡ map told_load headers → result ≡ length_of headers number }
+pub fn length_of(loads: &[LoadLimits], number: u16) -> u32
+    ensures { (headers : List Fields) → loads.now ≡ map to_load_limits headers → result ≡ length_of headers number }
 {
     match loads.get(usize::from(number).saturating_sub(1)) {
         Some(load) => load.length,
@@ -188,8 +194,8 @@ fn length_outside(program: &Program, file: u16, segment: u16) -> u32
 }
 
 /// LENGTH of the segment that is called.
-fn length_there(program: &Program, loads: &[Load], target: Target) -> u32
-    ensures { (headers : List Fields) → loads.now ≡ map told_load headers → result ≡ length_there headers (setting_in program.now) target }
+fn length_there(program: &Program, loads: &[LoadLimits], target: Target) -> u32
+    ensures { (headers : List Fields) → loads.now ≡ map to_load_limits headers → result ≡ length_there headers (setting_in program.now) target }
 {
     if target.file == 1 {
         return length_of(loads, target.segment);
@@ -208,7 +214,7 @@ fn may_call(form: LinkForm) -> bool
 }
 
 /// Whether a record calls: LEXPR of three bytes, without a shift, behind a byte $22.
-fn is_call(formula: Formula, shift: i8, jsl: bool) -> bool
+fn is_call(formula: FormulaRecord, shift: i8, jsl: bool) -> bool
     ensures { (before : List Cell) → ends_in_jsl before ≡ jsl → result ≡ is_call formula.code formula.count shift before }
 {
     formula.code == LEXPR && formula.count == 3 && shift == 0 && jsl
@@ -217,8 +223,8 @@ fn is_call(formula: Formula, shift: i8, jsl: bool) -> bool
 /// What a place in a run-time library file or in another dynamic segment becomes: an entry of the jump table, where the record calls,
 /// what is linked may call, and the offset is below LENGTH.
 fn call_fit(length: u32, call: bool, target: Target) -> Result<Fit, LinkCause>
-    ensures { (headers : List Fields) (setting : Setting) (targets : List Target) (calls : Bool) → length_there headers setting target ≡ length
-        → may_call setting.form && calls ≡ call → call_fit headers setting targets calls target ≡ answered targets result }
+    ensures { (headers : List Fields) (setting : LinkSetting) (targets : List Target) (calls : Bool) → length_there headers setting target ≡ length
+        → may_call setting.form && calls ≡ call → call_fit headers setting targets calls target ≡ fit_with_room targets result }
 {
     if !call {
         return Err(LinkCause::DynamicReference);
@@ -230,7 +236,7 @@ fn call_fit(length: u32, call: bool, target: Target) -> Result<Fit, LinkCause>
 }
 
 fn or_does_not_fit(fit: Option<Fit>) -> Result<Fit, LinkCause>
-    ensures { told_fit result ≡ or_does_not_fit (option_map shown fit) }
+    ensures { to_fit result ≡ or_does_not_fit (option_map to_fit_meaning fit) }
 {
     match fit {
         Some(fit) => Ok(fit),
@@ -240,16 +246,16 @@ fn or_does_not_fit(fit: Option<Fit>) -> Result<Fit, LinkCause>
 
 /// What a value becomes in a record that stands there, behind a byte $22 or not; whether the jump table has room for its
 /// target isn't asked.
-pub fn fitted(
+pub fn fit_value(
     program: &Program,
-    loads: &[Load],
-    frame: Frame,
+    loads: &[LoadLimits],
+    frame: PatchPlace,
     jsl: bool,
-    formula: Formula,
+    formula: FormulaRecord,
     value: Value,
 ) -> Result<Fit, LinkCause>
-    ensures { (headers : List Fields) (targets : List Target) (before : List Cell) → loads.now ≡ map told_load headers → ends_in_jsl before ≡ jsl
-        → fitted headers (shown_frame (setting_in program.now) frame) targets before formula.code formula.count formula.n value ≡ answered targets result }
+    ensures { (headers : List Fields) (targets : List Target) (before : List Cell) → loads.now ≡ map to_load_limits headers → ends_in_jsl before ≡ jsl
+        → fit_value headers (shown_frame (setting_in program.now) frame) targets before formula.code formula.count formula.n value ≡ fit_with_room targets result }
 {
     match value {
         Value::Fixed(n) => or_does_not_fit(number_fit(formula, n)),

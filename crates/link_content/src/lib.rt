@@ -8,6 +8,6 @@ mod plain;
 mod put;
 mod record;
 
-pub use content::{Content, Place};
-pub use fit::{Load, length_of};
-pub use record::{Site, put_record};
+pub use content::{ByteStorage, LoadContent};
+pub use fit::{LoadLimits, length_of};
+pub use record::{MemberTarget, put_record};

@@ -7,14 +7,14 @@ ghost use Rattle.omf_records.specs.View.{view};
 ghost use Rattle.link_content.specs.Contents.{HoldsCells};
 ghost use Rattle.link_content.specs.Plain.{plain_cells};
 
-use crate::content::Content;
+use crate::content::LoadContent;
 use omf_base::padding;
 use omf_records::Rec;
 use std::alloc::AllocError;
 
 /// Puts what a record gives that stands at this place of its segment; an expression gives nothing here.
 pub fn put_plain<'a>(
-    content: &mut Content<'a>,
+    content: &mut LoadContent<'a>,
     rec: &Rec<'a>,
     location: u32,
 ) -> Result<(), AllocError>

@@ -7,17 +7,17 @@ ghost use Rattle.omf_format.specs.Header.{Fields};
 ghost use Rattle.load_meaning.specs.Cells.{Cell, Byte};
 ghost use Rattle.link_meaning.specs.declared.fault.LinkCause.TheVariants as causes;
 ghost use Rattle.link_meaning.specs.Member.{setting_in};
-ghost use Rattle.link_meaning.specs.Fitting.{fitted, ends_in_jsl, parts};
-ghost use Rattle.link_content.specs.Fits.{shown, shown_frame, told_load, with_room};
+ghost use Rattle.link_meaning.specs.Fitting.{fit_value, ends_in_jsl, parts};
+ghost use Rattle.link_content.specs.Fits.{to_fit_meaning, shown_frame, to_load_limits, with_room};
 ghost use Rattle.link_content.specs.Contents.{HoldsCells};
 ghost use Rattle.link_content.specs.Puts.{EntersTarget, LacksRoom, PutsFit, PutsValue};
 
-use crate::content::Content;
-use crate::fit::{Fit, Formula, Frame, Load, fitted};
+use crate::content::LoadContent;
+use crate::fit::{Fit, FormulaRecord, LoadLimits, PatchPlace, fit_value};
 use jump_table::{Table, TableFault, Target};
 use link_meaning::LinkCause;
 use link_program::Program;
-use omf_base::front;
+use omf_base::first_items;
 use omf_format::Value;
 
 /// The bytes of a number, lowest first.
@@ -30,13 +30,13 @@ fn bytes_of(n: u32) -> [u8; 4]
 }
 
 /// The low bytes of a number.
-fn put_number(content: &mut Content<'_>, count: u8, n: u32) -> Result<(), LinkCause>
+fn put_number(content: &mut LoadContent<'_>, count: u8, n: u32) -> Result<(), LinkCause>
     requires { IsTrue (is_count count) }
     ensures ok { OnOk result ((cells : List Cell) → HoldsCells cells content.old → HoldsCells (cells ++ map Byte (little_bytes count n)) content.new) }
     ensures memory_alone { IfErr result (λ cause. cause ≡ causes.Memory) }
 {
     let bytes = bytes_of(n);
-    match content.put_bytes(front(&bytes, usize::from(count))) {
+    match content.put_bytes(first_items(&bytes, usize::from(count))) {
         Ok(()) => Ok(()),
         Err(_) => Err(LinkCause::Memory),
     }
@@ -62,7 +62,7 @@ fn entry(table: &mut Table, target: Target) -> Result<u32, LinkCause>
 
 /// So many bytes of a place.
 fn put_place(
-    content: &mut Content<'_>,
+    content: &mut LoadContent<'_>,
     count: u8,
     segment: u16,
     offset: u32,
@@ -81,7 +81,7 @@ fn put_place(
 
 /// Puts what a value became; the jump table is the load segment with this number.
 fn put_fit(
-    content: &mut Content<'_>,
+    content: &mut LoadContent<'_>,
     table: &mut Table,
     number: u16,
     count: u8,
@@ -89,8 +89,8 @@ fn put_fit(
 ) -> Result<(), LinkCause>
     requires counted { IsTrue (is_count count) }
     requires small { length (content.old).bytes + 4 < 2 ^ 32 }
-    ensures ok { OnOk result (PutsFit number count table.old table.new (shown fit) content.old content.new) }
-    ensures err { IfErr result (λ cause. (cause ≡ causes.Memory) ⊎ (with_room table.old (shown fit) ≡ Err cause)) }
+    ensures ok { OnOk result (PutsFit number count table.old table.new (to_fit_meaning fit) content.old content.new) }
+    ensures err { IfErr result (λ cause. (cause ≡ causes.Memory) ⊎ (with_room table.old (to_fit_meaning fit) ≡ Err cause)) }
 {
     match fit {
         Fit::Number(n) => put_number(content, count, n),
@@ -109,22 +109,22 @@ fn put_fit(
 /// Puts what the value of an expression record becomes that stands there, behind a byte $22 or not. The jump table is the load
 /// segment with this number.
 pub fn put_formula(
-    content: &mut Content<'_>,
+    content: &mut LoadContent<'_>,
     table: &mut Table,
     number: u16,
     program: &Program,
-    loads: &[Load],
-    frame: Frame,
+    loads: &[LoadLimits],
+    frame: PatchPlace,
     jsl: bool,
-    formula: Formula,
+    formula: FormulaRecord,
     value: Value,
 ) -> Result<(), LinkCause>
     requires small { length (content.old).bytes + 4 < 2 ^ 32 }
-    ensures ok { OnOk result ((headers : List Fields) (before : List Cell) → loads.now ≡ map told_load headers → ends_in_jsl before ≡ jsl
+    ensures ok { OnOk result ((headers : List Fields) (before : List Cell) → loads.now ≡ map to_load_limits headers → ends_in_jsl before ≡ jsl
         → PutsValue headers (shown_frame (setting_in program.now) frame) before formula value number table.old table.new content.old content.new) }
-    ensures err { IfErr result (λ cause. (headers : List Fields) (before : List Cell) → loads.now ≡ map told_load headers → ends_in_jsl before ≡ jsl
-        → (cause ≡ causes.Memory) ⊎ (fitted headers (shown_frame (setting_in program.now) frame) table.old before formula.code formula.count formula.n value ≡ Err cause)) }
+    ensures err { IfErr result (λ cause. (headers : List Fields) (before : List Cell) → loads.now ≡ map to_load_limits headers → ends_in_jsl before ≡ jsl
+        → (cause ≡ causes.Memory) ⊎ (fit_value headers (shown_frame (setting_in program.now) frame) table.old before formula.code formula.count formula.n value ≡ Err cause)) }
 {
-    let fit = fitted(program, loads, frame, jsl, formula, value)?;
+    let fit = fit_value(program, loads, frame, jsl, formula, value)?;
     put_fit(content, table, number, formula.count, fit)
 }

@@ -8,13 +8,13 @@ ghost use Rattle.omf_format.specs.Record as format;
 ghost use Rattle.link_meaning.specs.Sizes.{size_at};
 ghost use Rattle.link_meaning.specs.Member.{Member, setting_in};
 ghost use Rattle.link_meaning.specs.LinkValues.{Told, value_in};
-ghost use Rattle.link_meaning.specs.LinkedCells.{State, Item, cells_before, made_by};
+ghost use Rattle.link_meaning.specs.LinkedCells.{LinkState, Item, cells_before, made_by};
 ghost use Rattle.omf_records.specs.View.{view};
 ghost use Rattle.link_content.specs.Contents.{HoldsCells};
 ghost use Rattle.link_content.specs.Records.{IsCounted, IsWorth, StandsAt, PutsMade};
 
-use crate::content::Content;
-use crate::fit::{Formula, Frame, Load};
+use crate::content::LoadContent;
+use crate::fit::{FormulaRecord, LoadLimits, PatchPlace};
 use crate::plain::put_plain;
 use crate::put::put_formula;
 use jump_table::Table;
@@ -25,7 +25,7 @@ use omf_records::Rec;
 
 /// Where the records of a member go.
 #[derive(Clone, Copy)]
-pub struct Site {
+pub struct MemberTarget {
     /// The number of the load segment that is the jump table, behind all others.
     pub table: u16,
     /// The number of the member's load segment.
@@ -48,7 +48,7 @@ fn cause_of(fault: ValueFault) -> LinkCause
 }
 
 /// The last cell behind a member's start is the byte $22.
-fn ends_in_jsl(content: &Content<'_>, start: usize) -> bool
+fn ends_in_jsl(content: &LoadContent<'_>, start: usize) -> bool
     ensures { (front cells : List Cell) → HoldsCells (front ++ cells) content.now → length front ≡ start → result ≡ ends_in_jsl cells }
 {
     if content.len() <= start {
@@ -62,25 +62,25 @@ fn ends_in_jsl(content: &Content<'_>, start: usize) -> bool
 
 /// Puts what an expression record gives whose expression has this value.
 fn put_value(
-    content: &mut Content<'_>,
+    content: &mut LoadContent<'_>,
     table: &mut Table,
     program: &Program,
-    loads: &[Load],
-    site: Site,
+    loads: &[LoadLimits],
+    site: MemberTarget,
     location: u32,
-    formula: Formula,
+    formula: FormulaRecord,
     value: Value,
 ) -> Result<(), LinkCause>
     requires small { length (content.old).bytes + 4 < 2 ^ 32 }
     requires near { site.offset + location < 2 ^ 32 }
-    ensures ok { OnOk result ((list : List Member) (told : List Told) (state : State) (i : Item) (front : List Cell) (expr : List ℕ)
+    ensures ok { OnOk result ((list : List Member) (told : List Told) (state : LinkState) (i : Item) (front : List Cell) (expr : List ℕ)
         → StandsAt list told state i site (setting_in program.now) loads.now table.old front location content.old → value_in list told i.place i.member i.here.location expr ≡ Ok value
         → PutsMade (made_by list told state i (format.Formula formula.code formula.count formula.n expr)) (front ++ cells_before state i) table.new content.new) }
-    ensures err { IfErr result (λ cause. (list : List Member) (told : List Told) (state : State) (i : Item) (front : List Cell) (expr : List ℕ)
+    ensures err { IfErr result (λ cause. (list : List Member) (told : List Told) (state : LinkState) (i : Item) (front : List Cell) (expr : List ℕ)
         → StandsAt list told state i site (setting_in program.now) loads.now table.old front location content.old → value_in list told i.place i.member i.here.location expr ≡ Ok value
         → (cause ≡ causes.Memory) ⊎ (made_by list told state i (format.Formula formula.code formula.count formula.n expr) ≡ Err cause)) }
 {
-    let frame = Frame {
+    let frame = PatchPlace {
         own: site.own,
         bank_size: site.bank_size,
         place: site.offset + location,
@@ -94,11 +94,11 @@ fn put_value(
 /// Puts what a record gives that stands at this place of its member. If it has an expression, this is what the expression stands
 /// for.
 pub fn put_record<'a>(
-    content: &mut Content<'a>,
+    content: &mut LoadContent<'a>,
     table: &mut Table,
     program: &Program,
-    loads: &[Load],
-    site: Site,
+    loads: &[LoadLimits],
+    site: MemberTarget,
     location: u32,
     rec: &Rec<'a>,
     value: Result<Value, ValueFault>,
@@ -106,17 +106,17 @@ pub fn put_record<'a>(
     requires counted { IsCounted (view rec.now) }
     requires small { length (content.old).bytes + size_at location (view rec.now) + 4 < 2 ^ 32 }
     requires near { site.offset + location < 2 ^ 32 }
-    ensures ok { OnOk result ((list : List Member) (told : List Told) (state : State) (i : Item) (front : List Cell)
+    ensures ok { OnOk result ((list : List Member) (told : List Told) (state : LinkState) (i : Item) (front : List Cell)
         → StandsAt list told state i site (setting_in program.now) loads.now table.old front location content.old → IsWorth list told i (view rec.now) value
         → PutsMade (made_by list told state i (view rec.now)) (front ++ cells_before state i) table.new content.new) }
-    ensures err { IfErr result (λ cause. (list : List Member) (told : List Told) (state : State) (i : Item) (front : List Cell)
+    ensures err { IfErr result (λ cause. (list : List Member) (told : List Told) (state : LinkState) (i : Item) (front : List Cell)
         → StandsAt list told state i site (setting_in program.now) loads.now table.old front location content.old → IsWorth list told i (view rec.now) value
         → (cause ≡ causes.Memory) ⊎ (made_by list told state i (view rec.now) ≡ Err cause)) }
 {
     match rec {
         Rec::Formula { code, count, n, .. } => match value {
             Ok(value) => {
-                let formula = Formula {
+                let formula = FormulaRecord {
                     code: *code,
                     count: *count,
                     n: *n,

@@ -3,6 +3,6 @@
 
 mod linking;
 
-pub use link_file::{Values, emit};
+pub use link_file::{EquateValues, emit};
 pub use link_resolve::LinkForm;
 pub use linking::{link, link_with};

@@ -5,12 +5,12 @@ use Rattle.link_meaning.specs.declared.fault.LinkFault.{LinkFault}
 use Rattle.link_meaning.specs.First.{IsIn, IsFirst}
 use Rattle.link_meaning.specs.laws.FirstLaws.{none_yet, none_more}
 use Rattle.link_meaning.specs.Member.{Member}
-use Rattle.link_meaning.specs.Search.{Found}
+use Rattle.link_meaning.specs.Search.{FoundDefinition}
 use Rattle.link_meaning.specs.Rings.{equates}
 use Rattle.link_meaning.specs.LinkValues.{Told, IsTable}
 use Rattle.link_meaning.specs.laws.TableLaws.{one_table}
 use Rattle.link_meaning.specs.LinkedCells.{items}
-use Rattle.link_meaning.specs.LinkFaults.{nowhere}
+use Rattle.link_meaning.specs.LinkFaults.{no_spot}
 use Rattle.link_meaning.specs.LinkWritten.{AreMade, start, written_file}
 use Rattle.link_meaning.specs.EmitFaults.{HasRingFault, HasValueFault, most_bytes, Rings, Values, Size, HasEmitFault, IsEmitAnswer}
 use Rattle.link_meaning.specs.laws.EmitFaultLaws.{made_sound}
@@ -18,13 +18,13 @@ use Rattle.link_file.specs.Answers.{IsEmitRefused}
 use Rattle.link_values.specs.Equates.{IsRingRefused}
 use Rattle.link_file.specs.Walks.{IsValueRefused}
 
-in_middle : (front : List Found) (e : Found) (back : List Found) → IsIn (front ++ e ∷ back) e
+in_middle : (front : List FoundDefinition) (e : FoundDefinition) (back : List FoundDefinition) → IsIn (front ++ e ∷ back) e
 in_middle [] e back = inl refl
 in_middle (x ∷ front) e back = inr (in_middle front e back)
 
 module _ (list : List Member) (told : List Told) (is : IsTable list told) where
   no_ring : (its : LinkFault) → IsFirst (HasRingFault list) (equates list) its → ⊥
-  no_ring its first = is.straight first.item (subst (λ (l : List Found). IsIn l first.item) (sym first.parts) (in_middle first.before first.item first.after)) first.here.ring
+  no_ring its first = is.straight first.item (subst (λ (l : List FoundDefinition). IsIn l first.item) (sym first.parts) (in_middle first.before first.item first.after)) first.here.ring
 
   pub refused_value : (fault : LinkFault) → IsValueRefused list told fault → IsEmitRefused list fault
   refused_value fault (inl memory) = inl memory
@@ -44,7 +44,7 @@ module _ (list : List Member) (told : List Told) (is : IsTable list told) where
         let first = subst (λ (t : List Told). IsFirst (HasValueFault list t) (items list) its) same has.2 in
         made_sound list told are first.before first.item first.after its first.parts first.here
 
-    pub refused_size : most_bytes < length (written_file list told) → IsEmitRefused list (record { cause = FileTooLong; name = None; spot = nowhere })
+    pub refused_size : most_bytes < length (written_file list told) → IsEmitRefused list (record { cause = FileTooLong; name = None; spot = no_spot })
     refused_size long = inr (record {
       before = Rings ∷ Values ∷ [];
       item = Size;

@@ -18,16 +18,16 @@ use Rattle.link_meaning.specs.declared.form.LinkForm.{LinkForm}
 use Rattle.link_meaning.specs.declared.form.LinkForm.TheVariants.{Runtime as LibraryForm}
 use Rattle.link_meaning.specs.Sizes.{size_at, located_from, place_behind}
 use Rattle.link_meaning.specs.Defines.{Scope, ForSegment, ForUnit, ForAll, Definition, outer_scope, scope_of, title_of, defined_by, defined_in}
-use Rattle.link_meaning.specs.Search.{Found, entries_from, entries, outside}
+use Rattle.link_meaning.specs.Search.{FoundDefinition, entries_from, entries, outside}
 use Rattle.link_program.specs.Outside.{all_found}
-use Rattle.link_values.specs.declared.slots.Slot.{Slot}
+use Rattle.link_values.specs.declared.slots.ValueSlot.{ValueSlot}
 use Rattle.link_values.specs.Slots.{AreSlots}
 use Rattle.link_meaning.specs.Layout.{load_headers}
 use Rattle.link_meaning.specs.LinkValues.{Told, found_value, if_ok}
 use Rattle.link_meaning.specs.LinkWritten.{export_at, export_of, exports, exports_for}
 use Rattle.link_tables.specs.Coming.{Coming}
 use Rattle.link_program.specs.Linked.{member_at}
-use Rattle.link_file.specs.Images.{spelled}
+use Rattle.link_file.specs.Images.{spelled_records}
 use Rattle.link_values.specs.Circulars.{defined_so_far, CountsTo}
 use Rattle.link_file.specs.Exported.{is_public, SeenName, IsSeen, DefinesSeen, IsExported, StandsBefore, Exporting, ExportsTo}
 use Rattle.link_values.proofs.LocatedLaws.{one_located}
@@ -73,7 +73,7 @@ pub none_told : (headers : List Fields) (name : List ℕ) (r : Result Value Valu
 none_told headers name (Ok x) e = absurd cc
 none_told headers name (Err fault) e = refl
 
-pub export_public : (list : List Member) (table : List Told) (f : Found) → is_public f.definition.scope ≡ true → export_of list table f ≡ export_at (load_headers list) f.definition.name (found_value list table f)
+pub export_public : (list : List Member) (table : List Told) (f : FoundDefinition) → is_public f.definition.scope ≡ true → export_of list table f ≡ export_at (load_headers list) f.definition.name (found_value list table f)
 export_public list table f is = by_scope f.definition.scope is
   where
     all : List Record
@@ -84,7 +84,7 @@ export_public list table f is = by_scope f.definition.scope is
     by_scope ForUnit e = absurd (false≢true e)
     by_scope ForAll e = refl
 
-pub export_other : (list : List Member) (table : List Told) (f : Found) → is_public f.definition.scope ≡ false → export_of list table f ≡ []
+pub export_other : (list : List Member) (table : List Told) (f : FoundDefinition) → is_public f.definition.scope ≡ false → export_of list table f ≡ []
 export_other list table f is = by_scope f.definition.scope is
   where
     all : List Record
@@ -97,12 +97,12 @@ export_other list table f is = by_scope f.definition.scope is
 
 -- ---- one definition more
 
-take_next : (xs : List Found) (k : ℕ) (x : Found) → slice_get xs k ≡ Some x → take (k + 1) xs ≡ take k xs ++ x ∷ []
+take_next : (xs : List FoundDefinition) (k : ℕ) (x : FoundDefinition) → slice_get xs k ≡ Some x → take (k + 1) xs ≡ take k xs ++ x ∷ []
 take_next [] k x e = absurd cc
-take_next (y ∷ xs) zero x e = let same : y ≡ x = cc in ap (λ (z : Found). z ∷ []) same
-take_next (y ∷ xs) (suc k) x e = let next : suc k + 1 ≡ suc (k + 1) = omega arith in ap (λ (n : ℕ). take n (y ∷ xs)) next ∙ ap (λ (l : List Found). y ∷ l) (take_next xs k x e)
+take_next (y ∷ xs) zero x e = let same : y ≡ x = cc in ap (λ (z : FoundDefinition). z ∷ []) same
+take_next (y ∷ xs) (suc k) x e = let next : suc k + 1 ≡ suc (k + 1) = omega arith in ap (λ (n : ℕ). take n (y ∷ xs)) next ∙ ap (λ (l : List FoundDefinition). y ∷ l) (take_next xs k x e)
 
-pub exported_more : (list : List Member) (told : List Told) (number : ℕ) (f : Found) (out new : List ℕ) → slice_get (entries list) number ≡ Some f → IsExported list told number out → new ≡ out ++ spelled (export_of list told f)
+pub exported_more : (list : List Member) (told : List Told) (number : ℕ) (f : FoundDefinition) (out new : List ℕ) → slice_get (entries list) number ≡ Some f → IsExported list told number out → new ≡ out ++ spelled_records (export_of list told f)
     → IsExported list told (number + 1) new
 exported_more list told number f out new at is more =
     let first = take number (entries list) in
@@ -112,14 +112,14 @@ exported_more list told number f out new at is more =
     ∙ flat_map-append (export_of list told) first (f ∷ [])
     ∙ ap (λ (l : List Record). flat_map (export_of list told) first ++ l) (flat_map-cons (export_of list told) f [] ∙ append-nil own) in
     more
-    ∙ ap (λ (l : List ℕ). l ++ spelled own) is
+    ∙ ap (λ (l : List ℕ). l ++ spelled_records own) is
     ∙ sym (flat_map-append (spelling written_layout) (flat_map (export_of list told) first) own)
-    ∙ ap spelled (sym parts)
+    ∙ ap spelled_records (sym parts)
 
 -- ---- definitions of a member
 
 -- the definitions of a segment have their numbers among all
-pub number_there : (list : List Member) (s : Segment) (first k : ℕ) (d : Definition) (b : StandsBefore list s first) → slice_get (defined_in s) k ≡ Some d → (f : Found) × (slice_get (entries list) (first + k) ≡ Some f) × (f.definition ≡ d)
+pub number_there : (list : List Member) (s : Segment) (first k : ℕ) (d : Definition) (b : StandsBefore list s first) → slice_get (defined_in s) k ≡ Some d → (f : FoundDefinition) × (slice_get (entries list) (first + k) ≡ Some f) × (f.definition ≡ d)
 number_there list s first k d b at =
     let c : CountsTo list (first + k) (length b.front) k = record { front = b.front; back = b.m ∷ b.back; parts = b.parts; place' = refl; count = omega (arith, b.count) } in
     let own : slice_get (defined_in b.m.segment) k ≡ Some d = ap (λ (t : Segment). slice_get (defined_in t) k) b.segment ∙ at in
@@ -143,22 +143,22 @@ title_there s d is =
     ap (λ (l : List Definition). slice_get l 0) (so_far-all s [] s.records refl ∙ append_assoc (title_of s) [] rest ∙ ap (λ (l : List Definition). l ++ rest) is)
 
 -- a definition of a segment has a number of all
-number_less : (list : List Member) (number : ℕ) (f : Found) → slice_get (entries list) number ≡ Some f → number < length (entries list)
+number_less : (list : List Member) (number : ℕ) (f : FoundDefinition) → slice_get (entries list) number ≡ Some f → number < length (entries list)
 number_less list number f at = within (entries list) number f at
   where
-    within : (fs : List Found) (k : ℕ) (x : Found) → slice_get fs k ≡ Some x → k < length fs
+    within : (fs : List FoundDefinition) (k : ℕ) (x : FoundDefinition) → slice_get fs k ≡ Some x → k < length fs
     within [] k x e = absurd cc
     within (y ∷ fs) zero x e = omega arith
     within (y ∷ fs) (suc k) x e = omega (arith, within fs k x e)
 
 -- there is a slot for each
-slots_size : (list : List Member) (fs : List Found) (slots : List Slot) → AreSlots list fs slots → length slots ≡ length fs
+slots_size : (list : List Member) (fs : List FoundDefinition) (slots : List ValueSlot) → AreSlots list fs slots → length slots ≡ length fs
 slots_size list [] [] are = refl
 slots_size list [] (s ∷ slots) are = absurd are
 slots_size list (f ∷ fs) [] are = absurd are
 slots_size list (f ∷ fs) (s ∷ slots) are = ap suc (slots_size list fs slots are.1)
 
-pub number_fits : (list : List Member) (slots : List Slot) (number : ℕ) (f : Found) → AreSlots list (all_found list) slots → slice_get (entries list) number ≡ Some f → number < length slots
+pub number_fits : (list : List Member) (slots : List ValueSlot) (number : ℕ) (f : FoundDefinition) → AreSlots list (all_found list) slots → slice_get (entries list) number ≡ Some f → number < length slots
 number_fits list slots number f are at = omega (arith, number_less list number f at, slots_size list (all_found list) slots are, length-append (entries list) (outside (setting_in list)))
 
 -- names of records can be those of ENTRY records
@@ -228,7 +228,7 @@ exporting_named list told s first number at after found more seen out new e back
 
 -- the definition that the record has among all
 pub exporting_there : (list : List Member) (told : List Told) (s : Segment) (first number : ℕ) (at : Reader) (found : ℕ × Record) (more : List (ℕ × Record)) (seen : SeenName) (out : List ℕ) (e : Exporting list told s first number at out) → StandsBefore list s first
-    → e.back ≡ found ∷ more → ((loc : ℕ) → DefinesSeen (defined_by found.0 loc found.1) (Some seen)) → (f : Found) × (slice_get (entries list) number ≡ Some f) × IsSeen f.definition seen
+    → e.back ≡ found ∷ more → ((loc : ℕ) → DefinesSeen (defined_by found.0 loc found.1) (Some seen)) → (f : FoundDefinition) × (slice_get (entries list) number ≡ Some f) × IsSeen f.definition seen
 exporting_there list told s first number at found more seen out e b back some =
     let own = some (place_behind 0 e.done) in
     let there = next_there s e.done more found own.0 (e.parts ∙ ap (λ (l : List (ℕ × Record)). e.done ++ l) back) own.1 in
@@ -242,7 +242,7 @@ exporting_end list told s first number at out e none =
     omega (arith, e.count, ap length whole, length-append (defined_so_far s e.done) [])
 
 -- the segment's name among all
-pub title_number : (list : List Member) (s : Segment) (first : ℕ) (seen : SeenName) → StandsBefore list s first → DefinesSeen (title_of s) (Some seen) → (f : Found) × (slice_get (entries list) first ≡ Some f) × IsSeen f.definition seen
+pub title_number : (list : List Member) (s : Segment) (first : ℕ) (seen : SeenName) → StandsBefore list s first → DefinesSeen (title_of s) (Some seen) → (f : FoundDefinition) × (slice_get (entries list) first ≡ Some f) × IsSeen f.definition seen
 title_number list s first seen b own =
     let f = number_there list s first 0 own.0 b (title_there s own.0 own.1) in
     let same : first ≡ first + 0 = omega arith in
@@ -293,22 +293,22 @@ module _ (list : List Member) (told : List Told) (place number : ℕ) (out : Lis
       }
 
 -- behind the last member
-pub exports_all : (list : List Member) (told : List Told) (place number : ℕ) (out : List ℕ) → ExportsTo list told place number out → length list ≤ place → form_in list ≡ LibraryForm → out ≡ spelled (exports_for (form_in list) 1 (exports list told))
+pub exports_all : (list : List Member) (told : List Told) (place number : ℕ) (out : List ℕ) → ExportsTo list told place number out → length list ≤ place → form_in list ≡ LibraryForm → out ≡ spelled_records (exports_for (form_in list) 1 (exports list told))
 unfolding exports entries
 exports_all list told place number out e past form =
     let none : e.back ≡ [] = empty e.back (omega (arith, ap length e.parts, length-append e.front e.back, e.place', past)) in
     let whole : list ≡ e.front = e.parts ∙ ap (λ (l : List Member). e.front ++ l) none ∙ append-nil e.front in
     let size : number ≡ length (entries_from defined_in 1 list) = e.count ∙ ap (λ (l : List Member). length (entries_from defined_in 1 l)) (sym whole) in
     e.exported
-    ∙ ap (λ (l : List Found). spelled (flat_map (export_of list told) l)) (all (entries_from defined_in 1 list) number size)
-    ∙ ap (λ (f : LinkForm). spelled (exports_for f 1 (flat_map (export_of list told) (entries_from defined_in 1 list)))) (sym form)
+    ∙ ap (λ (l : List FoundDefinition). spelled_records (flat_map (export_of list told) l)) (all (entries_from defined_in 1 list) number size)
+    ∙ ap (λ (f : LinkForm). spelled_records (exports_for f 1 (flat_map (export_of list told) (entries_from defined_in 1 list)))) (sym form)
   where
     empty : (l : List Member) → length l ≡ 0 → l ≡ []
     empty [] e = refl
     empty (x ∷ l) e = absurd (omega (arith, e))
 
-    all : (fs : List Found) (n : ℕ) → n ≡ length fs → take n fs ≡ fs
+    all : (fs : List FoundDefinition) (n : ℕ) → n ≡ length fs → take n fs ≡ fs
     all [] zero is = refl
     all [] (suc n) is = refl
     all (f ∷ fs) zero is = absurd (omega (arith, is))
-    all (f ∷ fs) (suc n) is = ap (λ (l : List Found). f ∷ l) (all fs n (omega (arith, is)))
+    all (f ∷ fs) (suc n) is = ap (λ (l : List FoundDefinition). f ∷ l) (all fs n (omega (arith, is)))

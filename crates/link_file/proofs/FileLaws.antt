@@ -13,7 +13,7 @@ use Rattle.load_meaning.specs.WrittenFile.{Image, image_text, file_text, table_f
 use Rattle.load_meaning.specs.laws.WrittenTableLaws.{length-table_bytes}
 use Rattle.link_meaning.specs.Member.{RuntimeFile}
 use Rattle.link_meaning.specs.LinkWritten.{byte_under, patches_of_cells, table_images, path_images}
-use Rattle.written_bodies.specs.WrittenParts.{seen}
+use Rattle.load_writer.specs.WrittenParts.{seen}
 use Rattle.link_content.specs.Holding.{Holding}
 use Rattle.link_content.specs.Contents.{HoldsCells}
 use Rattle.link_file.specs.Images.{with_space, image_in, images_behind, IsReady}

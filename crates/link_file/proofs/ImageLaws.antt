@@ -17,7 +17,7 @@ use Rattle.load_meaning.specs.WrittenFile.{Image, image_records, image_body, ima
 use Rattle.omf_header.specs.View.{fields}
 use Rattle.omf_header.specs.declared.header.Header.{Header}
 use Rattle.link_content.specs.Holding.{Holding}
-use Rattle.link_file.specs.Images.{with_space, spelled, image_in, images_in, left_from, IsReady, AreReady}
+use Rattle.link_file.specs.Images.{with_space, spelled_records, image_in, images_in, left_from, IsReady, AreReady}
 
 pub zeros_fit : (content : List ℕ) (patches : List Patch) → AreWritten (length content) 0 patches → zeros_behind (written_cells content patches) ≤ length content
 unfolding written_cells
@@ -27,16 +27,16 @@ abbrev pub image : Fields → List ℕ → List Patch → List Record → Image
 image f content patches exports = record { fields = f; content = content; patches = patches; exports = exports; whole = false }
 
 -- what a body and what is exported behind it spell
-body_whole : (own : ℕ) (content : List ℕ) (patches : List Patch) (exports : List Record) → body_text own content patches ++ spelled exports ≡ flat_map (spelling written_layout) (body_records own content patches ++ exports)
+body_whole : (own : ℕ) (content : List ℕ) (patches : List Patch) (exports : List Record) → body_text own content patches ++ spelled_records exports ≡ flat_map (spelling written_layout) (body_records own content patches ++ exports)
 unfolding body_text
 body_whole own content patches exports = sym (flat_map-append (spelling written_layout) (body_records own content patches) exports)
 
 -- the body of a load segment is what its records spell, and END
-body_is : (f : Fields) (content : List ℕ) (patches : List Patch) (exports : List Record) (body : List ℕ) → body ≡ body_text f.seg_num content patches ++ spelled exports → body ++ 0 ∷ [] ≡ image_body (image f content patches exports)
+body_is : (f : Fields) (content : List ℕ) (patches : List Patch) (exports : List Record) (body : List ℕ) → body ≡ body_text f.seg_num content patches ++ spelled_records exports → body ++ 0 ∷ [] ≡ image_body (image f content patches exports)
 unfolding image_body image_records spelling
 body_is f content patches exports body b = ap (λ (l : List ℕ). l ++ 0 ∷ []) (b ∙ body_whole f.seg_num content patches exports)
 
-pub text_is : (f : Fields) (content : List ℕ) (patches : List Patch) (exports : List Record) (front body : List ℕ) → body ≡ body_text f.seg_num content patches ++ spelled exports
+pub text_is : (f : Fields) (content : List ℕ) (patches : List Patch) (exports : List Record) (front body : List ℕ) → body ≡ body_text f.seg_num content patches ++ spelled_records exports
     → front ≡ header_bytes (with_space f (zeros_behind (written_cells content patches))) (length body + 1) → front ++ (body ++ 0 ∷ []) ≡ image_text (image f content patches exports)
 unfolding image_text
 text_is f content patches exports front body b h =
@@ -47,7 +47,7 @@ text_is f content patches exports front body b h =
     ∙ ap (λ (l : List ℕ). header_bytes g (length (image_body (image f content patches exports))) ++ l) whole
 
 -- how long it is
-pub text_size : (f : Fields) (content : List ℕ) (patches : List Patch) (exports : List Record) (body : List ℕ) → length f.load_name ≡ 10 → body ≡ body_text f.seg_num content patches ++ spelled exports
+pub text_size : (f : Fields) (content : List ℕ) (patches : List Patch) (exports : List Record) (body : List ℕ) → length f.load_name ≡ 10 → body ≡ body_text f.seg_num content patches ++ spelled_records exports
     → length (image_text (image f content patches exports)) ≡ 0x37 + length f.name + (length body + 1)
 unfolding image_text
 text_size f content patches exports body ten b =

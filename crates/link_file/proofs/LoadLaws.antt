@@ -19,13 +19,13 @@ use Rattle.link_meaning.specs.Layout.{load_length, load_names, load_fields, head
 use Rattle.link_meaning.specs.LinkValues.{Told, IsTable}
 use Rattle.link_meaning.specs.LinkedCells.{items, table_number, targets, linked}
 use Rattle.link_meaning.specs.LinkWritten.{byte_under, image_of, exports, exports_for, load_images, images, written_file, AreMade, start}
-use Rattle.link_meaning.specs.LinkFaults.{Given, HasBytes, is_too_long, IsResolved}
+use Rattle.link_meaning.specs.LinkFaults.{LinkInput, HasBytes, is_too_long, IsResolved}
 use Rattle.link_meaning.specs.laws.RunCells.{AreRuns, runs_written}
 use Rattle.link_meaning.specs.laws.LinkedRuns.{HasCells, MembersHave, members_have, linked_has, AreSized}
 use Rattle.link_meaning.specs.laws.ReadMembers.{IsRead, members_read, HasHeader, read_header, read_size, read_some}
 use Rattle.link_meaning.specs.laws.LinkWrittenLaws.{few_loads, short_loads, short_length, load_header_fits, in_at}
 use Rattle.link_meaning.specs.laws.ValueFits.{all_sound}
-use Rattle.written_bodies.specs.WrittenParts.{seen}
+use Rattle.load_writer.specs.WrittenParts.{seen}
 use Rattle.link_content.specs.Holding.{Holding}
 use Rattle.link_content.specs.Contents.{HoldsCells}
 use Rattle.link_file.specs.Images.{image_in, images_in, images_behind, IsReady, AreReady, HoldLinked, AreLoads}
@@ -121,7 +121,7 @@ all_ready list table number (x ∷ xs) (h ∷ headers) (content ∷ contents) ea
     )
 
 -- where each record gives its cells
-pub loads_ready : (given : Given) (list : List Member) (table : List Told) (headers : List Header) (contents : List Holding) → HasBytes given → IsResolved given list → IsTable list table
+pub loads_ready : (given : LinkInput) (list : List Member) (table : List Told) (headers : List Header) (contents : List Holding) → HasBytes given → IsResolved given list → IsTable list table
     → AreMade list table start (items list) → AreLoads list table headers contents → AreReady headers contents
 unfolding load_headers
 loads_ready given list table headers contents bytes resolved is_table are loads =

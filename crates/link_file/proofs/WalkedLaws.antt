@@ -17,7 +17,7 @@ use Rattle.link_meaning.specs.Member.{Member}
 use Rattle.link_meaning.specs.Layout.{in_load, aligned_from, end_from, offset_of, distinct, load_names, number_in, load_of}
 use Rattle.link_meaning.specs.laws.LayoutLaws.{aligned_from-least, alignment-some}
 use Rattle.link_meaning.specs.LinkValues.{Told}
-use Rattle.link_meaning.specs.LinkedCells.{Item, State, Made, zeros, items_from, items, made, state_behind, member_cells}
+use Rattle.link_meaning.specs.LinkedCells.{Item, LinkState, Made, zeros, items_from, items, made, state_behind, member_cells}
 use Rattle.link_meaning.specs.LinkWritten.{AreMade, start}
 use Rattle.link_meaning.specs.LinkFaults.{spot_in}
 use Rattle.link_meaning.specs.laws.MadeLaws.{length-zeros}
@@ -27,7 +27,7 @@ use Rattle.link_meaning.specs.EmitFaults.{HasValueFault}
 use Rattle.link_meaning.specs.laws.EmitFaultLaws.{made_none, fine_failed}
 use Rattle.link_meaning.specs.laws.PlaceFits.{in_parts, name_there}
 use Rattle.link_content.specs.Holding.{Holding}
-use Rattle.link_values.specs.declared.seat.Seat.{Seat}
+use Rattle.link_values.specs.declared.member_place.MemberPlace.{MemberPlace}
 use Rattle.link_content.specs.Contents.{HoldsCells}
 use Rattle.link_file.specs.Images.{HoldLinked}
 use Rattle.link_program.specs.Linked.{member_at}
@@ -251,7 +251,7 @@ length-hold list told front [] (c ∷ contents) hold = absurd hold
 length-hold list told front (x ∷ xs) [] hold = absurd hold
 length-hold list told front (x ∷ xs) (c ∷ contents) hold = ap suc (length-hold list told front xs contents hold.1)
 
-module _ (list : List Member) (told : List Told) (count : ℕ) (targets : List Target) (contents : List Holding) (w : IsWalkedTo list told count targets contents) (m : Member) (back : List Member) (seat : Seat) (s : Segment)
+module _ (list : List Member) (told : List Told) (count : ℕ) (targets : List Target) (contents : List Holding) (w : IsWalkedTo list told count targets contents) (m : Member) (back : List Member) (seat : MemberPlace) (s : Segment)
     (back_is : w.back ≡ m ∷ back) (seat_place : seat.place ≡ count + 1) (is : IsSeat list m seat) (segment : m.segment ≡ s) where
   parts : list ≡ w.front ++ m ∷ back
   parts = w.parts ∙ ap (λ (l : List Member). w.front ++ l) back_is
@@ -331,7 +331,7 @@ module _ (list : List Member) (told : List Told) (count : ℕ) (targets : List T
     parts = whole;
     none = λ front other rest its split has. let found = made_none list told [] (items_from 1 w.front ++ u.before) made' front other rest split in fine_failed found.0 its.cause (sym found.1 ∙ has.cause);
     here = record {
-      cause = ap (λ (t : State). made list told t u.item') (state_from-append list told start (items_from 1 w.front) u.before) ∙ u.fails ∙ ap failed (sym cause_is);
+      cause = ap (λ (t : LinkState). made list told t u.item') (state_from-append list told start (items_from 1 w.front) u.before) ∙ u.fails ∙ ap failed (sym cause_is);
       name = name;
       spot = spot ∙ ap (λ (o : Member). spot_in o at) (sym u.member') ∙ ap (spot_in u.item'.member) (sym u.at');
     };
@@ -382,7 +382,7 @@ segment_is list place m s there is = same m.segment s (sym (ap (option_map (λ (
     same : (x y : Segment) → Some x ≡ Some y → x ≡ y
     same x y e = cc
 
-pub seat_there : (list : List Member) (place : ℕ) (m : Member) (seat : Seat) → member_at list place ≡ Some m → SeatOf list place (member_at list place) (Some seat) → (seat.place ≡ place) × IsSeat list m seat
+pub seat_there : (list : List Member) (place : ℕ) (m : Member) (seat : MemberPlace) → member_at list place ≡ Some m → SeatOf list place (member_at list place) (Some seat) → (seat.place ≡ place) × IsSeat list m seat
 seat_there list place m seat there is = subst (λ (o : Option Member). SeatOf list place o (Some seat)) there is
 
 pub seat_gone : (list : List Member) (place : ℕ) (m : Member) → member_at list place ≡ Some m → SeatOf list place (member_at list place) None → ⊥

@@ -2,7 +2,7 @@
 use Rattle.std.specs.Prelude.{◌≡◌, ◌⊎◌, List}
 use Rattle.link_meaning.specs.declared.fault.LinkFault.{LinkFault}
 use Rattle.link_meaning.specs.Member.{Member}
-use Rattle.link_meaning.specs.LinkFaults.{Given}
+use Rattle.link_meaning.specs.LinkFaults.{LinkInput}
 use Rattle.link_meaning.specs.EmitFaults.{IsFirstEmitFault, IsFirstLinkFault}
 use Rattle.link_program.specs.Memory.{memory_fault}
 
@@ -11,5 +11,5 @@ abbrev pub IsEmitRefused : List Member → LinkFault → Type 0
 IsEmitRefused list fault = (fault ≡ memory_fault) ⊎ IsFirstEmitFault list fault
 
 -- it is the first fault of what is given, unless memory ran out
-abbrev pub IsLinkRefused : Given → LinkFault → Type 0
+abbrev pub IsLinkRefused : LinkInput → LinkFault → Type 0
 IsLinkRefused given fault = (fault ≡ memory_fault) ⊎ IsFirstLinkFault given fault

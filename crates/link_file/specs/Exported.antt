@@ -10,8 +10,8 @@ use Rattle.link_meaning.specs.Search.{entries_from, entries}
 use Rattle.link_meaning.specs.LinkValues.{Told}
 use Rattle.link_meaning.specs.LinkWritten.{export_of}
 use Rattle.link_tables.specs.Coming.{Coming}
-use Rattle.link_file.specs.declared.exports.Seen as kept
-use Rattle.link_file.specs.Images.{spelled}
+use Rattle.link_file.specs.declared.exports.ExportsSeen as kept
+use Rattle.link_file.specs.Images.{spelled_records}
 use Rattle.link_values.specs.Circulars.{defined_so_far}
 
 -- all see it
@@ -25,7 +25,7 @@ pub record SeenName : Type 0 where
   pub name : List ℕ
   pub public : Bool
 
-abbrev pub seen_name : kept.Seen → SeenName
+abbrev pub seen_name : kept.ExportsSeen → SeenName
 seen_name seen = record { name = seen.name.now; public = seen.public }
 
 -- the definition has this name, and is seen so
@@ -45,7 +45,7 @@ entry_with name (Some place) = Entry place.0 place.1 name ∷ []
 
 -- these are the ENTRY records of the first definitions, so many of all
 abbrev pub IsExported : List Member → List Told → ℕ → List ℕ → Type 0
-IsExported list told number out = out ≡ spelled (flat_map (export_of list told) (take number (entries list)))
+IsExported list told number out = out ≡ spelled_records (flat_map (export_of list told) (take number (entries list)))
 
 -- a member of the list has this segment, and so many definitions stand before its own
 pub record StandsBefore (list : List Member) (s : Segment) (number : ℕ) : Type 0 where

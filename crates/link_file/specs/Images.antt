@@ -14,7 +14,7 @@ use Rattle.link_meaning.specs.Layout.{load_names, load_headers}
 use Rattle.link_meaning.specs.LinkValues.{Told}
 use Rattle.link_meaning.specs.LinkedCells.{linked}
 use Rattle.link_meaning.specs.LinkWritten.{exports, exports_for, table_images, path_images}
-use Rattle.written_bodies.specs.WrittenParts.{seen}
+use Rattle.load_writer.specs.WrittenParts.{seen}
 use Rattle.link_content.specs.Holding.{Holding}
 use Rattle.link_content.specs.Contents.{HoldsCells}
 
@@ -23,8 +23,8 @@ abbrev pub with_space : Fields → ℕ → Fields
 with_space f zeros = record f { res_spc = zeros }
 
 -- records, as they are spelled one behind another
-abbrev pub spelled : List Record → List ℕ
-spelled records = flat_map (spelling written_layout) records
+abbrev pub spelled_records : List Record → List ℕ
+spelled_records records = flat_map (spelling written_layout) records
 
 -- the load segment with this header and content, and these ENTRY records
 abbrev pub image_in : Fields → Holding → List Record → Image
@@ -75,7 +75,7 @@ pub record AreLoads (list : List Member) (table : List Told) (headers : List Hea
 
 -- the ENTRY records of the linked load segments, as they are spelled
 abbrev pub linked_exports : List Member → List Told → List ℕ
-linked_exports list table = spelled (exports_for (form_in list) 1 (exports list table))
+linked_exports list table = spelled_records (exports_for (form_in list) 1 (exports list table))
 
 -- what stands behind the load segments: the table, where there is an entry, and the pathnames, where there are run-time library files
 abbrev pub images_behind : ℕ → List Target → List RuntimeFile → List Image

@@ -14,7 +14,7 @@ use Rattle.link_meaning.specs.Sizes.{located_from, place_behind}
 use Rattle.link_meaning.specs.Member.{Member}
 use Rattle.link_meaning.specs.Layout.{end_from, load_names, load_headers, offset_of}
 use Rattle.link_meaning.specs.LinkValues.{Told}
-use Rattle.link_meaning.specs.LinkedCells.{Item, State, table_number, zeros, member_cells, items_from, items, made, state_from}
+use Rattle.link_meaning.specs.LinkedCells.{Item, LinkState, table_number, zeros, member_cells, items_from, items, made, state_from}
 use Rattle.link_meaning.specs.LinkedCells as linked
 use Rattle.link_meaning.specs.LinkWritten.{AreMade, start}
 use Rattle.link_meaning.specs.laws.LinkedRuns.{item}
@@ -24,29 +24,29 @@ use Rattle.link_meaning.specs.LinkFaults.{spot_in}
 use Rattle.link_tables.specs.Coming.{Coming}
 use Rattle.link_program.specs.Memory.{memory_fault}
 use Rattle.link_content.specs.Holding.{Holding}
-use Rattle.link_values.specs.declared.seat.Seat.{Seat}
+use Rattle.link_values.specs.declared.member_place.MemberPlace.{MemberPlace}
 use Rattle.link_content.specs.Contents.{HoldsCells}
 use Rattle.link_file.specs.Images.{HoldLinked}
-use Rattle.link_content.specs.declared.fit.Load.{Load}
-use Rattle.link_values.specs.declared.slots.Slot.{Slot}
+use Rattle.link_content.specs.declared.fit.LoadLimits.{LoadLimits}
+use Rattle.link_values.specs.declared.slots.ValueSlot.{ValueSlot}
 use Rattle.link_program.specs.OfFiles.{IsOfFiles}
-use Rattle.link_content.specs.Fits.{told_load}
+use Rattle.link_content.specs.Fits.{to_load_limits}
 use Rattle.link_values.specs.Seats.{IsSeat, AreKnown}
 
 -- ---- what records meet
 
 -- the list is that of files, its definitions have these values, its load segments' headers are so kept, and the table has this number
-pub record IsWhole (list : List Member) (slots : List Slot) (loads : List Load) (table : ℕ) : Type 0 where
+pub record IsWhole (list : List Member) (slots : List ValueSlot) (loads : List LoadLimits) (table : ℕ) : Type 0 where
   pub files : IsOfFiles list
   pub known : AreKnown list slots
-  pub loads' : loads ≡ map told_load (load_headers list)
+  pub loads' : loads ≡ map to_load_limits (load_headers list)
   pub table' : table ≡ table_number list
 
 -- ---- the records of one member
 
 -- a member of the list stands there, which has this segment; before its first record the load segment holds these cells, up to the
 -- member's offset, and these are the targets
-pub record Begins (list : List Member) (told : List Told) (front : List Member) (m : Member) (back : List Member) (seat : Seat) (s : Segment) (targets : List Target) (before : List Cell) (content : Holding) : Type 0 where
+pub record Begins (list : List Member) (told : List Told) (front : List Member) (m : Member) (back : List Member) (seat : MemberPlace) (s : Segment) (targets : List Target) (before : List Cell) (content : Holding) : Type 0 where
   pub parts : list ≡ front ++ m ∷ back
   pub place : seat.place ≡ length front + 1
   pub is : IsSeat list m seat
@@ -56,7 +56,7 @@ pub record Begins (list : List Member) (told : List Told) (front : List Member) 
   pub holds : HoldsCells before content
 
 -- some member does
-pub record HasBegun (list : List Member) (told : List Told) (seat : Seat) (s : Segment) (targets : List Target) (content : Holding) : Type 0 where
+pub record HasBegun (list : List Member) (told : List Told) (seat : MemberPlace) (s : Segment) (targets : List Target) (content : Holding) : Type 0 where
   pub front : List Member
   pub m : Member
   pub back : List Member
@@ -64,19 +64,19 @@ pub record HasBegun (list : List Member) (told : List Told) (seat : Seat) (s : S
   pub begins : Begins list told front m back seat s targets before content
 
 -- the cells of the member at this place
-abbrev pub cells_there : State → ℕ → List Cell
+abbrev pub cells_there : LinkState → ℕ → List Cell
 cells_there state place = if state.place == place then state.cells else []
 
 -- what is there behind the member's first records
-abbrev pub behind : List Member → List Told → List Member → Member → List (ℕ × Record) → State
-behind list told front m done = state_from list told (state_of list told front) (map (item (length front + 1) m) (located_from 0 done))
+abbrev pub state_after_records : List Member → List Told → List Member → Member → List (ℕ × Record) → LinkState
+state_after_records list told front m done = state_from list told (state_of list told front) (map (item (length front + 1) m) (located_from 0 done))
 
 -- these records, the first of the member, gave their cells
 pub record Puts (list : List Member) (told : List Told) (front : List Member) (m : Member) (done : List (ℕ × Record)) (targets : List Target) (before : List Cell) (content : Holding) : Type 0 where
   pub made' : AreMade list told (state_of list told front) (map (item (length front + 1) m) (located_from 0 done))
-  pub targets' : targets ≡ (behind list told front m done).targets
-  pub size : length (cells_there (behind list told front m done) (length front + 1)) ≡ place_behind 0 done
-  pub holds : HoldsCells (before ++ cells_there (behind list told front m done) (length front + 1)) content
+  pub targets' : targets ≡ (state_after_records list told front m done).targets
+  pub size : length (cells_there (state_after_records list told front m done) (length front + 1)) ≡ place_behind 0 done
+  pub holds : HoldsCells (before ++ cells_there (state_after_records list told front m done) (length front + 1)) content
 
 -- some records gave their cells, up to this place, and the others are still to come
 pub record Putting (records : List (ℕ × Record)) (at : Reader) (location : ℕ) : Type 0 where
@@ -99,7 +99,7 @@ pub record Unmade (list : List Member) (told : List Told) (front : List Member) 
 
 -- a member of the list stands there, which has this segment; its load segment holds these cells, those of the members before it, and
 -- these are the targets
-pub record StandsBehind (list : List Member) (told : List Told) (front : List Member) (m : Member) (back : List Member) (seat : Seat) (s : Segment) (targets : List Target) (cells : List Cell) (content : Holding) : Type 0 where
+pub record StandsBehind (list : List Member) (told : List Told) (front : List Member) (m : Member) (back : List Member) (seat : MemberPlace) (s : Segment) (targets : List Target) (cells : List Cell) (content : Holding) : Type 0 where
   pub parts : list ≡ front ++ m ∷ back
   pub place : seat.place ≡ length front + 1
   pub is : IsSeat list m seat
@@ -110,7 +110,7 @@ pub record StandsBehind (list : List Member) (told : List Told) (front : List Me
   pub holds : HoldsCells cells content
 
 -- some member does
-pub record HasStood (list : List Member) (told : List Told) (seat : Seat) (s : Segment) (targets : List Target) (content : Holding) : Type 0 where
+pub record HasStood (list : List Member) (told : List Told) (seat : MemberPlace) (s : Segment) (targets : List Target) (content : Holding) : Type 0 where
   pub front : List Member
   pub m : Member
   pub back : List Member

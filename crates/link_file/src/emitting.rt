@@ -9,29 +9,29 @@ ghost use Rattle.link_program.specs.Outside.{all_found};
 ghost use Rattle.link_program.specs.Memory.{memory_fault};
 ghost use Rattle.link_file.specs.Answers.{IsEmitRefused};
 ghost use Rattle.link_values.specs.Equates.{AreValues};
-ghost use Rattle.link_content.specs.Fits.{told_load};
+ghost use Rattle.link_content.specs.Fits.{to_load_limits};
 ghost use Rattle.link_values.specs.Slots.{rows_of};
 
 use crate::exports::exports_text;
 use crate::file::write_linked;
 use crate::image::ImageFault;
-use crate::walk::{Whole, fill};
+use crate::walk::{LinkContext, fill};
 use jump_table::Table;
-use link_content::Load;
+use link_content::LoadLimits;
 use link_meaning::{LinkCause, LinkFault};
 use link_program::{Program, memory_fault};
-use link_values::{Slot, values_of};
+use link_values::{ValueSlot, values_of};
 use omf_base::Spot;
 use omf_header::Header;
 use std::alloc::{AllocError, Global};
 
 /// What is kept of the headers of load segments.
-fn loads_of(alloc: Global, headers: &[Header]) -> Result<Vec<Load>, AllocError>
-    ensures { IfOk result (λ loads. loads.items ≡ map told_load (map fields headers.now)) }
+fn loads_of(alloc: Global, headers: &[Header]) -> Result<Vec<LoadLimits>, AllocError>
+    ensures { IfOk result (λ loads. loads.items ≡ map to_load_limits (map fields headers.now)) }
 {
     let mut loads = Vec::new(alloc);
     'headers: for header in headers {
-        loads.push(Load {
+        loads.push(LoadLimits {
             dynamic: header.kind.is_dynamic(),
             length: header.length,
             bank_size: header.bank_size,
@@ -42,7 +42,7 @@ fn loads_of(alloc: Global, headers: &[Header]) -> Result<Vec<Load>, AllocError>
 
 /// The load file would exceed 16,777,216 bytes.
 fn too_long() -> LinkFault
-    ensures { result ≡ record { cause = FileTooLong; name = None; spot = nowhere } }
+    ensures { result ≡ record { cause = FileTooLong; name = None; spot = no_spot } }
 {
     LinkFault {
         cause: LinkCause::FileTooLong,
@@ -57,7 +57,7 @@ fn too_long() -> LinkFault
 
 ghost use Rattle.std.specs.Prelude.{None};
 ghost use Rattle.link_meaning.specs.declared.fault.LinkCause.TheVariants.{FileTooLong};
-ghost use Rattle.link_meaning.specs.LinkFaults.{nowhere};
+ghost use Rattle.link_meaning.specs.LinkFaults.{no_spot};
 
 /// The load file of a program: the values of its equates and records, the calls through the jump table, the bytes. Otherwise the
 /// first fault, with its place.
@@ -75,7 +75,7 @@ pub fn emit(alloc: Global, program: &Program) -> Result<Vec<u8>, LinkFault>
             return Err(memory_fault());
         }
     };
-    let whole = Whole {
+    let whole = LinkContext {
         program,
         slots: slots.as_slice(),
         loads: loads.as_slice(),
@@ -117,7 +117,7 @@ pub fn emit(alloc: Global, program: &Program) -> Result<Vec<u8>, LinkFault>
 
 /// The places that the records of a program call through the jump table, in order of first call, where its names have these values.
 /// Otherwise the first fault of a record.
-pub fn calls_of(alloc: Global, program: &Program, slots: &[Slot]) -> Result<Table, LinkFault>
+pub fn calls_of(alloc: Global, program: &Program, slots: &[ValueSlot]) -> Result<Table, LinkFault>
     requires { AreValues program.now slots.now }
     ensures made { IfOk result (λ table. table ≡ targets program.now (rows_of (all_found program.now) slots.now)) }
     ensures refused { IfErr result (λ fault. IsEmitRefused program.now fault) }
@@ -128,7 +128,7 @@ pub fn calls_of(alloc: Global, program: &Program, slots: &[Slot]) -> Result<Tabl
         Ok(loads) => loads,
         Err(_) => return Err(memory_fault()),
     };
-    let whole = Whole {
+    let whole = LinkContext {
         program,
         slots,
         loads: loads.as_slice(),

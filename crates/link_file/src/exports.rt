@@ -5,34 +5,34 @@ ghost use Rattle.std.specs.Prelude.{◌≡◌, ◌+◌, ◌++◌, ◌<◌, Some,
 ghost use Rattle.omf_format.specs.Field.{IsName, written_layout};
 ghost use Rattle.omf_format.specs.Header.{Fields};
 ghost use Rattle.omf_format.specs.Record.{Entry, spelling};
-ghost use Rattle.omf_records.specs.Segments.{IsSound, shown};
+ghost use Rattle.omf_records.specs.Segments.{IsSound, segment_of_view};
 ghost use Rattle.omf_records.specs.View.{view};
 ghost use Rattle.link_meaning.specs.Member.{Member, form_in};
 ghost use Rattle.link_meaning.specs.Defines.{scope_of, defined_by, title_of, defined_in};
-ghost use Rattle.link_meaning.specs.Search.{Found, entries};
+ghost use Rattle.link_meaning.specs.Search.{FoundDefinition, entries};
 ghost use Rattle.link_meaning.specs.Layout.{load_headers};
 ghost use Rattle.link_meaning.specs.LinkValues.{found_value};
 ghost use Rattle.link_meaning.specs.LinkWritten.{export_at, exports, exports_for};
 ghost use Rattle.link_program.specs.Outside.{all_found};
-ghost use Rattle.link_content.specs.Fits.{told_load};
+ghost use Rattle.link_content.specs.Fits.{to_load_limits};
 ghost use Rattle.link_values.specs.Slots.{AreOnce, AreSlots, rows_of};
 ghost use Rattle.link_values.specs.Seats.{AreKnown};
-ghost use Rattle.link_file.specs.Images.{spelled};
+ghost use Rattle.link_file.specs.Images.{spelled_records};
 ghost use Rattle.link_file.specs.Walks.{IsWhole};
 ghost use Rattle.link_file.specs.Exported.{is_public, seen_name, IsSeen, DefinesSeen, entry_with, IsExported, StandsBefore};
 
-use crate::walk::Whole;
-use link_content::{Load, length_of};
+use crate::walk::LinkContext;
+use link_content::{LoadLimits, length_of};
 use link_meaning::LinkForm;
 use link_program::next_record;
-use link_values::{Slot, label_of};
+use link_values::{ValueSlot, label_of};
 use omf_format::Value;
 use omf_records::{PutFault, Rec, SegmentView, put_record};
 use std::alloc::Global;
 
 /// A name that is defined, and whether all see it.
 #[derive(Clone, Copy)]
-struct Seen<'a> {
+struct ExportsSeen<'a> {
     name: &'a [u8],
     public: bool,
 }
@@ -45,7 +45,7 @@ fn is_public(global: bool, private: u8) -> bool
 }
 
 /// The name that a record defines.
-fn seen_in<'a>(rec: &Rec<'a>) -> Option<Seen<'a>>
+fn seen_in<'a>(rec: &Rec<'a>) -> Option<ExportsSeen<'a>>
     ensures { (at place : ℕ) → DefinesSeen (defined_by at place (view rec.now)) (option_map seen_name result) }
 {
     match rec {
@@ -54,7 +54,7 @@ fn seen_in<'a>(rec: &Rec<'a>) -> Option<Seen<'a>>
             name,
             private,
             ..
-        } => Some(Seen {
+        } => Some(ExportsSeen {
             name,
             public: is_public(*global, *private),
         }),
@@ -63,7 +63,7 @@ fn seen_in<'a>(rec: &Rec<'a>) -> Option<Seen<'a>>
             name,
             private,
             ..
-        } => Some(Seen {
+        } => Some(ExportsSeen {
             name,
             public: is_public(*global, *private),
         }),
@@ -86,23 +86,23 @@ fn seen_in<'a>(rec: &Rec<'a>) -> Option<Seen<'a>>
 }
 
 /// The name of a segment, where it has one.
-fn title_seen<'s>(segment: &'s SegmentView) -> Option<Seen<'s>>
-    ensures seen { DefinesSeen (title_of (shown segment.now)) (option_map seen_name result) }
+fn title_seen<'s>(segment: &'s SegmentView) -> Option<ExportsSeen<'s>>
+    ensures seen { DefinesSeen (title_of (segment_of_view segment.now)) (option_map seen_name result) }
     ensures named { IfSome result (λ seen. IsName 0 seen.name.now) }
 {
     let name = segment.header.name.bytes();
     if name.is_empty() {
         return None;
     }
-    Some(Seen {
+    Some(ExportsSeen {
         name,
         public: !segment.header.kind.is_private(),
     })
 }
 
 /// The place that a value stands for, where a name with it is exported: it has no shift, and is below LENGTH of its load segment.
-fn exported_place(loads: &[Load], value: Value) -> Option<(u16, u32)>
-    ensures { (headers : List Fields) (name : List ℕ) → loads.now ≡ map told_load headers → export_at headers name (Ok value) ≡ entry_with name result }
+fn exported_place(loads: &[LoadLimits], value: Value) -> Option<(u16, u32)>
+    ensures { (headers : List Fields) (name : List ℕ) → loads.now ≡ map to_load_limits headers → export_at headers name (Ok value) ≡ entry_with name result }
 {
     match value {
         Value::Fixed(_) => None,
@@ -138,9 +138,9 @@ fn put_entry(out: &mut Vec<u8>, segment: u16, offset: u32, name: &[u8]) -> Resul
 }
 
 /// The place with which the name of the definition with this number is exported.
-fn place_of(loads: &[Load], slots: &[Slot], number: usize) -> Option<(u16, u32)>
-    ensures { (list : List Member) (all : List Found) (f : Found) (headers : List Fields) (name : List ℕ) → AreOnce all → AreSlots list all slots.now
-        → slice_get all number ≡ Some f → loads.now ≡ map told_load headers → export_at headers name (found_value list (rows_of all slots.now) f) ≡ entry_with name result }
+fn place_of(loads: &[LoadLimits], slots: &[ValueSlot], number: usize) -> Option<(u16, u32)>
+    ensures { (list : List Member) (all : List FoundDefinition) (f : FoundDefinition) (headers : List Fields) (name : List ℕ) → AreOnce all → AreSlots list all slots.now
+        → slice_get all number ≡ Some f → loads.now ≡ map to_load_limits headers → export_at headers name (found_value list (rows_of all slots.now) f) ≡ entry_with name result }
 {
     match label_of(slots, Some(number), false) {
         Some(value) => exported_place(loads, value),
@@ -151,15 +151,15 @@ fn place_of(loads: &[Load], slots: &[Slot], number: usize) -> Option<(u16, u32)>
 /// Appends the ENTRY record of the definition with this number, which has this name, where its value is a place that is exported.
 fn put_export(
     out: &mut Vec<u8>,
-    loads: &[Load],
-    slots: &[Slot],
+    loads: &[LoadLimits],
+    slots: &[ValueSlot],
     number: usize,
     name: &[u8],
 ) -> Result<(), PutFault>
     requires { IsName 0 name.now }
-    ensures { OnOk result ((list : List Member) (f : Found) → AreKnown list slots.now → slice_get (all_found list) number ≡ Some f
-        → loads.now ≡ map told_load (load_headers list)
-        → out.new.items ≡ out.old.items ++ spelled (export_at (load_headers list) name.now (found_value list (rows_of (all_found list) slots.now) f))) }
+    ensures { OnOk result ((list : List Member) (f : FoundDefinition) → AreKnown list slots.now → slice_get (all_found list) number ≡ Some f
+        → loads.now ≡ map to_load_limits (load_headers list)
+        → out.new.items ≡ out.old.items ++ spelled_records (export_at (load_headers list) name.now (found_value list (rows_of (all_found list) slots.now) f))) }
 {
     match place_of(loads, slots, number) {
         Some((segment, offset)) => put_entry(out, segment, offset, name),
@@ -168,10 +168,15 @@ fn put_export(
 }
 
 /// Appends the ENTRY record of the definition with this number, where all see it and its value is a place that is exported.
-fn put_seen(out: &mut Vec<u8>, whole: &Whole, number: usize, seen: Seen) -> Result<(), PutFault>
+fn put_seen(
+    out: &mut Vec<u8>,
+    whole: &LinkContext,
+    number: usize,
+    seen: ExportsSeen,
+) -> Result<(), PutFault>
     requires whole { IsWhole whole.now.program.now whole.now.slots.now whole.now.loads.now whole.now.table }
     requires named { IsName 0 seen.name.now }
-    ensures { OnOk result ((f : Found) → slice_get (entries whole.now.program.now) number ≡ Some f → IsSeen f.definition (seen_name seen.entry)
+    ensures { OnOk result ((f : FoundDefinition) → slice_get (entries whole.now.program.now) number ≡ Some f → IsSeen f.definition (seen_name seen.entry)
         → IsExported whole.now.program.now (rows_of (all_found whole.now.program.now) whole.now.slots.now) number out.old.items
         → IsExported whole.now.program.now (rows_of (all_found whole.now.program.now) whole.now.slots.now) (number + 1) out.new.items) }
 {
@@ -184,14 +189,14 @@ fn put_seen(out: &mut Vec<u8>, whole: &Whole, number: usize, seen: Seen) -> Resu
 /// Appends the ENTRY record of a segment's name, and tells the number behind it.
 fn put_title(
     out: &mut Vec<u8>,
-    whole: &Whole,
+    whole: &LinkContext,
     segment: &SegmentView,
     first: usize,
 ) -> Result<usize, PutFault>
     requires whole { IsWhole whole.now.program.now whole.now.slots.now whole.now.loads.now whole.now.table }
-    requires stands { StandsBefore whole.now.program.now (shown segment.now) first }
+    requires stands { StandsBefore whole.now.program.now (segment_of_view segment.now) first }
     requires exported { IsExported whole.now.program.now (rows_of (all_found whole.now.program.now) whole.now.slots.now) first out.old.items }
-    ensures next { IfOk result (λ next. next ≡ first + length (title_of (shown segment.now))) }
+    ensures next { IfOk result (λ next. next ≡ first + length (title_of (segment_of_view segment.now))) }
     ensures exported { IfOk result (λ next. IsExported whole.now.program.now (rows_of (all_found whole.now.program.now) whole.now.slots.now) next out.new.items) }
 {
     let _count = whole.slots.len();
@@ -208,15 +213,15 @@ fn put_title(
 /// the last.
 fn put_segment(
     out: &mut Vec<u8>,
-    whole: &Whole,
+    whole: &LinkContext,
     segment: &SegmentView,
     first: usize,
 ) -> Result<usize, PutFault>
     requires whole { IsWhole whole.now.program.now whole.now.slots.now whole.now.loads.now whole.now.table }
     requires sound { IsSound segment.now }
-    requires stands { StandsBefore whole.now.program.now (shown segment.now) first }
+    requires stands { StandsBefore whole.now.program.now (segment_of_view segment.now) first }
     requires exported { IsExported whole.now.program.now (rows_of (all_found whole.now.program.now) whole.now.slots.now) first out.old.items }
-    ensures next { IfOk result (λ next. next ≡ first + length (defined_in (shown segment.now))) }
+    ensures next { IfOk result (λ next. next ≡ first + length (defined_in (segment_of_view segment.now))) }
     ensures exported { IfOk result (λ next. IsExported whole.now.program.now (rows_of (all_found whole.now.program.now) whole.now.slots.now) next out.new.items) }
 {
     let _count = whole.slots.len();
@@ -239,9 +244,9 @@ fn put_segment(
 
 /// The ENTRY records of a program, one behind another: of a run-time library file those of its public names that stand for places, in
 /// list and record order.
-pub fn exports_text(alloc: Global, whole: &Whole) -> Result<Vec<u8>, PutFault>
+pub fn exports_text(alloc: Global, whole: &LinkContext) -> Result<Vec<u8>, PutFault>
     requires { IsWhole whole.now.program.now whole.now.slots.now whole.now.loads.now whole.now.table }
-    ensures { IfOk result (λ text. text.items ≡ spelled (exports_for (form_in whole.now.program.now) 1
+    ensures { IfOk result (λ text. text.items ≡ spelled_records (exports_for (form_in whole.now.program.now) 1
         (exports whole.now.program.now (rows_of (all_found whole.now.program.now) whole.now.slots.now)))) }
 {
     let mut out = Vec::new(alloc);

@@ -17,14 +17,14 @@ ghost use Rattle.link_file.specs.Images.{AreReady, AreLoads, images_behind, link
 use crate::image::{ImageFault, put_image, put_images};
 use crate::pathnames::put_pathnames;
 use jump_table::Table;
-use link_content::Content;
+use link_content::LoadContent;
 use link_program::Program;
 use omf_base::{Name, NameFault};
 use omf_header::{Header, Kind};
 use std::alloc::Global;
 
 /// The content of the jump table's segment.
-fn table_content<'a>(alloc: Global, table: &Table) -> Result<Content<'a>, ImageFault>
+fn table_content<'a>(alloc: Global, table: &Table) -> Result<LoadContent<'a>, ImageFault>
     ensures ok { IfOk result (λ content. HoldsCells (map Byte (table_bytes (map file_entry table.now))) content) }
     ensures memory_alone { IfErr result (λ fault. fault ≡ ImageFault.Memory) }
 {
@@ -32,7 +32,7 @@ fn table_content<'a>(alloc: Global, table: &Table) -> Result<Content<'a>, ImageF
         Ok(bytes) => bytes,
         Err(_) => return Err(ImageFault::Memory),
     };
-    let mut content = Content::new(alloc);
+    let mut content = LoadContent::new(alloc);
     content.put_bytes(&bytes)?;
     Ok(content)
 }
@@ -116,7 +116,7 @@ fn put_rest(
 pub fn write_linked(
     alloc: Global,
     headers: &[Header],
-    contents: &[Content<'_>],
+    contents: &[LoadContent<'_>],
     exports: &[u8],
     table: &Table,
     program: &Program,

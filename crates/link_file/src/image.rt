@@ -5,15 +5,15 @@ ghost use Rattle.omf_format.specs.Header.{IsWritable, header_bytes};
 ghost use Rattle.omf_header.specs.View.{fields};
 ghost use Rattle.load_meaning.specs.WrittenBody.{AreWritten, body_text, written_cells, zeros_behind};
 ghost use Rattle.load_meaning.specs.WrittenFile.{image_text, file_text};
-ghost use Rattle.written_bodies.specs.WrittenParts.{seen};
+ghost use Rattle.load_writer.specs.WrittenParts.{seen};
 ghost use Rattle.omf_format.specs.Record.{Record};
-ghost use Rattle.link_file.specs.Images.{with_space, spelled, image_in, images_in, IsReady, AreReady};
+ghost use Rattle.link_file.specs.Images.{with_space, spelled_records, image_in, images_in, IsReady, AreReady};
 
-use link_content::{Content, Place};
+use link_content::{ByteStorage, LoadContent};
+use load_writer::{BodyFault, put_body, put_plain_body};
 use omf_base::{Name, NameFault};
 use omf_header::{Header, WriteHeaderFault, write_header};
 use std::alloc::{AllocError, AllocFailed, Global};
-use written_bodies::{BodyFault, put_body, put_plain_body};
 
 /// The most bytes that a load file has.
 pub const MOST_BYTES: usize = 0x100_0000;
@@ -60,7 +60,7 @@ impl From<BodyFault> for ImageFault {
 }
 
 /// The header with so many zeros behind the body.
-fn spaced(alloc: Global, header: &Header, zeros: u32) -> Result<Header, ImageFault>
+fn with_reserved_zeros(alloc: Global, header: &Header, zeros: u32) -> Result<Header, ImageFault>
     ensures ok { IfOk result (λ written. fields written ≡ with_space (fields header.now) zeros) }
     ensures memory_alone { IfErr result (λ fault. fault ≡ ImageFault.Memory) }
 {
@@ -103,7 +103,7 @@ pub fn front_of(
     if size >= MOST_BYTES {
         return Err(ImageFault::TooLong);
     }
-    let written = spaced(alloc, header, zeros)?;
+    let written = with_reserved_zeros(alloc, header, zeros)?;
     match write_header(alloc, &written, size as u32 + 1) {
         Ok(front) => Ok(front),
         Err(WriteHeaderFault::TooLong) => Err(ImageFault::TooLong),
@@ -112,7 +112,7 @@ pub fn front_of(
 }
 
 /// How many bytes a header has.
-pub fn head_size(header: &Header) -> usize
+pub fn header_size(header: &Header) -> usize
     ensures value { result ≡ 0x37 + length header.now.name }
     ensures few { result < 2 ^ 9 }
 {
@@ -135,7 +135,7 @@ fn put_content(
     alloc: Global,
     out: &mut Vec<u8>,
     own: u16,
-    content: &Content<'_>,
+    content: &LoadContent<'_>,
 ) -> Result<u32, BodyFault>
     requires small { length (content.now).bytes ≤ 0xFFFFFF }
     requires patches { AreWritten (length (content.now).bytes) 0 (map seen (content.now).patches) }
@@ -144,11 +144,11 @@ fn put_content(
 {
     let (place, behind) = content.place();
     match place {
-        Place::Lent(pieces) => {
+        ByteStorage::Lent(pieces) => {
             let zeros = put_plain_body(out, pieces)?;
             Ok(zeros + behind as u32)
         }
-        Place::Own(bytes) => {
+        ByteStorage::Own(bytes) => {
             let zeros = put_body(alloc, out, own, bytes, content.patches())?;
             Ok(zeros + behind as u32)
         }
@@ -162,7 +162,7 @@ fn put_behind(
     out: &mut Vec<u8>,
     room: usize,
     own: u16,
-    content: &Content<'_>,
+    content: &LoadContent<'_>,
     exports: &[u8],
 ) -> Result<u32, ImageFault>
     requires room { length out.old.items + room < 2 ^ 33 }
@@ -204,7 +204,7 @@ fn close(out: &mut Vec<u8>, start: usize, front: &[u8]) -> Result<(), ImageFault
 }
 
 /// LOADNAME has ten bytes.
-pub fn know_size(load_name: [u8; 10])
+pub fn recall_header_size(load_name: [u8; 10])
     ensures { length load_name ≡ 10 }
 {}
 
@@ -214,21 +214,21 @@ pub fn put_image(
     alloc: Global,
     out: &mut Vec<u8>,
     header: &Header,
-    content: &Content<'_>,
+    content: &LoadContent<'_>,
     exports: &[u8],
 ) -> Result<(), ImageFault>
     requires { IsReady (fields header.now) content.now }
-    ensures ok { OnOk result ((records : List Record) → exports.now ≡ spelled records → out.new.items ≡ out.old.items ++ image_text (image_in (fields header.now) content.now records)) }
+    ensures ok { OnOk result ((records : List Record) → exports.now ≡ spelled_records records → out.new.items ≡ out.old.items ++ image_text (image_in (fields header.now) content.now records)) }
     ensures short { OnOk result (length out.new.items ≤ 0x1000000) }
-    ensures too_long { IsErrOf result ImageFault.TooLong → (records : List Record) → exports.now ≡ spelled records
+    ensures too_long { IsErrOf result ImageFault.TooLong → (records : List Record) → exports.now ≡ spelled_records records
         → 0x1000000 < length out.old.items + length (image_text (image_in (fields header.now) content.now records)) }
 {
-    know_size(header.load_name);
+    recall_header_size(header.load_name);
     let start = out.as_slice().len();
     if start > MOST_BYTES {
         return Err(ImageFault::TooLong);
     }
-    let room = head_size(header);
+    let room = header_size(header);
     let zeros = put_behind(alloc, out, room, header.seg_num, content, exports)?;
     let size = out.as_slice().len() - start - room;
     let front = front_of(alloc, header, zeros, size)?;
@@ -243,7 +243,7 @@ fn header_at(headers: &[Header], place: usize) -> Option<&Header>
 }
 
 /// The content at a place.
-fn content_at<'h, 'a>(contents: &'h [Content<'a>], place: usize) -> Option<&'h Content<'a>>
+fn content_at<'h, 'a>(contents: &'h [LoadContent<'a>], place: usize) -> Option<&'h LoadContent<'a>>
     ensures { MatchOption result (length contents.now ≤ place) (λ content. slice_get contents.now place ≡ Some content.now) }
 {
     contents.get(place)
@@ -254,13 +254,13 @@ pub fn put_images(
     alloc: Global,
     out: &mut Vec<u8>,
     headers: &[Header],
-    contents: &[Content<'_>],
+    contents: &[LoadContent<'_>],
     exports: &[u8],
 ) -> Result<(), ImageFault>
     requires { AreReady headers.now contents.now }
-    ensures ok { OnOk result ((records : List Record) → exports.now ≡ spelled records → out.new.items ≡ out.old.items ++ file_text (images_in records headers.now contents.now)) }
+    ensures ok { OnOk result ((records : List Record) → exports.now ≡ spelled_records records → out.new.items ≡ out.old.items ++ file_text (images_in records headers.now contents.now)) }
     ensures short { OnOk result (length out.old.items ≤ 0x1000000 → length out.new.items ≤ 0x1000000) }
-    ensures too_long { IsErrOf result ImageFault.TooLong → (records : List Record) → exports.now ≡ spelled records
+    ensures too_long { IsErrOf result ImageFault.TooLong → (records : List Record) → exports.now ≡ spelled_records records
         → 0x1000000 < length out.old.items + length (file_text (images_in records headers.now contents.now)) }
 {
     let count = headers.len();

@@ -11,4 +11,4 @@ mod values;
 mod walk;
 
 pub use emitting::emit;
-pub use values::Values;
+pub use values::EquateValues;

@@ -15,7 +15,7 @@ ghost use Rattle.link_program.specs.OfFiles.{IsOfFiles};
 ghost use Rattle.link_file.specs.Images.{with_space, whole_image};
 ghost use Rattle.link_file.specs.Paths.{paths_of};
 
-use crate::image::{ImageFault, MOST_BYTES, front_of, head_size, know_size};
+use crate::image::{ImageFault, MOST_BYTES, front_of, header_size, recall_header_size};
 use link_program::Program;
 use omf_base::{Name, NameFault};
 use omf_header::{Header, Kind};
@@ -129,13 +129,13 @@ fn put_whole(
     ensures short { OnOk result (length out.new.items ≤ 0x1000000) }
     ensures too_long { IsErrOf result ImageFault.TooLong → 0x1000000 < length out.old.items + length (image_text (whole_image (fields header.now) bytes.now)) }
 {
-    know_size(header.load_name);
+    recall_header_size(header.load_name);
     let start = out.as_slice().len();
     if start > MOST_BYTES {
         return Err(ImageFault::TooLong);
     }
     let size = 5 + bytes.len();
-    if start + head_size(header) + size >= MOST_BYTES {
+    if start + header_size(header) + size >= MOST_BYTES {
         return Err(ImageFault::TooLong);
     }
     let front = front_of(alloc, header, 0, size)?;

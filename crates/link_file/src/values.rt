@@ -13,19 +13,19 @@ use crate::emitting::calls_of;
 use jump_table::Table;
 use link_meaning::LinkFault;
 use link_program::Program;
-use link_values::{Slot, place_at, seat_of, value_in, values_of};
+use link_values::{ValueSlot, place_at, place_of_member, value_in, values_of};
 use omf_format::{Value, ValueFault};
 use std::alloc::Global;
 use std::marker::Model;
 
 /// A program and what its equates are worth. Contracts see the linked list with the table of these values.
 #[derive(Drop)]
-pub struct Values<'e, 'a> {
+pub struct EquateValues<'e, 'a> {
     program: &'e Program<'a>,
-    slots: Vec<Slot>,
+    slots: Vec<ValueSlot>,
 }
 
-impl<'e, 'a> Model for Values<'e, 'a> {
+impl<'e, 'a> Model for EquateValues<'e, 'a> {
     ghost use Rattle.link_program.specs.Outside.{all_found};
     ghost use Rattle.link_values.specs.Slots.{rows_of};
     ghost use Rattle.link_values.specs.Equates.{AreValues};
@@ -38,16 +38,16 @@ impl<'e, 'a> Model for Values<'e, 'a> {
     ghost invariant = { λ v. AreValues v.program.now v.slots.items };
 }
 
-impl<'e, 'a> Values<'e, 'a> {
+impl<'e, 'a> EquateValues<'e, 'a> {
     /// The values of a program's equates. Otherwise the fault of the first that leads back to itself.
-    pub fn of(alloc: Global, program: &'e Program<'a>) -> Result<Values<'e, 'a>, LinkFault>
+    pub fn of(alloc: Global, program: &'e Program<'a>) -> Result<EquateValues<'e, 'a>, LinkFault>
         ensures list { IfOk result (λ values. values.list ≡ program.now) }
         ensures valued { IfOk result (λ values. IsTable values.list values.table) }
         ensures refused { IfErr result (λ fault. IsEmitRefused program.now fault) }
     {
         program.know_files();
         let slots = values_of(alloc, program)?;
-        Ok(Values { program, slots })
+        Ok(EquateValues { program, slots })
     }
 
     /// The program.
@@ -62,7 +62,7 @@ impl<'e, 'a> Values<'e, 'a> {
         requires { HasPlace self.now.list place at }
         ensures { (m : Member) → member_at self.now.list place ≡ Some m → result ≡ place_value self.now.list place m at }
     {
-        let seat = match seat_of(self.program, place) {
+        let seat = match place_of_member(self.program, place) {
             Some(seat) => seat,
             None => unreachable!(),
         };
@@ -75,7 +75,7 @@ impl<'e, 'a> Values<'e, 'a> {
         requires spelled { (m : Member) → member_at self.now.list place ≡ Some m → IsExpression m.segment.fields.lab_len expr.now }
         ensures { (m : Member) → member_at self.now.list place ≡ Some m → result ≡ value_in self.now.list self.now.table place m location expr.now }
     {
-        let seat = match seat_of(self.program, place) {
+        let seat = match place_of_member(self.program, place) {
             Some(seat) => seat,
             None => unreachable!(),
         };

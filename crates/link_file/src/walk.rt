@@ -1,7 +1,7 @@
 //! The walk over the records of all members, which fills the load segments and the jump table.
 
 ghost use Rattle.std.specs.Prelude.{◌≡◌, ◌⊎◌, ◌+◌, ◌-◌, ◌<◌, ◌≤◌, ◌^◌, ◌++◌, ◌∷◌, ℕ, List, IfErr, IfOk, OnOk, length, map};
-ghost use Rattle.omf_records.specs.Segments.{IsSound, shown};
+ghost use Rattle.omf_records.specs.Segments.{IsSound, segment_of_view};
 ghost use Rattle.omf_records.specs.View.{view};
 ghost use Rattle.load_meaning.specs.Cells.{Cell};
 ghost use Rattle.link_meaning.specs.declared.fault.LinkCause.TheVariants as causes;
@@ -15,10 +15,10 @@ ghost use Rattle.link_content.specs.Records.{IsWorth};
 ghost use Rattle.link_file.specs.Walks.{IsWhole, Begins, HasBegun, Puts, StandsBehind, HasStood, PutsMember, Unmade, IsToldAt, IsWalkedTo, IsValueRefused};
 
 use jump_table::Table;
-use link_content::{Content, Load, Site, put_record};
+use link_content::{LoadContent, LoadLimits, MemberTarget, put_record};
 use link_meaning::{LinkCause, LinkFault};
 use link_program::{Program, memory_fault, next_record, size_at};
-use link_values::{Seat, Slot, seat_of, value_in};
+use link_values::{MemberPlace, ValueSlot, place_of_member, value_in};
 use omf_base::Spot;
 use omf_format::{Value, ValueFault};
 use omf_records::{Rec, SegmentView};
@@ -26,18 +26,23 @@ use std::alloc::{AllocError, Global};
 
 /// What the records of all members meet.
 #[derive(Drop)]
-pub struct Whole<'e, 'a> {
+pub struct LinkContext<'e, 'a> {
     pub program: &'e Program<'a>,
     /// The values of all definitions.
-    pub slots: &'e [Slot],
+    pub slots: &'e [ValueSlot],
     /// What is kept of the load segments' headers.
-    pub loads: &'e [Load],
+    pub loads: &'e [LoadLimits],
     /// The number of the load segment that is the jump table, behind all others.
     pub table: u16,
 }
 
 /// What a record's expression stands for; a number, where the record has none.
-fn value_of(whole: &Whole, seat: Seat, location: u32, rec: &Rec) -> Result<Value, ValueFault>
+fn value_of(
+    whole: &LinkContext,
+    seat: MemberPlace,
+    location: u32,
+    rec: &Rec,
+) -> Result<Value, ValueFault>
     requires whole { IsWhole whole.now.program.now whole.now.slots.now whole.now.loads.now whole.now.table }
     requires spelled { HasSpelling seat.lab_len (view rec.now) }
     requires near { seat.offset + location < 2 ^ 32 }
@@ -65,11 +70,11 @@ fn value_of(whole: &Whole, seat: Seat, location: u32, rec: &Rec) -> Result<Value
     }
 }
 
-ghost use Rattle.link_content.specs.Fits.{told_load};
+ghost use Rattle.link_content.specs.Fits.{to_load_limits};
 
 /// BANKSIZE of the load segment with this number.
-fn bank_of(loads: &[Load], number: u16) -> u32
-    ensures { (headers : List Fields) → loads.now ≡ map told_load headers → result ≡ bank_of headers number }
+fn bank_of(loads: &[LoadLimits], number: u16) -> u32
+    ensures { (headers : List Fields) → loads.now ≡ map to_load_limits headers → result ≡ bank_of headers number }
 {
     match loads.get(usize::from(number).saturating_sub(1)) {
         Some(load) => load.bank_size,
@@ -82,23 +87,23 @@ ghost use Rattle.omf_format.specs.Header.{Fields};
 /// Puts what the records of a member give, behind what its load segment holds up to the member's offset. The fault is the first
 /// one's, with its displacement.
 fn put_records<'a>(
-    whole: &Whole<'_, 'a>,
-    seat: Seat,
+    whole: &LinkContext<'_, 'a>,
+    seat: MemberPlace,
     segment: &SegmentView<'a>,
-    content: &mut Content<'a>,
+    content: &mut LoadContent<'a>,
     table: &mut Table,
 ) -> Result<(), (LinkCause, u32)>
     requires whole { IsWhole whole.now.program.now whole.now.slots.now whole.now.loads.now whole.now.table }
     requires sound { IsSound segment.now }
-    requires begun { HasBegun whole.now.program.now (rows_of (all_found whole.now.program.now) whole.now.slots.now) seat (shown segment.now) table.old content.old }
+    requires begun { HasBegun whole.now.program.now (rows_of (all_found whole.now.program.now) whole.now.slots.now) seat (segment_of_view segment.now) table.old content.old }
     ensures ok { OnOk result ((front : List Member) (m : Member) (back : List Member) (before : List Cell)
-        → Begins whole.now.program.now (rows_of (all_found whole.now.program.now) whole.now.slots.now) front m back seat (shown segment.now) table.old before content.old
-        → Puts whole.now.program.now (rows_of (all_found whole.now.program.now) whole.now.slots.now) front m (shown segment.now).records table.new before content.new) }
+        → Begins whole.now.program.now (rows_of (all_found whole.now.program.now) whole.now.slots.now) front m back seat (segment_of_view segment.now) table.old before content.old
+        → Puts whole.now.program.now (rows_of (all_found whole.now.program.now) whole.now.slots.now) front m (segment_of_view segment.now).records table.new before content.new) }
     ensures err { IfErr result (λ fault. (front : List Member) (m : Member) (back : List Member) (before : List Cell)
-        → Begins whole.now.program.now (rows_of (all_found whole.now.program.now) whole.now.slots.now) front m back seat (shown segment.now) table.old before content.old
+        → Begins whole.now.program.now (rows_of (all_found whole.now.program.now) whole.now.slots.now) front m back seat (segment_of_view segment.now) table.old before content.old
         → (fault.0 ≡ causes.Memory) ⊎ Unmade whole.now.program.now (rows_of (all_found whole.now.program.now) whole.now.slots.now) front m fault.0 fault.1) }
 {
-    let site = Site {
+    let site = MemberTarget {
         table: whole.table,
         own: seat.load_segment,
         bank_size: bank_of(whole.loads, seat.load_segment),
@@ -132,20 +137,20 @@ fn put_records<'a>(
 
 /// Puts what a member gives: zeros up to its offset, what its records give, and RESSPC zeros.
 fn put_segment<'a>(
-    whole: &Whole<'_, 'a>,
-    seat: Seat,
+    whole: &LinkContext<'_, 'a>,
+    seat: MemberPlace,
     segment: &SegmentView<'a>,
-    content: &mut Content<'a>,
+    content: &mut LoadContent<'a>,
     table: &mut Table,
 ) -> Result<(), (LinkCause, u32)>
     requires whole { IsWhole whole.now.program.now whole.now.slots.now whole.now.loads.now whole.now.table }
     requires sound { IsSound segment.now }
-    requires stood { HasStood whole.now.program.now (rows_of (all_found whole.now.program.now) whole.now.slots.now) seat (shown segment.now) table.old content.old }
+    requires stood { HasStood whole.now.program.now (rows_of (all_found whole.now.program.now) whole.now.slots.now) seat (segment_of_view segment.now) table.old content.old }
     ensures ok { OnOk result ((front : List Member) (m : Member) (back : List Member) (cells : List Cell)
-        → StandsBehind whole.now.program.now (rows_of (all_found whole.now.program.now) whole.now.slots.now) front m back seat (shown segment.now) table.old cells content.old
+        → StandsBehind whole.now.program.now (rows_of (all_found whole.now.program.now) whole.now.slots.now) front m back seat (segment_of_view segment.now) table.old cells content.old
         → PutsMember whole.now.program.now (rows_of (all_found whole.now.program.now) whole.now.slots.now) front m table.new cells content.new) }
     ensures err { IfErr result (λ fault. (front : List Member) (m : Member) (back : List Member) (cells : List Cell)
-        → StandsBehind whole.now.program.now (rows_of (all_found whole.now.program.now) whole.now.slots.now) front m back seat (shown segment.now) table.old cells content.old
+        → StandsBehind whole.now.program.now (rows_of (all_found whole.now.program.now) whole.now.slots.now) front m back seat (segment_of_view segment.now) table.old cells content.old
         → (fault.0 ≡ causes.Memory) ⊎ Unmade whole.now.program.now (rows_of (all_found whole.now.program.now) whole.now.slots.now) front m fault.0 fault.1) }
 {
     let gap = seat.offset as usize - content.len();
@@ -214,9 +219,9 @@ ghost use Rattle.link_program.specs.Linked.{member_at};
 
 /// Puts what the member at a place, from 1, gives, behind what the members before it gave.
 fn put_member<'a>(
-    whole: &Whole<'_, 'a>,
+    whole: &LinkContext<'_, 'a>,
     place: u32,
-    contents: &mut Vec<Content<'a>>,
+    contents: &mut Vec<LoadContent<'a>>,
     table: &mut Table,
 ) -> Result<(), LinkFault>
     requires whole { IsWhole whole.now.program.now whole.now.slots.now whole.now.loads.now whole.now.table }
@@ -226,7 +231,7 @@ fn put_member<'a>(
     ensures ok { OnOk result (IsWalkedTo whole.now.program.now (rows_of (all_found whole.now.program.now) whole.now.slots.now) place table.new contents.new.items) }
     ensures err { IfErr result (λ fault. IsValueRefused whole.now.program.now (rows_of (all_found whole.now.program.now) whole.now.slots.now) fault) }
 {
-    let seat = match seat_of(whole.program, place) {
+    let seat = match place_of_member(whole.program, place) {
         Some(seat) => seat,
         None => unreachable!(),
     };
@@ -242,7 +247,7 @@ fn put_member<'a>(
 }
 
 /// How many cells a load segment has; 0 where there is none at the place.
-fn length_at(loads: &[Load], place: usize) -> usize {
+fn length_at(loads: &[LoadLimits], place: usize) -> usize {
     match loads.get(place) {
         Some(load) => load.length as usize,
         None => 0,
@@ -250,14 +255,14 @@ fn length_at(loads: &[Load], place: usize) -> usize {
 }
 
 /// As many contents without cells as there are load segments, each with room for its own.
-fn no_contents<'a>(alloc: Global, loads: &[Load]) -> Result<Vec<Content<'a>>, AllocError>
+fn no_contents<'a>(alloc: Global, loads: &[LoadLimits]) -> Result<Vec<LoadContent<'a>>, AllocError>
     ensures { IfOk result (λ contents. AreEmpty (length loads.now) contents.items) }
 {
     let mut contents = Vec::new(alloc);
     let count = loads.len();
     'loads: while contents.as_slice().len() < count {
         let place = contents.as_slice().len();
-        contents.push(Content::with_room(alloc, length_at(loads, place)))?;
+        contents.push(LoadContent::with_room(alloc, length_at(loads, place)))?;
     }
     Ok(contents)
 }
@@ -267,9 +272,9 @@ ghost use Rattle.link_file.specs.Walks.{AreEmpty, IsFilled};
 /// The load segments with the cells of all members, and the jump table; or the first fault of a record.
 pub fn fill<'a>(
     alloc: Global,
-    whole: &Whole<'_, 'a>,
+    whole: &LinkContext<'_, 'a>,
     table: &mut Table,
-) -> Result<Vec<Content<'a>>, LinkFault>
+) -> Result<Vec<LoadContent<'a>>, LinkFault>
     requires whole { IsWhole whole.now.program.now whole.now.slots.now whole.now.loads.now whole.now.table }
     requires empty { table.old ≡ [] }
     ensures ok { IfOk result (λ contents. IsFilled whole.now.program.now (rows_of (all_found whole.now.program.now) whole.now.slots.now) table.new contents.items) }

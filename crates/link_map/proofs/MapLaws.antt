@@ -12,8 +12,8 @@ use Rattle.link_meaning.specs.Member.{Member}
 use Rattle.link_meaning.specs.Layout.{load_headers}
 use Rattle.link_meaning.specs.LinkValues.{Told}
 use Rattle.link_meaning.specs.LinkedCells.{table_number, targets}
-use Rattle.link_meaning.specs.LinkFaults.{Given, IsResolved}
-use Rattle.link_map.specs.MapText.{numbered, load_text, load_line, entry_line, table_text, map_text, IsMapOf}
+use Rattle.link_meaning.specs.LinkFaults.{LinkInput, IsResolved}
+use Rattle.link_map.specs.MapText.{numbered_texts, load_text, load_line, entry_line, table_text, map_text, IsMapOf}
 use Rattle.link_map.specs.Standing.{IsDrawn}
 
 -- ---- the jump table
@@ -36,25 +36,25 @@ table_size ts bytes is = omega (arith, is.size, length-map ts file_entry)
 
 -- the lines of one with entries
 pub table_some : (number : ℕ) (ts : List Target) (size : ℕ) (name : List ℕ) → (length ts ≡ 0 → ⊥) → size ≡ length (table_bytes (map file_entry ts)) → name ≡ codes "~JumpTable"
-    → load_line number size 0x0002 0 name ++ numbered (entry_line number) 0 ts ≡ table_text number ts
+    → load_line number size 0x0002 0 name ++ numbered_texts (entry_line number) 0 ts ≡ table_text number ts
 unfolding table_fields
 table_some number [] size name some is named = absurd (some refl)
 table_some number (t ∷ ts) size name some is named =
-    ap (λ (n : ℕ). load_line number n 0x0002 0 name ++ numbered (entry_line number) 0 (t ∷ ts)) is
-    ∙ ap (λ (l : List ℕ). load_line number (length (table_bytes (map file_entry (t ∷ ts)))) 0x0002 0 l ++ numbered (entry_line number) 0 (t ∷ ts)) named
+    ap (λ (n : ℕ). load_line number n 0x0002 0 name ++ numbered_texts (entry_line number) 0 (t ∷ ts)) is
+    ∙ ap (λ (l : List ℕ). load_line number (length (table_bytes (map file_entry (t ∷ ts)))) 0x0002 0 l ++ numbered_texts (entry_line number) 0 (t ∷ ts)) named
 
 -- ---- the map
 
 -- the load segments, and the table behind them
-pub map_is : (list : List Member) (table : List Told) (loads text : List ℕ) (number : ℕ) (ts : List Target) → loads ≡ numbered (load_text list table) 1 (load_headers list)
+pub map_is : (list : List Member) (table : List Told) (loads text : List ℕ) (number : ℕ) (ts : List Target) → loads ≡ numbered_texts (load_text list table) 1 (load_headers list)
     → text ≡ loads ++ table_text number ts → number ≡ table_number list → ts ≡ targets list table → text ≡ map_text list table
 unfolding map_text
 map_is list table loads text number ts drawn more counted called =
     more
     ∙ ap (λ (l : List ℕ). l ++ table_text number ts) drawn
-    ∙ ap (λ (n : ℕ). numbered (load_text list table) 1 (load_headers list) ++ table_text n ts) counted
-    ∙ ap (λ (l : List Target). numbered (load_text list table) 1 (load_headers list) ++ table_text (table_number list) l) called
+    ∙ ap (λ (n : ℕ). numbered_texts (load_text list table) 1 (load_headers list) ++ table_text n ts) counted
+    ∙ ap (λ (l : List Target). numbered_texts (load_text list table) 1 (load_headers list) ++ table_text (table_number list) l) called
 
 -- that of files that are linked
-pub mapped_is : (given : Given) (list : List Member) (text : List ℕ) → IsResolved given list → IsDrawn list text → IsMapOf given text
+pub mapped_is : (given : LinkInput) (list : List Member) (text : List ℕ) → IsResolved given list → IsDrawn list text → IsMapOf given text
 mapped_is given list text resolved drawn = record { list = list; table = drawn.table; linkable = record { resolved = resolved; emitted = drawn.emitted }; is = drawn.is }

@@ -2,7 +2,7 @@
 use Rattle.std.proofs.Common.{◌≡◌, ℕ, zero, suc, ◌+◌, ◌<◌, ◌≤◌, List, [], ◌∷◌, ◌++◌, length, take, Option, Some, None, refl, sym, ap, ◌∙◌, append_assoc, append-nil, arith}
 use Rattle.std.specs.Prelude.{slice_get}
 use Rattle.std.proofs.lemmas.List.{take_all}
-use Rattle.link_map.specs.MapText.{numbered}
+use Rattle.link_map.specs.MapText.{numbered_texts}
 
 abbrev value_or : {A : Type 0} → A → Option A → A
 value_or d None = d
@@ -22,7 +22,7 @@ item_there (x ∷ xs) (suc k) less = item_there xs k (omega (arith, less))
 
 -- the text of one more
 numbered-more : {A : Type 0} (text_of : ℕ → A → List ℕ) (number k : ℕ) (xs : List A) (x : A) → slice_get xs k ≡ Some x
-    → numbered text_of number (take k xs) ++ text_of (number + k) x ≡ numbered text_of number (take (k + 1) xs)
+    → numbered_texts text_of number (take k xs) ++ text_of (number + k) x ≡ numbered_texts text_of number (take (k + 1) xs)
 numbered-more text_of number k [] x found = absurd (some_none x (sym found))
 numbered-more text_of number zero (y ∷ xs) x found =
     let at : number + 0 ≡ number = omega arith in
@@ -30,21 +30,21 @@ numbered-more text_of number zero (y ∷ xs) x found =
 numbered-more {A} text_of number (suc k) (y ∷ xs) x found =
     let more : suc k + 1 ≡ suc (k + 1) = omega arith in
     let next : number + suc k ≡ number + 1 + k = omega arith in
-    append_assoc (text_of number y) (numbered text_of (number + 1) (take k xs)) (text_of (number + suc k) x)
-    ∙ ap (λ (n : ℕ). text_of number y ++ (numbered text_of (number + 1) (take k xs) ++ text_of n x)) next
+    append_assoc (text_of number y) (numbered_texts text_of (number + 1) (take k xs)) (text_of (number + suc k) x)
+    ∙ ap (λ (n : ℕ). text_of number y ++ (numbered_texts text_of (number + 1) (take k xs) ++ text_of n x)) next
     ∙ ap (λ (l : List ℕ). text_of number y ++ l) (numbered-more text_of (number + 1) k xs x found)
-    ∙ ap (λ (n : ℕ). numbered text_of number (take n (y ∷ xs))) (sym more)
+    ∙ ap (λ (n : ℕ). numbered_texts text_of number (take n (y ∷ xs))) (sym more)
 
 -- behind a text, those of the first items, so many: of none
-pub told_none : {A : Type 0} (text_of : ℕ → A → List ℕ) (number : ℕ) (xs : List A) (before : List ℕ) → before ≡ before ++ numbered text_of number (take 0 xs)
+pub told_none : {A : Type 0} (text_of : ℕ → A → List ℕ) (number : ℕ) (xs : List A) (before : List ℕ) → before ≡ before ++ numbered_texts text_of number (take 0 xs)
 told_none text_of number [] before = sym (append-nil before)
 told_none text_of number (x ∷ xs) before = sym (append-nil before)
 
 -- of one more
 pub told_more : {A : Type 0} (text_of : ℕ → A → List ℕ) (number k at : ℕ) (xs : List A) (x : A) (before text after : List ℕ) → slice_get xs k ≡ Some x → at ≡ number + k
-    → text ≡ before ++ numbered text_of number (take k xs) → after ≡ text ++ text_of at x → after ≡ before ++ numbered text_of number (take (k + 1) xs)
+    → text ≡ before ++ numbered_texts text_of number (take k xs) → after ≡ text ++ text_of at x → after ≡ before ++ numbered_texts text_of number (take (k + 1) xs)
 told_more text_of number k at xs x before text after found place is more =
-    let so_far = numbered text_of number (take k xs) in
+    let so_far = numbered_texts text_of number (take k xs) in
     more
     ∙ ap (λ (l : List ℕ). l ++ text_of at x) is
     ∙ append_assoc before so_far (text_of at x)
@@ -53,8 +53,8 @@ told_more text_of number k at xs x before text after found place is more =
 
 -- of all
 pub told_all : {A : Type 0} (text_of : ℕ → A → List ℕ) (number k : ℕ) (xs : List A) (before text : List ℕ) → length xs ≤ k
-    → text ≡ before ++ numbered text_of number (take k xs) → text ≡ before ++ numbered text_of number xs
-told_all {A} text_of number k xs before text most is = is ∙ ap (λ (l : List A). before ++ numbered text_of number l) (take_all k xs most)
+    → text ≡ before ++ numbered_texts text_of number (take k xs) → text ≡ before ++ numbered_texts text_of number xs
+told_all {A} text_of number k xs before text most is = is ∙ ap (λ (l : List A). before ++ numbered_texts text_of number l) (take_all k xs most)
 
 -- ---- texts behind a text
 

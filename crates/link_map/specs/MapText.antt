@@ -9,7 +9,7 @@ use Rattle.omf_format.specs.declared.value.ValueFault.{ValueFault}
 use Rattle.omf_format.specs.Field.{shift_byte}
 use Rattle.omf_format.specs.Header.{Fields}
 use Rattle.omf_format.specs.Value.{is_unshifted}
-use Rattle.omf_listing.specs.Listing.{field, labelled, name_text, quoted}
+use Rattle.dump_lines.specs.Listing.{hex_field, labelled_number, name_text, quoted_name}
 use Rattle.load_meaning.specs.declared.table.Target.{Target}
 use Rattle.load_meaning.specs.Table.{entry_place, file_entry, table_bytes}
 use Rattle.load_meaning.specs.WrittenFile.{table_fields}
@@ -18,13 +18,13 @@ use Rattle.link_meaning.specs.Defines.{Scope, ForSegment, ForUnit, ForAll, Defin
 use Rattle.link_meaning.specs.Layout.{load_headers, load_of, offset_of}
 use Rattle.link_meaning.specs.LinkValues.{Told, place_value, value_in}
 use Rattle.link_meaning.specs.LinkedCells.{table_number, targets}
-use Rattle.link_meaning.specs.LinkFaults.{Given}
+use Rattle.link_meaning.specs.LinkFaults.{LinkInput}
 use Rattle.link_meaning.specs.EmitFaults.{IsLinkable}
 
 -- texts one behind another, each that of a thing and its number, of which the first has this one
-abbrev pub numbered : {A : Type 0} → (ℕ → A → List ℕ) → ℕ → List A → List ℕ
-numbered text_of number [] = []
-numbered text_of number (x ∷ xs) = text_of number x ++ numbered text_of (number + 1) xs
+abbrev pub numbered_texts : {A : Type 0} → (ℕ → A → List ℕ) → ℕ → List A → List ℕ
+numbered_texts text_of number [] = []
+numbered_texts text_of number (x ∷ xs) = text_of number x ++ numbered_texts text_of (number + 1) xs
 
 -- ---- what a member defines
 
@@ -36,13 +36,13 @@ scope_text ForAll = codes "public"
 
 -- how far a place is shifted, if it is, as the byte that a patch has for it
 abbrev pub shift_text : ℤ → List ℕ
-shift_text shift = if is_unshifted shift then [] else codes " shift" ++ field 2 (shift_byte shift)
+shift_text shift = if is_unshifted shift then [] else codes " shift" ++ hex_field 2 (shift_byte shift)
 
 -- a number in eight digits; or a place: the number of its load segment, the offset there, and its shift. In files that are linked each
 -- definition has a value.
 abbrev pub value_text : Result Value ValueFault → List ℕ
-value_text (Ok (Fixed n)) = labelled (codes " is ") n
-value_text (Ok (At file segment offset shift)) = codes " at" ++ field 4 segment ++ field 8 offset ++ shift_text shift
+value_text (Ok (Fixed n)) = labelled_number (codes " is ") n
+value_text (Ok (At file segment offset shift)) = codes " at" ++ hex_field 4 segment ++ hex_field 8 offset ++ shift_text shift
 value_text (Err fault) = []
 
 -- a definition: who sees it, its name, and what it stands for
@@ -64,8 +64,8 @@ symbol_line list table place m d = symbol_text (scope_text d.scope) d.name (mean
 -- a member: its file among the inputs and its number there, its offset in the load segment, its LENGTH and its SEGNAME
 unfoldable pub member_line : ℕ → ℕ → ℕ → Fields → List ℕ
 member_line file number offset f =
-    line (codes "member " ++ decimal file ++ codes " " ++ decimal number ++ labelled (codes " at ") offset ++ labelled (codes " length ") f.length
-    ++ codes " name " ++ quoted f.name)
+    line (codes "member " ++ decimal file ++ codes " " ++ decimal number ++ labelled_number (codes " at ") offset ++ labelled_number (codes " length ") f.length
+    ++ codes " name " ++ quoted_name f.name)
 
 -- the member at a place of the list, and what it defines, its SEGNAME first, in record order, which is that of places
 abbrev pub member_text : List Member → List Told → ℕ → Member → List ℕ
@@ -79,8 +79,8 @@ text_in list table number place m = if load_of list m == number then member_text
 -- a load segment: its number, LENGTH, KIND, ALIGN and SEGNAME
 unfoldable pub load_line : ℕ → ℕ → ℕ → ℕ → List ℕ → List ℕ
 load_line number size kind align name =
-    line (codes "load " ++ decimal number ++ labelled (codes " length ") size ++ codes " kind " ++ hexadecimal 4 kind ++ labelled (codes " align ") align
-    ++ codes " name " ++ quoted name)
+    line (codes "load " ++ decimal number ++ labelled_number (codes " length ") size ++ codes " kind " ++ hexadecimal 4 kind ++ labelled_number (codes " align ") align
+    ++ codes " name " ++ quoted_name name)
 
 -- that of a header
 abbrev pub header_line : ℕ → Fields → List ℕ
@@ -88,29 +88,29 @@ header_line number f = load_line number f.length f.kind f.align f.name
 
 -- a load segment and its members, in list order
 abbrev pub load_text : List Member → List Told → ℕ → Fields → List ℕ
-load_text list table number f = header_line number f ++ numbered (text_in list table number) 1 list
+load_text list table number f = header_line number f ++ numbered_texts (text_in list table number) 1 list
 
 -- ---- the jump table
 
 -- an entry: the table's number and the offset of the entry's code there, and the segment and the offset to which it leads
 unfoldable pub entry_line : ℕ → ℕ → Target → List ℕ
 entry_line number k t =
-    line (codes "entry at" ++ field 4 number ++ field 8 (entry_place k) ++ codes " calls" ++ field 4 t.segment ++ field 8 t.offset)
+    line (codes "entry at" ++ hex_field 4 number ++ hex_field 8 (entry_place k) ++ codes " calls" ++ hex_field 4 t.segment ++ hex_field 8 t.offset)
 
 -- the load segment that is the table, and its entries; nothing where there is no entry
 abbrev pub table_text : ℕ → List Target → List ℕ
 table_text number [] = []
 table_text number (t ∷ targets) =
-    header_line number (table_fields number (length (table_bytes (map file_entry (t ∷ targets))))) ++ numbered (entry_line number) 0 (t ∷ targets)
+    header_line number (table_fields number (length (table_bytes (map file_entry (t ∷ targets))))) ++ numbered_texts (entry_line number) 0 (t ∷ targets)
 
 -- ---- the map
 
 -- the load segments in order of number, the table behind the others
 unfoldable pub map_text : List Member → List Told → List ℕ
-map_text list table = numbered (load_text list table) 1 (load_headers list) ++ table_text (table_number list) (targets list table)
+map_text list table = numbered_texts (load_text list table) 1 (load_headers list) ++ table_text (table_number list) (targets list table)
 
 -- the files are linked, and this is the map of their linked list
-pub record IsMapOf (given : Given) (text : List ℕ) : Type 0 where
+pub record IsMapOf (given : LinkInput) (text : List ℕ) : Type 0 where
   pub list : List Member
   pub table : List Told
   pub linkable : IsLinkable given list table

@@ -11,7 +11,7 @@ ghost use Rattle.link_map.specs.Standing.{IsDrawn};
 use crate::members::put_loads;
 use crate::table::put_table;
 use jump_table::Table;
-use link_file::{Values, emit};
+use link_file::{EquateValues, emit};
 use link_meaning::LinkFault;
 use link_program::{Program, memory_fault};
 use link_resolve::resolve;
@@ -19,7 +19,7 @@ use omf_base::{Line, LineFault};
 use std::alloc::Global;
 
 /// The map of a program that calls these places through the jump table.
-fn map_with(alloc: Global, values: &Values, table: &Table) -> Result<Line, LineFault>
+fn map_with(alloc: Global, values: &EquateValues, table: &Table) -> Result<Line, LineFault>
     ensures { IfOk result (λ text. table.now ≡ targets values.now.list values.now.table → text ≡ map_text values.now.list values.now.table) }
 {
     let program = values.program();
@@ -31,7 +31,7 @@ fn map_with(alloc: Global, values: &Values, table: &Table) -> Result<Line, LineF
 }
 
 /// The map of a program with these values. Otherwise the first fault of a record.
-fn map_values(alloc: Global, values: &Values) -> Result<Line, LinkFault>
+fn map_values(alloc: Global, values: &EquateValues) -> Result<Line, LinkFault>
     ensures drawn { IfOk result (λ text. text ≡ map_text values.now.list values.now.table) }
     ensures refused { IfErr result (λ fault. IsEmitRefused values.now.list fault) }
 {
@@ -48,7 +48,7 @@ fn map_program(alloc: Global, program: &Program) -> Result<Line, LinkFault>
     ensures refused { IfErr result (λ fault. IsEmitRefused program.now fault) }
 {
     drop(emit(alloc, program)?);
-    let values = Values::of(alloc, program)?;
+    let values = EquateValues::of(alloc, program)?;
     map_values(alloc, &values)
 }
 

@@ -7,15 +7,15 @@ ghost use Rattle.link_meaning.specs.Member.{Member};
 ghost use Rattle.link_meaning.specs.Layout.{load_headers};
 ghost use Rattle.link_program.specs.Linked.{member_at};
 ghost use Rattle.link_program.specs.Programs.{header_at};
-ghost use Rattle.link_map.specs.MapText.{numbered, member_line, text_in, load_line, load_text};
+ghost use Rattle.link_map.specs.MapText.{numbered_texts, member_line, text_in, load_line, load_text};
 ghost use Rattle.link_map.specs.Standing.{HasMember, HasLoad};
 
 use crate::symbols::put_symbols;
-use link_file::Values;
+use dump_lines::{put_labelled, put_quoted};
+use link_file::EquateValues;
 use link_program::LinkMember;
 use omf_base::{Line, LineFault};
 use omf_header::Header;
-use omf_listing::{put_labelled, put_quoted};
 
 /// Appends the line of a member: its file and its segment there, its offset in its load segment, its LENGTH and its SEGNAME.
 #[tactic(auto, unfolding(crate::specs::MapText::member_line))]
@@ -34,7 +34,12 @@ fn put_member_line(line: &mut Line, member: LinkMember, header: &Header) -> Resu
 }
 
 /// Appends the lines of the member at a place, from 1, and of what it defines, where it is one of this load segment.
-fn put_member(line: &mut Line, values: &Values, number: u32, place: u32) -> Result<(), LineFault>
+fn put_member(
+    line: &mut Line,
+    values: &EquateValues,
+    number: u32,
+    place: u32,
+) -> Result<(), LineFault>
     requires { HasMember values.now.list place }
     ensures { OnOk result ((m : Member) → member_at values.now.list place ≡ Some m
         → line.new ≡ line.old ++ text_in values.now.list values.now.table number place m) }
@@ -56,8 +61,8 @@ fn put_member(line: &mut Line, values: &Values, number: u32, place: u32) -> Resu
 }
 
 /// Appends the lines of all members of a load segment.
-fn put_members(line: &mut Line, values: &Values, number: u32) -> Result<(), LineFault>
-    ensures { OnOk result (line.new ≡ line.old ++ numbered (text_in values.now.list values.now.table number) 1 values.now.list) }
+fn put_members(line: &mut Line, values: &EquateValues, number: u32) -> Result<(), LineFault>
+    ensures { OnOk result (line.new ≡ line.old ++ numbered_texts (text_in values.now.list values.now.table number) 1 values.now.list) }
 {
     let program = values.program();
     let mut place = 0;
@@ -92,7 +97,7 @@ pub fn put_load_line(
 }
 
 /// Appends the lines of the load segment with a number and of its members.
-fn put_load(line: &mut Line, values: &Values, number: u32) -> Result<(), LineFault>
+fn put_load(line: &mut Line, values: &EquateValues, number: u32) -> Result<(), LineFault>
     requires { HasLoad values.now.list number }
     ensures { OnOk result ((f : Fields) → header_at (load_headers values.now.list) number ≡ Some f
         → line.new ≡ line.old ++ load_text values.now.list values.now.table number f) }
@@ -114,8 +119,8 @@ fn put_load(line: &mut Line, values: &Values, number: u32) -> Result<(), LineFau
 }
 
 /// Appends the lines of all load segments, each with its members.
-pub fn put_loads(line: &mut Line, values: &Values) -> Result<(), LineFault>
-    ensures { OnOk result (line.new ≡ line.old ++ numbered (load_text values.now.list values.now.table) 1 (load_headers values.now.list)) }
+pub fn put_loads(line: &mut Line, values: &EquateValues) -> Result<(), LineFault>
+    ensures { OnOk result (line.new ≡ line.old ++ numbered_texts (load_text values.now.list values.now.table) 1 (load_headers values.now.list)) }
 {
     let program = values.program();
     let mut number = 0;

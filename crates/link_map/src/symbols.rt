@@ -1,7 +1,7 @@
 //! The lines of what a member defines.
 
 ghost use Rattle.std.specs.Prelude.{◌≡◌, ◌++◌, ℕ, Some, Ok, OnOk, flat_map};
-ghost use Rattle.omf_records.specs.Segments.{IsSound, shown};
+ghost use Rattle.omf_records.specs.Segments.{IsSound, segment_of_view};
 ghost use Rattle.omf_records.specs.View.{view};
 ghost use Rattle.link_meaning.specs.Member.{Member};
 ghost use Rattle.link_meaning.specs.Defines.{scope_of, outer_scope, title_of, defined_by, defined_in};
@@ -10,11 +10,11 @@ ghost use Rattle.link_file.specs.Valued.{HasPlace};
 ghost use Rattle.link_map.specs.MapText.{scope_text, shift_text, value_text, symbol_text, symbol_line};
 ghost use Rattle.link_map.specs.Standing.{HasSegment, HasRecord};
 
-use link_file::Values;
+use dump_lines::{put_field, put_labelled, put_name};
+use link_file::EquateValues;
 use link_program::{next_record, size_at};
 use omf_base::{Line, LineFault};
 use omf_format::{Value, ValueFault};
-use omf_listing::{put_field, put_labelled, put_name};
 use omf_records::{Rec, SegmentView};
 
 /// Who sees a label or an equate.
@@ -94,13 +94,13 @@ fn put_symbol(
 /// Appends the line of the name of a member's segment, where it has one.
 fn put_title(
     line: &mut Line,
-    values: &Values,
+    values: &EquateValues,
     place: u32,
     segment: &SegmentView,
 ) -> Result<(), LineFault>
     requires { HasPlace values.now.list place 0 }
     ensures { OnOk result ((m : Member) → member_at values.now.list place ≡ Some m
-        → line.new ≡ line.old ++ flat_map (symbol_line values.now.list values.now.table place m) (title_of (shown segment.now))) }
+        → line.new ≡ line.old ++ flat_map (symbol_line values.now.list values.now.table place m) (title_of (segment_of_view segment.now))) }
 {
     let name = segment.header.name.bytes();
     if name.is_empty() {
@@ -113,7 +113,7 @@ fn put_title(
 /// Appends the line of what a record of a member defines, if it defines something. So many of the member's cells are before it.
 fn put_defined(
     line: &mut Line,
-    values: &Values,
+    values: &EquateValues,
     place: u32,
     location: u32,
     rec: &Rec,
@@ -163,14 +163,14 @@ fn put_defined(
 /// Appends the lines of all that the member at a place, from 1, defines, its SEGNAME first.
 pub fn put_symbols(
     line: &mut Line,
-    values: &Values,
+    values: &EquateValues,
     place: u32,
     segment: &SegmentView,
 ) -> Result<(), LineFault>
     requires sound { IsSound segment.now }
-    requires there { HasSegment values.now.list place (shown segment.now) }
+    requires there { HasSegment values.now.list place (segment_of_view segment.now) }
     ensures { OnOk result ((m : Member) → member_at values.now.list place ≡ Some m
-        → line.new ≡ line.old ++ flat_map (symbol_line values.now.list values.now.table place m) (defined_in (shown segment.now))) }
+        → line.new ≡ line.old ++ flat_map (symbol_line values.now.list values.now.table place m) (defined_in (segment_of_view segment.now))) }
 {
     let program = values.program();
     program.know_files();

@@ -2,12 +2,12 @@
 
 ghost use Rattle.std.specs.Prelude.{◌≡◌, ◌++◌, ◌<◌, map, OnOk};
 ghost use Rattle.load_meaning.specs.Table.{most_entries, file_entry, IsTableOf};
-ghost use Rattle.link_map.specs.MapText.{numbered, entry_line, table_text};
+ghost use Rattle.link_map.specs.MapText.{numbered_texts, entry_line, table_text};
 
 use crate::members::put_load_line;
+use dump_lines::put_field;
 use jump_table::{Table, Target, target_at};
 use omf_base::{Line, LineFault};
-use omf_listing::put_field;
 use std::alloc::Global;
 
 /// Appends the line of an entry: the table's number and the offset of the entry's code there, and where it leads.
@@ -28,7 +28,7 @@ fn put_entry(line: &mut Line, number: u32, place: u32, target: Target) -> Result
 /// Appends the lines of all entries of a table, whose bytes these are.
 fn put_entries(line: &mut Line, number: u32, table: &Table, bytes: &[u8]) -> Result<(), LineFault>
     requires { IsTableOf (map file_entry table.now) bytes.now }
-    ensures { OnOk result (line.new ≡ line.old ++ numbered (entry_line number) 0 table.now) }
+    ensures { OnOk result (line.new ≡ line.old ++ numbered_texts (entry_line number) 0 table.now) }
 {
     let mut place = 0;
     'entries: while place < table.count() {

@@ -7,17 +7,17 @@ use Rattle.link_meaning.specs.declared.fault.LinkCause.TheVariants.{Circular, Fi
 use Rattle.link_meaning.specs.declared.fault.LinkFault.{LinkFault}
 use Rattle.link_meaning.specs.First.{IsFirst, HasNone}
 use Rattle.link_meaning.specs.Member.{Member}
-use Rattle.link_meaning.specs.Search.{Found}
+use Rattle.link_meaning.specs.Search.{FoundDefinition}
 use Rattle.link_meaning.specs.Rings.{equates, IsCircular}
 use Rattle.link_meaning.specs.LinkValues.{Told, IsTable}
 use Rattle.link_meaning.specs.LinkedCells.{Item, items, state_behind, made}
 use Rattle.link_meaning.specs.LinkWritten.{AreMade, start, images, written_file, linked_cells, HaveCells}
-use Rattle.link_meaning.specs.LinkFaults.{Given, HasBytes, nowhere, spot_in, IsFirstResolveFault, IsResolved}
+use Rattle.link_meaning.specs.LinkFaults.{LinkInput, HasBytes, no_spot, spot_in, IsFirstResolveFault, IsResolved}
 
 -- ---- rings
 
 -- the equate leads back to itself
-pub record HasRingFault (list : List Member) (before : List Found) (e : Found) (fault : LinkFault) : Type 0 where
+pub record HasRingFault (list : List Member) (before : List FoundDefinition) (e : FoundDefinition) (fault : LinkFault) : Type 0 where
   pub ring : IsCircular list e
   pub told : fault ≡ record { cause = Circular; name = Some e.definition.name; spot = spot_in e.member e.definition.at }
 
@@ -38,7 +38,7 @@ most_bytes = 0x1000000
 -- the load file would have more
 pub record HasSizeFault (list : List Member) (table : List Told) (fault : LinkFault) : Type 0 where
   pub long : most_bytes < length (written_file list table)
-  pub told : fault ≡ record { cause = FileTooLong; name = None; spot = nowhere }
+  pub told : fault ≡ record { cause = FileTooLong; name = None; spot = no_spot }
 
 -- ---- the phases
 
@@ -70,17 +70,17 @@ pub record IsEmitted (list : List Member) (table : List Told) : Type 0 where
 -- ---- all phases
 
 -- the first fault of all phases: of those in which the files are resolved, and where these find none, of those behind them
-pub data IsFirstLinkFault (given : Given) (fault : LinkFault) : Type 0 where
+pub data IsFirstLinkFault (given : LinkInput) (fault : LinkFault) : Type 0 where
   OfResolving : IsFirstResolveFault given fault → IsFirstLinkFault given fault
   OfEmitting : (list : List Member) → IsResolved given list → IsFirstEmitFault list fault → IsFirstLinkFault given fault
 
 -- no phase finds a fault in the files, which have this linked list, whose equates have these values
-pub record IsLinkable (given : Given) (list : List Member) (table : List Told) : Type 0 where
+pub record IsLinkable (given : LinkInput) (list : List Member) (table : List Told) : Type 0 where
   pub resolved : IsResolved given list
   pub emitted : IsEmitted list table
 
 -- the load file of the files
-pub record IsLinkedTo (given : Given) (output : List ℕ) : Type 0 where
+pub record IsLinkedTo (given : LinkInput) (output : List ℕ) : Type 0 where
   pub list : List Member
   pub table : List Told
   pub linkable : IsLinkable given list table
@@ -94,7 +94,7 @@ IsEmitAnswer list (Ok output) = (table : List Told) × IsEmitted list table × (
 IsEmitAnswer list (Err fault) = IsFirstEmitFault list fault
 
 -- of files
-abbrev pub IsLinkAnswer : Given → Result (List ℕ) LinkFault → Type 0
+abbrev pub IsLinkAnswer : LinkInput → Result (List ℕ) LinkFault → Type 0
 IsLinkAnswer given (Ok output) = IsLinkedTo given output
 IsLinkAnswer given (Err fault) = IsFirstLinkFault given fault
 
@@ -102,7 +102,7 @@ IsLinkAnswer given (Err fault) = IsFirstLinkFault given fault
 
 -- Files have one answer at most: one load file, or one first fault, and not both.
 abbrev pub OneLinkAnswer : Type 0
-OneLinkAnswer = (given : Given) (a b : Result (List ℕ) LinkFault) → IsLinkAnswer given a → IsLinkAnswer given b → a ≡ b
+OneLinkAnswer = (given : LinkInput) (a b : Result (List ℕ) LinkFault) → IsLinkAnswer given a → IsLinkAnswer given b → a ≡ b
 
 -- And so has a linked list, for the phases behind layout.
 abbrev pub OneEmitAnswer : Type 0
@@ -110,7 +110,7 @@ OneEmitAnswer = (list : List Member) (a b : Result (List ℕ) LinkFault) → IsE
 
 -- What the linker answers of resolved files is what it answers of their linked list.
 abbrev pub LinkAnswersAsEmit : Type 0
-LinkAnswersAsEmit = (given : Given) (list : List Member) (a : Result (List ℕ) LinkFault) → IsResolved given list → IsEmitAnswer list a → IsLinkAnswer given a
+LinkAnswersAsEmit = (given : LinkInput) (list : List Member) (a : Result (List ℕ) LinkFault) → IsResolved given list → IsEmitAnswer list a → IsLinkAnswer given a
 
 -- No record has a fault exactly where each gives its cells.
 abbrev pub MadeWhereSound : Type 0
@@ -119,6 +119,6 @@ MadeWhereSound = (list : List Member) (table : List Told) → HasNone (HasValueF
 -- The load file of files without a fault is a file of the load segments and the table, and each of them stands for its linked
 -- cells.
 abbrev pub LinkableStandsFor : Type 0
-LinkableStandsFor = (given : Given) (list : List Member) (table : List Told) → HasBytes given → IsLinkable given list table
+LinkableStandsFor = (given : LinkInput) (list : List Member) (table : List Told) → HasBytes given → IsLinkable given list table
     → (segments : List Segment) × IsFile segments (written_file list table) × AreReadAs (images list table) segments
     × HaveCells (linked_cells list table) segments

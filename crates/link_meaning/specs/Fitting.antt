@@ -15,18 +15,18 @@ use Rattle.omf_format.specs.File.{segment_at}
 use Rattle.std.specs.Option.{option_map_or}
 use Rattle.link_meaning.specs.declared.form.LinkForm.TheVariants.{Program, Runtime as LibraryForm}
 use Rattle.link_meaning.specs.declared.form.LinkForm.{LinkForm}
-use Rattle.link_meaning.specs.Member.{Setting}
+use Rattle.link_meaning.specs.Member.{LinkSetting}
 use Rattle.link_meaning.specs.declared.fault.LinkCause.{LinkCause}
 use Rattle.link_meaning.specs.declared.fault.LinkCause.TheVariants.{DivideByZero, NotRelocatable, DynamicReference, OutOfSegment, TooManyEntries, DoesNotFit}
 
 -- ---- the table of what fits
 
 -- where an expression record stands: its load segment's number and BANKSIZE, and its place in the load segment
-pub record Frame : Type 0 where
+pub record PatchPlace : Type 0 where
   pub own : ℕ
   pub bank_size : ℕ
   pub place : ℕ
-  pub setting : Setting
+  pub setting : LinkSetting
 
 -- what a value becomes: the low bytes of a number, the bytes of a place, or those of the table's entry for a target
 pub data Fit : Type 0 where
@@ -49,7 +49,7 @@ distance_fit count to from =
     then Some (Number ((to + 256 ^ count - from) % 256 ^ count))
     else None
 
-abbrev pub place_fit : Frame → ℕ → ℕ → ℕ → ℕ → ℕ → ℤ → Option Fit
+abbrev pub place_fit : PatchPlace → ℕ → ℕ → ℕ → ℕ → ℕ → ℤ → Option Fit
 place_fit f code count n segment offset shift =
     let near = segment == f.own && is_unshifted shift in
     if code == 0xEB || code == 0xF3 then Some (Place segment offset shift)
@@ -87,12 +87,12 @@ abbrev pub target_of : ℕ → ℕ → ℕ → Target
 target_of file segment offset = record { file = file; segment = segment; offset = offset }
 
 -- LENGTH of a segment of a run-time library file, of which the first has the number 2
-abbrev pub length_outside : Setting → ℕ → ℕ → ℕ
+abbrev pub length_outside : LinkSetting → ℕ → ℕ → ℕ
 length_outside setting file segment =
     option_map_or (λ s. s.fields.length) (option_and_then (λ r. segment_at r.segments segment) (slice_get setting.runtimes (file - 2))) 0
 
 -- LENGTH of the segment of a target, in the file itself or in a run-time library file
-abbrev pub length_there : List Fields → Setting → Target → ℕ
+abbrev pub length_there : List Fields → LinkSetting → Target → ℕ
 length_there headers setting t = if t.file == 1 then length_of headers t.segment else length_outside setting t.file t.segment
 
 -- only a program calls through a table
@@ -113,16 +113,16 @@ abbrev pub is_far : List Fields → ℕ → ℕ → ℕ → Bool
 is_far headers own file segment = not (file == 1) || (not (segment == own) && is_dynamic_load headers segment)
 
 -- such a place is reached by a call alone, through the table
-abbrev pub call_fit : List Fields → Setting → List Target → Bool → Target → Result Fit LinkCause
+abbrev pub call_fit : List Fields → LinkSetting → List Target → Bool → Target → Result Fit LinkCause
 call_fit headers setting targets call target =
     if not (may_call setting.form && call) then Err DynamicReference
     else if nat_le (length_there headers setting target) target.offset then Err OutOfSegment
     else if not (has_room_for targets target) then Err TooManyEntries
     else Ok (Entry target)
 
-abbrev pub fitted : List Fields → Frame → List Target → List Cell → ℕ → ℕ → ℕ → Value → Result Fit LinkCause
-fitted headers f targets before code count n (Fixed k) = or_does_not_fit (number_fit code count k)
-fitted headers f targets before code count n (At file segment offset shift) =
+abbrev pub fit_value : List Fields → PatchPlace → List Target → List Cell → ℕ → ℕ → ℕ → Value → Result Fit LinkCause
+fit_value headers f targets before code count n (Fixed k) = or_does_not_fit (number_fit code count k)
+fit_value headers f targets before code count n (At file segment offset shift) =
     if is_far headers f.own file segment
     then call_fit headers f.setting targets (is_call code count shift before) (target_of file segment offset)
     else or_does_not_fit (place_fit f code count n segment offset shift)
@@ -154,6 +154,6 @@ value_cause faults.DivideByZero = DivideByZero
 value_cause faults.NotRelocatable = NotRelocatable
 value_cause (faults.Unknown at) = NotRelocatable
 
-abbrev pub valued : Result Value ValueFault → Result Value LinkCause
-valued (Ok v) = Ok v
-valued (Err fault) = Err (value_cause fault)
+abbrev pub value_or_cause : Result Value ValueFault → Result Value LinkCause
+value_or_cause (Ok v) = Ok v
+value_or_cause (Err fault) = Err (value_cause fault)

@@ -17,7 +17,7 @@ use Rattle.link_meaning.specs.declared.fault.LinkCause.TheVariants.{Truncated, B
 use Rattle.link_meaning.specs.declared.fault.LinkFault.{LinkFault}
 use Rattle.link_meaning.specs.First.{IsFirst, HasNone, first_some}
 use Rattle.link_meaning.specs.Sizes.{body_size}
-use Rattle.link_meaning.specs.Member.{Row, Input, RuntimeFile, Setting, Member, is_library, objects, form_in}
+use Rattle.link_meaning.specs.Member.{Row, Input, RuntimeFile, LinkSetting, Member, is_library, objects, form_in}
 use Rattle.link_meaning.specs.declared.form.LinkForm.{LinkForm}
 use Rattle.link_meaning.specs.declared.form.LinkForm.TheVariants.{Program, Runtime as LibraryForm}
 use Rattle.load_meaning.specs.declared.load.LoadCause.{LoadCause}
@@ -27,12 +27,12 @@ use Rattle.load_meaning.specs.Runtime.{IsRuntime, IsFirstRuntimeFault}
 use Rattle.link_meaning.specs.Dictionary.{rows_of}
 use Rattle.link_meaning.specs.declared.search.Want.{Want}
 use Rattle.link_meaning.specs.declared.search.Want.TheVariants.{Data, One, Any}
-use Rattle.link_meaning.specs.Search.{Found}
-use Rattle.link_meaning.specs.LinkedList.{Asked, asked, found_for, IsLinked}
+use Rattle.link_meaning.specs.Search.{FoundDefinition}
+use Rattle.link_meaning.specs.LinkedList.{PlacedUse, all_uses, found_for, IsLinked}
 use Rattle.link_meaning.specs.Layout.{in_load, load_names, load_members, load_headers}
 
-abbrev pub nowhere : Spot
-nowhere = record { file = 0; segment = 0; at = 0 }
+abbrev pub no_spot : Spot
+no_spot = record { file = 0; segment = 0; at = 0 }
 
 -- a displacement in the member's file
 abbrev pub spot_in : Member → ℕ → Spot
@@ -143,7 +143,7 @@ AreRuntimes (file ∷ files) (r ∷ runtimes) = (r.path ≡ file.0) × IsRuntime
 -- ---- what is given
 
 -- what the linker is given: the inputs, the run-time library files by path and bytes, and what it is to link
-pub record Given : Type 0 where
+pub record LinkInput : Type 0 where
   pub inputs : List (List ℕ)
   pub runtimes : List (List ℕ × List ℕ)
   pub form : LinkForm
@@ -154,12 +154,12 @@ MayHave Program runtimes = length runtimes ≤ most_paths
 MayHave LibraryForm runtimes = runtimes ≡ []
 
 -- all files are bytes, and the run-time library files have paths and are no more than may be
-abbrev pub HasBytes : Given → Type 0
+abbrev pub HasBytes : LinkInput → Type 0
 HasBytes given = AllByRecursion IsBytes given.inputs × AllByRecursion (λ file. IsBytes file.1) given.runtimes
     × AllByRecursion (λ file. IsPath file.0) given.runtimes × MayHave given.form given.runtimes
 
 -- inputs that are linked to a program without run-time library files
-abbrev pub plain : List (List ℕ) → Given
+abbrev pub plain : List (List ℕ) → LinkInput
 plain files = record { inputs = files; runtimes = []; form = Program }
 
 -- the files in the order in which they are read, and numbered
@@ -168,7 +168,7 @@ pub data Part : Type 0 where
   OfRuntime : (bytes : List ℕ) → Part
 
 -- first the inputs, and then the run-time library files
-abbrev pub parts_of : Given → List Part
+abbrev pub parts_of : LinkInput → List Part
 parts_of given = map OfInput given.inputs ++ map (λ file. OfRuntime file.1) given.runtimes
 
 -- the first fault of a file, which is numbered by those before it
@@ -177,13 +177,13 @@ HasPartFault before (OfInput bytes) fault = HasFileFault (length before + 1) byt
 HasPartFault before (OfRuntime bytes) fault = HasRuntimeFault (length before + 1) bytes fault
 
 -- what the inputs are linked to, and with what
-pub record IsSetting (given : Given) (setting : Setting) : Type 0 where
+pub record IsSetting (given : LinkInput) (setting : LinkSetting) : Type 0 where
   pub form' : setting.form ≡ given.form
   pub runtimes' : AreRuntimes given.runtimes setting.runtimes
 
 -- the linked list of what is given
-pub record IsProgram (given : Given) (list : List Member) : Type 0 where
-  pub setting : Setting
+pub record IsProgram (given : LinkInput) (list : List Member) : Type 0 where
+  pub setting : LinkSetting
   pub is_setting : IsSetting given setting
   pub inputs : List Input
   pub are_inputs : AreInputs given.inputs inputs
@@ -192,7 +192,7 @@ pub record IsProgram (given : Given) (list : List Member) : Type 0 where
 -- ---- names
 
 -- a weak name may have none, every other use has exactly one
-abbrev pub use_cause : Want → List Found → Option LinkCause
+abbrev pub use_cause : Want → List FoundDefinition → Option LinkCause
 use_cause Data [] = Some Unresolved
 use_cause One [] = Some Unresolved
 use_cause Data (f ∷ g ∷ more) = Some Duplicate
@@ -200,7 +200,7 @@ use_cause One (f ∷ g ∷ more) = Some Duplicate
 use_cause Any (f ∷ g ∷ more) = Some Duplicate
 use_cause _ _ = None
 
-pub record HasUseFault (list : List Member) (before : List Asked) (a : Asked) (fault : LinkFault) : Type 0 where
+pub record HasUseFault (list : List Member) (before : List PlacedUse) (a : PlacedUse) (fault : LinkFault) : Type 0 where
   pub cause : use_cause a.use'.want (found_for list a.place a.member a.use') ≡ Some fault.cause
   pub name : fault.name ≡ Some a.use'.name
   pub spot : fault.spot ≡ spot_in a.member a.use'.at
@@ -214,7 +214,7 @@ pub record HasOrgFault (before : List Member) (m : Member) (fault : LinkFault) :
   pub told : fault ≡ record { cause = OrgConflict; name = None; spot = spot_in m m.segment.start }
 
 abbrev pub first_spot : List Member → Spot
-first_spot [] = nowhere
+first_spot [] = no_spot
 first_spot (m ∷ members) = spot_in m m.segment.start
 
 -- there is a 255th load segment
@@ -265,20 +265,20 @@ phases = Reading ∷ Objects ∷ Names ∷ Layout ∷ []
 
 -- what a phase finds in what is given: the first file at fault; no object segment; the first use, in list and record order, that
 -- doesn't resolve; the first check of the load segments that fails
-abbrev pub HasPhaseFault : Given → List Phase → Phase → LinkFault → Type 0
+abbrev pub HasPhaseFault : LinkInput → List Phase → Phase → LinkFault → Type 0
 HasPhaseFault given before Reading fault = IsFirst HasPartFault (parts_of given) fault
 HasPhaseFault given before Objects fault =
-    (setting : Setting) × (inputs : List Input) × IsSetting given setting × AreInputs given.inputs inputs × (objects setting inputs ≡ [])
-    × (fault ≡ record { cause = Empty; name = None; spot = nowhere })
-HasPhaseFault given before Names fault = (list : List Member) × IsProgram given list × IsFirst (HasUseFault list) (asked list) fault
+    (setting : LinkSetting) × (inputs : List Input) × IsSetting given setting × AreInputs given.inputs inputs × (objects setting inputs ≡ [])
+    × (fault ≡ record { cause = Empty; name = None; spot = no_spot })
+HasPhaseFault given before Names fault = (list : List Member) × IsProgram given list × IsFirst (HasUseFault list) (all_uses list) fault
 HasPhaseFault given before Layout fault =
     (list : List Member) × IsProgram given list × IsFirst (HasLayoutFault list) (Orgs ∷ Count ∷ Lengths ∷ Kinds ∷ []) fault
 
 -- the first fault of these phases
-abbrev pub IsFirstResolveFault : Given → LinkFault → Type 0
+abbrev pub IsFirstResolveFault : LinkInput → LinkFault → Type 0
 IsFirstResolveFault given fault = IsFirst (HasPhaseFault given) phases fault
 
 -- the files have this linked list, and none of these phases finds a fault
-pub record IsResolved (given : Given) (list : List Member) : Type 0 where
+pub record IsResolved (given : LinkInput) (list : List Member) : Type 0 where
   pub program : IsProgram given list
   pub sound : HasNone (HasPhaseFault given) phases

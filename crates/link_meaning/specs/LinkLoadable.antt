@@ -11,7 +11,7 @@ use Rattle.load_meaning.specs.Table.{file_entry, table_bytes}
 use Rattle.load_meaning.specs.Loadable.{IsLoadable, IsFirstLoadFault}
 use Rattle.load_meaning.specs.WrittenFile.{table_fields, pathnames_fields}
 use Rattle.load_meaning.specs.Pathnames.{paths_text, pathnames_of}
-use Rattle.link_meaning.specs.LinkFaults.{Given, HasBytes}
+use Rattle.link_meaning.specs.LinkFaults.{LinkInput, HasBytes}
 use Rattle.link_meaning.specs.Member.{Member, setting_in, form_in, RuntimeFile}
 use Rattle.link_meaning.specs.declared.form.LinkForm.TheVariants.{Program, Runtime as LibraryForm}
 use Rattle.load_meaning.specs.Runtime.{IsRuntime}
@@ -104,37 +104,37 @@ pub record NamesNoSkipped (list : List Member) (table : List Told) : Type 0 wher
 
 -- What the linker writes for files stands for the linked cells, and has the headers of the layout.
 abbrev pub StandsForLinkedCells : Type 0
-StandsForLinkedCells = (given : Given) (output : List ℕ) → HasBytes given → (is : IsLinkedTo given output)
+StandsForLinkedCells = (given : LinkInput) (output : List ℕ) → HasBytes given → (is : IsLinkedTo given output)
     → (segments : List Segment) × IsFile segments output × StandFor is.list is.table segments
 
 -- Only calls reach another dynamic load segment: what the cells of a load segment name is the load segment itself, a static
 -- one, or the table, and the table's entries lead into dynamic ones.
 abbrev pub OnlyCallsReachDynamic : Type 0
-OnlyCallsReachDynamic = (given : Given) (list : List Member) (table : List Told) → HasBytes given → IsLinkable given list table
+OnlyCallsReachDynamic = (given : LinkInput) (list : List Member) (table : List Told) → HasBytes given → IsLinkable given list table
     → ((k : ℕ) (load_name : List ℕ) → slice_get (load_names list) k ≡ Some load_name
     → AllByRecursion (λ c. Names (Reaches list (targets list table) (k + 1)) c) (linked list table load_name))
     × AllByRecursion (IsCalled list) (targets list table)
 
 -- It is a load file where no part and no entry names a skipped load segment.
 abbrev pub IsLoadedWhereNoneSkipped : Type 0
-IsLoadedWhereNoneSkipped = (given : Given) (output : List ℕ) → HasBytes given → (is : IsLinkedTo given output) → NamesNoSkipped is.list is.table
+IsLoadedWhereNoneSkipped = (given : LinkInput) (output : List ℕ) → HasBytes given → (is : IsLinkedTo given output) → NamesNoSkipped is.list is.table
     → (segments : List Segment) × IsLoadable output segments × StandFor is.list is.table segments
 
 -- In the form Runtime it is a run-time library file.
 abbrev pub IsRuntimeOfForm : Type 0
-IsRuntimeOfForm = (given : Given) (output : List ℕ) → HasBytes given → (is : IsLinkedTo given output) → given.form ≡ LibraryForm
+IsRuntimeOfForm = (given : LinkInput) (output : List ℕ) → HasBytes given → (is : IsLinkedTo given output) → given.form ≡ LibraryForm
     → (segments : List Segment) × IsRuntime output segments × StandFor is.list is.table segments
 
 -- Without run-time library files it has no pathname segment.
 abbrev pub HasNoPathnames : Type 0
-HasNoPathnames = (given : Given) (output : List ℕ) → HasBytes given → (is : IsLinkedTo given output) → given.runtimes ≡ [] → (segments : List Segment)
+HasNoPathnames = (given : LinkInput) (output : List ℕ) → HasBytes given → (is : IsLinkedTo given output) → given.runtimes ≡ [] → (segments : List Segment)
     → StandFor is.list is.table segments → pathnames_of segments ≡ None
 
 -- So it has no fault at load then.
 abbrev pub HasNoLoadFault : Type 0
-HasNoLoadFault = (given : Given) (output : List ℕ) → HasBytes given → (is : IsLinkedTo given output) → NamesNoSkipped is.list is.table
+HasNoLoadFault = (given : LinkInput) (output : List ℕ) → HasBytes given → (is : IsLinkedTo given output) → NamesNoSkipped is.list is.table
     → (fault : LoadFault) → IsFirstLoadFault output fault → ⊥
 
 -- It is no longer than the longest file that is read.
 abbrev pub IsReadWhole : Type 0
-IsReadWhole = (given : Given) (output : List ℕ) → IsLinkedTo given output → length output ≤ most_bytes
+IsReadWhole = (given : LinkInput) (output : List ℕ) → IsLinkedTo given output → length output ≤ most_bytes

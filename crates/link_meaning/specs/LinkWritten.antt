@@ -16,15 +16,15 @@ use Rattle.omf_format.specs.declared.value.Value.TheVariants.{Fixed, At}
 use Rattle.omf_format.specs.declared.value.ValueFault.{ValueFault}
 use Rattle.load_meaning.specs.Pathnames.{paths_text}
 use Rattle.link_meaning.specs.Fitting.{length_of}
-use Rattle.link_meaning.specs.Search.{Found, entries}
+use Rattle.link_meaning.specs.Search.{FoundDefinition, entries}
 use Rattle.link_meaning.specs.Defines.{ForSegment, ForUnit, ForAll}
 use Rattle.link_meaning.specs.declared.form.LinkForm.TheVariants.{Program, Runtime as LibraryForm}
 use Rattle.link_meaning.specs.declared.form.LinkForm.{LinkForm}
 use Rattle.link_meaning.specs.Member.{Member, RuntimeFile, setting_in, form_in}
 use Rattle.link_meaning.specs.Layout.{load_names, load_fields, load_headers}
 use Rattle.link_meaning.specs.LinkValues.{Told, IsTable, found_value}
-use Rattle.link_meaning.specs.LinkedCells.{Item, State, Made, table_number, items, made, gained, targets, linked}
-use Rattle.link_meaning.specs.LinkFaults.{Given, HasBytes, IsResolved}
+use Rattle.link_meaning.specs.LinkedCells.{Item, LinkState, Made, table_number, items, made, state_after_item, targets, linked}
+use Rattle.link_meaning.specs.LinkFaults.{LinkInput, HasBytes, IsResolved}
 
 -- ---- patches
 
@@ -72,7 +72,7 @@ export_at headers name (Ok (At file segment offset shift)) =
 export_at headers name (Err fault) = []
 
 -- only what all see is exported
-abbrev pub export_of : List Member → List Told → Found → List Record
+abbrev pub export_of : List Member → List Told → FoundDefinition → List Record
 export_of list table f = elim f.definition.scope [
   | ForSegment ↦ []
   | ForUnit ↦ []
@@ -138,17 +138,17 @@ HaveCells (cs ∷ all) [] = ⊥
 HaveCells (cs ∷ all) (s ∷ segments) = (cells s ≡ cs) × HaveCells all segments
 
 -- each of these records, from this state on, gives cells: no value has a fault, and each fits
-abbrev pub AreMade : List Member → List Told → State → List Item → Type 0
+abbrev pub AreMade : List Member → List Told → LinkState → List Item → Type 0
 AreMade list table state [] = Unit {0}
 AreMade list table state (i ∷ is) =
-    (x : Made) × (made list table state i ≡ Ok x) × AreMade list table (gained state i (made list table state i)) is
+    (x : Made) × (made list table state i ≡ Ok x) × AreMade list table (state_after_item state i (made list table state i)) is
 
-abbrev pub start : State
+abbrev pub start : LinkState
 start = record { targets = []; place = 0; cells = [] }
 
 -- The file that the linker writes is a file of the load segments and the table, and each of them stands for its cells.
 abbrev pub LinkedStandsFor : Type 0
-LinkedStandsFor = (given : Given) (list : List Member) (table : List Told) → HasBytes given → IsResolved given list
+LinkedStandsFor = (given : LinkInput) (list : List Member) (table : List Told) → HasBytes given → IsResolved given list
     → IsTable list table → AreMade list table start (items list) → length (written_file list table) ≤ 0x1000000
     → (segments : List Segment) × IsFile segments (written_file list table) × AreReadAs (images list table) segments
     × HaveCells (linked_cells list table) segments

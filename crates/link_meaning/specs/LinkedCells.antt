@@ -5,13 +5,13 @@ use Rattle.omf_format.specs.Record.{Record, Const, LongConst, Align, Org, Space,
 use Rattle.omf_format.specs.Header.{Fields}
 use Rattle.load_meaning.specs.Cells.{Cell, Byte}
 use Rattle.link_meaning.specs.declared.fault.LinkCause.{LinkCause}
-use Rattle.link_meaning.specs.Sizes.{Located, located}
+use Rattle.link_meaning.specs.Sizes.{Located, records_with_offsets}
 use Rattle.omf_format.specs.Number.{padding}
 use Rattle.link_meaning.specs.Member.{Member, setting_in}
 use Rattle.link_meaning.specs.Layout.{in_load, load_names, load_headers, load_of, offset_of}
 use Rattle.link_meaning.specs.LinkValues.{Told, value_in}
 use Rattle.load_meaning.specs.declared.table.Target.{Target}
-use Rattle.link_meaning.specs.Fitting.{Frame, load_header, fitted, fit_cells, targets_behind, valued}
+use Rattle.link_meaning.specs.Fitting.{PatchPlace, load_header, fit_value, fit_cells, targets_behind, value_or_cause}
 
 -- ---- records in list order
 
@@ -23,7 +23,7 @@ pub record Item : Type 0 where
 
 abbrev pub items_from : ℕ → List Member → List Item
 items_from place [] = []
-items_from place (m ∷ members) = map (λ r. record { place = place; member = m; here = r }) (located m.segment) ++ items_from (place + 1) members
+items_from place (m ∷ members) = map (λ r. record { place = place; member = m; here = r }) (records_with_offsets m.segment) ++ items_from (place + 1) members
 
 unfoldable pub items : List Member → List Item
 items list = items_from 1 list
@@ -37,19 +37,19 @@ table_number list = length (load_names list) + 1
 abbrev pub bank_of : List Fields → ℕ → ℕ
 bank_of headers number = elim (load_header headers number) [ None ↦ 0 | Some f ↦ f.bank_size ]
 
-abbrev pub frame_of : List Member → Item → Frame
+abbrev pub frame_of : List Member → Item → PatchPlace
 frame_of list i =
     let own = load_of list i.member in
     record { own = own; bank_size = bank_of (load_headers list) own; place = offset_of list i.place i.member + i.here.location; setting = setting_in list }
 
 -- what was made so far: the targets in order of first reference, and the cells of the member at this place
-pub record State : Type 0 where
+pub record LinkState : Type 0 where
   pub targets : List Target
   pub place : ℕ
   pub cells : List Cell
 
 -- a member begins without cells
-abbrev pub cells_before : State → Item → List Cell
+abbrev pub cells_before : LinkState → Item → List Cell
 cells_before state i = if state.place == i.place then state.cells else []
 
 -- what a record gives: its cells, and the targets behind it
@@ -59,36 +59,36 @@ Made = List Cell × List Target
 abbrev pub zeros : ℕ → List Cell
 zeros n = replicate n (Byte 0)
 
-abbrev pub made_by : List Member → List Told → State → Item → Record → Result Made LinkCause
+abbrev pub made_by : List Member → List Told → LinkState → Item → Record → Result Made LinkCause
 made_by list table state i (Const bytes) = Ok (map Byte bytes, state.targets)
 made_by list table state i (LongConst bytes) = Ok (map Byte bytes, state.targets)
 made_by list table state i (Align n) = Ok (zeros (padding n i.here.location), state.targets)
 made_by list table state i (Org n) = Ok (zeros n, state.targets)
 made_by list table state i (Space n) = Ok (zeros n, state.targets)
 made_by list table state i (Equate global name size form private expr) =
-    valued (value_in list table i.place i.member i.here.location expr) >>= λ v. Ok ([], state.targets)
+    value_or_cause (value_in list table i.place i.member i.here.location expr) >>= λ v. Ok ([], state.targets)
 made_by list table state i (Formula code count n expr) =
-    valued (value_in list table i.place i.member i.here.location expr) >>= λ v.
-    fitted (load_headers list) (frame_of list i) state.targets (cells_before state i) code count n v >>= λ fit.
+    value_or_cause (value_in list table i.place i.member i.here.location expr) >>= λ v.
+    fit_value (load_headers list) (frame_of list i) state.targets (cells_before state i) code count n v >>= λ fit.
     let targets = targets_behind state.targets fit in
     Ok (fit_cells (table_number list) count targets fit, targets)
 made_by _ _ state _ _ = Ok ([], state.targets)
 
-unfoldable pub made : List Member → List Told → State → Item → Result Made LinkCause
+unfoldable pub made : List Member → List Told → LinkState → Item → Result Made LinkCause
 made list table state i = made_by list table state i i.here.content
 
 -- ---- behind records
 
-abbrev pub gained : State → Item → Result Made LinkCause → State
-gained state i (Err cause) = state
-gained state i (Ok x) = record { targets = x.1; place = i.place; cells = cells_before state i ++ x.0 }
+abbrev pub state_after_item : LinkState → Item → Result Made LinkCause → LinkState
+state_after_item state i (Err cause) = state
+state_after_item state i (Ok x) = record { targets = x.1; place = i.place; cells = cells_before state i ++ x.0 }
 
-abbrev pub state_from : List Member → List Told → State → List Item → State
+abbrev pub state_from : List Member → List Told → LinkState → List Item → LinkState
 state_from list table state [] = state
-state_from list table state (i ∷ is) = state_from list table (gained state i (made list table state i)) is
+state_from list table state (i ∷ is) = state_from list table (state_after_item state i (made list table state i)) is
 
 -- what these records, the first ones of the list, made
-unfoldable pub state_behind : List Member → List Told → List Item → State
+unfoldable pub state_behind : List Member → List Told → List Item → LinkState
 state_behind list table is = state_from list table (record { targets = []; place = 0; cells = [] }) is
 
 -- the distinct targets in order of first reference

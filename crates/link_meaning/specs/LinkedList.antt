@@ -4,13 +4,13 @@ use Rattle.std.specs.List.{list_any}
 use Rattle.std.specs.Option.{option_or}
 use Rattle.std.specs.Str.{bytes_eq}
 use Rattle.link_meaning.specs.First.{first_some}
-use Rattle.link_meaning.specs.Member.{Setting, Member, Input, Offer, objects, offers}
+use Rattle.link_meaning.specs.Member.{LinkSetting, Member, Input, Offer, objects, library_offers}
 use Rattle.omf_format.specs.Header.{is_private}
 use Rattle.omf_format.specs.File.{Segment}
 use Rattle.link_meaning.specs.Defines.{data_title_of}
 use Rattle.link_meaning.specs.declared.search.Want.TheVariants.{Data, One, Any}
 use Rattle.link_meaning.specs.Uses.{Use, uses_of}
-use Rattle.link_meaning.specs.Search.{Found, finds, finds_data}
+use Rattle.link_meaning.specs.Search.{FoundDefinition, finds, finds_data}
 
 -- the data segment defines the name by its SEGNAME with this privacy
 abbrev pub has_title : Segment → List ℕ → Bool → Bool
@@ -31,16 +31,16 @@ is_of_member m o = o.private && m.file == o.member.file && m.from == o.member.fr
 -- the first row of these for which a test holds
 abbrev pub first_offer : (Offer → Bool) → List Offer → Option Member
 first_offer test [] = None
-first_offer test (o ∷ offers) = if test o then Some o.member else first_offer test offers
+first_offer test (o ∷ library_offers) = if test o then Some o.member else first_offer test library_offers
 
 -- the row for a use of the member: its own library's private one first, else one that isn't private
 unfoldable pub row_for : List Offer → Member → Use → Option Member
-row_for offers m u = option_or
-    (first_offer (λ o. counts_for u o && is_of_member m o) offers)
-    (first_offer (λ o. counts_for u o && not o.private) offers)
+row_for library_offers m u = option_or
+    (first_offer (λ o. counts_for u o && is_of_member m o) library_offers)
+    (first_offer (λ o. counts_for u o && not o.private) library_offers)
 
 -- what a use finds; content without a definition, a weak name asks for none
-abbrev pub found_for : List Member → ℕ → Member → Use → List Found
+abbrev pub found_for : List Member → ℕ → Member → Use → List FoundDefinition
 found_for list place m u = elim u.want [
   | Data ↦ finds_data list m u.name
   | One ↦ finds list place m u.name
@@ -48,38 +48,38 @@ found_for list place m u = elim u.want [
 ]
 
 -- the row's segment, where the use finds nothing
-abbrev pub unless_found : List Found → Option Member → Option Member
+abbrev pub unless_found : List FoundDefinition → Option Member → Option Member
 unless_found [] row = row
 unless_found (f ∷ found) row = None
 
 abbrev pub wanted_by : List Offer → List Member → ℕ → Member → Use → Option Member
-wanted_by offers list place m u = unless_found (found_for list place m u) (row_for offers m u)
+wanted_by library_offers list place m u = unless_found (found_for list place m u) (row_for library_offers m u)
 
 -- a use of the member at a place of the list
-pub record Asked : Type 0 where
+pub record PlacedUse : Type 0 where
   pub place : ℕ
   pub member : Member
   pub use' : Use
 
-abbrev pub asked_from : ℕ → List Member → List Asked
+abbrev pub asked_from : ℕ → List Member → List PlacedUse
 asked_from place [] = []
 asked_from place (m ∷ members) = map (λ u. record { place = place; member = m; use' = u }) (uses_of m.segment) ++ asked_from (place + 1) members
 
 -- all uses, in list and record order
-unfoldable pub asked : List Member → List Asked
-asked list = asked_from 1 list
+unfoldable pub all_uses : List Member → List PlacedUse
+all_uses list = asked_from 1 list
 
 -- the member that the first use brings in that no step finds and that has a row
 unfoldable pub wanted : List Offer → List Member → Option Member
-wanted offers list = first_some (λ a. wanted_by offers list a.place a.member a.use') (asked list)
+wanted library_offers list = first_some (λ a. wanted_by library_offers list a.place a.member a.use') (all_uses list)
 
 -- each of these is wanted by those before it, and behind the last nothing is wanted
 abbrev pub Follow : List Offer → List Member → List Member → Type 0
-Follow offers before [] = wanted offers before ≡ None
-Follow offers before (m ∷ members) = (wanted offers before ≡ Some m) × Follow offers (before ++ m ∷ []) members
+Follow library_offers before [] = wanted library_offers before ≡ None
+Follow library_offers before (m ∷ members) = (wanted library_offers before ≡ Some m) × Follow library_offers (before ++ m ∷ []) members
 
 -- the list begins with the segments of the object files, and each further member was wanted by the members before it
-pub record IsLinked (setting : Setting) (inputs : List Input) (list : List Member) : Type 0 where
+pub record IsLinked (setting : LinkSetting) (inputs : List Input) (list : List Member) : Type 0 where
   pub added : List Member
   pub parts : list ≡ objects setting inputs ++ added
-  pub follow : Follow (offers setting inputs) (objects setting inputs) added
+  pub follow : Follow (library_offers setting inputs) (objects setting inputs) added

@@ -4,7 +4,7 @@ use Rattle.std.specs.Prelude.{slice_get, option_and_then, if◌then◌else◌}
 use Rattle.std.specs.List.{filter_map, cons_option}
 use Rattle.omf_format.specs.File.{Segment, segment_at}
 use Rattle.link_meaning.specs.First.{IsIn}
-use Rattle.link_meaning.specs.Member.{Row, Input, Member, Offer, is_library, members_from, objects_from, objects, offer_of, offers_from, offers, Setting}
+use Rattle.link_meaning.specs.Member.{Row, Input, Member, Offer, is_library, members_from, objects_from, objects, offer_of, offers_from, library_offers, LinkSetting}
 use Rattle.link_meaning.specs.LinkFaults.{segments_fault}
 use Rattle.link_meaning.specs.laws.ProgressLaws.{AreSound}
 use Rattle.lib_dict.specs.DictionaryLayout.{DefinesSo}
@@ -42,7 +42,7 @@ record IsFrom (file n : ℕ) (list : List Segment) (m : Member) : Type 0 where
   number : m.number ≡ n + k
   here : slice_get list k ≡ Some m.segment
 
-member_from : (setting : Setting) (file n : ℕ) (list : List Segment) (m : Member) → IsIn (members_from setting file n list) m → IsFrom file n list m
+member_from : (setting : LinkSetting) (file n : ℕ) (list : List Segment) (m : Member) → IsIn (members_from setting file n list) m → IsFrom file n list m
 member_from setting file n [] m is = absurd is
 member_from setting file n (s ∷ list) m (inl e) = record {
   k = 0;
@@ -57,7 +57,7 @@ member_from setting file n (s ∷ list) m (inr is) =
     let rest = member_from setting file (n + 1) list m is in
     record { k = suc rest.k; file' = rest.file'; number = omega (arith, rest.number); here = rest.here }
 
-objects_among_from : (setting : Setting) (files : List (List Segment)) (n : ℕ) (inputs : List Input) → Behind files n inputs → AllAmong files (objects_from setting (n + 1) inputs)
+objects_among_from : (setting : LinkSetting) (files : List (List Segment)) (n : ℕ) (inputs : List Input) → Behind files n inputs → AllAmong files (objects_from setting (n + 1) inputs)
 objects_among_from setting files n [] behind m is = absurd is
 objects_among_from setting files n (i ∷ inputs) behind m is =
     settle (in_either (if is_library i.segments then [] else members_from setting (n + 1) 1 i.segments) (objects_from setting (n + 1 + 1) inputs) m is) (λ more. objects_among_from setting files (n + 1) inputs (behind_more files n i inputs behind) m more)
@@ -75,7 +75,7 @@ objects_among_from setting files n (i ∷ inputs) behind m is =
 behind_all : (inputs : List Input) → Behind (map (λ i. i.segments) inputs) 0 inputs
 behind_all inputs k = let same : 0 + k ≡ k = omega arith in ap (slice_get (map (λ (i : Input). i.segments) inputs)) same
 
-pub objects_among : (setting : Setting) (files : List (List Segment)) (inputs : List Input) → files ≡ map (λ i. i.segments) inputs → AllAmong files (objects setting inputs)
+pub objects_among : (setting : LinkSetting) (files : List (List Segment)) (inputs : List Input) → files ≡ map (λ i. i.segments) inputs → AllAmong files (objects setting inputs)
 unfolding objects
 objects_among setting files inputs are = subst (λ (l : List (List Segment)). AllAmong l (objects_from setting 1 inputs)) (sym are) (objects_among_from setting (map (λ (i : Input). i.segments) inputs) 0 inputs (behind_all inputs))
 
@@ -85,12 +85,12 @@ abbrev AllSound : List Input → Type 0
 AllSound inputs = (i : Input) → IsIn inputs i → IsSoundInput i
 
 -- the row that offers it
-record IsOffered (setting : Setting) (file : ℕ) (segments : List Segment) (rows : List Row) (o : Offer) : Type 0 where
+record IsOffered (setting : LinkSetting) (file : ℕ) (segments : List Segment) (rows : List Row) (o : Offer) : Type 0 where
   row : Row
   among : IsIn rows row
   is : offer_of setting file segments row ≡ Some o
 
-offered : (setting : Setting) (file : ℕ) (segments : List Segment) (rows : List Row) (o : Offer) → IsIn (filter_map (offer_of setting file segments) rows) o → IsOffered setting file segments rows o
+offered : (setting : LinkSetting) (file : ℕ) (segments : List Segment) (rows : List Row) (o : Offer) → IsIn (filter_map (offer_of setting file segments) rows) o → IsOffered setting file segments rows o
 offered setting file segments [] o is = absurd is
 offered setting file segments (r ∷ rows) o is = settle (offer_of setting file segments r) refl is (λ more. offered setting file segments rows o more)
   where
@@ -104,7 +104,7 @@ record Stands (files : List (List Segment)) (o : Offer) : Type 0 where
   among : IsAmong files o.member
   defines : DefinesSo o.member.segment o.name o.private
 
-of_row : (setting : Setting) (files : List (List Segment)) (n : ℕ) (i : Input) (o : Offer) → slice_get files n ≡ Some i.segments → IsSoundInput i → IsOffered setting (n + 1) i.segments i.rows o → Stands files o
+of_row : (setting : LinkSetting) (files : List (List Segment)) (n : ℕ) (i : Input) (o : Offer) → slice_get files n ≡ Some i.segments → IsSoundInput i → IsOffered setting (n + 1) i.segments i.rows o → Stands files o
 of_row setting files n i o there sound is =
     let s = sound.1 is.row is.among in
     let p = row_place i.segments is.row (told_row i.segments is.row) refl s in
@@ -123,7 +123,7 @@ of_row setting files n i o there sound is =
     same_segment : (a b : Segment) → Some a ≡ Some b → a ≡ b
     same_segment a b e = cc
 
-offers_stand : (setting : Setting) (files : List (List Segment)) (n : ℕ) (inputs : List Input) → Behind files n inputs → AllSound inputs → (o : Offer) → IsIn (offers_from setting (n + 1) inputs) o → Stands files o
+offers_stand : (setting : LinkSetting) (files : List (List Segment)) (n : ℕ) (inputs : List Input) → Behind files n inputs → AllSound inputs → (o : Offer) → IsIn (offers_from setting (n + 1) inputs) o → Stands files o
 offers_stand setting files n [] behind sound o is = absurd is
 offers_stand setting files n (i ∷ inputs) behind sound o is =
     settle (in_either (filter_map (offer_of setting (n + 1) i.segments) i.rows) (offers_from setting (n + 1 + 1) inputs) o is) (λ more. offers_stand setting files (n + 1) inputs (behind_more files n i inputs behind) (λ j there. sound j (inr there)) o more)
@@ -132,15 +132,15 @@ offers_stand setting files n (i ∷ inputs) behind sound o is =
     settle (inl a) go = of_row setting files n i o (file_at files n i inputs behind) (sound i (inl refl)) (offered setting (n + 1) i.segments i.rows o a)
     settle (inr b) go = go b
 
-all_stand : (setting : Setting) (files : List (List Segment)) (inputs : List Input) → files ≡ map (λ i. i.segments) inputs → AllSound inputs → (o : Offer) → IsIn (offers setting inputs) o → Stands files o
-unfolding offers
+all_stand : (setting : LinkSetting) (files : List (List Segment)) (inputs : List Input) → files ≡ map (λ i. i.segments) inputs → AllSound inputs → (o : Offer) → IsIn (library_offers setting inputs) o → Stands files o
+unfolding library_offers
 all_stand setting files inputs are sound o is =
     subst (λ (l : List (List Segment)). Stands l o) (sym are) (offers_stand setting (map (λ (i : Input). i.segments) inputs) 0 inputs (behind_all inputs) sound o is)
 
-pub offers_among : (setting : Setting) (files : List (List Segment)) (inputs : List Input) → files ≡ map (λ i. i.segments) inputs → AllSound inputs → (o : Offer) → IsIn (offers setting inputs) o → IsAmong files o.member
+pub offers_among : (setting : LinkSetting) (files : List (List Segment)) (inputs : List Input) → files ≡ map (λ i. i.segments) inputs → AllSound inputs → (o : Offer) → IsIn (library_offers setting inputs) o → IsAmong files o.member
 offers_among setting files inputs are sound o is = (all_stand setting files inputs are sound o is).among
 
-pub offers_sound : (setting : Setting) (files : List (List Segment)) (inputs : List Input) → files ≡ map (λ i. i.segments) inputs → AllSound inputs → AreSound (offers setting inputs)
+pub offers_sound : (setting : LinkSetting) (files : List (List Segment)) (inputs : List Input) → files ≡ map (λ i. i.segments) inputs → AllSound inputs → AreSound (library_offers setting inputs)
 offers_sound setting files inputs are sound o is = let d = (all_stand setting files inputs are sound o is).defines in (d.by, d.among, d.name', d.scope)
 
 pub files_sound : (files : List (List Segment)) (inputs : List Input) → files ≡ map (λ i. i.segments) inputs → AllSound inputs → (segments : List Segment) → IsIn files segments → segments_fault 1 segments ≡ None

@@ -3,19 +3,19 @@ use Rattle.std.proofs.Common.{◌≡◌, ◌⊎◌, inl, inr, ℕ, zero, suc, �
 use Rattle.std.specs.Prelude.{slice_get}
 use Rattle.std.proofs.lemmas.List.{length-map}
 use Rattle.link_meaning.specs.Member.{Member}
-use Rattle.link_meaning.specs.Search.{Found, finds}
-use Rattle.link_tables.specs.declared.names.Outcome.{Outcome}
-use Rattle.link_tables.specs.declared.names.Outcome.TheVariants.{One, Several}
+use Rattle.link_meaning.specs.Search.{FoundDefinition, finds}
+use Rattle.link_tables.specs.declared.names.Matches.{Matches}
+use Rattle.link_tables.specs.declared.names.Matches.TheVariants.{One, Several}
 use Rattle.link_program.specs.declared.linked.Linked.{Linked}
 use Rattle.link_tables.specs.Definitions.{Sees}
 use Rattle.link_program.specs.Linked.{origin_of, Holds}
 use Rattle.link_program.specs.Finding.{IsFirstOf, finds_for, found_in}
 
 -- an answer with this number
-abbrev Tells : ℕ → Outcome → Type 0
+abbrev Tells : ℕ → Matches → Type 0
 Tells n answer = (answer ≡ One n) ⊎ (answer ≡ Several n)
 
-first_of : (all found : List Found) (answer : Outcome) (n : ℕ) → Tells n answer → Sees all found answer → IsFirstOf all found (Some n)
+first_of : (all found : List FoundDefinition) (answer : Matches) (n : ℕ) → Tells n answer → Sees all found answer → IsFirstOf all found (Some n)
 first_of all [] answer n (inl is) seen = absurd cc
 first_of all [] answer n (inr is) seen = absurd cc
 first_of all (f ∷ []) answer n (inl is) seen = let same : seen.0 ≡ n = one seen.0 n (sym seen.1 ∙ is) in subst (λ (k : ℕ). slice_get all k ≡ Some f) same seen.2
@@ -35,7 +35,7 @@ first_of all (f ∷ g ∷ more) answer n (inr is) seen = let same : seen.0 ≡ n
     one : (a b : ℕ) → Several a ≡ Several b → a ≡ b
     one a b e = cc
 
-pub first_told : (list : List Member) (kept : Linked) (place : ℕ) (name : List ℕ) (all : List Found) (answer : Outcome) (n : ℕ) → Holds list kept → (place ≡ 0 → ⊥) → place ≤ length kept.members.items → Tells n answer
+pub first_told : (list : List Member) (kept : Linked) (place : ℕ) (name : List ℕ) (all : List FoundDefinition) (answer : Matches) (n : ℕ) → Holds list kept → (place ≡ 0 → ⊥) → place ≤ length kept.members.items → Tells n answer
     → ((m : Member) → slice_get list (place - 1) ≡ Some m → Sees all (finds list place m name) answer) → IsFirstOf all (found_in list place name) (Some n)
 first_told list kept zero name all answer n holds some within tells sees = absurd (some refl)
 first_told list kept (suc k) name all answer n holds some within tells sees = by_member (slice_get list k) refl

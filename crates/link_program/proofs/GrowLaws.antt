@@ -6,11 +6,11 @@ use Rattle.std.proofs.lemmas.List.{get_or-set_other, length-append, length-set, 
 use Rattle.omf_format.specs.File.{Segment, segment_at}
 use Rattle.link_meaning.specs.First.{IsIn}
 use Rattle.link_meaning.specs.laws.FirstLaws.{first_some-first}
-use Rattle.link_meaning.specs.Member.{Member, Offer, Input, Setting, setting_in, members_from, objects_from, objects, offers, is_library}
+use Rattle.link_meaning.specs.Member.{Member, Offer, Input, LinkSetting, setting_in, members_from, objects_from, objects, library_offers, is_library}
 use Rattle.link_meaning.specs.declared.search.Want.{Want}
 use Rattle.link_meaning.specs.declared.search.Want.TheVariants.{Data, One, Any}
-use Rattle.link_meaning.specs.Search.{Found, finds, finds_data}
-use Rattle.link_meaning.specs.LinkedList.{asked, row_for, found_for, unless_found, wanted, Follow}
+use Rattle.link_meaning.specs.Search.{FoundDefinition, finds, finds_data}
+use Rattle.link_meaning.specs.LinkedList.{all_uses, row_for, found_for, unless_found, wanted, Follow}
 use Rattle.link_meaning.specs.Sizes.{body_size}
 use Rattle.link_meaning.specs.LinkFaults.{segments_fault}
 use Rattle.link_program.proofs.BodyLengths.{body_short}
@@ -18,7 +18,7 @@ use Rattle.link_meaning.specs.laws.ProgressLaws.{AreSound, fresh_name, fresh_dat
 use Rattle.link_tables.specs.declared.definitions.Origin.{Origin}
 use Rattle.link_program.specs.declared.linked.Linked.{Linked}
 use Rattle.link_tables.specs.declared.offers.Offers as kept
-use Rattle.link_program.specs.declared.outside.Outside.{Outside}
+use Rattle.link_program.specs.declared.outside.OutsideNames.{OutsideNames}
 use Rattle.link_program.specs.Outside.{IsOutsideOf, AreOutside}
 use Rattle.link_meaning.specs.Search.{outside}
 use Rattle.std.specs.List.{AllByRecursion}
@@ -56,24 +56,24 @@ fresh_by : (os : List Offer) (list : List Member) (place : ℕ) (u m : Member) (
     → unless_found (found_for list place u (record { want = want; name = name; at = at })) (row_for os u (record { want = want; name = name; at = at })) ≡ Some m → IsIn list m → ⊥
 fresh_by os list place u m Data name at sound e there = settle (finds_data list u name) refl e
   where
-    settle : (f : List Found) → finds_data list u name ≡ f → unless_found f (row_for os u (record { want = Data; name = name; at = at })) ≡ Some m → ⊥
+    settle : (f : List FoundDefinition) → finds_data list u name ≡ f → unless_found f (row_for os u (record { want = Data; name = name; at = at })) ≡ Some m → ⊥
     settle [] none row = fresh_data os list u m name at none row there
     settle (f ∷ fs) some row = absurd cc
 fresh_by os list place u m One name at sound e there = settle (finds list place u name) refl e
   where
-    settle : (f : List Found) → finds list place u name ≡ f → unless_found f (row_for os u (record { want = One; name = name; at = at })) ≡ Some m → ⊥
+    settle : (f : List FoundDefinition) → finds list place u name ≡ f → unless_found f (row_for os u (record { want = One; name = name; at = at })) ≡ Some m → ⊥
     settle [] none row = fresh_name os list place u m name at sound none row there
     settle (f ∷ fs) some row = absurd cc
 fresh_by os list place u m Any name at sound e there = settle (finds list place u name) e
   where
-    settle : (f : List Found) → unless_found f (row_for os u (record { want = Any; name = name; at = at })) ≡ Some m → ⊥
+    settle : (f : List FoundDefinition) → unless_found f (row_for os u (record { want = Any; name = name; at = at })) ≡ Some m → ⊥
     settle [] row = let clash : None ≡ Some m = sym (row_any os u name at) ∙ row in absurd cc
     settle (f ∷ fs) row = absurd cc
 
 pub fresh : (os : List Offer) (list : List Member) (m : Member) → AreSound os → wanted os list ≡ Some m → IsIn list m → ⊥
 unfolding wanted
 fresh os list m sound is there =
-    let first = first_some-first (wanted_at os list) (asked list) m is in
+    let first = first_some-first (wanted_at os list) (all_uses list) m is in
     let a = first.item in
     fresh_by os list a.place a.member m a.use'.want a.use'.name a.use'.at sound first.here there
 
@@ -100,18 +100,18 @@ AreTaken os list flags = (k : ℕ) (o : Offer) → get_or flags k false ≡ true
 
 -- ---- the setting
 
-abbrev Has : Setting → Member → Type 0
+abbrev Has : LinkSetting → Member → Type 0
 Has setting m = m.setting ≡ setting
 
-all_members : (setting : Setting) (file n : ℕ) (segments : List Segment) → AllByRecursion (Has setting) (members_from setting file n segments)
+all_members : (setting : LinkSetting) (file n : ℕ) (segments : List Segment) → AllByRecursion (Has setting) (members_from setting file n segments)
 all_members setting file n [] = tt
 all_members setting file n (s ∷ segments) = (refl, all_members setting file (n + 1) segments)
 
-all_both : (setting : Setting) (xs ys : List Member) → AllByRecursion (Has setting) xs → AllByRecursion (Has setting) ys → AllByRecursion (Has setting) (xs ++ ys)
+all_both : (setting : LinkSetting) (xs ys : List Member) → AllByRecursion (Has setting) xs → AllByRecursion (Has setting) ys → AllByRecursion (Has setting) (xs ++ ys)
 all_both setting [] ys a b = b
 all_both setting (x ∷ xs) ys a b = (a.0, all_both setting xs ys a.1 b)
 
-all_objects : (setting : Setting) (file : ℕ) (inputs : List Input) → AllByRecursion (Has setting) (objects_from setting file inputs)
+all_objects : (setting : LinkSetting) (file : ℕ) (inputs : List Input) → AllByRecursion (Has setting) (objects_from setting file inputs)
 all_objects setting file [] = tt
 all_objects setting file (input ∷ inputs) = all_both setting (if is_library input.segments then [] else members_from setting file 1 input.segments) (objects_from setting (file + 1) inputs) (by_library (is_library input.segments)) (all_objects setting (file + 1) inputs)
   where
@@ -120,7 +120,7 @@ all_objects setting file (input ∷ inputs) = all_both setting (if is_library in
     by_library false = all_members setting file 1 input.segments
 
 -- the list has the setting of its object files
-pub setting_is : (setting : Setting) (inputs : List Input) (added : List Member) → (objects setting inputs ≡ [] → ⊥) → setting_in (objects setting inputs ++ added) ≡ setting
+pub setting_is : (setting : LinkSetting) (inputs : List Input) (added : List Member) → (objects setting inputs ≡ [] → ⊥) → setting_in (objects setting inputs ++ added) ≡ setting
 unfolding objects
 setting_is setting inputs added some = first (objects_from setting 1 inputs) (all_objects setting 1 inputs) some
   where
@@ -129,28 +129,28 @@ setting_is setting inputs added some = first (objects_from setting 1 inputs) (al
     first (x ∷ xs) all more = all.0
 
 -- so the table has the names that it can find
-pub outside_is : (setting : Setting) (inputs : List Input) (files : List (List Segment)) (table : Outside) (os : kept.Offers) (linked : Linked) (added : List Member) → MayGrow setting inputs files table os linked
+pub outside_is : (setting : LinkSetting) (inputs : List Input) (files : List (List Segment)) (table : OutsideNames) (os : kept.Offers) (linked : Linked) (added : List Member) → MayGrow setting inputs files table os linked
     → IsOutsideOf (objects setting inputs ++ added) table
-outside_is setting inputs files table os linked added may = subst (λ (x : Setting). AreOutside (outside x) table) (sym (setting_is setting inputs added may.some)) may.table'
+outside_is setting inputs files table os linked added may = subst (λ (x : LinkSetting). AreOutside (outside x) table) (sym (setting_is setting inputs added may.some)) may.table'
 
 -- ---- the loop
 
-pub record Growing (setting : Setting) (inputs : List Input) (files : List (List Segment)) (linked : Linked) (taken : List Bool) (cursor : ℕ) : Type 0 where
+pub record Growing (setting : LinkSetting) (inputs : List Input) (files : List (List Segment)) (linked : Linked) (taken : List Bool) (cursor : ℕ) : Type 0 where
   pub added : List Member
   pub holds : Holds (objects setting inputs ++ added) linked
-  pub leads : Leads (offers setting inputs) (objects setting inputs) added
-  pub nothing : WantsNothing (offers setting inputs) (objects setting inputs ++ added) cursor
-  pub within : cursor ≤ length (asked (objects setting inputs ++ added))
-  pub size : length taken ≡ length (offers setting inputs)
-  pub taken' : AreTaken (offers setting inputs) (objects setting inputs ++ added) taken
+  pub leads : Leads (library_offers setting inputs) (objects setting inputs) added
+  pub nothing : WantsNothing (library_offers setting inputs) (objects setting inputs ++ added) cursor
+  pub within : cursor ≤ length (all_uses (objects setting inputs ++ added))
+  pub size : length taken ≡ length (library_offers setting inputs)
+  pub taken' : AreTaken (library_offers setting inputs) (objects setting inputs ++ added) taken
   pub among : AllAmong files (objects setting inputs ++ added)
   pub few : length (objects setting inputs ++ added) + unset taken + 1 < 2 ^ 32
 
-pub growing_start : (setting : Setting) (inputs : List Input) (files : List (List Segment)) (table : Outside) (os : kept.Offers) (linked : Linked) (taken : List Bool) (n : ℕ) → MayGrow setting inputs files table os linked → n ≡ length os.origins.items
+pub growing_start : (setting : LinkSetting) (inputs : List Input) (files : List (List Segment)) (table : OutsideNames) (os : kept.Offers) (linked : Linked) (taken : List Bool) (n : ℕ) → MayGrow setting inputs files table os linked → n ≡ length os.origins.items
     → taken ≡ replicate n false → Growing setting inputs files linked taken 0
 growing_start setting inputs files table os linked taken n may count none =
     let whole : objects setting inputs ≡ objects setting inputs ++ [] = sym (append-nil (objects setting inputs)) in
-    let size : n ≡ length (offers setting inputs) = omega (arith, count, ap length may.offers'.origins, length-map (offers setting inputs) told_origin) in
+    let size : n ≡ length (library_offers setting inputs) = omega (arith, count, ap length may.offers'.origins, length-map (library_offers setting inputs) told_origin) in
     record {
       added = [];
       holds = subst (λ (l : List Member). Holds l linked) whole may.objects';
@@ -171,11 +171,11 @@ growing_start setting inputs files table os linked taken n may count none =
     no_flag : (k : ℕ) → get_or (replicate n false) k false ≡ true → ⊥
     no_flag k e = let clash : false ≡ true = sym (none_set n k) ∙ e in absurd cc
 
-pub growing_end : (setting : Setting) (inputs : List Input) (files : List (List Segment)) (linked : Linked) (taken : List Bool) (cursor : ℕ) (g : Growing setting inputs files linked taken cursor) → wanted (offers setting inputs) (objects setting inputs ++ g.added) ≡ None
+pub growing_end : (setting : LinkSetting) (inputs : List Input) (files : List (List Segment)) (linked : Linked) (taken : List Bool) (cursor : ℕ) (g : Growing setting inputs files linked taken cursor) → wanted (library_offers setting inputs) (objects setting inputs ++ g.added) ≡ None
     → HasGrown setting inputs files linked
 growing_end setting inputs files linked taken cursor g none = record {
   list = objects setting inputs ++ g.added;
-  is_linked = record { added = g.added; parts = refl; follow = leads_end (offers setting inputs) (objects setting inputs) g.added g.leads none };
+  is_linked = record { added = g.added; parts = refl; follow = leads_end (library_offers setting inputs) (objects setting inputs) g.added g.leads none };
   holds = g.holds;
   among = g.among;
   few = omega (arith, g.few);
@@ -212,9 +212,9 @@ taken_more os list flags k o at within taken j p is there = settle (nat_same j k
     settle (inr other) = in_front list (o.member ∷ []) p.member (taken j p (sym (get_or-set_other flags k j true false other) ∙ is) there)
 
 -- one more member: the cursor stays at the use that wanted it, or goes back to the first use
-pub growing_more : (setting : Setting) (inputs : List Input) (files : List (List Segment)) (table : Outside) (os : kept.Offers) (first old new : Linked) (taken flags : List Bool) (cursor number row next : ℕ) (origin : Origin) (s : Segment) (may : MayGrow setting inputs files table os first)
-    (g : Growing setting inputs files old taken cursor) (w : IsWanted (offers setting inputs) (objects setting inputs ++ g.added) (Some (number, row)))
-    → number < length (asked (objects setting inputs ++ g.added)) → origin ≡ told_origin w.0 → s ≡ w.0.member.segment
+pub growing_more : (setting : LinkSetting) (inputs : List Input) (files : List (List Segment)) (table : OutsideNames) (os : kept.Offers) (first old new : Linked) (taken flags : List Bool) (cursor number row next : ℕ) (origin : Origin) (s : Segment) (may : MayGrow setting inputs files table os first)
+    (g : Growing setting inputs files old taken cursor) (w : IsWanted (library_offers setting inputs) (objects setting inputs ++ g.added) (Some (number, row)))
+    → number < length (all_uses (objects setting inputs ++ g.added)) → origin ≡ told_origin w.0 → s ≡ w.0.member.segment
     → ((list : List Member) (m : Member) → IsOf m origin → m.segment ≡ s → Holds list old → Holds (list ++ m ∷ []) new)
     → (next ≡ 0) ⊎ ((next ≡ number) × OpensNothing (objects setting inputs ++ g.added) w.0.member)
     → flags ≡ set taken row true → Growing setting inputs files new flags next
@@ -223,34 +223,34 @@ growing_more setting inputs files table os first old new taken flags cursor numb
     let list = objects setting inputs ++ g.added in
     let whole : list ++ o.member ∷ [] ≡ objects setting inputs ++ (g.added ++ o.member ∷ []) = append_assoc (objects setting inputs) g.added (o.member ∷ []) in
     let of : IsOf o.member origin = (sym (ap (λ (x : Origin). x.file) from), sym (ap (λ (x : Origin). x.segment) from), sym (ap (λ (x : Origin). x.from) from)) in
-    let row_in : row < length taken = omega (arith, within_length (offers setting inputs) row o w.1, g.size) in
-    let free = flag_free (offers setting inputs) list taken row o may.defined g.taken' w.1 w.2 in
+    let row_in : row < length taken = omega (arith, within_length (library_offers setting inputs) row o w.1, g.size) in
+    let free = flag_free (library_offers setting inputs) list taken row o may.defined g.taken' w.1 w.2 in
     let less = set_less taken row row_in free in
     record {
       added = g.added ++ o.member ∷ [];
       holds = subst (λ (l : List Member). Holds l new) whole (adds list o.member of (sym same) g.holds);
-      leads = leads_more (offers setting inputs) (objects setting inputs) g.added o.member g.leads w.2;
-      nothing = subst (λ (l : List Member). WantsNothing (offers setting inputs) l next) whole (settle goes);
-      within = subst (λ (l : List Member). next ≤ length (asked l)) whole (room goes);
+      leads = leads_more (library_offers setting inputs) (objects setting inputs) g.added o.member g.leads w.2;
+      nothing = subst (λ (l : List Member). WantsNothing (library_offers setting inputs) l next) whole (settle goes);
+      within = subst (λ (l : List Member). next ≤ length (all_uses l)) whole (room goes);
       size = ap length flagged ∙ length-set taken row true ∙ g.size;
-      taken' = subst (λ (l : List Member). AreTaken (offers setting inputs) l flags) whole (subst (λ (f : List Bool). AreTaken (offers setting inputs) (list ++ o.member ∷ []) f) (sym flagged) (taken_more (offers setting inputs) list taken row o w.1 row_in g.taken'));
+      taken' = subst (λ (l : List Member). AreTaken (library_offers setting inputs) l flags) whole (subst (λ (f : List Bool). AreTaken (library_offers setting inputs) (list ++ o.member ∷ []) f) (sym flagged) (taken_more (library_offers setting inputs) list taken row o w.1 row_in g.taken'));
       among = subst (λ (l : List Member). AllAmong files l) whole (λ m is. there m (in_either list (o.member ∷ []) m is));
       few = omega (arith, g.few, less, ap unset flagged, sym (ap length whole), length-append list (o.member ∷ []));
     }
   where
-    settle : (next ≡ 0) ⊎ ((next ≡ number) × OpensNothing (objects setting inputs ++ g.added) w.0.member) → WantsNothing (offers setting inputs) ((objects setting inputs ++ g.added) ++ w.0.member ∷ []) next
-    settle (inl e) = subst (λ (n : ℕ). WantsNothing (offers setting inputs) ((objects setting inputs ++ g.added) ++ w.0.member ∷ []) n) (sym e) refl
+    settle : (next ≡ 0) ⊎ ((next ≡ number) × OpensNothing (objects setting inputs ++ g.added) w.0.member) → WantsNothing (library_offers setting inputs) ((objects setting inputs ++ g.added) ++ w.0.member ∷ []) next
+    settle (inl e) = subst (λ (n : ℕ). WantsNothing (library_offers setting inputs) ((objects setting inputs ++ g.added) ++ w.0.member ∷ []) n) (sym e) refl
     settle (inr stays) =
-        subst (λ (n : ℕ). WantsNothing (offers setting inputs) ((objects setting inputs ++ g.added) ++ w.0.member ∷ []) n) (sym stays.0)
-        (nothing_more (offers setting inputs) (objects setting inputs ++ g.added) w.0.member number stays.1 (omega (arith, inside)) w.3)
+        subst (λ (n : ℕ). WantsNothing (library_offers setting inputs) ((objects setting inputs ++ g.added) ++ w.0.member ∷ []) n) (sym stays.0)
+        (nothing_more (library_offers setting inputs) (objects setting inputs ++ g.added) w.0.member number stays.1 (omega (arith, inside)) w.3)
 
-    room : (next ≡ 0) ⊎ ((next ≡ number) × OpensNothing (objects setting inputs ++ g.added) w.0.member) → next ≤ length (asked ((objects setting inputs ++ g.added) ++ w.0.member ∷ []))
+    room : (next ≡ 0) ⊎ ((next ≡ number) × OpensNothing (objects setting inputs ++ g.added) w.0.member) → next ≤ length (all_uses ((objects setting inputs ++ g.added) ++ w.0.member ∷ []))
     room (inl e) = omega (arith, e)
     room (inr stays) = omega (arith, stays.0, inside, asked_grows (objects setting inputs ++ g.added) w.0.member)
 
     there : (m : Member) → IsIn (objects setting inputs ++ g.added) m ⊎ IsIn (w.0.member ∷ []) m → IsAmong files m
     there m (inl is) = g.among m is
-    there m (inr (inl e)) = subst (IsAmong files) e (may.among w.0 (in_at (offers setting inputs) row w.0 w.1))
+    there m (inr (inl e)) = subst (IsAmong files) e (may.among w.0 (in_at (library_offers setting inputs) row w.0 w.1))
     there m (inr (inr more)) = absurd more
 
 pub cursor_goes : (b : Bool) (number next : ℕ) (P : Type 0) → next ≡ (if b then 0 else number) → (b ≡ false → P) → (next ≡ 0) ⊎ ((next ≡ number) × P)

@@ -13,8 +13,8 @@ use Rattle.omf_format.specs.File.{Segment}
 use Rattle.link_meaning.specs.Member.{Member}
 use Rattle.link_meaning.specs.Defines.{Definition, defined_in, data_title_of}
 use Rattle.link_meaning.specs.Uses.{Use, data_name, uses_of, usings_of}
-use Rattle.link_meaning.specs.Search.{Found, entries_from, entries, data_titles}
-use Rattle.link_meaning.specs.LinkedList.{Asked, asked_from, asked}
+use Rattle.link_meaning.specs.Search.{FoundDefinition, entries_from, entries, data_titles}
+use Rattle.link_meaning.specs.LinkedList.{PlacedUse, asked_from, all_uses}
 use Rattle.link_tables.specs.declared.definitions.Origin.{Origin}
 use Rattle.link_program.specs.declared.linked.Linked.{Linked}
 use Rattle.link_tables.specs.Names.{Indexes}
@@ -30,10 +30,10 @@ entries_from-snoc defines place [] m =
     append-nil (founds_in place m (defines m.segment)) ∙ ap (λ (p : ℕ). founds_in p m (defines m.segment)) same
 entries_from-snoc defines place (x ∷ list) m =
     let same : place + 1 + length list ≡ place + suc (length list) = omega arith in
-    ap (λ (l : List Found). founds_in place x (defines x.segment) ++ l) (entries_from-snoc defines (place + 1) list m ∙ ap (λ (p : ℕ). entries_from defines (place + 1) list ++ founds_in p m (defines m.segment)) same)
+    ap (λ (l : List FoundDefinition). founds_in place x (defines x.segment) ++ l) (entries_from-snoc defines (place + 1) list m ∙ ap (λ (p : ℕ). entries_from defines (place + 1) list ++ founds_in p m (defines m.segment)) same)
     ∙ sym (append_assoc (founds_in place x (defines x.segment)) (entries_from defines (place + 1) list) (founds_in (place + suc (length list)) m (defines m.segment)))
 
-abbrev pub uses_at : ℕ → Member → List Use → List Asked
+abbrev pub uses_at : ℕ → Member → List Use → List PlacedUse
 uses_at place m uses = map (λ u. record { place = place; member = m; use' = u }) uses
 
 pub asked_from-snoc : (place : ℕ) (list : List Member) (m : Member) → asked_from place (list ++ m ∷ []) ≡ asked_from place list ++ uses_at (place + length list) m (uses_of m.segment)
@@ -42,7 +42,7 @@ asked_from-snoc place [] m =
     append-nil (uses_at place m (uses_of m.segment)) ∙ ap (λ (p : ℕ). uses_at p m (uses_of m.segment)) same
 asked_from-snoc place (x ∷ list) m =
     let same : place + 1 + length list ≡ place + suc (length list) = omega arith in
-    ap (λ (l : List Asked). uses_at place x (uses_of x.segment) ++ l) (asked_from-snoc (place + 1) list m ∙ ap (λ (p : ℕ). asked_from (place + 1) list ++ uses_at p m (uses_of m.segment)) same)
+    ap (λ (l : List PlacedUse). uses_at place x (uses_of x.segment) ++ l) (asked_from-snoc (place + 1) list m ∙ ap (λ (p : ℕ). asked_from (place + 1) list ++ uses_at p m (uses_of m.segment)) same)
     ∙ sym (append_assoc (uses_at place x (uses_of x.segment)) (asked_from (place + 1) list) (uses_at (place + suc (length list)) m (uses_of m.segment)))
 
 told-uses_at : (place : ℕ) (m : Member) (uses : List Use) → map told_use (uses_at place m uses) ≡ at_place place uses
@@ -139,12 +139,12 @@ each_more list m old new names place holds at are more other name = more other n
 pub held_more : (list : List Member) (m : Member) (old new : Linked) (s : Segment) (origin : Origin) (names : List (List ℕ)) (place : ℕ)
     → IsOf m origin → m.segment ≡ s → Holds list old → place ≡ length old.members.items + 1 → new.members.items ≡ old.members.items ++ origin ∷ []
     → (name_at old.names place ≡ None → (other : ℕ) → name_at new.names other ≡ (if nat_eq place other then title_of_data s else name_at old.names other))
-    → ((fs : List Found) (n : Member) → IsOf n origin → AreDefinitions fs old.definitions → AreDefinitions (fs ++ founds_in place n (defined_in s)) new.definitions)
+    → ((fs : List FoundDefinition) (n : Member) → IsOf n origin → AreDefinitions fs old.definitions → AreDefinitions (fs ++ founds_in place n (defined_in s)) new.definitions)
     → GainsTitle old.titles new.titles origin place (data_title_of s)
     → new.uses ≡ old.uses ++ at_place place (uses_of s) → (HaveShortNames old.uses → HaveShortNames new.uses) → names ≡ usings_of s
     → (usings_at old.usings place ≡ [] → (other : ℕ) → usings_at new.usings other ≡ (if nat_eq place other then names else usings_at old.usings other))
     → ((other : ℕ) (n : List ℕ) → has_using new.usings other n ≡ ((nat_eq place other && is_among n names) || has_using old.usings other n)) → Holds (list ++ m ∷ []) new
-unfolding entries data_titles asked
+unfolding entries data_titles all_uses
 held_more list m old new s origin names place of same holds place_is members titled defines titles uses short are usings each =
     let at : place ≡ 1 + length list = omega (arith, place_is, count_is list old holds) in
     let same_origin : origin ≡ origin_of m =
@@ -154,17 +154,17 @@ held_more list m old new s origin names place of same holds place_is members tit
     let named : founds_in place m (data_title_of s) ≡ founds_in (1 + length list) m (data_title_of m.segment) =
     ap (λ (p : ℕ). founds_in p m (data_title_of s)) at ∙ ap (λ (x : Segment). founds_in (1 + length list) m (data_title_of x)) (sym same) in
     let all_entries : entries_from defined_in 1 list ++ founds_in place m (defined_in s) ≡ entries_from defined_in 1 (list ++ m ∷ []) =
-    ap (λ (l : List Found). entries_from defined_in 1 list ++ l) founds ∙ sym (entries_from-snoc defined_in 1 list m) in
+    ap (λ (l : List FoundDefinition). entries_from defined_in 1 list ++ l) founds ∙ sym (entries_from-snoc defined_in 1 list m) in
     let all_titles : entries_from data_title_of 1 list ++ founds_in place m (data_title_of s) ≡ entries_from data_title_of 1 (list ++ m ∷ []) =
-    ap (λ (l : List Found). entries_from data_title_of 1 list ++ l) named ∙ sym (entries_from-snoc data_title_of 1 list m) in
+    ap (λ (l : List FoundDefinition). entries_from data_title_of 1 list ++ l) named ∙ sym (entries_from-snoc data_title_of 1 list m) in
     record {
       members =
           members ∙ ap (λ (l : List Origin). l ++ origin ∷ []) holds.members ∙ ap (λ (o : Origin). map origin_of list ++ o ∷ []) same_origin ∙ sym (map-append origin_of list (m ∷ []));
       names = names_more list m old new (title_of_data s) place holds at (ap title_of_data (sym same)) titled;
       usings = usings_more list m old new names place holds at (are ∙ ap usings_of (sym same)) usings;
       each = each_more list m old new names place holds at (are ∙ ap usings_of (sym same)) each;
-      definitions = subst (λ (l : List Found). AreDefinitions l new.definitions) all_entries (defines (entries_from defined_in 1 list) m of holds.definitions);
-      titles = subst (λ (l : List Found). Indexes (place_rows l) new.titles) all_titles (titles (entries_from data_title_of 1 list) m of holds.titles);
+      definitions = subst (λ (l : List FoundDefinition). AreDefinitions l new.definitions) all_entries (defines (entries_from defined_in 1 list) m of holds.definitions);
+      titles = subst (λ (l : List FoundDefinition). Indexes (place_rows l) new.titles) all_titles (titles (entries_from data_title_of 1 list) m of holds.titles);
       uses =
           uses ∙ ap (λ (l : List (ℕ × Use)). l ++ at_place place (uses_of s)) holds.uses
           ∙ ap (λ (p : ℕ). map told_use (asked_from 1 list) ++ at_place p (uses_of s)) at
@@ -176,7 +176,7 @@ held_more list m old new s origin names place of same holds place_is members tit
     }
 
 pub held_none : (new : Linked) → new.members.items ≡ [] → new.names.entries ≡ [] → ((place : ℕ) → usings_at new.usings place ≡ []) → ((place : ℕ) (name : List ℕ) → has_using new.usings place name ≡ false) → AreDefinitions [] new.definitions → Indexes [] new.titles → new.uses ≡ [] → Holds [] new
-unfolding entries data_titles asked
+unfolding entries data_titles all_uses
 held_none new members names usings each definitions titles uses = record { members = members; names = λ place. ap (λ (es : List (ℕ × Bor (List ℕ))). option_map (λ (n : Bor (List ℕ)). n.now) (lookup (nat_eq place) es)) names ∙ untitled place; usings = λ place. usings place ∙ none place; each = λ place name. each place name ∙ ap (is_among name) (none place); definitions = definitions; titles = titles; uses = uses; short = subst HaveShortNames (sym uses) tt }
   where
     none : (place : ℕ) → [] ≡ usings_in (member_at [] place)

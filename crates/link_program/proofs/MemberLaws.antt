@@ -6,12 +6,12 @@ use Rattle.lib_dict.specs.DictionaryLayout.{RowsAreLaidOut}
 use Rattle.link_meaning.specs.declared.search.Want.{Want}
 use Rattle.link_meaning.specs.declared.search.Want.TheVariants.{Data, One, Any}
 use Rattle.link_meaning.specs.First.{IsIn}
-use Rattle.link_meaning.specs.Member.{Row, Input, Member, is_library, objects, offers}
+use Rattle.link_meaning.specs.Member.{Row, Input, Member, is_library, objects, library_offers}
 use Rattle.link_meaning.specs.Dictionary.{rows_of}
 use Rattle.link_meaning.specs.Uses.{Use, uses_of}
-use Rattle.link_meaning.specs.Search.{Found, finds}
-use Rattle.link_meaning.specs.LinkedList.{asked_from, asked, found_for}
-use Rattle.link_meaning.specs.LinkFaults.{Given, use_cause, IsInput, AreInputs, IsProgram, IsResolved}
+use Rattle.link_meaning.specs.Search.{FoundDefinition, finds}
+use Rattle.link_meaning.specs.LinkedList.{asked_from, all_uses, found_for}
+use Rattle.link_meaning.specs.LinkFaults.{LinkInput, use_cause, IsInput, AreInputs, IsProgram, IsResolved}
 use Rattle.link_meaning.specs.laws.LoadSegmentLaws.{split_at}
 use Rattle.link_meaning.specs.laws.ReadMembers.{in_at, followed}
 use Rattle.link_program.specs.Linked.{member_at}
@@ -26,7 +26,7 @@ use Rattle.link_program.proofs.RowLaws.{rows_stand}
 
 -- ---- what uses find
 
-one_found : (found : List Found) → use_cause One found ≡ None → length found ≡ 1
+one_found : (found : List FoundDefinition) → use_cause One found ≡ None → length found ≡ 1
 one_found [] e = absurd (nothing e)
   where
     nothing : use_cause One [] ≡ None → ⊥
@@ -37,7 +37,7 @@ one_found (f ∷ g ∷ more) e = absurd (several e)
     several : use_cause One (f ∷ g ∷ more) ≡ None → ⊥
     several e = cc
 
-few_found : (found : List Found) → use_cause Any found ≡ None → length found ≤ 1
+few_found : (found : List FoundDefinition) → use_cause Any found ≡ None → length found ≤ 1
 few_found [] e = omega arith
 few_found (f ∷ []) e = omega arith
 few_found (f ∷ g ∷ more) e = absurd (several e)
@@ -52,7 +52,7 @@ finds_only list place m name at Any e = few_found (finds list place m name) e
 
 -- a use of a member of resolved files finds one definition, or where it may have none one at most
 pub uses_find_only : (list : List Member) (place : ℕ) (m : Member) (u : Use) (name : List ℕ) → IsOfFiles list → member_at list place ≡ Some m → IsIn (uses_of m.segment) u → u.name ≡ name → FindsOnly u.want (finds list place m name)
-unfolding asked
+unfolding all_uses
 uses_find_only list zero m u name of there is same = absurd (nowhere there)
   where
     nowhere : member_at list 0 ≡ Some m → ⊥
@@ -116,7 +116,7 @@ in_input files inputs (suc k) number s are e = by_file (slice_get (map (λ (i : 
         record { bytes = f.0; input = f.1; segments = segments; is_file = f.2; there = e }
 
 -- each member's segment stands in the input with the member's file number
-pub member_in_input : RowsAreLaidOut → (given : Given) (list : List Member) (place : ℕ) (m : Member) → IsProgram given list → member_at list place ≡ Some m → StandsInInput given.inputs m.file m.number m.segment
+pub member_in_input : RowsAreLaidOut → (given : LinkInput) (list : List Member) (place : ℕ) (m : Member) → IsProgram given list → member_at list place ≡ Some m → StandsInInput given.inputs m.file m.number m.segment
 member_in_input law given list zero m is there = absurd (nowhere there)
   where
     nowhere : member_at list 0 ≡ Some m → ⊥
@@ -131,12 +131,12 @@ member_in_input law given list (suc k) m is there =
     by_part : IsIn (objects is.setting is.inputs) m ⊎ IsIn is.linked.added m → IsAmong files m
     by_part (inl object) = objects_among is.setting files is.inputs refl m object
     by_part (inr added) =
-        let o = followed (offers is.setting is.inputs) (objects is.setting is.inputs) is.linked.added m is.linked.follow added in
+        let o = followed (library_offers is.setting is.inputs) (objects is.setting is.inputs) is.linked.added m is.linked.follow added in
         subst (IsAmong files) o.member (offers_among is.setting files is.inputs refl (inputs_sound law given.inputs is.inputs is.are_inputs) o.offer o.among)
 
 -- and so does what a view of it shows
 pub shown_in_input : {V : Type 0} → RowsAreLaidOut → (list : List Member) (place : ℕ) (show : V → Segment) (view : Option V) → option_map show view ≡ option_map (λ m. m.segment) (member_at list place)
-    → IfSome view (λ v. (given : Given) (m : Member) → IsResolved given list → member_at list place ≡ Some m → StandsInInput given.inputs m.file m.number (show v))
+    → IfSome view (λ v. (given : LinkInput) (m : Member) → IsResolved given list → member_at list place ≡ Some m → StandsInInput given.inputs m.file m.number (show v))
 shown_in_input law list place show None e = tt
 shown_in_input law list place show (Some v) e = λ given m is there.
     let same : m.segment ≡ show v = one m.segment (show v) (sym (ap (option_map (λ (x : Member). x.segment)) there) ∙ sym e) in

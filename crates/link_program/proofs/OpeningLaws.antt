@@ -16,11 +16,11 @@ use Rattle.link_meaning.specs.declared.search.Step.TheVariants.{Within, OfUnit, 
 use Rattle.link_meaning.specs.declared.search.Want.{Want}
 use Rattle.link_meaning.specs.declared.search.Want.TheVariants as wants
 use Rattle.link_meaning.specs.Uses.{Use, uses_of, usings_of}
-use Rattle.link_meaning.specs.Search.{Found, step_for, is_step, sees, or_else, decided, outer_steps, steps_of, used_data, entries, data_titles, named, outside, finds_inside, finds, finds_data, only_place}
-use Rattle.link_meaning.specs.LinkedList.{Asked, asked_from, asked, row_for, found_for, unless_found}
+use Rattle.link_meaning.specs.Search.{FoundDefinition, step_for, is_step, is_seen_by_step, or_else, first_step_found, outer_steps, steps_of, used_data, entries, data_titles, with_this_name, outside, finds_inside, finds, finds_data, only_place}
+use Rattle.link_meaning.specs.LinkedList.{PlacedUse, asked_from, all_uses, row_for, found_for, unless_found}
 use Rattle.link_meaning.specs.laws.ProgressLaws.{AllNone, none_decided}
-use Rattle.link_tables.specs.declared.names.Outcome.{Outcome}
-use Rattle.link_tables.specs.declared.names.Outcome.TheVariants.{One}
+use Rattle.link_tables.specs.declared.names.Matches.{Matches}
+use Rattle.link_tables.specs.declared.names.Matches.TheVariants.{One}
 use Rattle.link_program.specs.Linked.{SeesPlace}
 use Rattle.link_program.specs.Opening.{OpensNothing}
 use Rattle.link_program.specs.Wanted.{wanted_at, WantsNothing}
@@ -31,28 +31,28 @@ use Rattle.link_program.proofs.LinkedLaws.{entries_from-snoc, asked_from-snoc, u
 
 -- ---- steps
 
-none_at : (steps : List Step) (all : List Found) (s : Step) → AllNone steps all → IsIn steps s → filter (sees s) all ≡ []
+none_at : (steps : List Step) (all : List FoundDefinition) (s : Step) → AllNone steps all → IsIn steps s → filter (is_seen_by_step s) all ≡ []
 none_at [] all s none is = absurd is
-none_at (x ∷ steps) all s none (inl e) = subst (λ (y : Step). filter (sees y) all ≡ []) e none.0
+none_at (x ∷ steps) all s none (inl e) = subst (λ (y : Step). filter (is_seen_by_step y) all ≡ []) e none.0
 none_at (x ∷ steps) all s none (inr is) = none_at steps all s none.1 is
 
-none_from : (steps : List Step) (all : List Found) → ((s : Step) → IsIn steps s → filter (sees s) all ≡ []) → decided steps all ≡ []
+none_from : (steps : List Step) (all : List FoundDefinition) → ((s : Step) → IsIn steps s → filter (is_seen_by_step s) all ≡ []) → first_step_found steps all ≡ []
 none_from [] all each = refl
-none_from (x ∷ steps) all each = ap (λ (l : List Found). or_else l (decided steps all)) (each x (inl refl)) ∙ none_from steps all (λ s is. each s (inr is))
+none_from (x ∷ steps) all each = ap (λ (l : List FoundDefinition). or_else l (first_step_found steps all)) (each x (inl refl)) ∙ none_from steps all (λ s is. each s (inr is))
 
 front_empty : {A : Type 0} → (xs ys : List A) → xs ++ ys ≡ [] → xs ≡ []
 front_empty [] ys e = refl
 front_empty (x ∷ xs) ys e = absurd cc
 
 -- what more steps don't find among more, fewer don't find among fewer
-none_before : (steps steps' : List Step) (xs ys : List Found) → ((s : Step) → IsIn steps s → IsIn steps' s) → decided steps' (xs ++ ys) ≡ [] → decided steps xs ≡ []
+none_before : (steps steps' : List Step) (xs ys : List FoundDefinition) → ((s : Step) → IsIn steps s → IsIn steps' s) → first_step_found steps' (xs ++ ys) ≡ [] → first_step_found steps xs ≡ []
 none_before steps steps' xs ys more e =
     let none = none_decided steps' (xs ++ ys) e in
-    none_from steps xs (λ s is. front_empty (filter (sees s) xs) (filter (sees s) ys) (sym (filter-append (sees s) xs ys) ∙ none_at steps' (xs ++ ys) s none (more s is)))
+    none_from steps xs (λ s is. front_empty (filter (is_seen_by_step s) xs) (filter (is_seen_by_step s) ys) (sym (filter-append (is_seen_by_step s) xs ys) ∙ none_at steps' (xs ++ ys) s none (more s is)))
 
-named-append : (name : List ℕ) (xs ys : List Found) → named name (xs ++ ys) ≡ named name xs ++ named name ys
-unfolding named
-named-append name xs ys = filter-append (λ (f : Found). bytes_eq name f.definition.name) xs ys
+named-append : (name : List ℕ) (xs ys : List FoundDefinition) → with_this_name name (xs ++ ys) ≡ with_this_name name xs ++ with_this_name name ys
+unfolding with_this_name
+named-append name xs ys = filter-append (λ (f : FoundDefinition). bytes_eq name f.definition.name) xs ys
 
 -- ---- data segments by their names
 
@@ -68,8 +68,8 @@ data_before : (list : List Member) (m u : Member) (name : List ℕ) → finds_da
 unfolding finds_data
 data_before list m u name e =
     let more = founds_in (1 + length list) m (data_title_of m.segment) in
-    none_before (outer_steps u) (outer_steps u) (named name (data_titles list)) (named name more) (λ s is. is)
-    (sym (ap (λ (l : List Found). decided (outer_steps u) l) (ap (named name) (titles_more list m) ∙ named-append name (data_titles list) more)) ∙ e)
+    none_before (outer_steps u) (outer_steps u) (with_this_name name (data_titles list)) (with_this_name name more) (λ s is. is)
+    (sym (ap (λ (l : List FoundDefinition). first_step_found (outer_steps u) l) (ap (with_this_name name) (titles_more list m) ∙ named-append name (data_titles list) more)) ∙ e)
 
 -- a unit's step sees what is private of the unit
 unit_step : (u m : Member) (p : ℕ) (scope : Scope) → is_step (OfUnit u.file u.from) (step_for p m.file m.from scope) ≡ true → (u.file ≡ m.file) × (u.from ≡ m.from)
@@ -79,53 +79,53 @@ unit_step u m p ForUnit e =
     (eqb-true u.file m.file parts.0, eqb-true u.from m.from parts.1)
 unit_step u m p ForAll e = absurd cc
 
-or_nothing : (b : List Found) → or_else b [] ≡ b
+or_nothing : (b : List FoundDefinition) → or_else b [] ≡ b
 or_nothing [] = refl
 or_nothing (f ∷ b) = refl
 
-never_one : (found : List Found) (n : ℕ) → only_place found ≡ [] → IsIn (only_place found) n → ⊥
+never_one : (found : List FoundDefinition) (n : ℕ) → only_place found ≡ [] → IsIn (only_place found) n → ⊥
 never_one found n none is = subst (λ (l : List ℕ). IsIn l n) none is
 
 -- what the unit has stays, and what all see wasn't one
-public_stays : (a a' b b' : List Found) (n : ℕ) → a' ≡ a → only_place b ≡ [] → IsIn (only_place (or_else a (or_else b []))) n → IsIn (only_place (or_else a' (or_else b' []))) n
-public_stays [] a' b b' n same none is = absurd (never_one b n none (subst (λ (l : List Found). IsIn (only_place l) n) (or_nothing b) is))
-public_stays (f ∷ a) a' b b' n same none is = subst (λ (l : List Found). IsIn (only_place (or_else l (or_else b' []))) n) (sym same) is
+public_stays : (a a' b b' : List FoundDefinition) (n : ℕ) → a' ≡ a → only_place b ≡ [] → IsIn (only_place (or_else a (or_else b []))) n → IsIn (only_place (or_else a' (or_else b' []))) n
+public_stays [] a' b b' n same none is = absurd (never_one b n none (subst (λ (l : List FoundDefinition). IsIn (only_place l) n) (or_nothing b) is))
+public_stays (f ∷ a) a' b b' n same none is = subst (λ (l : List FoundDefinition). IsIn (only_place (or_else l (or_else b' []))) n) (sym same) is
 
 -- one more that a step doesn't see
-unseen : (s : Step) (f : Found) (xs : List Found) → sees s f ≡ false → filter (sees s) (xs ++ f ∷ []) ≡ filter (sees s) xs
+unseen : (s : Step) (f : FoundDefinition) (xs : List FoundDefinition) → is_seen_by_step s f ≡ false → filter (is_seen_by_step s) (xs ++ f ∷ []) ≡ filter (is_seen_by_step s) xs
 unseen s f xs hidden =
-    filter-append (sees s) xs (f ∷ []) ∙ ap (λ (t : Bool). filter (sees s) xs ++ (if t then f ∷ [] else [])) hidden ∙ append-nil (filter (sees s) xs)
+    filter-append (is_seen_by_step s) xs (f ∷ []) ∙ ap (λ (t : Bool). filter (is_seen_by_step s) xs ++ (if t then f ∷ [] else [])) hidden ∙ append-nil (filter (is_seen_by_step s) xs)
 
 -- one more public title of a name, of which all saw none or several
-all_stays : (u : Member) (f : Found) (xs : List Found) (n : ℕ) → f.definition.scope ≡ ForAll → only_place (filter (sees Everyone) xs) ≡ []
-    → IsIn (only_place (decided (outer_steps u) xs)) n → IsIn (only_place (decided (outer_steps u) (xs ++ f ∷ []))) n
+all_stays : (u : Member) (f : FoundDefinition) (xs : List FoundDefinition) (n : ℕ) → f.definition.scope ≡ ForAll → only_place (filter (is_seen_by_step Everyone) xs) ≡ []
+    → IsIn (only_place (first_step_found (outer_steps u) xs)) n → IsIn (only_place (first_step_found (outer_steps u) (xs ++ f ∷ []))) n
 all_stays u f xs n scope none is =
     let unit = OfUnit u.file u.from in
-    let hidden : sees unit f ≡ false = ap (λ (c : Scope). is_step unit (step_for f.place f.member.file f.member.from c)) scope in
-    public_stays (filter (sees unit) xs) (filter (sees unit) (xs ++ f ∷ [])) (filter (sees Everyone) xs) (filter (sees Everyone) (xs ++ f ∷ [])) n (unseen unit f xs hidden) none is
+    let hidden : is_seen_by_step unit f ≡ false = ap (λ (c : Scope). is_step unit (step_for f.place f.member.file f.member.from c)) scope in
+    public_stays (filter (is_seen_by_step unit) xs) (filter (is_seen_by_step unit) (xs ++ f ∷ [])) (filter (is_seen_by_step Everyone) xs) (filter (is_seen_by_step Everyone) (xs ++ f ∷ [])) n (unseen unit f xs hidden) none is
 
 -- one more private title of a name, of which its unit found none or several
-unit_stays : (u m : Member) (f : Found) (xs : List Found) (n : ℕ) → f.member ≡ m → f.definition.scope ≡ ForUnit → only_place (decided (outer_steps m) xs) ≡ []
-    → IsIn (only_place (decided (outer_steps u) xs)) n → IsIn (only_place (decided (outer_steps u) (xs ++ f ∷ []))) n
-unit_stays u m f xs n of scope none is = settle (sees (OfUnit u.file u.from) f) refl
+unit_stays : (u m : Member) (f : FoundDefinition) (xs : List FoundDefinition) (n : ℕ) → f.member ≡ m → f.definition.scope ≡ ForUnit → only_place (first_step_found (outer_steps m) xs) ≡ []
+    → IsIn (only_place (first_step_found (outer_steps u) xs)) n → IsIn (only_place (first_step_found (outer_steps u) (xs ++ f ∷ []))) n
+unit_stays u m f xs n of scope none is = settle (is_seen_by_step (OfUnit u.file u.from) f) refl
   where
-    settle : (t : Bool) → sees (OfUnit u.file u.from) f ≡ t → IsIn (only_place (decided (outer_steps u) (xs ++ f ∷ []))) n
+    settle : (t : Bool) → is_seen_by_step (OfUnit u.file u.from) f ≡ t → IsIn (only_place (first_step_found (outer_steps u) (xs ++ f ∷ []))) n
     settle true e =
         let same = unit_step u f.member f.place f.definition.scope e in
         let file : u.file ≡ m.file = same.0 ∙ ap (λ (y : Member). y.file) of in
         let from : u.from ≡ m.from = same.1 ∙ ap (λ (y : Member). y.from) of in
         let steps : outer_steps u ≡ outer_steps m =
         ap (λ (x : ℕ). OfUnit x u.from ∷ Everyone ∷ []) file ∙ ap (λ (x : ℕ). OfUnit m.file x ∷ Everyone ∷ []) from in
-        absurd (never_one (decided (outer_steps m) xs) n none (subst (λ (l : List Step). IsIn (only_place (decided l xs)) n) steps is))
+        absurd (never_one (first_step_found (outer_steps m) xs) n none (subst (λ (l : List Step). IsIn (only_place (first_step_found l xs)) n) steps is))
     settle false e =
-        let every : sees Everyone f ≡ false = ap (λ (c : Scope). is_step Everyone (step_for f.place f.member.file f.member.from c)) scope in
-        let same : decided (outer_steps u) (xs ++ f ∷ []) ≡ decided (outer_steps u) xs =
-        ap (λ (l : List Found). or_else l (or_else (filter (sees Everyone) (xs ++ f ∷ [])) [])) (unseen (OfUnit u.file u.from) f xs e)
-        ∙ ap (λ (l : List Found). or_else (filter (sees (OfUnit u.file u.from)) xs) (or_else l [])) (unseen Everyone f xs every) in
-        subst (λ (l : List Found). IsIn (only_place l) n) (sym same) is
+        let every : is_seen_by_step Everyone f ≡ false = ap (λ (c : Scope). is_step Everyone (step_for f.place f.member.file f.member.from c)) scope in
+        let same : first_step_found (outer_steps u) (xs ++ f ∷ []) ≡ first_step_found (outer_steps u) xs =
+        ap (λ (l : List FoundDefinition). or_else l (or_else (filter (is_seen_by_step Everyone) (xs ++ f ∷ [])) [])) (unseen (OfUnit u.file u.from) f xs e)
+        ∙ ap (λ (l : List FoundDefinition). or_else (filter (is_seen_by_step (OfUnit u.file u.from)) xs) (or_else l [])) (unseen Everyone f xs every) in
+        subst (λ (l : List FoundDefinition). IsIn (only_place l) n) (sym same) is
 
-one_named : (name : List ℕ) (f : Found) (t : Bool) → bytes_eq name f.definition.name ≡ t → named name (f ∷ []) ≡ (if t then f ∷ [] else [])
-unfolding named
+one_named : (name : List ℕ) (f : FoundDefinition) (t : Bool) → bytes_eq name f.definition.name ≡ t → with_this_name name (f ∷ []) ≡ (if t then f ∷ [] else [])
+unfolding with_this_name
 one_named name f t e = ap (λ (b : Bool). if b then f ∷ [] else []) e
 
 -- a member without a title
@@ -134,44 +134,44 @@ unfolding finds_data
 none_titled_opens list m none u name n is =
     let same : data_titles (list ++ m ∷ []) ≡ data_titles list =
     titles_more list m ∙ ap (λ (ds : List Definition). data_titles list ++ founds_in (1 + length list) m ds) none ∙ append-nil (data_titles list) in
-    subst (λ (l : List Found). IsIn (only_place (decided (outer_steps u) (named name l))) n) (sym same) is
+    subst (λ (l : List FoundDefinition). IsIn (only_place (first_step_found (outer_steps u) (with_this_name name l))) n) (sym same) is
 
 -- what the search for a title's name finds with the title behind the others
 abbrev Stays : List Member → Member → Definition → Type 0
-Stays list m d = (u : Member) (n : ℕ) → IsIn (only_place (decided (outer_steps u) (named d.name (data_titles list)))) n
-    → IsIn (only_place (decided (outer_steps u) (named d.name (data_titles list) ++ record { place = 1 + length list; member = m; definition = d } ∷ []))) n
+Stays list m d = (u : Member) (n : ℕ) → IsIn (only_place (first_step_found (outer_steps u) (with_this_name d.name (data_titles list)))) n
+    → IsIn (only_place (first_step_found (outer_steps u) (with_this_name d.name (data_titles list) ++ record { place = 1 + length list; member = m; definition = d } ∷ []))) n
 
 title_stays : (list : List Member) (m : Member) (d : Definition) → data_title_of m.segment ≡ d ∷ [] → Stays list m d → OpensNothing list m
 unfolding finds_data
 title_stays list m d title stays u name n is = by_name (bytes_eq name d.name) refl
   where
-    f : Found
+    f : FoundDefinition
     f = record { place = 1 + length list; member = m; definition = d }
 
-    whole : named name (data_titles (list ++ m ∷ [])) ≡ named name (data_titles list) ++ named name (f ∷ [])
-    whole = ap (named name) (titles_more list m ∙ ap (λ (ds : List Definition). data_titles list ++ founds_in (1 + length list) m ds) title) ∙ named-append name (data_titles list) (f ∷ [])
+    whole : with_this_name name (data_titles (list ++ m ∷ [])) ≡ with_this_name name (data_titles list) ++ with_this_name name (f ∷ [])
+    whole = ap (with_this_name name) (titles_more list m ∙ ap (λ (ds : List Definition). data_titles list ++ founds_in (1 + length list) m ds) title) ∙ named-append name (data_titles list) (f ∷ [])
 
-    by_name : (t : Bool) → bytes_eq name d.name ≡ t → IsIn (only_place (decided (outer_steps u) (named name (data_titles (list ++ m ∷ []))))) n
+    by_name : (t : Bool) → bytes_eq name d.name ≡ t → IsIn (only_place (first_step_found (outer_steps u) (with_this_name name (data_titles (list ++ m ∷ []))))) n
     by_name true e =
         let same : d.name ≡ name = sym (bytes_same name d.name e) in
-        let more : IsIn (only_place (decided (outer_steps u) (named name (data_titles list) ++ f ∷ []))) n =
-        subst (λ (x : List ℕ). IsIn (only_place (decided (outer_steps u) (named x (data_titles list) ++ f ∷ []))) n) same
-        (stays u n (subst (λ (x : List ℕ). IsIn (only_place (decided (outer_steps u) (named x (data_titles list)))) n) (sym same) is)) in
-        subst (λ (l : List Found). IsIn (only_place (decided (outer_steps u) l)) n) (sym (whole ∙ ap (λ (l : List Found). named name (data_titles list) ++ l) (one_named name f true e))) more
+        let more : IsIn (only_place (first_step_found (outer_steps u) (with_this_name name (data_titles list) ++ f ∷ []))) n =
+        subst (λ (x : List ℕ). IsIn (only_place (first_step_found (outer_steps u) (with_this_name x (data_titles list) ++ f ∷ []))) n) same
+        (stays u n (subst (λ (x : List ℕ). IsIn (only_place (first_step_found (outer_steps u) (with_this_name x (data_titles list)))) n) (sym same) is)) in
+        subst (λ (l : List FoundDefinition). IsIn (only_place (first_step_found (outer_steps u) l)) n) (sym (whole ∙ ap (λ (l : List FoundDefinition). with_this_name name (data_titles list) ++ l) (one_named name f true e))) more
     by_name false e =
-        subst (λ (l : List Found). IsIn (only_place (decided (outer_steps u) l)) n) (sym (whole ∙ ap (λ (l : List Found). named name (data_titles list) ++ l) (one_named name f false e) ∙ append-nil (named name (data_titles list)))) is
+        subst (λ (l : List FoundDefinition). IsIn (only_place (first_step_found (outer_steps u) l)) n) (sym (whole ∙ ap (λ (l : List FoundDefinition). with_this_name name (data_titles list) ++ l) (one_named name f false e) ∙ append-nil (with_this_name name (data_titles list)))) is
 
 -- a member whose title is beside none or several, or hides none or several
-pub titled_opens : (list : List Member) (m : Member) (d : Definition) (private : Bool) (o : Outcome) → data_title_of m.segment ≡ d ∷ [] → d.scope ≡ outer_scope private
-    → (private ≡ true → SeesPlace (finds_data list m d.name) o) → (private ≡ false → SeesPlace (filter (sees Everyone) (named d.name (data_titles list))) o)
+pub titled_opens : (list : List Member) (m : Member) (d : Definition) (private : Bool) (o : Matches) → data_title_of m.segment ≡ d ∷ [] → d.scope ≡ outer_scope private
+    → (private ≡ true → SeesPlace (finds_data list m d.name) o) → (private ≡ false → SeesPlace (filter (is_seen_by_step Everyone) (with_this_name d.name (data_titles list))) o)
     → ((n : ℕ) → o ≡ One n → ⊥) → OpensNothing list m
 unfolding finds_data
 titled_opens list m d true o title scope own every other =
-    title_stays list m d title (λ u n is. unit_stays u m (record { place = 1 + length list; member = m; definition = d }) (named d.name (data_titles list)) n refl scope
-    (no_place (decided (outer_steps m) (named d.name (data_titles list))) o (own refl) other) is)
+    title_stays list m d title (λ u n is. unit_stays u m (record { place = 1 + length list; member = m; definition = d }) (with_this_name d.name (data_titles list)) n refl scope
+    (no_place (first_step_found (outer_steps m) (with_this_name d.name (data_titles list))) o (own refl) other) is)
 titled_opens list m d false o title scope own every other =
-    title_stays list m d title (λ u n is. all_stays u (record { place = 1 + length list; member = m; definition = d }) (named d.name (data_titles list)) n scope
-    (no_place (filter (sees Everyone) (named d.name (data_titles list))) o (every refl) other) is)
+    title_stays list m d title (λ u n is. all_stays u (record { place = 1 + length list; member = m; definition = d }) (with_this_name d.name (data_titles list)) n scope
+    (no_place (filter (is_seen_by_step Everyone) (with_this_name d.name (data_titles list))) o (every refl) other) is)
 
 -- ---- names
 
@@ -232,24 +232,24 @@ inside_before : (list : List Member) (m u : Member) (place : ℕ) (name : List �
 unfolding finds_inside
 inside_before list m u place name opens e =
     let more = founds_in (1 + length list) m (defined_in m.segment) in
-    none_before (steps_of list place u) (steps_of (list ++ m ∷ []) place u) (named name (entries list)) (named name more) (λ s is. steps_stay list m u place s opens is)
-    (sym (ap (λ (l : List Found). decided (steps_of (list ++ m ∷ []) place u) l) (ap (named name) (entries_more list m) ∙ named-append name (entries list) more)) ∙ e)
+    none_before (steps_of list place u) (steps_of (list ++ m ∷ []) place u) (with_this_name name (entries list)) (with_this_name name more) (λ s is. steps_stay list m u place s opens is)
+    (sym (ap (λ (l : List FoundDefinition). first_step_found (steps_of (list ++ m ∷ []) place u) l) (ap (with_this_name name) (entries_more list m) ∙ named-append name (entries list) more)) ∙ e)
 
-both_nothing : (xs ys : List Found) → or_else xs ys ≡ [] → (xs ≡ []) × (ys ≡ [])
+both_nothing : (xs ys : List FoundDefinition) → or_else xs ys ≡ [] → (xs ≡ []) × (ys ≡ [])
 both_nothing [] ys e = (refl, e)
 both_nothing (x ∷ xs) ys e = absurd cc
 
 -- no member behind the others changes the setting, and without members there is no run-time library file
-outside_before : (list : List Member) (m : Member) (name : List ℕ) → named name (outside (setting_in (list ++ m ∷ []))) ≡ [] → named name (outside (setting_in list)) ≡ []
-unfolding named outside
+outside_before : (list : List Member) (m : Member) (name : List ℕ) → with_this_name name (outside (setting_in (list ++ m ∷ []))) ≡ [] → with_this_name name (outside (setting_in list)) ≡ []
+unfolding with_this_name outside
 outside_before [] m name e = refl
 outside_before (x ∷ list) m name e = e
 
 finds_before : (list : List Member) (m u : Member) (place : ℕ) (name : List ℕ) → OpensNothing list m → finds (list ++ m ∷ []) place u name ≡ [] → finds list place u name ≡ []
 unfolding finds
 finds_before list m u place name opens e =
-    let both = both_nothing (finds_inside (list ++ m ∷ []) place u name) (named name (outside (setting_in (list ++ m ∷ [])))) e in
-    ap (λ (l : List Found). or_else l (named name (outside (setting_in list)))) (inside_before list m u place name opens both.0) ∙ outside_before list m name both.1
+    let both = both_nothing (finds_inside (list ++ m ∷ []) place u name) (with_this_name name (outside (setting_in (list ++ m ∷ [])))) e in
+    ap (λ (l : List FoundDefinition). or_else l (with_this_name name (outside (setting_in list)))) (inside_before list m u place name opens both.0) ∙ outside_before list m name both.1
 
 -- ---- uses
 
@@ -261,11 +261,11 @@ found_before list m u place wants.Data name at opens e = data_before list m u na
 found_before list m u place wants.One name at opens e = finds_before list m u place name opens e
 found_before list m u place wants.Any name at opens e = finds_before list m u place name opens e
 
-unless_stays : (found found' : List Found) (row : Option Member) → (found' ≡ [] → found ≡ []) → unless_found found row ≡ None → unless_found found' row ≡ None
-unless_stays found [] row before e = sym (ap (λ (f : List Found). unless_found f row) (before refl)) ∙ e
+unless_stays : (found found' : List FoundDefinition) (row : Option Member) → (found' ≡ [] → found ≡ []) → unless_found found row ≡ None → unless_found found' row ≡ None
+unless_stays found [] row before e = sym (ap (λ (f : List FoundDefinition). unless_found f row) (before refl)) ∙ e
 unless_stays found (f ∷ found') row before e = refl
 
-wants_nothing : (os : List Offer) (list : List Member) (m : Member) (a : Asked) → OpensNothing list m → wanted_at os list a ≡ None → wanted_at os (list ++ m ∷ []) a ≡ None
+wants_nothing : (os : List Offer) (list : List Member) (m : Member) (a : PlacedUse) → OpensNothing list m → wanted_at os list a ≡ None → wanted_at os (list ++ m ∷ []) a ≡ None
 wants_nothing os list m a opens e =
     unless_stays (found_for list a.place a.member a.use') (found_for (list ++ m ∷ []) a.place a.member a.use') (row_for os a.member a.use')
     (found_before list m a.member a.place a.use'.want a.use'.name a.use'.at opens) e
@@ -279,13 +279,13 @@ first_stays {A} {B} f g (x ∷ xs) each e = settle (f x) refl e (λ rest. first_
     settle (Some b) is rest go = absurd cc
 
 -- uses that want nothing want nothing still
-pub nothing_more : (os : List Offer) (list : List Member) (m : Member) (k : ℕ) → OpensNothing list m → k ≤ length (asked list) → WantsNothing os list k → WantsNothing os (list ++ m ∷ []) k
-unfolding asked
+pub nothing_more : (os : List Offer) (list : List Member) (m : Member) (k : ℕ) → OpensNothing list m → k ≤ length (all_uses list) → WantsNothing os list k → WantsNothing os (list ++ m ∷ []) k
+unfolding all_uses
 nothing_more os list m k opens within none =
     let front : take k (asked_from 1 (list ++ m ∷ [])) ≡ take k (asked_from 1 list) =
     ap (take k) (asked_from-snoc 1 list m) ∙ take-append-le k (asked_from 1 list) (uses_at (1 + length list) m (uses_of m.segment)) within in
     ap (first_some (wanted_at os (list ++ m ∷ []))) front ∙ first_stays (wanted_at os list) (wanted_at os (list ++ m ∷ [])) (take k (asked_from 1 list)) (λ a. wants_nothing os list m a opens) none
 
-pub asked_grows : (list : List Member) (m : Member) → length (asked list) ≤ length (asked (list ++ m ∷ []))
-unfolding asked
+pub asked_grows : (list : List Member) (m : Member) → length (all_uses list) ≤ length (all_uses (list ++ m ∷ []))
+unfolding all_uses
 asked_grows list m = omega (arith, ap length (asked_from-snoc 1 list m), length-append (asked_from 1 list) (uses_at (1 + length list) m (uses_of m.segment)))

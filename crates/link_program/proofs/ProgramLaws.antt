@@ -10,17 +10,17 @@ use Rattle.omf_format.specs.Header.{Fields, alignment_of}
 use Rattle.omf_header.specs.View.{fields}
 use Rattle.link_meaning.specs.First.{IsIn}
 use Rattle.lib_dict.specs.declared.member.Member as held
-use Rattle.link_meaning.specs.Member.{RuntimeFile, Setting, Member, setting_in}
+use Rattle.link_meaning.specs.Member.{RuntimeFile, LinkSetting, Member, setting_in}
 use Rattle.link_meaning.specs.laws.SettingLaws.{one_setting}
 use Rattle.link_program.specs.Outside.{IsOutsideOf}
 use Rattle.link_meaning.specs.Layout.{in_load, aligned_from, end_from, load_length, load_names, load_of, offset_of, headers_from, load_headers}
 use Rattle.link_meaning.specs.laws.LayoutLaws.{aligned_from-least, alignment-some}
-use Rattle.link_tables.specs.declared.layout.Place.{Place}
-use Rattle.link_tables.specs.declared.layout.Layout as laid
-use Rattle.link_program.specs.declared.program.Kept.{Kept}
+use Rattle.link_tables.specs.declared.layout.LoadOffset.{LoadOffset}
+use Rattle.link_tables.specs.declared.layout.LinkLayout as laid
+use Rattle.link_program.specs.declared.program.ResolvedProgram.{ResolvedProgram}
 use Rattle.link_program.specs.Linked.{origin_of, Holds, OriginOf, member_at}
 use Rattle.link_program.specs.Files.{segment_in, IsAmong, AllAmong}
-use Rattle.link_tables.specs.Laid.{has, AllShort, Laid}
+use Rattle.link_tables.specs.Laid.{contains_text, AllShort, Laid}
 use Rattle.link_program.specs.OfFiles.{IsOfFiles}
 use Rattle.link_program.specs.Programs.{runtimes_of, setting_of, member_in, list_of, StandsAt, IsKept, linked_at, header_at}
 use Rattle.link_tables.specs.Definitions.{IsOf}
@@ -35,14 +35,14 @@ use Rattle.link_tables.proofs.LayoutFaults.{load_there, length_short}
 
 -- ---- the list
 
-abbrev member_as : Setting → ℕ → ℕ → ℕ → Segment → Member
+abbrev member_as : LinkSetting → ℕ → ℕ → ℕ → Segment → Member
 member_as setting file number from s = record { file = file; number = number; from = from; segment = s; setting = setting }
 
-one_member : (setting : Setting) (files : List (List Segment)) (m : Member) → IsAmong files m → m.setting ≡ setting → member_in setting files (origin_of m) ≡ Some m
+one_member : (setting : LinkSetting) (files : List (List Segment)) (m : Member) → IsAmong files m → m.setting ≡ setting → member_in setting files (origin_of m) ≡ Some m
 one_member setting files m among same =
-    ap (λ (s : Setting). member_in s files (origin_of m)) (sym same) ∙ ap (option_map (member_as m.setting m.file m.number m.from)) among
+    ap (λ (s : LinkSetting). member_in s files (origin_of m)) (sym same) ∙ ap (option_map (member_as m.setting m.file m.number m.from)) among
 
-listed : (setting : Setting) (files : List (List Segment)) (list : List Member) → AllAmong files list → ((m : Member) → IsIn list m → m.setting ≡ setting) → filter_map (member_in setting files) (map origin_of list) ≡ list
+listed : (setting : LinkSetting) (files : List (List Segment)) (list : List Member) → AllAmong files list → ((m : Member) → IsIn list m → m.setting ≡ setting) → filter_map (member_in setting files) (map origin_of list) ≡ list
 listed setting files [] among each = refl
 listed setting files (m ∷ list) among each =
     front (member_in setting files (origin_of m)) (one_member setting files m (among m (inl refl)) (each m (inl refl)))
@@ -58,7 +58,7 @@ each_setting [] is m in' = absurd in'
 each_setting (x ∷ list) is m in' =
     one_setting is.given (x ∷ list) is.resolved.program m in' ∙ sym (one_setting is.given (x ∷ list) is.resolved.program x (inl refl))
 
-pub list_is : (list : List Member) (kept : Kept) → IsKept list kept → list_of kept ≡ list
+pub list_is : (list : List Member) (kept : ResolvedProgram) → IsKept list kept → list_of kept ≡ list
 list_is list kept is =
     ap (filter_map (member_in (setting_of kept) kept.files.items)) is.holds.members
     ∙ listed (setting_of kept) kept.files.items list is.among (λ m in'. each_setting list is.of_files m in' ∙ sym is.setting)
@@ -104,18 +104,18 @@ record HasIndex (x : List ℕ) (xs : List (List ℕ)) : Type 0 where
   i : ℕ
   at : slice_get xs i ≡ Some x
 
-has_index : (x : List ℕ) (xs : List (List ℕ)) → has x xs ≡ true → HasIndex x xs
+has_index : (x : List ℕ) (xs : List (List ℕ)) → contains_text x xs ≡ true → HasIndex x xs
 has_index x [] e = let clash : false ≡ true = e in absurd cc
 has_index x (y ∷ xs) e = settle (bytes_eq y x) refl e (λ more. has_index x xs more)
   where
     some : List ℕ → Option (List ℕ)
     some z = Some z
 
-    settle : (b : Bool) → bytes_eq y x ≡ b → (b || has x xs) ≡ true → (has x xs ≡ true → HasIndex x xs) → HasIndex x (y ∷ xs)
+    settle : (b : Bool) → bytes_eq y x ≡ b → (b || contains_text x xs) ≡ true → (contains_text x xs ≡ true → HasIndex x xs) → HasIndex x (y ∷ xs)
     settle true is e go = record { i = 0; at = ap some (bytes_same y x is) }
     settle false is e go = let rest = go e in record { i = suc rest.i; at = rest.at }
 
-stands_at : (list : List Member) (layout : laid.Layout) (k : ℕ) (m : Member) (place : Place) → Laid list layout → AllShort layout.loads.items → length (load_names list) ≤ 254 → slice_get list k ≡ Some m → slice_get layout.places.items k ≡ Some place → StandsAt list k m place
+stands_at : (list : List Member) (layout : laid.LinkLayout) (k : ℕ) (m : Member) (place : LoadOffset) → Laid list layout → AllShort layout.loads.items → length (load_names list) ≤ 254 → slice_get list k ≡ Some m → slice_get layout.places.items k ≡ Some place → StandsAt list k m place
 unfolding load_of
 stands_at list layout k m place laid short few at there =
     let x = m.segment.fields.load_name in
@@ -144,7 +144,7 @@ headers-length : (list : List Member) → length (load_headers list) ≡ length 
 unfolding load_headers
 headers-length list = headers-from-length list 1 (load_names list)
 
-pub kept_is : (list : List Member) (kept : Kept) (layout : laid.Layout) → Holds list kept.linked → AllAmong kept.files.items list → length list < 2 ^ 32 → Laid list layout → AllShort layout.loads.items
+pub kept_is : (list : List Member) (kept : ResolvedProgram) (layout : laid.LinkLayout) → Holds list kept.linked → AllAmong kept.files.items list → length list < 2 ^ 32 → Laid list layout → AllShort layout.loads.items
     → length (load_names list) ≤ 254 → kept.places.items ≡ layout.places.items → map fields kept.headers.items ≡ load_headers list → setting_of kept ≡ setting_in list → IsOutsideOf list kept.outside
     → length kept.runtimes.items ≡ length kept.given.now → length kept.given.now < 2 ^ 32 → IsOfFiles list → IsKept list kept
 kept_is list kept layout holds among short laid lengths few places headers setting table read few_runtimes of_files = record {
@@ -153,7 +153,7 @@ kept_is list kept layout holds among short laid lengths few places headers setti
   few = short;
   loads = omega (arith, few, ap length headers, length-map kept.headers.items fields, headers-length list);
   count = ap length places ∙ laid.count;
-  places = λ k m place at there. stands_at list layout k m place laid lengths few at (ap (λ (l : List Place). slice_get l k) (sym places) ∙ there);
+  places = λ k m place at there. stands_at list layout k m place laid lengths few at (ap (λ (l : List LoadOffset). slice_get l k) (sym places) ∙ there);
   headers = headers;
   setting = setting;
   table = table;
@@ -203,7 +203,7 @@ segment_told files list place origin told among =
 pub member_told : (list : List Member) (place : ℕ) (origin : Origin) (told : IsTold list place origin) → member_at list place ≡ Some told.member
 member_told list place origin told = ap (member_at list) told.place' ∙ told.at
 
-pub linked_told : (list : List Member) (place : ℕ) (origin : Origin) (told : IsTold list place origin) (stands : Place) → StandsAt list told.k told.member stands
+pub linked_told : (list : List Member) (place : ℕ) (origin : Origin) (told : IsTold list place origin) (stands : LoadOffset) → StandsAt list told.k told.member stands
     → Some (record { file = origin.file; segment = origin.segment; load_segment = stands.load + 1; offset = stands.offset }) ≡ linked_at list place
 linked_told list place origin told stands at =
     let same : told.k + 1 ≡ place = omega (arith, told.place') in
@@ -231,7 +231,7 @@ no_view files list place origin told among is =
     let clash : None ≡ some told.member.segment = is ∙ segment_told files list place origin told among in
     cc
 
-pub laid_more : (files : List (List Segment)) (list : List Member) (k : ℕ) (origin : Origin) (s : Segment) (old new : laid.Layout) (told : IsTold list (k + 1) origin) → AllAmong files list → Some s ≡ segment_in files origin.file origin.segment → Laid (take k list) old
+pub laid_more : (files : List (List Segment)) (list : List Member) (k : ℕ) (origin : Origin) (s : Segment) (old new : laid.LinkLayout) (told : IsTold list (k + 1) origin) → AllAmong files list → Some s ≡ segment_in files origin.file origin.segment → Laid (take k list) old
     → ((before : List Member) (m : Member) → IsOf m origin → m.segment ≡ s → Laid before old → Laid (before ++ m ∷ []) new) → Laid (take (k + 1) list) new
 laid_more files list k origin s old new told among is laid add =
     let same : told.k ≡ k = omega (arith, told.place') in

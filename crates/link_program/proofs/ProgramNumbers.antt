@@ -5,7 +5,7 @@ use Rattle.std.specs.List.{AllByRecursion}
 use Rattle.std.proofs.lemmas.Bool.{ne_eqb}
 use Rattle.link_meaning.specs.First.{IsIn}
 use Rattle.link_meaning.specs.Member.{Member, setting_in}
-use Rattle.link_meaning.specs.Search.{Found, entries, outside, finds}
+use Rattle.link_meaning.specs.Search.{FoundDefinition, entries, outside, finds}
 use Rattle.link_meaning.specs.Layout.{load_of, offset_of}
 use Rattle.link_meaning.specs.laws.PlaceFits.{entry_there}
 use Rattle.link_tables.specs.Listed.{ToldDefinition}
@@ -20,12 +20,12 @@ use Rattle.link_program.specs.Programs.{ToldSymbol, told_symbol, linked_at}
 
 -- ---- places of a list
 
-get_front : (xs ys : List Found) (k : ℕ) → k < length xs → slice_get (xs ++ ys) k ≡ slice_get xs k
+get_front : (xs ys : List FoundDefinition) (k : ℕ) → k < length xs → slice_get (xs ++ ys) k ≡ slice_get xs k
 get_front [] ys k less = absurd (omega (arith, less))
 get_front (x ∷ xs) ys zero less = refl
 get_front (x ∷ xs) ys (suc k) less = get_front xs ys k (omega (arith, less))
 
-get_behind : (xs ys : List Found) (k : ℕ) → slice_get (xs ++ ys) (length xs + k) ≡ slice_get ys k
+get_behind : (xs ys : List FoundDefinition) (k : ℕ) → slice_get (xs ++ ys) (length xs + k) ≡ slice_get ys k
 get_behind [] ys k = let same : 0 + k ≡ k = omega arith in ap (slice_get ys) same
 get_behind (x ∷ xs) ys k = let same : suc (length xs) + k ≡ suc (length xs + k) = omega arith in ap (slice_get (x ∷ xs ++ ys)) same ∙ get_behind xs ys k
 
@@ -40,11 +40,11 @@ outside_at list count k is le =
 
 -- ---- an entry's place names its member
 
-in_list : (fs : List Found) (k : ℕ) (f : Found) → slice_get fs k ≡ Some f → IsIn fs f
+in_list : (fs : List FoundDefinition) (k : ℕ) (f : FoundDefinition) → slice_get fs k ≡ Some f → IsIn fs f
 in_list [] k f e = absurd cc
 in_list (g ∷ fs) zero f e = inl (same g f e)
   where
-    same : (x y : Found) → Some x ≡ Some y → x ≡ y
+    same : (x y : FoundDefinition) → Some x ≡ Some y → x ≡ y
     same x y e = cc
 in_list (g ∷ fs) (suc k) f e = inr (in_list fs k f e)
 
@@ -52,12 +52,12 @@ get_parts : (front : List Member) (m : Member) (back : List Member) → slice_ge
 get_parts [] m back = refl
 get_parts (o ∷ front) m back = get_parts front m back
 
-record HasPlace (list : List Member) (f : Found) : Type 0 where
+record HasPlace (list : List Member) (f : FoundDefinition) : Type 0 where
   k : ℕ
   number : f.place ≡ suc k
   there : member_at list f.place ≡ Some f.member
 
-entry_place : (list : List Member) (k : ℕ) (f : Found) → slice_get (entries list) k ≡ Some f → HasPlace list f
+entry_place : (list : List Member) (k : ℕ) (f : FoundDefinition) → slice_get (entries list) k ≡ Some f → HasPlace list f
 entry_place list k f at =
     let is = entry_there list f (in_list (entries list) k f at) in
     let next : f.place ≡ suc (length is.front) = omega (arith, is.number) in
@@ -87,7 +87,7 @@ inside_symbol d load = record { member = d.member; file = 1; segment = load; at 
 some_same : {A : Type 0} → (x y : A) → Some x ≡ Some y → x ≡ y
 some_same x y e = cc
 
-abbrev by_test : List Member → Found → Bool → ToldSymbol
+abbrev by_test : List Member → FoundDefinition → Bool → ToldSymbol
 by_test list f b = record {
   member = f.place;
   file = cond b f.member.file 1;
@@ -98,7 +98,7 @@ by_test list f b = record {
   form = f.definition.form;
 }
 
-inside_is : (list : List Member) (f : Found) → HasPlace list f → inside_symbol (told_definition f) (load_of list f.member) ≡ told_symbol list f
+inside_is : (list : List Member) (f : FoundDefinition) → HasPlace list f → inside_symbol (told_definition f) (load_of list f.member) ≡ told_symbol list f
 inside_is list f has =
     let other : eqb f.place 0 ≡ false = ne_eqb f.place 0 (λ (e : f.place ≡ 0). absurd (omega (arith, has.number, e))) in
     sym (ap (by_test list f) other)
@@ -115,7 +115,7 @@ pub member_symbol : (list : List Member) (k : ℕ) (d : ToldDefinition) (lm : Li
     → Some lm ≡ linked_at list d.member → Some (inside_symbol d lm.load_segment) ≡ option_map (told_symbol list) (slice_get (all_found list) k)
 member_symbol list k d lm less told is = by_found (slice_get (entries list) k) refl told
   where
-    by_found : (o : Option Found) → slice_get (entries list) k ≡ o → Some d ≡ option_map told_definition o → Some (inside_symbol d lm.load_segment) ≡ option_map (told_symbol list) (slice_get (all_found list) k)
+    by_found : (o : Option FoundDefinition) → slice_get (entries list) k ≡ o → Some d ≡ option_map told_definition o → Some (inside_symbol d lm.load_segment) ≡ option_map (told_symbol list) (slice_get (all_found list) k)
     by_found None at e = absurd cc
     by_found (Some f) at e =
         let has = entry_place list k f at in
@@ -131,10 +131,10 @@ member_symbol list k d lm less told is = by_found (slice_get (entries list) k) r
 pub no_definition : (list : List Member) (k : ℕ) → k < length (entries list) → None ≡ option_map told_definition (slice_get (entries list) k) → ⊥
 no_definition list k less e = by_found (slice_get (entries list) k) refl e
   where
-    by_found : (o : Option Found) → slice_get (entries list) k ≡ o → None ≡ option_map told_definition o → ⊥
+    by_found : (o : Option FoundDefinition) → slice_get (entries list) k ≡ o → None ≡ option_map told_definition o → ⊥
     by_found None at e = past (entries list) k less at
       where
-        past : (fs : List Found) (n : ℕ) → n < length fs → slice_get fs n ≡ None → ⊥
+        past : (fs : List FoundDefinition) (n : ℕ) → n < length fs → slice_get fs n ≡ None → ⊥
         past [] n less at = omega (arith, less)
         past (g ∷ fs) zero less at = absurd cc
         past (g ∷ fs) (suc n) less at = past fs n (omega (arith, less)) at
@@ -144,7 +144,7 @@ no_definition list k less e = by_found (slice_get (entries list) k) refl e
 pub no_member : (list : List Member) (k : ℕ) (d : ToldDefinition) → Some d ≡ option_map told_definition (slice_get (entries list) k) → None ≡ linked_at list d.member → ⊥
 no_member list k d told is = by_found (slice_get (entries list) k) refl told
   where
-    by_found : (o : Option Found) → slice_get (entries list) k ≡ o → Some d ≡ option_map told_definition o → ⊥
+    by_found : (o : Option FoundDefinition) → slice_get (entries list) k ≡ o → Some d ≡ option_map told_definition o → ⊥
     by_found None at e = absurd cc
     by_found (Some f) at e =
         let has = entry_place list k f at in
@@ -160,7 +160,7 @@ no_member list k d told is = by_found (slice_get (entries list) k) refl told
 abbrev pub outside_symbol : Far → ToldSymbol
 outside_symbol far = record { member = 0; file = far.file; segment = far.segment; at = far.offset; expr = None; length = 0; form = 0x4E }
 
-outside_is : (list : List Member) (f : Found) → IsFar f → outside_symbol (far_of f) ≡ told_symbol list f
+outside_is : (list : List Member) (f : FoundDefinition) → IsFar f → outside_symbol (far_of f) ≡ told_symbol list f
 outside_is list f far =
     let d = f.definition in
     sym (ap (λ (p : ℕ). symbol list p f.member d.place d.expr d.size d.form) far.place
@@ -168,7 +168,7 @@ outside_is list f far =
     ∙ ap (λ (n : ℕ). symbol list 0 f.member d.place None n d.form) far.size
     ∙ ap (λ (n : ℕ). symbol list 0 f.member d.place None 0 n) far.form)
 
-far_at : (fs : List Found) (k : ℕ) (f : Found) → AllByRecursion IsFar fs → slice_get fs k ≡ Some f → IsFar f
+far_at : (fs : List FoundDefinition) (k : ℕ) (f : FoundDefinition) → AllByRecursion IsFar fs → slice_get fs k ≡ Some f → IsFar f
 far_at [] k f all e = absurd cc
 far_at (g ∷ fs) zero f all e = subst IsFar (some_same g f e) all.0
 far_at (g ∷ fs) (suc k) f all e = far_at fs k f all.1 e
@@ -177,7 +177,7 @@ pub far_symbol : (list : List Member) (count k : ℕ) (far : Far) → AllByRecur
     → Some far ≡ option_map far_of (slice_get (outside (setting_in list)) (k - count)) → Some (outside_symbol far) ≡ option_map (told_symbol list) (slice_get (all_found list) k)
 far_symbol list count k far all is le told = by_found (slice_get (outside (setting_in list)) (k - count)) refl told
   where
-    by_found : (o : Option Found) → slice_get (outside (setting_in list)) (k - count) ≡ o → Some far ≡ option_map far_of o → Some (outside_symbol far) ≡ option_map (told_symbol list) (slice_get (all_found list) k)
+    by_found : (o : Option FoundDefinition) → slice_get (outside (setting_in list)) (k - count) ≡ o → Some far ≡ option_map far_of o → Some (outside_symbol far) ≡ option_map (told_symbol list) (slice_get (all_found list) k)
     by_found None at e = absurd cc
     by_found (Some f) at e =
         ap (λ (x : Far). Some (outside_symbol x)) (some_same far (far_of f) e)
@@ -187,7 +187,7 @@ far_symbol list count k far all is le told = by_found (slice_get (outside (setti
 pub no_far : (list : List Member) (count k : ℕ) → count ≡ length (entries list) → count ≤ k → None ≡ option_map far_of (slice_get (outside (setting_in list)) (k - count)) → None ≡ option_map (told_symbol list) (slice_get (all_found list) k)
 no_far list count k is le told = by_found (slice_get (outside (setting_in list)) (k - count)) refl told
   where
-    by_found : (o : Option Found) → slice_get (outside (setting_in list)) (k - count) ≡ o → None ≡ option_map far_of o → None ≡ option_map (told_symbol list) (slice_get (all_found list) k)
+    by_found : (o : Option FoundDefinition) → slice_get (outside (setting_in list)) (k - count) ≡ o → None ≡ option_map far_of o → None ≡ option_map (told_symbol list) (slice_get (all_found list) k)
     by_found None at e = sym (ap (option_map (told_symbol list)) (outside_at list count k is le ∙ at))
     by_found (Some f) at e = absurd cc
 
@@ -200,7 +200,7 @@ pub first_symbol : (list : List Member) (place : ℕ) (name : List ℕ) (n : ℕ
     → (m : Member) → member_at list place ≡ Some m → told ≡ option_map (told_symbol list) (first_found (finds list place m name))
 first_symbol list place name n told is e m there = by_found (finds list place m name) (first_of_member list place m name (Some n) is there)
   where
-    by_found : (found : List Found) → IsFirstOf (all_found list) found (Some n) → told ≡ option_map (told_symbol list) (first_found found)
+    by_found : (found : List FoundDefinition) → IsFirstOf (all_found list) found (Some n) → told ≡ option_map (told_symbol list) (first_found found)
     by_found [] is = absurd is
     by_found (f ∷ found) is = e ∙ ap (option_map (told_symbol list)) is
 
@@ -208,7 +208,7 @@ pub no_symbol : (list : List Member) (place : ℕ) (name : List ℕ) → IsFirst
     → (m : Member) → member_at list place ≡ Some m → None ≡ option_map (told_symbol list) (first_found (finds list place m name))
 no_symbol list place name is m there = by_found (finds list place m name) (first_of_member list place m name None is there)
   where
-    by_found : (found : List Found) → IsFirstOf (all_found list) found None → None ≡ option_map (told_symbol list) (first_found found)
+    by_found : (found : List FoundDefinition) → IsFirstOf (all_found list) found None → None ≡ option_map (told_symbol list) (first_found found)
     by_found [] is = refl
     by_found (f ∷ found) is = absurd is
 

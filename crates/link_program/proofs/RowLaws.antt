@@ -3,7 +3,7 @@ use Rattle.std.proofs.Common.{◌≡◌, inl, inr, ℕ, zero, suc, ◌-◌, true
 use Rattle.std.specs.Prelude.{slice_get, option_map}
 use Rattle.std.specs.Option.{option_map_or}
 use Rattle.omf_format.specs.File.{Segment, segment_at}
-use Rattle.link_meaning.specs.Member.{Row, Offer, offer_of, Setting, is_library}
+use Rattle.link_meaning.specs.Member.{Row, Offer, offer_of, LinkSetting, is_library}
 use Rattle.lib_dict.specs.Library.{LibraryRow, told_row}
 use Rattle.link_program.specs.Inputs.{StandsIn, AllStand}
 use Rattle.link_meaning.specs.Dictionary.{rows_of}
@@ -30,14 +30,14 @@ row_place segments row told is stands = settle row.segment refl stands.here
       start = sym (ap (λ (t : LibraryRow). t.at) is ∙ ap (λ (o : Option Segment). option_map_or (λ (s : Segment). s.start) o 0) stands.here);
     }
 
-abbrev pub offer_with : Setting → ℕ → Row → Segment → Offer
+abbrev pub offer_with : LinkSetting → ℕ → Row → Segment → Offer
 offer_with setting file row s = record { name = row.name; private = row.private; member = record { file = file; number = row.segment; from = row.from; segment = s; setting = setting } }
 
 pub offer_same : (a b : Offer) → Some a ≡ Some b → a ≡ b
 offer_same a b e = cc
 
 -- what a row offers
-pub offer_is : (setting : Setting) (file : ℕ) (segments : List Segment) (row : Row) (o : Offer) (k : ℕ) (s : Segment) → offer_of setting file segments row ≡ Some o → row.segment ≡ suc k → slice_get segments k ≡ Some s
+pub offer_is : (setting : LinkSetting) (file : ℕ) (segments : List Segment) (row : Row) (o : Offer) (k : ℕ) (s : Segment) → offer_of setting file segments row ≡ Some o → row.segment ≡ suc k → slice_get segments k ≡ Some s
     → o ≡ record { name = row.name; private = row.private; member = record { file = file; number = row.segment; from = row.from; segment = s; setting = setting } }
 offer_is setting file segments row o k s is number here =
     let place : row.segment - 1 ≡ k = omega (arith, number) in

@@ -8,10 +8,10 @@ use Rattle.omf_format.specs.File.{Segment}
 use Rattle.link_meaning.specs.Member.{Member, is_data}
 use Rattle.link_meaning.specs.Defines.{Definition}
 use Rattle.link_meaning.specs.Uses.{usings_of}
-use Rattle.link_meaning.specs.Search.{Found, entries, data_titles, only_place, finds_data}
-use Rattle.link_meaning.specs.LinkedList.{asked}
-use Rattle.link_tables.specs.declared.names.Outcome.{Outcome}
-use Rattle.link_tables.specs.declared.names.Names.{Names}
+use Rattle.link_meaning.specs.Search.{FoundDefinition, entries, data_titles, only_place, finds_data}
+use Rattle.link_meaning.specs.LinkedList.{all_uses}
+use Rattle.link_tables.specs.declared.names.Matches.{Matches}
+use Rattle.link_tables.specs.declared.names.NameTable.{NameTable}
 use Rattle.link_tables.specs.declared.definitions.Origin.{Origin}
 use Rattle.link_program.specs.declared.linked.Linked.{Linked}
 use Rattle.link_tables.specs.Names.{Row, Indexes}
@@ -23,7 +23,7 @@ abbrev pub origin_of : Member → Origin
 origin_of m = record { file = m.file; segment = m.number; from = m.from }
 
 -- titles, each with its member's place
-abbrev pub place_rows : List Found → List Row
+abbrev pub place_rows : List FoundDefinition → List Row
 place_rows fs = map (λ f. (key_of_found f, f.place)) fs
 
 -- the member at a place, from 1
@@ -64,15 +64,15 @@ pub record Holds (list : List Member) (kept : Linked) : Type 0 where
   pub each : (place : ℕ) (name : List ℕ) → has_using kept.usings place name ≡ is_among name (usings_in (member_at list place))
   pub definitions : AreDefinitions (entries list) kept.definitions
   pub titles : Indexes (place_rows (data_titles list)) kept.titles
-  pub uses : kept.uses ≡ map told_use (asked list)
+  pub uses : kept.uses ≡ map told_use (all_uses list)
   pub short : HaveShortNames kept.uses
 
 -- what a table of titles gains
-abbrev pub GainsTitle : Names → Names → Origin → ℕ → List Definition → Type 0
-GainsTitle old new origin place ds = (fs : List Found) (m : Member) → IsOf m origin → Indexes (place_rows fs) old → Indexes (place_rows (fs ++ founds_in place m ds)) new
+abbrev pub GainsTitle : NameTable → NameTable → Origin → ℕ → List Definition → Type 0
+GainsTitle old new origin place ds = (fs : List FoundDefinition) (m : Member) → IsOf m origin → Indexes (place_rows fs) old → Indexes (place_rows (fs ++ founds_in place m ds)) new
 
 -- what a look-up answers that tells places
-abbrev pub SeesPlace : List Found → Outcome → Type 0
+abbrev pub SeesPlace : List FoundDefinition → Matches → Type 0
 SeesPlace found answer = Seen (λ f number. number ≡ f.place) found answer
 
 -- the data segments that these names of USING find

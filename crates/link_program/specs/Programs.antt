@@ -6,15 +6,15 @@ use Rattle.omf_format.specs.Header.{Fields}
 use Rattle.omf_header.specs.View.{fields}
 use Rattle.link_meaning.specs.declared.search.Want.{Want}
 use Rattle.link_meaning.specs.declared.search.Want.TheVariants.{Data, One, Any}
-use Rattle.link_meaning.specs.Member.{Setting, Member, setting_in, RuntimeFile}
-use Rattle.link_meaning.specs.Search.{Found}
+use Rattle.link_meaning.specs.Member.{LinkSetting, Member, setting_in, RuntimeFile}
+use Rattle.link_meaning.specs.Search.{FoundDefinition}
 use Rattle.link_meaning.specs.Layout.{load_of, offset_of, load_headers}
 use Rattle.link_tables.specs.declared.definitions.Origin.{Origin}
 use Rattle.link_program.specs.declared.program.LinkMember.{LinkMember}
-use Rattle.link_program.specs.declared.program.Kept.{Kept}
+use Rattle.link_program.specs.declared.program.ResolvedProgram.{ResolvedProgram}
 use Rattle.link_program.specs.declared.program.Definition as told
 use Rattle.link_program.specs.Outside.{IsOutsideOf}
-use Rattle.link_tables.specs.declared.layout.Place.{Place}
+use Rattle.link_tables.specs.declared.layout.LoadOffset.{LoadOffset}
 use Rattle.link_program.specs.Linked.{Holds, member_at}
 use Rattle.link_program.specs.Files.{segment_in, AllAmong}
 use Rattle.link_program.specs.OfFiles.{IsOfFiles}
@@ -26,32 +26,32 @@ runtimes_of (segments ∷ loads) (one ∷ given) = record { path = one.name; seg
 runtimes_of _ _ = []
 
 -- what is kept of what the list is linked to, and with what
-abbrev pub setting_of : Kept → Setting
+abbrev pub setting_of : ResolvedProgram → LinkSetting
 setting_of kept = record { form = kept.form; runtimes = runtimes_of kept.runtimes.items kept.given.now }
 
-abbrev pub member_in : Setting → List (List Segment) → Origin → Option Member
+abbrev pub member_in : LinkSetting → List (List Segment) → Origin → Option Member
 member_in setting files origin =
     option_map (λ s. record { file = origin.file; number = origin.segment; from = origin.from; segment = s; setting = setting }) (segment_in files origin.file origin.segment)
 
 -- the members that are kept, with their segments
-abbrev pub list_of : Kept → List Member
+abbrev pub list_of : ResolvedProgram → List Member
 list_of kept = filter_map (member_in (setting_of kept) kept.files.items) kept.linked.members.items
 
 -- where the member with this number, from 0, stands
-pub record StandsAt (list : List Member) (k : ℕ) (m : Member) (place : Place) : Type 0 where
+pub record StandsAt (list : List Member) (k : ℕ) (m : Member) (place : LoadOffset) : Type 0 where
   pub load : place.load + 1 ≡ load_of list m
   pub few : place.load + 1 < 2 ^ 16
   pub offset : place.offset ≡ offset_of list (k + 1) m
   pub small : place.offset < 2 ^ 32
 
 -- this is kept of the list, which is that of resolved files
-pub record IsKept (list : List Member) (kept : Kept) : Type 0 where
+pub record IsKept (list : List Member) (kept : ResolvedProgram) : Type 0 where
   pub holds : Holds list kept.linked
   pub among : AllAmong kept.files.items list
   pub few : length list < 2 ^ 32
   pub loads : length kept.headers.items < 2 ^ 32
   pub count : length kept.places.items ≡ length list
-  pub places : (k : ℕ) (m : Member) (place : Place) → slice_get list k ≡ Some m → slice_get kept.places.items k ≡ Some place → StandsAt list k m place
+  pub places : (k : ℕ) (m : Member) (place : LoadOffset) → slice_get list k ≡ Some m → slice_get kept.places.items k ≡ Some place → StandsAt list k m place
   pub headers : map fields kept.headers.items ≡ load_headers list
   pub setting : setting_of kept ≡ setting_in list
   pub table : IsOutsideOf list kept.outside
@@ -72,7 +72,7 @@ pub record ToldSymbol : Type 0 where
 abbrev pub symbol_of : told.Definition → ToldSymbol
 symbol_of d = record { member = d.member; file = d.file; segment = d.segment; at = d.at; expr = option_map (λ text. text.now) d.expr; length = d.length; form = d.form }
 
-abbrev pub told_symbol : List Member → Found → ToldSymbol
+abbrev pub told_symbol : List Member → FoundDefinition → ToldSymbol
 told_symbol list f = record {
   member = f.place;
   file = if f.place == 0 then f.member.file else 1;
@@ -94,7 +94,7 @@ header_at headers zero = None
 header_at headers (suc k) = slice_get headers k
 
 -- how many definitions a use finds: STRONG and a name in an expression one, a weak name one at most; USING looks for data segments
-abbrev pub FindsOnly : Want → List Found → Type 0
+abbrev pub FindsOnly : Want → List FoundDefinition → Type 0
 FindsOnly Data found = Unit {0}
 FindsOnly One found = length found ≡ 1
 FindsOnly Any found = length found ≤ 1

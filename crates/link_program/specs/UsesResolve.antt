@@ -10,50 +10,50 @@ use Rattle.link_meaning.specs.laws.FirstLaws.{first_some-first}
 use Rattle.link_meaning.specs.Member.{Member}
 use Rattle.link_meaning.specs.Uses.{Use, uses_of}
 use Rattle.link_meaning.specs.Search.{finds}
-use Rattle.link_meaning.specs.LinkedList.{Asked, asked_from, asked, found_for}
+use Rattle.link_meaning.specs.LinkedList.{PlacedUse, asked_from, all_uses, found_for}
 use Rattle.link_meaning.specs.LinkFaults.{use_cause, HasUseFault, spot_in, Names, Reading, Objects, Layout}
 use Rattle.link_program.specs.OfFiles.{IsOfFiles}
 
-abbrev why : LinkCause → Option LinkCause
-why cause = Some cause
+abbrev unresolved_cause : LinkCause → Option LinkCause
+unresolved_cause cause = Some cause
 
-abbrev told_fault : Asked → LinkCause → LinkFault
+abbrev told_fault : PlacedUse → LinkCause → LinkFault
 told_fault a cause = record { cause = cause; name = Some a.use'.name; spot = spot_in a.member a.use'.at }
 
-abbrev fault_by : Asked → Option LinkCause → Option LinkFault
+abbrev fault_by : PlacedUse → Option LinkCause → Option LinkFault
 fault_by a None = None
 fault_by a (Some cause) = Some (told_fault a cause)
 
-abbrev fails : List Member → Asked → Option LinkFault
-fails list a = fault_by a (use_cause a.use'.want (found_for list a.place a.member a.use'))
+abbrev use_fault : List Member → PlacedUse → Option LinkFault
+use_fault list a = fault_by a (use_cause a.use'.want (found_for list a.place a.member a.use'))
 
 same_fault : (x y : LinkFault) → Some x ≡ Some y → x ≡ y
 same_fault x y e = cc
 
-has_fault : (list : List Member) (before : List Asked) (a : Asked) (fault : LinkFault) → fails list a ≡ Some fault → HasUseFault list before a fault
+has_fault : (list : List Member) (before : List PlacedUse) (a : PlacedUse) (fault : LinkFault) → use_fault list a ≡ Some fault → HasUseFault list before a fault
 has_fault list before a fault e = by_cause (use_cause a.use'.want (found_for list a.place a.member a.use')) refl e
   where
     by_cause : (o : Option LinkCause) → use_cause a.use'.want (found_for list a.place a.member a.use') ≡ o → fault_by a o ≡ Some fault → HasUseFault list before a fault
     by_cause None is e = absurd cc
     by_cause (Some cause) is e =
         let same = same_fault (told_fault a cause) fault e in
-        record { cause = is ∙ ap (λ (f : LinkFault). why f.cause) same; name = ap (λ (f : LinkFault). f.name) (sym same); spot = ap (λ (f : LinkFault). f.spot) (sym same) }
+        record { cause = is ∙ ap (λ (f : LinkFault). unresolved_cause f.cause) same; name = ap (λ (f : LinkFault). f.name) (sym same); spot = ap (λ (f : LinkFault). f.spot) (sym same) }
 
-fault_has : (list : List Member) (before : List Asked) (a : Asked) (fault : LinkFault) → HasUseFault list before a fault → fails list a ≡ Some (told_fault a fault.cause)
+fault_has : (list : List Member) (before : List PlacedUse) (a : PlacedUse) (fault : LinkFault) → HasUseFault list before a fault → use_fault list a ≡ Some (told_fault a fault.cause)
 fault_has list before a fault has = ap (fault_by a) has.cause
 
-none_here : (list : List Member) (xs : List Asked) → first_some (fails list) xs ≡ None → (a : Asked) → IsIn xs a → fails list a ≡ None
+none_here : (list : List Member) (xs : List PlacedUse) → first_some (use_fault list) xs ≡ None → (a : PlacedUse) → IsIn xs a → use_fault list a ≡ None
 none_here list [] e a is = absurd is
-none_here list (x ∷ xs) e a is = by_first (fails list x) refl e is (λ e' there. none_here list xs e' a there)
+none_here list (x ∷ xs) e a is = by_first (use_fault list x) refl e is (λ e' there. none_here list xs e' a there)
   where
-    by_first : (o : Option LinkFault) → fails list x ≡ o → option_or o (first_some (fails list) xs) ≡ None → (x ≡ a) ⊎ IsIn xs a → (first_some (fails list) xs ≡ None → IsIn xs a → fails list a ≡ None) → fails list a ≡ None
+    by_first : (o : Option LinkFault) → use_fault list x ≡ o → option_or o (first_some (use_fault list) xs) ≡ None → (x ≡ a) ⊎ IsIn xs a → (first_some (use_fault list) xs ≡ None → IsIn xs a → use_fault list a ≡ None) → use_fault list a ≡ None
     by_first (Some fault) is e there go = absurd cc
-    by_first None is e (inl same) go = ap (fails list) (sym same) ∙ is
+    by_first None is e (inl same) go = ap (use_fault list) (sym same) ∙ is
     by_first None is e (inr more) go = go e more
 
-first_as : (list : List Member) (fault : LinkFault) → first_some (fails list) (asked list) ≡ Some fault → IsFirst (HasUseFault list) (asked list) fault
+first_as : (list : List Member) (fault : LinkFault) → first_some (use_fault list) (all_uses list) ≡ Some fault → IsFirst (HasUseFault list) (all_uses list) fault
 first_as list fault e =
-    let first = first_some-first (fails list) (asked list) fault e in
+    let first = first_some-first (use_fault list) (all_uses list) fault e in
     record {
       before = first.before;
       item = first.item;
@@ -64,19 +64,19 @@ first_as list fault e =
     }
 
 -- each use resolves
-all_resolve : (list : List Member) → IsOfFiles list → (a : Asked) → IsIn (asked list) a → fails list a ≡ None
-all_resolve list of a is = by_first (first_some (fails list) (asked list)) refl
+all_resolve : (list : List Member) → IsOfFiles list → (a : PlacedUse) → IsIn (all_uses list) a → use_fault list a ≡ None
+all_resolve list of a is = by_first (first_some (use_fault list) (all_uses list)) refl
   where
-    by_first : (o : Option LinkFault) → first_some (fails list) (asked list) ≡ o → fails list a ≡ None
-    by_first None e = none_here list (asked list) e a is
+    by_first : (o : Option LinkFault) → first_some (use_fault list) (all_uses list) ≡ o → use_fault list a ≡ None
+    by_first None e = none_here list (all_uses list) e a is
     by_first (Some fault) e = absurd (of.resolved.sound (Reading ∷ Objects ∷ []) Names (Layout ∷ []) fault refl (list, of.resolved.program, first_as list fault e))
 
-no_cause : (a : Asked) (o : Option LinkCause) → fault_by a o ≡ None → o ≡ None
+no_cause : (a : PlacedUse) (o : Option LinkCause) → fault_by a o ≡ None → o ≡ None
 no_cause a None e = refl
 no_cause a (Some cause) e = absurd cc
 
 -- no use has a cause for which it is refused
-pub use_resolves : (list : List Member) → IsOfFiles list → (a : Asked) → IsIn (asked list) a → use_cause a.use'.want (found_for list a.place a.member a.use') ≡ None
+pub use_resolves : (list : List Member) → IsOfFiles list → (a : PlacedUse) → IsIn (all_uses list) a → use_cause a.use'.want (found_for list a.place a.member a.use') ≡ None
 use_resolves list of a is = no_cause a (use_cause a.use'.want (found_for list a.place a.member a.use')) (all_resolve list of a is)
 
 -- ---- the uses of a member
@@ -90,7 +90,7 @@ pub in_right : {A : Type 0} (xs ys : List A) (x : A) → IsIn ys x → IsIn (xs 
 in_right [] ys x is = is
 in_right (y ∷ xs) ys x is = inr (in_right xs ys x is)
 
-abbrev pub asked_of : ℕ → Member → Use → Asked
+abbrev pub asked_of : ℕ → Member → Use → PlacedUse
 asked_of place m u = record { place = place; member = m; use' = u }
 
 in_mapped : {A B : Type 0} (f : A → B) (xs : List A) (x : A) → IsIn xs x → IsIn (map f xs) (f x)

@@ -1,7 +1,7 @@
 //! The segments of files that were read.
 
 ghost use Rattle.std.specs.Prelude.{◌≡◌, option_map, IfSome};
-ghost use Rattle.omf_records.specs.Segments.{IsSound, shown};
+ghost use Rattle.omf_records.specs.Segments.{IsSound, segment_of_view};
 ghost use Rattle.link_program.specs.Files.{segment_in};
 
 use omf_records::{SegmentList, SegmentView};
@@ -12,7 +12,7 @@ pub fn segment_in<'s, 'a>(
     file: u32,
     segment: u32,
 ) -> Option<&'s SegmentView<'a>>
-    ensures value { option_map (λ view. shown view.now) result ≡ segment_in files.now file segment }
+    ensures value { option_map (λ view. segment_of_view view.now) result ≡ segment_in files.now file segment }
     ensures sound { IfSome result (λ view. IsSound view.now) }
 {
     if file == 0 {

@@ -1,12 +1,12 @@
 //! The linked list grows by the segments of libraries that its uses want.
 
 ghost use Rattle.std.specs.Prelude.{◌≡◌, List, OnOk, IfOk, false, replicate, if◌then◌else◌};
-ghost use Rattle.link_meaning.specs.Member.{Setting, Input};
+ghost use Rattle.link_meaning.specs.Member.{LinkSetting, Input};
 ghost use Rattle.link_program.specs.Grown.{MayGrow, HasGrown};
 
 use crate::files::{length_of, segment_in};
 use crate::linked::Linked;
-use crate::outside::Outside;
+use crate::outside::OutsideNames;
 use link_tables::Offers;
 use omf_records::SegmentList;
 use std::alloc::{AllocError, Global};
@@ -36,12 +36,12 @@ fn next_cursor(opens: bool, number: usize) -> usize
 pub fn grow<'a>(
     alloc: Global,
     files: &[SegmentList<'a>],
-    outside: &Outside,
+    outside: &OutsideNames,
     offers: &Offers,
     linked: &mut Linked<'a>,
 ) -> Result<(), AllocError>
-    requires { (setting : Setting) × (inputs : List Input) × MayGrow setting inputs files.now outside.now offers.now linked.old }
-    ensures { OnOk result ((setting : Setting) (inputs : List Input) → MayGrow setting inputs files.now outside.now offers.now linked.old
+    requires { (setting : LinkSetting) × (inputs : List Input) × MayGrow setting inputs files.now outside.now offers.now linked.old }
+    ensures { OnOk result ((setting : LinkSetting) (inputs : List Input) → MayGrow setting inputs files.now outside.now offers.now linked.old
         → HasGrown setting inputs files.now linked.new) }
 {
     let mut taken = flags(alloc, offers.count())?;

@@ -13,10 +13,10 @@ mod program;
 pub use files::{length_of, segment_in};
 pub use growing::grow;
 pub use link_tables::{
-    Layout, Offers, Origin, Outcome, Place, expression_of, headers, next_record, size_at,
+    LinkLayout, LoadOffset, Matches, Offers, Origin, expression_of, headers, next_record, size_at,
     size_behind,
 };
 pub use linked::Linked;
 pub use memory::memory_fault;
-pub use outside::Outside;
-pub use program::{Definition, Kept, LinkMember, Program};
+pub use outside::OutsideNames;
+pub use program::{Definition, LinkMember, Program, ResolvedProgram};

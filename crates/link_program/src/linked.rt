@@ -2,14 +2,14 @@
 
 ghost use Rattle.std.specs.Prelude.{◌≡◌, ◌+◌, ◌-◌, ◌<◌, ◌≤◌, ◌^◌, ◌++◌, ◌∷◌, [], List, ℕ, Some, None, length, map, nat_eq, if◌then◌else◌, slice_get, filter, OnOk, IfOk, IsNone, MatchOption, ◌⊎◌, option_map};
 ghost use Rattle.std.specs.List.{list_any};
-ghost use Rattle.omf_records.specs.Segments.{IsSound, shown};
+ghost use Rattle.omf_records.specs.Segments.{IsSound, segment_of_view};
 ghost use Rattle.link_meaning.specs.Sizes.{body_size};
 ghost use Rattle.link_meaning.specs.Member.{Member, Offer};
 ghost use Rattle.link_meaning.specs.Defines.{data_title_of};
 ghost use Rattle.link_meaning.specs.Uses.{data_name, usings_of};
-ghost use Rattle.link_meaning.specs.Search.{Found, entries, data_titles, decided, outer_steps, named, sees, finds_inside, finds, finds_data};
+ghost use Rattle.link_meaning.specs.Search.{FoundDefinition, entries, data_titles, first_step_found, outer_steps, with_this_name, is_seen_by_step, finds_inside, finds, finds_data};
 ghost use Rattle.link_meaning.specs.First.{HasNone};
-ghost use Rattle.link_meaning.specs.LinkedList.{asked, found_for, wanted_by};
+ghost use Rattle.link_meaning.specs.LinkedList.{all_uses, found_for, wanted_by};
 ghost use Rattle.link_tables.specs.Names.{Row, Indexes, key_of};
 ghost use Rattle.link_program.specs.Finding.{IsFirstOf, found_in};
 ghost use Rattle.link_program.specs.Resolving.{IsShape, IsHeld, FailsToResolve, IsFirstUse, cause_of};
@@ -21,15 +21,15 @@ ghost use Rattle.link_program.specs.Wanted.{WantsNothing, IsWanted};
 ghost use Rattle.link_program.specs.Linked.{Holds, GainsTitle, SeesPlace, title_of_data, title_in, name_at, names_of, usings_from, used_places, OriginOf, member_at};
 ghost use Rattle.link_meaning.specs.declared.search.Step.TheVariants.{Within, Everyone};
 ghost use Rattle.std.specs.Prelude.{false, true};
-ghost use Rattle.link_meaning.specs.LinkedList.{Asked};
+ghost use Rattle.link_meaning.specs.LinkedList.{PlacedUse};
 ghost use Rattle.link_program.specs.Opening.{OpensNothing};
 ghost use Rattle.link_program.specs.Outside.{IsTable, IsOutsideOf, all_found};
 
-use crate::outside::{Outside, moved};
+use crate::outside::{OutsideNames, with_number_after};
 use indexmap::IndexMap;
 use link_meaning::{LinkCause, Step, Want};
 use link_tables::{
-    Defined, Definitions, Key, Names, Offers, Origin, Outcome, Use, Uses, Usings, add_body,
+    Defined, Definitions, Key, Matches, NameTable, Offers, Origin, Use, Uses, Usings, add_body,
     outer_step, title,
 };
 use omf_records::SegmentView;
@@ -43,19 +43,19 @@ pub struct Linked<'a> {
     names: IndexMap<usize, &'a [u8]>,
     usings: Usings<'a>,
     definitions: Definitions<'a>,
-    titles: Names<'a>,
+    titles: NameTable<'a>,
     uses: Uses<'a>,
 }
 
 /// Adds a data segment's SEGNAME, for which USING asks.
 fn add_data_title<'a>(
-    titles: &mut Names<'a>,
+    titles: &mut NameTable<'a>,
     segment: &SegmentView<'a>,
     origin: Origin,
     place: u32,
 ) -> Result<(), AllocError>
     requires { IsSound segment.now }
-    ensures { OnOk result (GainsTitle titles.old titles.new origin place (data_title_of (shown segment.now))) }
+    ensures { OnOk result (GainsTitle titles.old titles.new origin place (data_title_of (segment_of_view segment.now))) }
 {
     if segment.header.kind.form() != 0x01 {
         return Ok(());
@@ -76,7 +76,7 @@ fn add_data_name<'a>(
 ) -> Result<(), AllocError>
     requires { IsSound segment.now }
     ensures { OnOk result (name_at names.old place ≡ None
-        → (other : ℕ) → name_at names.new other ≡ (if nat_eq place other then title_of_data (shown segment.now) else name_at names.old other)) }
+        → (other : ℕ) → name_at names.new other ≡ (if nat_eq place other then title_of_data (segment_of_view segment.now) else name_at names.old other)) }
 {
     if segment.header.kind.form() == 0x01 {
         names.insert(place as usize, title(segment))?;
@@ -119,7 +119,7 @@ impl<'a> Linked<'a> {
             names: IndexMap::new(alloc),
             usings: Usings::new(alloc),
             definitions: Definitions::new(alloc),
-            titles: Names::new(alloc),
+            titles: NameTable::new(alloc),
             uses: Uses::new(alloc),
         }
     }
@@ -146,10 +146,10 @@ impl<'a> Linked<'a> {
     }
 
     /// The use with this number, from 0: where its member comes from, its name, and the displacement of its record.
-    pub fn used(&self, number: usize) -> (Origin, &'a [u8], u32)
+    pub fn use_numbered(&self, number: usize) -> (Origin, &'a [u8], u32)
         requires held { IsHeld self.now }
         requires within { number < length self.now.uses }
-        ensures told { (list : List Member) (a : Asked) → Holds list self.now → slice_get (asked list) number ≡ Some a
+        ensures told { (list : List Member) (a : PlacedUse) → Holds list self.now → slice_get (all_uses list) number ≡ Some a
             → IsOf a.member result.0 × (result.1.now ≡ a.use'.name) × (result.2 ≡ a.use'.at) }
         ensures short { length result.1.now ≤ 255 }
     {
@@ -161,7 +161,7 @@ impl<'a> Linked<'a> {
     /// Whether a segment that is to be the next member may open a use again that finds something: it is a data segment with
     /// the name of one other, which it stands beside or hides. Where several have the name already, none is found by it.
     pub fn opens(&self, segment: &SegmentView, origin: Origin) -> bool
-        ensures { result ≡ false → (list : List Member) (m : Member) → Holds list self.now → IsOf m origin → m.segment ≡ shown segment.now
+        ensures { result ≡ false → (list : List Member) (m : Member) → Holds list self.now → IsOf m origin → m.segment ≡ segment_of_view segment.now
             → OpensNothing list m }
     {
         if segment.header.kind.form() != 0x01 {
@@ -172,17 +172,17 @@ impl<'a> Linked<'a> {
             return false;
         }
         match self.find_rivals(segment.header.kind.is_private(), origin, name) {
-            Outcome::Nothing => false,
-            Outcome::One(_) => true,
-            Outcome::Several(_) => false,
+            Matches::Nothing => false,
+            Matches::One(_) => true,
+            Matches::Several(_) => false,
         }
     }
 
     /// The data segments, by their places in the list, beside which one more of that name would stand, or which it would hide:
     /// where it is private those that its unit finds, else those that all see.
-    fn find_rivals(&self, private: bool, origin: Origin, name: &[u8]) -> Outcome
+    fn find_rivals(&self, private: bool, origin: Origin, name: &[u8]) -> Matches
         ensures own { private ≡ true → (list : List Member) (m : Member) → Holds list self.now → IsOf m origin → SeesPlace (finds_data list m name.now) result }
-        ensures every { private ≡ false → (list : List Member) → Holds list self.now → SeesPlace (filter (sees Everyone) (named name.now (data_titles list))) result }
+        ensures every { private ≡ false → (list : List Member) → Holds list self.now → SeesPlace (filter (is_seen_by_step Everyone) (with_this_name name.now (data_titles list))) result }
     {
         if private {
             return self.find_data(origin, name);
@@ -201,9 +201,9 @@ impl<'a> Linked<'a> {
         origin: Origin,
     ) -> Result<(), AllocError>
         requires sound { IsSound segment.now }
-        requires short { body_size (shown segment.now) < 2 ^ 32 }
+        requires short { body_size (segment_of_view segment.now) < 2 ^ 32 }
         requires few { length self.old.members.items + 1 < 2 ^ 32 }
-        ensures added { OnOk result ((list : List Member) (m : Member) → IsOf m origin → m.segment ≡ shown segment.now
+        ensures added { OnOk result ((list : List Member) (m : Member) → IsOf m origin → m.segment ≡ segment_of_view segment.now
             → Holds list self.old → Holds (list ++ m ∷ []) self.new) }
         ensures one { OnOk result (length self.new.members.items ≡ length self.old.members.items + 1) }
     {
@@ -226,26 +226,26 @@ impl<'a> Linked<'a> {
     }
 
     /// What a name finds among what a unit and all have for themselves.
-    fn find_outer(&self, origin: Origin, name: &[u8]) -> Outcome
-        ensures { (fs : List Found) (m : Member) → AreDefinitions fs self.now.definitions → IsOf m origin
-            → Sees fs (decided (outer_steps m) (named name.now fs)) result }
+    fn find_outer(&self, origin: Origin, name: &[u8]) -> Matches
+        ensures { (fs : List FoundDefinition) (m : Member) → AreDefinitions fs self.now.definitions → IsOf m origin
+            → Sees fs (first_step_found (outer_steps m) (with_this_name name.now fs)) result }
     {
         let unit = Step::OfUnit {
             file: origin.file,
             from: origin.from,
         };
         match self.definitions.look(Key { step: unit, name }) {
-            Outcome::Nothing => self.definitions.look(Key {
+            Matches::Nothing => self.definitions.look(Key {
                 step: Step::Everyone,
                 name,
             }),
-            Outcome::One(first) => Outcome::One(first),
-            Outcome::Several(first) => Outcome::Several(first),
+            Matches::One(first) => Matches::One(first),
+            Matches::Several(first) => Matches::Several(first),
         }
     }
 
     /// The data segments that a USING name finds, by their places in the list.
-    pub fn find_data(&self, origin: Origin, name: &[u8]) -> Outcome
+    pub fn find_data(&self, origin: Origin, name: &[u8]) -> Matches
         ensures { (list : List Member) (m : Member) → Holds list self.now → IsOf m origin → SeesPlace (finds_data list m name.now) result }
     {
         let unit = Step::OfUnit {
@@ -253,35 +253,35 @@ impl<'a> Linked<'a> {
             from: origin.from,
         };
         match self.titles.look(Key { step: unit, name }) {
-            Outcome::Nothing => self.titles.look(Key {
+            Matches::Nothing => self.titles.look(Key {
                 step: Step::Everyone,
                 name,
             }),
-            Outcome::One(first) => Outcome::One(first),
-            Outcome::Several(first) => Outcome::Several(first),
+            Matches::One(first) => Matches::One(first),
+            Matches::Several(first) => Matches::Several(first),
         }
     }
 
     /// What a name finds in the first data segment that has it, of those that these names of USING find.
-    fn find_used(&self, origin: Origin, usings: &[&[u8]], name: &[u8]) -> Outcome
+    fn find_used(&self, origin: Origin, usings: &[&[u8]], name: &[u8]) -> Matches
         ensures { (list : List Member) (m : Member) → Holds list self.now → IsOf m origin
-            → Sees (entries list) (decided (map Within (used_places list m (names_of usings.now))) (named name.now (entries list))) result }
+            → Sees (entries list) (first_step_found (map Within (used_places list m (names_of usings.now))) (with_this_name name.now (entries list))) result }
     {
         for using in usings {
             match self.find_data(origin, using) {
-                Outcome::One(data) => match self.definitions.look(Key {
+                Matches::One(data) => match self.definitions.look(Key {
                     step: Step::Within(data),
                     name,
                 }) {
-                    Outcome::Nothing => {}
-                    Outcome::One(first) => return Outcome::One(first),
-                    Outcome::Several(first) => return Outcome::Several(first),
+                    Matches::Nothing => {}
+                    Matches::One(first) => return Matches::One(first),
+                    Matches::Several(first) => return Matches::Several(first),
                 },
-                Outcome::Nothing => {}
-                Outcome::Several(_) => {}
+                Matches::Nothing => {}
+                Matches::Several(_) => {}
             }
         }
-        Outcome::Nothing
+        Matches::Nothing
     }
 
     /// The name of the data segment at a place of the list, from 1.
@@ -307,9 +307,9 @@ impl<'a> Linked<'a> {
                     return false;
                 }
                 match self.find_data(origin, name) {
-                    Outcome::Nothing => false,
-                    Outcome::One(found) => other == found,
-                    Outcome::Several(_) => false,
+                    Matches::Nothing => false,
+                    Matches::One(found) => other == found,
+                    Matches::Several(_) => false,
                 }
             }
         }
@@ -317,40 +317,40 @@ impl<'a> Linked<'a> {
 
     /// What a name finds in the first data segment that has it, of those that the member at this place names by USING. Where only
     /// one segment has the name, that is all there is to look at, however many are named.
-    fn find_by_usings(&self, holders: Outcome, place: u32, origin: Origin, name: &[u8]) -> Outcome
+    fn find_by_usings(&self, holders: Matches, place: u32, origin: Origin, name: &[u8]) -> Matches
         requires { 0 < place }
         ensures { (list : List Member) (m : Member) → Holds list self.now → AreHolders (entries list) name.now holders
             → slice_get list (place - 1) ≡ Some m → IsOf m origin
-            → Sees (entries list) (decided (map Within (used_places list m (usings_of m.segment))) (named name.now (entries list))) result }
+            → Sees (entries list) (first_step_found (map Within (used_places list m (usings_of m.segment))) (with_this_name name.now (entries list))) result }
     {
         match holders {
-            Outcome::Nothing => Outcome::Nothing,
-            Outcome::One(data) => {
+            Matches::Nothing => Matches::Nothing,
+            Matches::One(data) => {
                 if !self.uses_data(place, origin, data) {
-                    return Outcome::Nothing;
+                    return Matches::Nothing;
                 }
                 self.definitions.look(Key {
                     step: Step::Within(data),
                     name,
                 })
             }
-            Outcome::Several(_) => match self.usings.of(place) {
+            Matches::Several(_) => match self.usings.of(place) {
                 Some(usings) => self.find_used(origin, usings, name),
-                None => Outcome::Nothing,
+                None => Matches::Nothing,
             },
         }
     }
 
     /// What the member at a place has for itself under a name that these members have for themselves: where it isn't one of them,
     /// the name needn't be looked for.
-    fn find_own(&self, holders: Outcome, place: u32, name: &[u8]) -> Outcome
-        ensures { (fs : List Found) → AreDefinitions fs self.now.definitions → AreHolders fs name.now holders
-            → Sees fs (filter (sees (Within place)) (named name.now fs)) result }
+    fn find_own(&self, holders: Matches, place: u32, name: &[u8]) -> Matches
+        ensures { (fs : List FoundDefinition) → AreDefinitions fs self.now.definitions → AreHolders fs name.now holders
+            → Sees fs (filter (is_seen_by_step (Within place)) (with_this_name name.now fs)) result }
     {
         match holders {
-            Outcome::Nothing => return Outcome::Nothing,
-            Outcome::One(other) if other != place as usize => return Outcome::Nothing,
-            Outcome::One(_) | Outcome::Several(_) => {}
+            Matches::Nothing => return Matches::Nothing,
+            Matches::One(other) if other != place as usize => return Matches::Nothing,
+            Matches::One(_) | Matches::Several(_) => {}
         }
         self.definitions.look(Key {
             step: Step::Within(place as usize),
@@ -359,7 +359,7 @@ impl<'a> Linked<'a> {
     }
 
     /// What the members define by a name that is used in the member at this place, from 1.
-    fn find_inside(&self, place: u32, name: &[u8]) -> Outcome
+    fn find_inside(&self, place: u32, name: &[u8]) -> Matches
         requires positive { 0 < place }
         requires within { place ≤ length self.now.members.items }
         ensures { (list : List Member) (m : Member) → Holds list self.now → slice_get list (place - 1) ≡ Some m
@@ -368,20 +368,20 @@ impl<'a> Linked<'a> {
         let origin = self.members[place as usize - 1];
         let holders = self.definitions.holders(name);
         match self.find_own(holders, place, name) {
-            Outcome::Nothing => {}
-            Outcome::One(first) => return Outcome::One(first),
-            Outcome::Several(first) => return Outcome::Several(first),
+            Matches::Nothing => {}
+            Matches::One(first) => return Matches::One(first),
+            Matches::Several(first) => return Matches::Several(first),
         }
         match self.find_by_usings(holders, place, origin, name) {
-            Outcome::Nothing => self.find_outer(origin, name),
-            Outcome::One(first) => Outcome::One(first),
-            Outcome::Several(first) => Outcome::Several(first),
+            Matches::Nothing => self.find_outer(origin, name),
+            Matches::One(first) => Matches::One(first),
+            Matches::Several(first) => Matches::Several(first),
         }
     }
 
     /// What a name finds that is used in the member at this place, from 1: by number the definitions of the members, and counted on
     /// behind them the names of the run-time library files.
-    pub fn find(&self, outside: &Outside, place: u32, name: &[u8]) -> Outcome
+    pub fn find(&self, outside: &OutsideNames, place: u32, name: &[u8]) -> Matches
         requires positive { 0 < place }
         requires within { place ≤ length self.now.members.items }
         requires table { IsTable outside.now }
@@ -389,14 +389,14 @@ impl<'a> Linked<'a> {
             → Sees (all_found list) (finds list place m name.now) result }
     {
         match self.find_inside(place, name) {
-            Outcome::Nothing => moved(self.definitions.count(), outside.look(name)),
-            Outcome::One(first) => Outcome::One(first),
-            Outcome::Several(first) => Outcome::Several(first),
+            Matches::Nothing => with_number_after(self.definitions.count(), outside.look(name)),
+            Matches::One(first) => Matches::One(first),
+            Matches::Several(first) => Matches::Several(first),
         }
     }
 
     /// What a use finds: of data segments the places, of names the numbers.
-    fn found_for(&self, outside: &Outside, used: &Use) -> Outcome
+    fn found_for(&self, outside: &OutsideNames, used: &Use) -> Matches
         requires positive { 0 < used.now.place }
         requires within { used.now.place ≤ length self.now.members.items }
         requires table { IsTable outside.now }
@@ -414,7 +414,7 @@ impl<'a> Linked<'a> {
     }
 
     /// The number of the row, from 0, whose member a use wants: one that finds nothing, and for which there is a row.
-    fn row_wanted(&self, outside: &Outside, offers: &Offers, used: &Use) -> Option<usize>
+    fn row_wanted(&self, outside: &OutsideNames, offers: &Offers, used: &Use) -> Option<usize>
         requires positive { 0 < used.now.place }
         requires within { used.now.place ≤ length self.now.members.items }
         requires table { IsTable outside.now }
@@ -422,18 +422,23 @@ impl<'a> Linked<'a> {
             → slice_get list (used.now.place - 1) ≡ Some m → IsRow os (wanted_by os list used.now.place m (use_of used.now).1) result }
     {
         match self.found_for(outside, used) {
-            Outcome::Nothing => {
+            Matches::Nothing => {
                 let origin = self.members[used.place as usize - 1];
                 offers.row_for(origin, used.want, used.name)
             }
-            Outcome::One(_) => None,
-            Outcome::Several(_) => None,
+            Matches::One(_) => None,
+            Matches::Several(_) => None,
         }
     }
 
     /// The first use, in list and record order, that wants a member: its number, from 0, and that of the row that would bring
     /// the member in. The first `from` uses are known to want nothing.
-    pub fn wanted(&self, outside: &Outside, offers: &Offers, from: usize) -> Option<(usize, usize)>
+    pub fn wanted(
+        &self,
+        outside: &OutsideNames,
+        offers: &Offers,
+        from: usize,
+    ) -> Option<(usize, usize)>
         requires held { IsHeld self.now }
         requires table { IsTable outside.now }
         ensures { (list : List Member) (os : List Offer) → Holds list self.now → IsOutsideOf list outside.now → AreOffers os offers.now → WantsNothing os list from
@@ -456,7 +461,7 @@ impl<'a> Linked<'a> {
 
     /// The number of the first thing that a name finds in the member at this place, from 1, used there or not. None where the place
     /// is no member's, or the name finds none.
-    pub fn first(&self, outside: &Outside, place: u32, name: &[u8]) -> Option<usize>
+    pub fn first(&self, outside: &OutsideNames, place: u32, name: &[u8]) -> Option<usize>
         requires { IsTable outside.now }
         ensures { (list : List Member) → Holds list self.now → IsOutsideOf list outside.now → IsFirstOf (all_found list) (found_in list place name.now) result }
     {
@@ -467,9 +472,9 @@ impl<'a> Linked<'a> {
             return None;
         }
         match self.find(outside, place, name) {
-            Outcome::Nothing => None,
-            Outcome::One(number) => Some(number),
-            Outcome::Several(number) => Some(number),
+            Matches::Nothing => None,
+            Matches::One(number) => Some(number),
+            Matches::Several(number) => Some(number),
         }
     }
 
@@ -488,11 +493,11 @@ impl<'a> Linked<'a> {
     }
 
     /// The first use, in list and record order, that doesn't resolve: why, and its number, from 0.
-    pub fn unresolved(&self, outside: &Outside) -> Option<(LinkCause, usize)>
+    pub fn first_unresolved_use(&self, outside: &OutsideNames) -> Option<(LinkCause, usize)>
         requires held { IsHeld self.now }
         requires table { IsTable outside.now }
         ensures { (list : List Member) → Holds list self.now → IsOutsideOf list outside.now → MatchOption result
-            (HasNone (FailsToResolve list) (asked list)) (λ found. IsFirstUse list found.0 found.1) }
+            (HasNone (FailsToResolve list) (all_uses list)) (λ found. IsFirstUse list found.0 found.1) }
     {
         let mut number = 0;
         'uses: while number < self.uses.count() {
@@ -508,16 +513,16 @@ impl<'a> Linked<'a> {
 }
 
 /// How a use fails that finds this: a weak name may have no definition, every other use has one.
-fn use_cause(want: Want, found: Outcome) -> Option<LinkCause>
+fn use_cause(want: Want, found: Matches) -> Option<LinkCause>
     ensures { result ≡ cause_of want found }
 {
     match found {
-        Outcome::Nothing => match want {
+        Matches::Nothing => match want {
             Want::Data => Some(LinkCause::Unresolved),
             Want::One => Some(LinkCause::Unresolved),
             Want::Any => None,
         },
-        Outcome::One(_) => None,
-        Outcome::Several(_) => Some(LinkCause::Duplicate),
+        Matches::One(_) => None,
+        Matches::Several(_) => Some(LinkCause::Duplicate),
     }
 }

@@ -5,12 +5,12 @@ ghost use Rattle.std.specs.List.{filter_map};
 ghost use Rattle.load_meaning.specs.Exports.{exports_of};
 ghost use Rattle.load_tables.specs.View.{seen_export};
 ghost use Rattle.link_meaning.specs.Member.{RuntimeFile};
-ghost use Rattle.link_meaning.specs.Search.{Found, named, outside_of};
+ghost use Rattle.link_meaning.specs.Search.{FoundDefinition, with_this_name, outside_of};
 ghost use Rattle.link_tables.specs.Definitions.{Sees};
-ghost use Rattle.link_program.specs.Outside.{AreOutside, IsTable, IsFar, IsBelow, far_of, moved};
+ghost use Rattle.link_program.specs.Outside.{AreOutside, IsTable, IsFar, IsBelow, far_of, with_number_after};
 
 use link_meaning::Step;
-use link_tables::{Key, Names, Outcome};
+use link_tables::{Key, Matches, NameTable};
 use omf_cells::{Export, LoadFile};
 use std::alloc::{AllocError, Global};
 
@@ -26,25 +26,25 @@ pub struct Far {
 
 /// The names that run-time library files export, in file, segment and record order.
 #[derive(Drop)]
-pub struct Outside<'a> {
-    names: Names<'a>,
+pub struct OutsideNames<'a> {
+    names: NameTable<'a>,
     places: Vec<Far>,
 }
 
-impl<'a> Outside<'a> {
+impl<'a> OutsideNames<'a> {
     /// Of no file.
-    pub fn new(alloc: Global) -> Outside<'a>
+    pub fn new(alloc: Global) -> OutsideNames<'a>
         ensures { AreOutside [] result }
     {
-        Outside {
-            names: Names::new(alloc),
+        OutsideNames {
+            names: NameTable::new(alloc),
             places: Vec::new(alloc),
         }
     }
 
     /// What a name finds.
-    pub fn look(&self, name: &[u8]) -> Outcome
-        ensures found { (fs : List Found) → AreOutside fs self.now → Sees fs (named name.now fs) result }
+    pub fn look(&self, name: &[u8]) -> Matches
+        ensures found { (fs : List FoundDefinition) → AreOutside fs self.now → Sees fs (with_this_name name.now fs) result }
         ensures below { IsTable self.now → IsBelow (2 ^ 63) result }
     {
         self.names.look(Key {
@@ -55,7 +55,7 @@ impl<'a> Outside<'a> {
 
     /// The place that the name with this number, from 0, stands for.
     pub fn get(&self, number: usize) -> Option<Far>
-        ensures { (fs : List Found) → AreOutside fs self.now → result ≡ option_map far_of (slice_get fs number) }
+        ensures { (fs : List FoundDefinition) → AreOutside fs self.now → result ≡ option_map far_of (slice_get fs number) }
     {
         match self.places.get(number) {
             Some(place) => Some(*place),
@@ -65,7 +65,7 @@ impl<'a> Outside<'a> {
 
     /// One more name, behind the others.
     fn push(&mut self, name: &'a [u8], place: Far) -> Result<(), AllocError>
-        ensures { OnOk result ((fs : List Found) (f : Found) → AreOutside fs self.old → IsFar f → f.definition.name ≡ name.now → far_of f ≡ place
+        ensures { OnOk result ((fs : List FoundDefinition) (f : FoundDefinition) → AreOutside fs self.old → IsFar f → f.definition.name ≡ name.now → far_of f ≡ place
             → AreOutside (fs ++ f ∷ []) self.new) }
     {
         let number = self.places.as_slice().len();
@@ -87,7 +87,7 @@ impl<'a> Outside<'a> {
         export: Export<'a>,
         file: u16,
     ) -> Result<(), AllocError>
-        ensures { OnOk result ((fs : List Found) (r : RuntimeFile) → r.segments ≡ load.now → AreOutside fs self.old
+        ensures { OnOk result ((fs : List FoundDefinition) (r : RuntimeFile) → r.segments ≡ load.now → AreOutside fs self.old
             → AreOutside (fs ++ filter_map (outside_of file r) (seen_export export.entry ∷ [])) self.new) }
     {
         match load.header(u32::from(export.segment)) {
@@ -105,7 +105,7 @@ impl<'a> Outside<'a> {
 
     /// Adds the names that the file with this number exports.
     pub fn add_file(&mut self, load: &LoadFile<'a>, file: u16) -> Result<(), AllocError>
-        ensures { OnOk result ((fs : List Found) (r : RuntimeFile) → r.segments ≡ load.now → AreOutside fs self.old
+        ensures { OnOk result ((fs : List FoundDefinition) (r : RuntimeFile) → r.segments ≡ load.now → AreOutside fs self.old
             → AreOutside (fs ++ filter_map (outside_of file r) (exports_of r.segments)) self.new) }
     {
         let mut place = 0;
@@ -122,14 +122,14 @@ impl<'a> Outside<'a> {
 }
 
 /// What was found, with its number counted on behind so many.
-pub fn moved(count: usize, found: Outcome) -> Outcome
+pub fn with_number_after(count: usize, found: Matches) -> Matches
     requires few { count < 2 ^ 63 }
     requires below { IsBelow (2 ^ 63) found }
-    ensures { result ≡ moved count found }
+    ensures { result ≡ with_number_after count found }
 {
     match found {
-        Outcome::Nothing => Outcome::Nothing,
-        Outcome::One(number) => Outcome::One(count + number),
-        Outcome::Several(number) => Outcome::Several(count + number),
+        Matches::Nothing => Matches::Nothing,
+        Matches::One(number) => Matches::One(count + number),
+        Matches::Several(number) => Matches::Several(count + number),
     }
 }

@@ -3,7 +3,7 @@
 ghost use Rattle.std.specs.Prelude.{◌≡◌, ◌-◌, List, ℕ, None, Some, length, option_map, slice_get, IfSome, IsNone};
 ghost use Rattle.link_meaning.specs.Member.{setting_in, form_in};
 ghost use Rattle.omf_header.specs.View.{fields};
-ghost use Rattle.omf_records.specs.Segments.{IsSound, shown};
+ghost use Rattle.omf_records.specs.Segments.{IsSound, segment_of_view};
 ghost use Rattle.link_meaning.specs.Member as meaning;
 ghost use Rattle.link_meaning.specs.Search.{finds};
 ghost use Rattle.link_meaning.specs.Layout.{load_headers};
@@ -12,15 +12,15 @@ ghost use Rattle.link_program.specs.Linked.{member_at};
 ghost use Rattle.link_program.specs.Resolving.{first_found};
 ghost use Rattle.link_meaning.specs.First.{IsIn};
 ghost use Rattle.link_meaning.specs.Uses.{Use, uses_of};
-ghost use Rattle.link_meaning.specs.LinkFaults.{Given, IsResolved};
+ghost use Rattle.link_meaning.specs.LinkFaults.{LinkInput, IsResolved};
 ghost use Rattle.link_program.specs.Programs.{IsKept, linked_at, header_at, symbol_of, told_symbol, FindsOnly, StandsInInput};
 
 use crate::files::segment_in;
 use crate::linked::Linked;
-use crate::outside::{Far, Outside};
+use crate::outside::{Far, OutsideNames};
 use lib_dict::{Member, rows_are_laid_out};
 use link_meaning::LinkForm;
-use link_tables::{Defined, Place};
+use link_tables::{Defined, LoadOffset};
 use omf_base::Name;
 use omf_cells::LoadFile;
 use omf_header::Header;
@@ -58,22 +58,22 @@ pub struct Definition<'a> {
 
 /// What a program is made of.
 #[derive(Drop)]
-pub struct Kept<'a> {
+pub struct ResolvedProgram<'a> {
     pub files: Vec<SegmentList<'a>>,
     pub linked: Linked<'a>,
-    pub places: Vec<Place>,
+    pub places: Vec<LoadOffset>,
     pub headers: Vec<Header>,
     pub form: LinkForm,
     /// The run-time library files as they were given and as they were read.
     pub given: &'a [Member],
     pub runtimes: Vec<LoadFile<'a>>,
-    pub outside: Outside<'a>,
+    pub outside: OutsideNames<'a>,
 }
 
 /// The files of a program, resolved. Contracts see the linked list.
 #[derive(Drop)]
 pub struct Program<'a> {
-    pub(crate) kept: Kept<'a>,
+    pub(crate) kept: ResolvedProgram<'a>,
 }
 
 impl<'a> Model for Program<'a> {
@@ -136,7 +136,7 @@ fn definition_at<'a>(far: Far) -> Definition<'a>
 
 impl<'a> Program<'a> {
     /// Of what is kept of a list of resolved files.
-    pub fn of(kept: Kept<'a>) -> Program<'a>
+    pub fn of(kept: ResolvedProgram<'a>) -> Program<'a>
         requires { (list : List meaning.Member) × IsKept list kept }
         ensures { (list : List meaning.Member) → IsKept list kept.entry → result ≡ list }
     {
@@ -169,11 +169,11 @@ impl<'a> Program<'a> {
 
     /// The segment of the member at a place of the list, from 1.
     pub fn view(&self, place: u32) -> Option<&SegmentView<'a>>
-        ensures value { option_map (λ view. shown view.now) result ≡ option_map (λ m. m.segment) (member_at self.now place) }
+        ensures value { option_map (λ view. segment_of_view view.now) result ≡ option_map (λ m. m.segment) (member_at self.now place) }
         ensures sound { IfSome result (λ view. IsSound view.now) }
         // Whatever files this is the list of, it is the segment with the member's number of the input with the member's file number.
-        ensures input { IfSome result (λ view. (given : Given) (m : meaning.Member) → IsResolved given self.now → member_at self.now place ≡ Some m
-            → StandsInInput given.inputs m.file m.number (shown view.now)) }
+        ensures input { IfSome result (λ view. (given : LinkInput) (m : meaning.Member) → IsResolved given self.now → member_at self.now place ≡ Some m
+            → StandsInInput given.inputs m.file m.number (segment_of_view view.now)) }
     {
         rows_are_laid_out();
         match self.kept.linked.origin(place) {

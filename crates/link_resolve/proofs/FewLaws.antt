@@ -5,16 +5,16 @@ use Rattle.std.specs.List.{filter_map, cons_option}
 use Rattle.std.proofs.lemmas.List.{length-append}
 use Rattle.omf_format.specs.File.{Segment}
 use Rattle.omf_format.specs.laws.FileLaws.{segments_fit}
-use Rattle.link_meaning.specs.Member.{Row, Input, Offer, is_library, members_from, objects_from, objects, offer_of, offers_from, offers, Setting}
+use Rattle.link_meaning.specs.Member.{Row, Input, Offer, is_library, members_from, objects_from, objects, offer_of, offers_from, library_offers, LinkSetting}
 use Rattle.link_meaning.specs.Dictionary.{rows_of}
 use Rattle.link_meaning.specs.LinkFaults.{AreInputs}
 use Rattle.link_resolve.specs.Resolved.{total_size, FewRows}
 
-members-length : (setting : Setting) (file n : ℕ) (list : List Segment) → length (members_from setting file n list) ≡ length list
+members-length : (setting : LinkSetting) (file n : ℕ) (list : List Segment) → length (members_from setting file n list) ≡ length list
 members-length setting file n [] = refl
 members-length setting file n (s ∷ list) = ap suc (members-length setting file (n + 1) list)
 
-offers-length : (setting : Setting) (file : ℕ) (segments : List Segment) (rows : List Row) → length (filter_map (offer_of setting file segments) rows) ≤ length rows
+offers-length : (setting : LinkSetting) (file : ℕ) (segments : List Segment) (rows : List Row) → length (filter_map (offer_of setting file segments) rows) ≤ length rows
 offers-length setting file segments [] = omega arith
 offers-length setting file segments (r ∷ rows) = settle (offer_of setting file segments r) (offers-length setting file segments rows)
   where
@@ -34,7 +34,7 @@ fine rows = Ok rows
 ok_same : (x y : List Row) → fine x ≡ fine y → x ≡ y
 ok_same x y e = cc
 
-pub all_few : (setting : Setting) (file : ℕ) (files : List (List ℕ)) (inputs : List Input) → AreInputs files inputs → FewRows inputs files → 10 * (length (objects_from setting file inputs) + length (offers_from setting file inputs)) ≤ total_size files
+pub all_few : (setting : LinkSetting) (file : ℕ) (files : List (List ℕ)) (inputs : List Input) → AreInputs files inputs → FewRows inputs files → 10 * (length (objects_from setting file inputs) + length (offers_from setting file inputs)) ≤ total_size files
 all_few setting file [] [] are few = omega arith
 all_few setting file [] (i ∷ inputs) are few = absurd are
 all_few setting file (f ∷ files) [] are few = absurd are
@@ -53,6 +53,6 @@ all_few setting file (f ∷ files) (i ∷ inputs) are few =
         let none : length (filter_map (offer_of setting file i.segments) i.rows) ≡ 0 = ap (λ (r : List Row). length (filter_map (offer_of setting file i.segments) r)) rows in
         omega (arith, all, none, segments_fit i.segments 0 f (length f) are.0.is_file)
 
-pub all_fit : (setting : Setting) (files : List (List ℕ)) (inputs : List Input) → AreInputs files inputs → FewRows inputs files → 10 * (length (objects setting inputs) + length (offers setting inputs)) ≤ total_size files
-unfolding objects offers
+pub all_fit : (setting : LinkSetting) (files : List (List ℕ)) (inputs : List Input) → AreInputs files inputs → FewRows inputs files → 10 * (length (objects setting inputs) + length (library_offers setting inputs)) ≤ total_size files
+unfolding objects library_offers
 all_fit setting files inputs are few = all_few setting 1 files inputs are few

@@ -8,7 +8,7 @@ use Rattle.omf_format.specs.File.{Segment, IsFile, IsFirstFault}
 use Rattle.omf_format.specs.laws.FileLaws.{file_same, no_file}
 use Rattle.link_meaning.specs.declared.fault.LinkCause.TheVariants.{BadLibrary}
 use Rattle.link_meaning.specs.First.{IsIn}
-use Rattle.link_meaning.specs.Member.{Row, Input, Member, Offer, is_library, members_from, objects_from, objects, offer_of, offers_from, offers, Setting}
+use Rattle.link_meaning.specs.Member.{Row, Input, Member, Offer, is_library, members_from, objects_from, objects, offer_of, offers_from, library_offers, LinkSetting}
 use Rattle.link_meaning.specs.Dictionary.{rows_of}
 use Rattle.link_meaning.specs.LinkFaults.{segments_fault, OfDictionary, IsInput}
 use Rattle.link_meaning.specs.declared.fault.LinkFault.{LinkFault}
@@ -27,10 +27,10 @@ use Rattle.link_program.proofs.RowLaws.{rows_stand}
 
 -- ---- an object file's segments
 
-abbrev pub member_as : Setting → ℕ → ℕ → Segment → Member
+abbrev pub member_as : LinkSetting → ℕ → ℕ → Segment → Member
 member_as setting file number s = record { file = file; number = number; from = 0; segment = s; setting = setting }
 
-pub members_more : (setting : Setting) (file n : ℕ) (list : List Segment) (k : ℕ) (s : Segment) → slice_get list k ≡ Some s → members_from setting file n (take (k + 1) list) ≡ members_from setting file n (take k list) ++ member_as setting file (n + k) s ∷ []
+pub members_more : (setting : LinkSetting) (file n : ℕ) (list : List Segment) (k : ℕ) (s : Segment) → slice_get list k ≡ Some s → members_from setting file n (take (k + 1) list) ≡ members_from setting file n (take k list) ++ member_as setting file (n + k) s ∷ []
 members_more setting file n [] k s e = absurd cc
 members_more setting file n (x ∷ list) zero s e =
     let same : x ≡ s = cc in
@@ -66,7 +66,7 @@ false_library list bytes file at fault is_file sound library is told =
 
 -- ---- one more input
 
-objects-snoc : (setting : Setting) (file : ℕ) (inputs : List Input) (input : Input) → objects_from setting file (inputs ++ input ∷ []) ≡ objects_from setting file inputs ++ (if is_library input.segments then [] else members_from setting (file + length inputs) 1 input.segments)
+objects-snoc : (setting : LinkSetting) (file : ℕ) (inputs : List Input) (input : Input) → objects_from setting file (inputs ++ input ∷ []) ≡ objects_from setting file inputs ++ (if is_library input.segments then [] else members_from setting (file + length inputs) 1 input.segments)
 objects-snoc setting file [] input =
     let same : file ≡ file + 0 = omega arith in
     append-nil (if is_library input.segments then [] else members_from setting file 1 input.segments) ∙ ap (λ (n : ℕ). if is_library input.segments then [] else members_from setting n 1 input.segments) same
@@ -76,7 +76,7 @@ objects-snoc setting file (x ∷ inputs) input =
     (objects-snoc setting (file + 1) inputs input ∙ ap (λ (n : ℕ). objects_from setting (file + 1) inputs ++ (if is_library input.segments then [] else members_from setting n 1 input.segments)) same)
     ∙ sym (append_assoc (if is_library x.segments then [] else members_from setting file 1 x.segments) (objects_from setting (file + 1) inputs) (if is_library input.segments then [] else members_from setting (file + suc (length inputs)) 1 input.segments))
 
-offers-snoc : (setting : Setting) (file : ℕ) (inputs : List Input) (input : Input) → offers_from setting file (inputs ++ input ∷ []) ≡ offers_from setting file inputs ++ filter_map (offer_of setting (file + length inputs) input.segments) input.rows
+offers-snoc : (setting : LinkSetting) (file : ℕ) (inputs : List Input) (input : Input) → offers_from setting file (inputs ++ input ∷ []) ≡ offers_from setting file inputs ++ filter_map (offer_of setting (file + length inputs) input.segments) input.rows
 offers-snoc setting file [] input =
     let same : file ≡ file + 0 = omega arith in
     append-nil (filter_map (offer_of setting file input.segments) input.rows) ∙ ap (λ (n : ℕ). filter_map (offer_of setting n input.segments) input.rows) same
@@ -88,7 +88,7 @@ offers-snoc setting file (x ∷ inputs) input =
 
 pub gathered_more : (inputs : List Input) (input : Input) (old new : gathered.Gathered) (file : ℕ) (list : List Segment) → IsGathered inputs old → file ≡ length old.files.items + 1 → AddsInput file input old new → IsSoundInput input → input.segments ≡ list
     → new.files.items ≡ old.files.items ++ list ∷ [] → IsGathered (inputs ++ input ∷ []) new
-unfolding objects offers
+unfolding objects library_offers
 gathered_more inputs input old new file list g number adds sound same files =
     let at : file ≡ 1 + length inputs = omega (arith, number, ap length g.files, length-map inputs (λ (i : Input). i.segments)) in
     record {
@@ -116,7 +116,7 @@ pub library_input : (list : List Segment) (bytes : List ℕ) (rows : List Row) �
 library_input list bytes rows is_file sound library read = record { is_file = is_file; sound = sound; rows = ap (λ (b : Bool). if b then rows_of list else Ok []) library ∙ read }
 
 pub gathered_none : (new : gathered.Gathered) → new.files.items ≡ [] → Holds [] new.linked → AreOffers [] new.offers → IsGathered [] new
-unfolding objects offers
+unfolding objects library_offers
 gathered_none new files linked offered = record { files = files; objects' = λ setting. linked; offers' = λ setting. offered; sound = λ i is. absurd is }
 
 -- a file that is one has no fault
@@ -125,7 +125,7 @@ no_file_fault list bytes fault is first = no_file bytes fault list first is
 
 -- what an object file adds
 pub adds_object : (file : ℕ) (list : List Segment) (old new : gathered.Gathered) → is_library list ≡ false → new.offers ≡ old.offers
-    → ((setting : Setting) (before : List Member) → Holds before old.linked → Holds (before ++ members_from setting file 1 list) new.linked) → AddsInput file (record { segments = list; rows = [] }) old new
+    → ((setting : LinkSetting) (before : List Member) → Holds before old.linked → Holds (before ++ members_from setting file 1 list) new.linked) → AddsInput file (record { segments = list; rows = [] }) old new
 adds_object file list old new other offered linked = (
   λ setting before holds. subst (λ (b : Bool). Holds (before ++ (if b then [] else members_from setting file 1 list)) new.linked) (sym other) (linked setting before holds),
   λ setting os are. subst (λ (l : List Offer). AreOffers l new.offers) (sym (append-nil os)) (subst (AreOffers os) (sym offered) are),
@@ -133,7 +133,7 @@ adds_object file list old new other offered linked = (
 
 -- and a library
 pub adds_library : (file : ℕ) (list : List Segment) (rows : List Row) (old new : gathered.Gathered) → is_library list ≡ true → new.linked ≡ old.linked
-    → ((setting : Setting) (os : List Offer) → AreOffers os old.offers → AreOffers (os ++ filter_map (offer_of setting file list) rows) new.offers)
+    → ((setting : LinkSetting) (os : List Offer) → AreOffers os old.offers → AreOffers (os ++ filter_map (offer_of setting file list) rows) new.offers)
     → AddsInput file (record { segments = list; rows = rows }) old new
 adds_library file list rows old new library linked offered = (
   λ setting before holds. subst (λ (b : Bool). Holds (before ++ (if b then [] else members_from setting file 1 list)) new.linked) (sym library)

@@ -8,11 +8,11 @@ use Rattle.omf_format.specs.Header.{form_of, is_private}
 use Rattle.omf_format.specs.File.{Segment, AreSegments, segment_at}
 use Rattle.omf_format.specs.laws.FileLaws.{header_lies}
 use Rattle.omf_records.specs.declared.segment.SegmentView.{SegmentView}
-use Rattle.omf_records.specs.Segments.{shown}
+use Rattle.omf_records.specs.Segments.{segment_of_view}
 use Rattle.omf_records.specs.SegmentLaws.{shown_at}
 use Rattle.std.proofs.lemmas.List.Elements.{filter_map-append}
 use Rattle.link_meaning.specs.First.{IsIn}
-use Rattle.link_meaning.specs.Member.{Row, Offer, offer_of, Setting}
+use Rattle.link_meaning.specs.Member.{Row, Offer, offer_of, LinkSetting}
 use Rattle.link_meaning.specs.Defines.{Definition, outer_scope, title_of, data_title_of}
 use Rattle.link_meaning.specs.LinkedList.{has_title}
 use Rattle.lib_dict.specs.Library.{LibraryRow, told_row}
@@ -102,13 +102,13 @@ same_title s name private is_so form title is data' named some same so =
 
 -- ---- rows
 
-pub there_is : (setting : Setting) (file : ℕ) (segments : List Segment) (row : Row) (k : ℕ) (s : Segment) → row.segment ≡ suc k → slice_get segments k ≡ Some s
+pub there_is : (setting : LinkSetting) (file : ℕ) (segments : List Segment) (row : Row) (k : ℕ) (s : Segment) → row.segment ≡ suc k → slice_get segments k ≡ Some s
     → offer_of setting file segments row ≡ Some (record { name = row.name; private = row.private; member = record { file = file; number = row.segment; from = row.from; segment = s; setting = setting } })
 there_is setting file segments row k s number here =
     let place : row.segment - 1 ≡ k = omega (arith, number) in
     ap (λ (x : Option Segment). option_map (offer_with setting file row) x) (ap (slice_get segments) place ∙ here)
 
-pub offered_so : (setting : Setting) (file : ℕ) (segments : List Segment) (row : Row) (told : LibraryRow) (o : Offer) (k : ℕ) (s : Segment) (number : ℕ) (titled : Bool) → offer_of setting file segments row ≡ Some o → row.segment ≡ suc k → slice_get segments k ≡ Some s
+pub offered_so : (setting : LinkSetting) (file : ℕ) (segments : List Segment) (row : Row) (told : LibraryRow) (o : Offer) (k : ℕ) (s : Segment) (number : ℕ) (titled : Bool) → offer_of setting file segments row ≡ Some o → row.segment ≡ suc k → slice_get segments k ≡ Some s
     → told ≡ told_row segments row → number ≡ k + 1 → titled ≡ has_title s told.name told.private → IsOfferOf o told.name told.private (record { file = file; segment = number; from = told.file }) titled
 offered_so setting file segments row told o k s number titled is place here told_is number_is titled_is =
     let same = offer_is setting file segments row o k s is place here in
@@ -131,7 +131,7 @@ offered_so setting file segments row told o k s number titled is place here told
 -- ---- the rows so far
 
 -- one more row
-pub offers_more : (setting : Setting) (file : ℕ) (segments : List Segment) (os : List Offer) (rows : List Row) (k : ℕ) (row : Row) (o : Offer) → slice_get rows k ≡ Some row → offer_of setting file segments row ≡ Some o
+pub offers_more : (setting : LinkSetting) (file : ℕ) (segments : List Segment) (os : List Offer) (rows : List Row) (k : ℕ) (row : Row) (o : Offer) → slice_get rows k ≡ Some row → offer_of setting file segments row ≡ Some o
     → (os ++ filter_map (offer_of setting file segments) (take k rows)) ++ o ∷ [] ≡ os ++ filter_map (offer_of setting file segments) (take (k + 1) rows)
 offers_more setting file segments os rows k row o here is =
     let h = offer_of setting file segments in
@@ -156,14 +156,14 @@ number_same : (a b : ℕ) → Some a ≡ Some b → a ≡ b
 number_same a b e = cc
 
 -- what was looked up for a row
-pub offered_row : (setting : Setting) (file : ℕ) (segments : List Segment) (row : Row) (told : LibraryRow) (o : Offer) (number : ℕ) (v : SegmentView) (titled : Bool) (stands : StandsIn segments row) (is : told ≡ told_row segments row) → offer_of setting file segments row ≡ Some o
-    → Some number ≡ Some ((row_place segments row told is stands).k + 1) → Some (shown v) ≡ segment_at segments number → titled ≡ has_title (shown v) told.name told.private
+pub offered_row : (setting : LinkSetting) (file : ℕ) (segments : List Segment) (row : Row) (told : LibraryRow) (o : Offer) (number : ℕ) (v : SegmentView) (titled : Bool) (stands : StandsIn segments row) (is : told ≡ told_row segments row) → offer_of setting file segments row ≡ Some o
+    → Some number ≡ Some ((row_place segments row told is stands).k + 1) → Some (segment_of_view v) ≡ segment_at segments number → titled ≡ has_title (segment_of_view v) told.name told.private
     → IsOfferOf o told.name told.private (record { file = file; segment = number; from = told.file }) titled
 offered_row setting file segments row told o number v titled stands is offer numbered there titled_is =
     let p = row_place segments row told is stands in
     let n = number_same number (p.k + 1) numbered in
-    let here : slice_get segments p.k ≡ Some (shown v) = shown_at segments p.k v (there ∙ ap (segment_at segments) n) in
-    offered_so setting file segments row told o p.k (shown v) number titled offer p.number here is n titled_is
+    let here : slice_get segments p.k ≡ Some (segment_of_view v) = shown_at segments p.k v (there ∙ ap (segment_at segments) n) in
+    offered_so setting file segments row told o p.k (segment_of_view v) number titled offer p.number here is n titled_is
 
 -- ---- the loop
 
@@ -187,7 +187,7 @@ row_at segments dictionary rows k told are at = settle (slice_get rows k) refl
     settle None e = let clash : option_map (told_row segments) None ≡ Some told = sym (ap (option_map (told_row segments)) e) ∙ both in absurd cc
     settle (Some row) e = record { row = row; at = e; among = in_at rows k row e; told' = sym (told_same (told_row segments row) told (sym (ap (option_map (told_row segments)) e) ∙ both)) }
 
-pub rows_next : (setting : Setting) (file : ℕ) (segments : List Segment) (os : List Offer) (rows : List Row) (k : ℕ) (told : LibraryRow) (r : IsRowAt segments rows k told) → AllStand segments rows → (old new : Offers) → AreOffers (os ++ filter_map (offer_of setting file segments) (take k rows)) old
+pub rows_next : (setting : LinkSetting) (file : ℕ) (segments : List Segment) (os : List Offer) (rows : List Row) (k : ℕ) (told : LibraryRow) (r : IsRowAt segments rows k told) → AllStand segments rows → (old new : Offers) → AreOffers (os ++ filter_map (offer_of setting file segments) (take k rows)) old
     → ((os' : List Offer) (row : Row) (o : Offer) → told ≡ told_row segments row → StandsIn segments row → offer_of setting file segments row ≡ Some o → AreOffers os' old → AreOffers (os' ++ o ∷ []) new)
     → AreOffers (os ++ filter_map (offer_of setting file segments) (take (k + 1) rows)) new
 rows_next setting file segments os rows k told r stand old new are add =
@@ -197,7 +197,7 @@ rows_next setting file segments os rows k told r stand old new are add =
     let o : Offer = offer_with setting file r.row p.segment in
     subst (λ (l : List Offer). AreOffers l new) (offers_more setting file segments os rows k r.row o r.at offer) (add (os ++ filter_map (offer_of setting file segments) (take k rows)) r.row o r.told' s offer are)
 
-pub rows_all : (setting : Setting) (file : ℕ) (segments : List Segment) (dictionary : List LibraryRow) (os : List Offer) (rows : List Row) (k : ℕ) (offers : Offers) → dictionary ≡ map (told_row segments) rows → length dictionary ≤ k
+pub rows_all : (setting : LinkSetting) (file : ℕ) (segments : List Segment) (dictionary : List LibraryRow) (os : List Offer) (rows : List Row) (k : ℕ) (offers : Offers) → dictionary ≡ map (told_row segments) rows → length dictionary ≤ k
     → AreOffers (os ++ filter_map (offer_of setting file segments) (take k rows)) offers → AreOffers (os ++ filter_map (offer_of setting file segments) rows) offers
 rows_all setting file segments dictionary os rows k offers are past is =
     let size : length rows ≤ k = omega (arith, past, ap length are, length-map rows (told_row segments)) in

@@ -9,7 +9,7 @@ use Rattle.load_meaning.specs.laws.LoadableLaws.{loadable_sound, loadable_same}
 use Rattle.link_meaning.specs.declared.fault.LinkFault.{LinkFault}
 use Rattle.link_meaning.specs.First.{HasNone, IsFirst}
 use Rattle.link_meaning.specs.Member.{Input, RuntimeFile}
-use Rattle.link_meaning.specs.LinkFaults.{Given, Part, OfInput, OfRuntime, parts_of, HasFileFault, HasRuntimeFault, HasPartFault, IsInput, AreInputs, AreRuntimes}
+use Rattle.link_meaning.specs.LinkFaults.{LinkInput, Part, OfInput, OfRuntime, parts_of, HasFileFault, HasRuntimeFault, HasPartFault, IsInput, AreInputs, AreRuntimes}
 use Rattle.link_resolve.specs.Resolved.{IsFirstInput}
 use Rattle.link_resolve.specs.Runtimes.{IsFirstFile}
 use Rattle.link_resolve.proofs.InputLaws.{input_sound}
@@ -59,14 +59,14 @@ all_both [] ys a b = b
 all_both (x ∷ xs) ys a b = (a.0, all_both xs ys a.1 b)
 
 -- where all files are read there is no fault of reading
-pub none_parts : (given : Given) (inputs : List Input) (runtimes : List RuntimeFile) → AreInputs given.inputs inputs → AreRuntimes given.runtimes runtimes → HasNone HasPartFault (parts_of given)
+pub none_parts : (given : LinkInput) (inputs : List Input) (runtimes : List RuntimeFile) → AreInputs given.inputs inputs → AreRuntimes given.runtimes runtimes → HasNone HasPartFault (parts_of given)
 none_parts given inputs runtimes are are' =
     none_of (parts_of given) (all_both (map OfInput given.inputs) (map (λ file. OfRuntime file.1) given.runtimes) (inputs_read given.inputs inputs are) (runtimes_read given.runtimes runtimes are'))
 
 -- ---- the first file at fault
 
 -- an input
-pub first_input : (given : Given) (fault : LinkFault) → IsFirstInput given.inputs fault → IsFirst HasPartFault (parts_of given) fault
+pub first_input : (given : LinkInput) (fault : LinkFault) → IsFirstInput given.inputs fault → IsFirst HasPartFault (parts_of given) fault
 first_input given fault first =
     let runtimes = map (λ (file : List ℕ × List ℕ). OfRuntime file.1) given.runtimes in
     record {
@@ -82,7 +82,7 @@ first_input given fault first =
     }
 
 -- a run-time library file
-pub first_runtime : (given : Given) (fault : LinkFault) (inputs : List Input) → AreInputs given.inputs inputs → IsFirstFile (length given.inputs) given.runtimes fault → IsFirst HasPartFault (parts_of given) fault
+pub first_runtime : (given : LinkInput) (fault : LinkFault) (inputs : List Input) → AreInputs given.inputs inputs → IsFirstFile (length given.inputs) given.runtimes fault → IsFirst HasPartFault (parts_of given) fault
 first_runtime given fault inputs are first =
     let front = map OfInput given.inputs in
     let before = map (λ (file : List ℕ × List ℕ). OfRuntime file.1) first.before in

@@ -7,9 +7,9 @@ use Rattle.link_meaning.specs.declared.fault.LinkFault.{LinkFault}
 use Rattle.link_meaning.specs.declared.fault.LinkCause.TheVariants.{Empty}
 use Rattle.link_meaning.specs.First.{HasNone, IsFirst}
 use Rattle.link_meaning.specs.laws.FirstLaws.{none_more, none_yet}
-use Rattle.link_meaning.specs.Member.{Input, Setting, Member, objects}
-use Rattle.link_meaning.specs.LinkedList.{Asked, asked}
-use Rattle.link_meaning.specs.LinkFaults.{Given, nowhere, parts_of, HasPartFault, IsSetting, AreInputs, IsProgram, HasUseFault, HasLayoutFault, Phase, Reading, Objects, Names, Layout, HasPhaseFault, IsFirstResolveFault, IsResolved}
+use Rattle.link_meaning.specs.Member.{Input, LinkSetting, Member, objects}
+use Rattle.link_meaning.specs.LinkedList.{PlacedUse, all_uses}
+use Rattle.link_meaning.specs.LinkFaults.{LinkInput, no_spot, parts_of, HasPartFault, IsSetting, AreInputs, IsProgram, HasUseFault, HasLayoutFault, Phase, Reading, Objects, Names, Layout, HasPhaseFault, IsFirstResolveFault, IsResolved}
 use Rattle.link_meaning.specs.laws.LinkFaultLaws.{inputs_same, setting_same, one_program}
 use Rattle.link_resolve.proofs.PartLaws.{none_parts}
 use Rattle.link_tables.specs.declared.definitions.Origin.{Origin}
@@ -19,21 +19,21 @@ use Rattle.link_tables.specs.Laid.{layout_checks}
 
 -- ---- the phases
 
-no_reading : (given : Given) (inputs : List Input) (setting : Setting) (before : List Phase) (its : LinkFault) → IsSetting given setting → AreInputs given.inputs inputs → HasPhaseFault given before Reading its → ⊥
+no_reading : (given : LinkInput) (inputs : List Input) (setting : LinkSetting) (before : List Phase) (its : LinkFault) → IsSetting given setting → AreInputs given.inputs inputs → HasPhaseFault given before Reading its → ⊥
 no_reading given inputs setting before its with' are p = none_parts given inputs setting.runtimes are with'.runtimes' p.before p.item p.after its p.parts p.here
 
-no_objects : (given : Given) (inputs : List Input) (setting : Setting) (before : List Phase) (its : LinkFault) → IsSetting given setting → AreInputs given.inputs inputs → (objects setting inputs ≡ [] → ⊥)
+no_objects : (given : LinkInput) (inputs : List Input) (setting : LinkSetting) (before : List Phase) (its : LinkFault) → IsSetting given setting → AreInputs given.inputs inputs → (objects setting inputs ≡ [] → ⊥)
     → HasPhaseFault given before Objects its → ⊥
 no_objects given inputs setting before its with' are some p =
-    some (ap (λ (s : Setting). objects s inputs) (setting_same given setting p.0 with' p.2) ∙ ap (objects p.0) (inputs_same given.inputs inputs p.1 are p.3) ∙ p.4)
+    some (ap (λ (s : LinkSetting). objects s inputs) (setting_same given setting p.0 with' p.2) ∙ ap (objects p.0) (inputs_same given.inputs inputs p.1 are p.3) ∙ p.4)
 
-no_names : (given : Given) (list : List Member) (before : List Phase) (its : LinkFault) → IsProgram given list → HasNone (HasUseFault list) (asked list) → HasPhaseFault given before Names its → ⊥
+no_names : (given : LinkInput) (list : List Member) (before : List Phase) (its : LinkFault) → IsProgram given list → HasNone (HasUseFault list) (all_uses list) → HasPhaseFault given before Names its → ⊥
 no_names given list before its is none p =
     let same = one_program given p.0 list p.1 is in
-    let q : IsFirst (HasUseFault list) (asked list) its = subst (λ (l : List Member). IsFirst (HasUseFault l) (asked l) its) same p.2 in
+    let q : IsFirst (HasUseFault list) (all_uses list) its = subst (λ (l : List Member). IsFirst (HasUseFault l) (all_uses l) its) same p.2 in
     none q.before q.item q.after its q.parts q.here
 
-no_layout : (given : Given) (list : List Member) (before : List Phase) (its : LinkFault) → IsProgram given list → HasNone (HasLayoutFault list) layout_checks → HasPhaseFault given before Layout its → ⊥
+no_layout : (given : LinkInput) (list : List Member) (before : List Phase) (its : LinkFault) → IsProgram given list → HasNone (HasLayoutFault list) layout_checks → HasPhaseFault given before Layout its → ⊥
 no_layout given list before its is none p =
     let same = one_program given p.0 list p.1 is in
     let q : IsFirst (HasLayoutFault list) layout_checks its = subst (λ (l : List Member). IsFirst (HasLayoutFault l) layout_checks its) same p.2 in
@@ -48,23 +48,23 @@ upto_objects = Reading ∷ Objects ∷ []
 abbrev upto_names : List Phase
 upto_names = Reading ∷ Objects ∷ Names ∷ []
 
-none_reading : (given : Given) (inputs : List Input) (setting : Setting) → IsSetting given setting → AreInputs given.inputs inputs → HasNone (HasPhaseFault given) upto_reading
+none_reading : (given : LinkInput) (inputs : List Input) (setting : LinkSetting) → IsSetting given setting → AreInputs given.inputs inputs → HasNone (HasPhaseFault given) upto_reading
 none_reading given inputs setting with' are = none_more (HasPhaseFault given) [] Reading (none_yet (HasPhaseFault given)) (λ its. no_reading given inputs setting [] its with' are)
 
-none_objects : (given : Given) (inputs : List Input) (setting : Setting) → IsSetting given setting → AreInputs given.inputs inputs → (objects setting inputs ≡ [] → ⊥) → HasNone (HasPhaseFault given) upto_objects
+none_objects : (given : LinkInput) (inputs : List Input) (setting : LinkSetting) → IsSetting given setting → AreInputs given.inputs inputs → (objects setting inputs ≡ [] → ⊥) → HasNone (HasPhaseFault given) upto_objects
 none_objects given inputs setting with' are some =
     none_more (HasPhaseFault given) upto_reading Objects (none_reading given inputs setting with' are) (λ its. no_objects given inputs setting upto_reading its with' are some)
 
-none_names : (given : Given) (inputs : List Input) (setting : Setting) (list : List Member) → IsSetting given setting → AreInputs given.inputs inputs → (objects setting inputs ≡ [] → ⊥) → IsProgram given list
-    → HasNone (HasUseFault list) (asked list) → HasNone (HasPhaseFault given) upto_names
+none_names : (given : LinkInput) (inputs : List Input) (setting : LinkSetting) (list : List Member) → IsSetting given setting → AreInputs given.inputs inputs → (objects setting inputs ≡ [] → ⊥) → IsProgram given list
+    → HasNone (HasUseFault list) (all_uses list) → HasNone (HasPhaseFault given) upto_names
 none_names given inputs setting list with' are some is none =
     none_more (HasPhaseFault given) upto_objects Names (none_objects given inputs setting with' are some) (λ its. no_names given list upto_objects its is none)
 
-pub at_reading : (given : Given) (fault : LinkFault) → IsFirst HasPartFault (parts_of given) fault → IsFirstResolveFault given fault
+pub at_reading : (given : LinkInput) (fault : LinkFault) → IsFirst HasPartFault (parts_of given) fault → IsFirstResolveFault given fault
 at_reading given fault first = record { before = []; item = Reading; after = Objects ∷ Names ∷ Layout ∷ []; parts = refl; none = none_yet (HasPhaseFault given); here = first }
 
-pub at_objects : (given : Given) (inputs : List Input) (setting : Setting) (fault : LinkFault) → IsSetting given setting → AreInputs given.inputs inputs → objects setting inputs ≡ []
-    → fault ≡ record { cause = Empty; name = None; spot = nowhere } → IsFirstResolveFault given fault
+pub at_objects : (given : LinkInput) (inputs : List Input) (setting : LinkSetting) (fault : LinkFault) → IsSetting given setting → AreInputs given.inputs inputs → objects setting inputs ≡ []
+    → fault ≡ record { cause = Empty; name = None; spot = no_spot } → IsFirstResolveFault given fault
 at_objects given inputs setting fault with' are empty told = record {
   before = upto_reading;
   item = Objects;
@@ -74,8 +74,8 @@ at_objects given inputs setting fault with' are empty told = record {
   here = (setting, inputs, with', are, empty, told);
 }
 
-pub at_names : (given : Given) (inputs : List Input) (setting : Setting) (list : List Member) (fault : LinkFault) → IsSetting given setting → AreInputs given.inputs inputs → (objects setting inputs ≡ [] → ⊥) → IsProgram given list
-    → IsFirst (HasUseFault list) (asked list) fault → IsFirstResolveFault given fault
+pub at_names : (given : LinkInput) (inputs : List Input) (setting : LinkSetting) (list : List Member) (fault : LinkFault) → IsSetting given setting → AreInputs given.inputs inputs → (objects setting inputs ≡ [] → ⊥) → IsProgram given list
+    → IsFirst (HasUseFault list) (all_uses list) fault → IsFirstResolveFault given fault
 at_names given inputs setting list fault with' are some is first = record {
   before = upto_objects;
   item = Names;
@@ -85,8 +85,8 @@ at_names given inputs setting list fault with' are some is first = record {
   here = (list, is, first);
 }
 
-pub at_layout : (given : Given) (inputs : List Input) (setting : Setting) (list : List Member) (fault : LinkFault) → IsSetting given setting → AreInputs given.inputs inputs → (objects setting inputs ≡ [] → ⊥) → IsProgram given list
-    → HasNone (HasUseFault list) (asked list) → IsFirst (HasLayoutFault list) layout_checks fault → IsFirstResolveFault given fault
+pub at_layout : (given : LinkInput) (inputs : List Input) (setting : LinkSetting) (list : List Member) (fault : LinkFault) → IsSetting given setting → AreInputs given.inputs inputs → (objects setting inputs ≡ [] → ⊥) → IsProgram given list
+    → HasNone (HasUseFault list) (all_uses list) → IsFirst (HasLayoutFault list) layout_checks fault → IsFirstResolveFault given fault
 at_layout given inputs setting list fault with' are some is none first = record {
   before = upto_names;
   item = Layout;
@@ -96,8 +96,8 @@ at_layout given inputs setting list fault with' are some is none first = record 
   here = (list, is, first);
 }
 
-pub all_sound : (given : Given) (inputs : List Input) (setting : Setting) (list : List Member) → IsSetting given setting → AreInputs given.inputs inputs → (objects setting inputs ≡ [] → ⊥) → IsProgram given list
-    → HasNone (HasUseFault list) (asked list) → HasNone (HasLayoutFault list) layout_checks → IsResolved given list
+pub all_sound : (given : LinkInput) (inputs : List Input) (setting : LinkSetting) (list : List Member) → IsSetting given setting → AreInputs given.inputs inputs → (objects setting inputs ≡ [] → ⊥) → IsProgram given list
+    → HasNone (HasUseFault list) (all_uses list) → HasNone (HasLayoutFault list) layout_checks → IsResolved given list
 all_sound given inputs setting list with' are some is none sound = record {
   program = is;
   sound = none_more (HasPhaseFault given) upto_names Layout (none_names given inputs setting list with' are some is none) (λ its. no_layout given list upto_names its is sound);
@@ -113,19 +113,19 @@ middle_at [] y ys = refl
 middle_at (x ∷ xs) y ys = middle_at xs y ys
 
 -- where none fails to resolve there is no fault
-pub none_used : (list : List Member) (uses : List Asked) → HasNone (FailsToResolve list) uses → HasNone (HasUseFault list) uses
+pub none_used : (list : List Member) (uses : List PlacedUse) → HasNone (FailsToResolve list) uses → HasNone (HasUseFault list) uses
 none_used list uses none front other rest its e has = none front other rest its.cause e has.cause
 
-pub use_at : (list : List Member) (cause : LinkCause) (number : ℕ) (first : IsFirstUse list cause number) → slice_get (asked list) number ≡ Some first.use'
+pub use_at : (list : List Member) (cause : LinkCause) (number : ℕ) (first : IsFirstUse list cause number) → slice_get (all_uses list) number ≡ Some first.use'
 use_at list cause number first =
-    ap (λ (l : List Asked). slice_get l number) first.parts ∙ ap (slice_get (first.before ++ first.use' ∷ first.after)) (sym first.place) ∙ middle_at first.before first.use' first.after
+    ap (λ (l : List PlacedUse). slice_get l number) first.parts ∙ ap (slice_get (first.before ++ first.use' ∷ first.after)) (sym first.place) ∙ middle_at first.before first.use' first.after
 
 abbrev spot_at : ℕ → ℕ → ℕ → Spot
 spot_at file segment at = record { file = file; segment = segment; at = at }
 
 pub first_used : (list : List Member) (cause : LinkCause) (number : ℕ) (origin : Origin) (name : List ℕ) (at : ℕ) (fault : LinkFault) (first : IsFirstUse list cause number) → IsOf first.use'.member origin
     → name ≡ first.use'.use'.name → at ≡ first.use'.use'.at
-    → fault ≡ record { cause = cause; name = Some name; spot = record { file = origin.file; segment = origin.segment; at = at } } → IsFirst (HasUseFault list) (asked list) fault
+    → fault ≡ record { cause = cause; name = Some name; spot = record { file = origin.file; segment = origin.segment; at = at } } → IsFirst (HasUseFault list) (all_uses list) fault
 first_used list cause number origin name at fault first of named placed told = record {
   before = first.before;
   item = first.use';

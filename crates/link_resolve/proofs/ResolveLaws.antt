@@ -13,15 +13,15 @@ use Rattle.link_meaning.specs.declared.form.LinkForm.{LinkForm}
 use Rattle.link_meaning.specs.declared.form.LinkForm.TheVariants.{Program, Runtime as LibraryForm}
 use Rattle.lib_dict.specs.declared.member.Member as held
 use Rattle.link_meaning.specs.First.{HasNone, IsFirst}
-use Rattle.link_meaning.specs.Member.{Input, Setting, alone, setting_in, objects}
+use Rattle.link_meaning.specs.Member.{Input, LinkSetting, without_runtimes, setting_in, objects}
 use Rattle.link_meaning.specs.Search.{outside, outside_from}
-use Rattle.link_meaning.specs.LinkedList.{asked}
-use Rattle.link_meaning.specs.LinkFaults.{Given, HasBytes, MayHave, nowhere, IsInput, AreInputs, IsSetting, AreRuntimes, IsProgram, HasFileFault, HasUseFault, HasLayoutFault}
+use Rattle.link_meaning.specs.LinkedList.{all_uses}
+use Rattle.link_meaning.specs.LinkFaults.{LinkInput, HasBytes, MayHave, no_spot, IsInput, AreInputs, IsSetting, AreRuntimes, IsProgram, HasFileFault, HasUseFault, HasLayoutFault}
 use Rattle.link_resolve.specs.declared.gather.Gathered as gathered
 use Rattle.link_resolve.specs.Reading.{IsFileRefused}
 use Rattle.omf_header.specs.View.{fields}
-use Rattle.link_tables.specs.declared.layout.Layout as laid
-use Rattle.link_program.specs.declared.program.Kept.{Kept}
+use Rattle.link_tables.specs.declared.layout.LinkLayout as laid
+use Rattle.link_program.specs.declared.program.ResolvedProgram.{ResolvedProgram}
 use Rattle.link_resolve.specs.Gathered.{IsGathered}
 use Rattle.link_program.specs.Files.{AllAmong}
 use Rattle.link_program.specs.Programs.{setting_of, IsKept, runtimes_of}
@@ -31,8 +31,8 @@ use Rattle.link_tables.specs.Laid.{layout_checks, Laid, AllShort, AreHeaders}
 use Rattle.link_resolve.specs.Resolved.{all_bytes, total_size, AreFew, FewGiven, HasGathered, HasObjects, setting_as, IsReadAll, setting_grown, IsListOf, IsLaidOut, IsInputFault, IsUseFault, IsRefused}
 use Rattle.link_resolve.specs.Runtimes.{files_of, AreRead, IsFirstFile, IsFirstRefused}
 use Rattle.link_program.specs.Outside.{AreOutside, IsOutsideOf}
-use Rattle.link_program.specs.declared.outside.Outside.{Outside}
-use Rattle.link_resolve.specs.declared.resolving.Read.{Read}
+use Rattle.link_program.specs.declared.outside.OutsideNames.{OutsideNames}
+use Rattle.link_resolve.specs.declared.resolving.InputsRead.{InputsRead}
 use Rattle.link_resolve.specs.declared.resolving.Grown.{Grown}
 use Rattle.link_tables.proofs.Lists.{drop_at, empty, take_more, take_all}
 use Rattle.link_program.proofs.LinkedLaws.{count_is}
@@ -64,8 +64,8 @@ inputs_count (f ∷ files) (i ∷ inputs) are = ap suc (inputs_count files input
 pub room_for : (files : List (List ℕ)) (k : ℕ) (file : List ℕ) (kept : gathered.Gathered) → HasGathered (take k files) kept → slice_get files k ≡ Some file → AreFew files
     → (length file + length kept.linked.members.items < 2 ^ 32) × (length kept.files.items + 1 < 2 ^ 32)
 room_for files k file kept h at few =
-    let fit = all_fit alone (take k files) h.0 h.1 h.2 in
-    let count = count_is (objects alone h.0) kept.linked (h.3.objects' alone) in
+    let fit = all_fit without_runtimes (take k files) h.0 h.1 h.2 in
+    let count = count_is (objects without_runtimes h.0) kept.linked (h.3.objects' without_runtimes) in
     let within = slice_get_within files k file at in
     let inputs = inputs_count (take k files) h.0 h.1 in
     let size = length-take-le k files (omega (arith, within)) in
@@ -98,16 +98,16 @@ refused_file files k file kept fault h at (inr has) = inr (record {
 
 -- ---- the list
 
-pub few_inputs : (given : Given) → FewGiven given → AreFew given.inputs
+pub few_inputs : (given : LinkInput) → FewGiven given → AreFew given.inputs
 few_inputs given few = (omega (arith, few.files), omega (arith, few.bytes))
 
-no_objects : (setting : Setting) (files : List (List ℕ)) (kept : gathered.Gathered) (h : HasGathered files kept) → length kept.linked.members.items ≡ 0 → objects setting h.0 ≡ []
+no_objects : (setting : LinkSetting) (files : List (List ℕ)) (kept : gathered.Gathered) (h : HasGathered files kept) → length kept.linked.members.items ≡ 0 → objects setting h.0 ≡ []
 no_objects setting files kept h none = empty (objects setting h.0) (omega (arith, count_is (objects setting h.0) kept.linked (h.3.objects' setting), none))
 
-some_objects : (setting : Setting) (files : List (List ℕ)) (kept : gathered.Gathered) (h : HasGathered files kept) → (length kept.linked.members.items ≡ 0 → ⊥) → objects setting h.0 ≡ [] → ⊥
+some_objects : (setting : LinkSetting) (files : List (List ℕ)) (kept : gathered.Gathered) (h : HasGathered files kept) → (length kept.linked.members.items ≡ 0 → ⊥) → objects setting h.0 ≡ [] → ⊥
 some_objects setting files kept h some none = some (count_is (objects setting h.0) kept.linked (h.3.objects' setting) ∙ ap length none)
 
-pub may_grow : (setting : Setting) (files : List (List ℕ)) (kept : gathered.Gathered) (table : Outside) (segments : List (List Segment)) (h : HasObjects files kept) → segments ≡ kept.files.items → AreOutside (outside setting) table
+pub may_grow : (setting : LinkSetting) (files : List (List ℕ)) (kept : gathered.Gathered) (table : OutsideNames) (segments : List (List Segment)) (h : HasObjects files kept) → segments ≡ kept.files.items → AreOutside (outside setting) table
     → total_size files < 2 ^ 32 → MayGrow setting h.0.0 segments table kept.offers kept.linked
 may_grow setting files kept table segments h same far few =
     let g = h.0.3 in
@@ -124,17 +124,17 @@ may_grow setting files kept table segments h same far few =
     }
 
 pub few_members : (files : List (List ℕ)) (kept : gathered.Gathered) (h : HasGathered files kept) → AreFew files → length kept.linked.members.items < 2 ^ 32
-few_members files kept h few = omega (arith, count_is (objects alone h.0) kept.linked (h.3.objects' alone), all_fit alone files h.0 h.1 h.2, few.1)
+few_members files kept h few = omega (arith, count_is (objects without_runtimes h.0) kept.linked (h.3.objects' without_runtimes), all_fit without_runtimes files h.0 h.1 h.2, few.1)
 
 -- the table of what was read
-pub far_of_read : (given : Given) (read : Read) → IsReadAll given read → AreOutside (outside (setting_as read.form read.runtimes.loads.items read.given.now)) read.runtimes.outside
+pub far_of_read : (given : LinkInput) (read : InputsRead) → IsReadAll given read → AreOutside (outside (setting_as read.form read.runtimes.loads.items read.given.now)) read.runtimes.outside
 unfolding outside
 far_of_read given read is = is.runtimes'.table'
 
 -- what was gathered grows to the list of what is given
-pub list_of_read : (given : Given) (read : Read) (grown : Grown) (segments : List (List Segment)) (is : IsReadAll given read) → segments ≡ read.gathered.files.items → grown.files.items ≡ read.gathered.files.items
+pub list_of_read : (given : LinkInput) (read : InputsRead) (grown : Grown) (segments : List (List Segment)) (is : IsReadAll given read) → segments ≡ read.gathered.files.items → grown.files.items ≡ read.gathered.files.items
     → grown.form ≡ read.form → grown.given.now ≡ read.given.now → grown.runtimes ≡ read.runtimes → FewGiven given
-    → ((setting : Setting) (inputs : List Input) → MayGrow setting inputs segments read.runtimes.outside read.gathered.offers read.gathered.linked → HasGrown setting inputs segments grown.linked) → IsListOf given grown
+    → ((setting : LinkSetting) (inputs : List Input) → MayGrow setting inputs segments read.runtimes.outside read.gathered.offers read.gathered.linked → HasGrown setting inputs segments grown.linked) → IsListOf given grown
 list_of_read given read grown segments is same files form members runtimes few grows =
     let setting = setting_as read.form read.runtimes.loads.items read.given.now in
     let same_setting : setting_grown grown ≡ setting =
@@ -146,56 +146,56 @@ list_of_read given read grown segments is same files form members runtimes few g
       runtimes' = subst (λ l. AreRead l grown.runtimes.loads.items grown.runtimes.outside) (sym members) (subst (λ r. AreRead read.given.now r.loads.items r.outside) (sym runtimes) is.runtimes');
       inputs = is.inputs'.0.0;
       are_inputs = is.inputs'.0.1;
-      some = subst (λ (s : Setting). objects s is.inputs'.0.0 ≡ [] → ⊥) (sym same_setting) may.some;
-      grown = subst (λ (s : Setting). HasGrown s is.inputs'.0.0 grown.files.items grown.linked) (sym same_setting)
+      some = subst (λ (s : LinkSetting). objects s is.inputs'.0.0 ≡ [] → ⊥) (sym same_setting) may.some;
+      grown = subst (λ (s : LinkSetting). HasGrown s is.inputs'.0.0 grown.files.items grown.linked) (sym same_setting)
           (subst (λ (l : List (List Segment)). HasGrown setting is.inputs'.0.0 l grown.linked) (same ∙ sym files) (grows setting is.inputs'.0.0 may));
     }
 
-is_setting : (given : Given) (grown : Grown) (of : IsListOf given grown) → IsSetting given (setting_grown grown)
+is_setting : (given : LinkInput) (grown : Grown) (of : IsListOf given grown) → IsSetting given (setting_grown grown)
 is_setting given grown of = record { form' = of.form'; runtimes' = subst (λ l. AreRuntimes l (runtimes_of grown.runtimes.loads.items grown.given.now)) of.files of.runtimes'.are }
 
-is_program : (given : Given) (grown : Grown) (of : IsListOf given grown) → IsProgram given of.grown.list
+is_program : (given : LinkInput) (grown : Grown) (of : IsListOf given grown) → IsProgram given of.grown.list
 is_program given grown of = record { setting = setting_grown grown; is_setting = is_setting given grown of; inputs = of.inputs; are_inputs = of.are_inputs; linked = of.grown.is_linked }
 
 -- the list's setting
-pub list_setting : (given : Given) (grown : Grown) (of : IsListOf given grown) → setting_in of.grown.list ≡ setting_grown grown
+pub list_setting : (given : LinkInput) (grown : Grown) (of : IsListOf given grown) → setting_in of.grown.list ≡ setting_grown grown
 list_setting given grown of =
     let linked = of.grown.is_linked in
     ap setting_in linked.parts ∙ setting_is (setting_grown grown) of.inputs linked.added of.some
 
 -- the table has the names that the list can find
-pub list_outside : (given : Given) (grown : Grown) (of : IsListOf given grown) → IsOutsideOf of.grown.list grown.runtimes.outside
+pub list_outside : (given : LinkInput) (grown : Grown) (of : IsListOf given grown) → IsOutsideOf of.grown.list grown.runtimes.outside
 unfolding outside
-list_outside given grown of = subst (λ (s : Setting). AreOutside (outside_from 2 s.runtimes) grown.runtimes.outside) (sym (list_setting given grown of)) of.runtimes'.table'
+list_outside given grown of = subst (λ (s : LinkSetting). AreOutside (outside_from 2 s.runtimes) grown.runtimes.outside) (sym (list_setting given grown of)) of.runtimes'.table'
 
 -- ---- the answers
 
-pub refused_input : (given : Given) (fault : LinkFault) → IsInputFault given.inputs fault → IsRefused given fault
+pub refused_input : (given : LinkInput) (fault : LinkFault) → IsInputFault given.inputs fault → IsRefused given fault
 refused_input given fault (inl e) = inl e
 refused_input given fault (inr first) = inr (at_reading given fault (first_input given fault first))
 
-pub refused_runtime : (given : Given) (kept : gathered.Gathered) (fault : LinkFault) (n : ℕ) (files : List (List ℕ × List ℕ)) → n ≡ length given.inputs → files ≡ given.runtimes → HasGathered given.inputs kept → IsFirstRefused n files fault
+pub refused_runtime : (given : LinkInput) (kept : gathered.Gathered) (fault : LinkFault) (n : ℕ) (files : List (List ℕ × List ℕ)) → n ≡ length given.inputs → files ≡ given.runtimes → HasGathered given.inputs kept → IsFirstRefused n files fault
     → IsRefused given fault
 refused_runtime given kept fault n files count same h (inl e) = inl e
 refused_runtime given kept fault n files count same h (inr first) =
     let there = subst (λ (m : ℕ). IsFirstFile m given.runtimes fault) count (subst (λ (l : List (List ℕ × List ℕ)). IsFirstFile n l fault) same first) in
     inr (at_reading given fault (first_runtime given fault h.0 h.1 there))
 
-pub refused_empty : (given : Given) (kept : gathered.Gathered) (setting : Setting) (fault : LinkFault) (h : HasGathered given.inputs kept) → IsSetting given setting → length kept.linked.members.items ≡ 0
-    → fault ≡ record { cause = Empty; name = None; spot = nowhere } → IsRefused given fault
+pub refused_empty : (given : LinkInput) (kept : gathered.Gathered) (setting : LinkSetting) (fault : LinkFault) (h : HasGathered given.inputs kept) → IsSetting given setting → length kept.linked.members.items ≡ 0
+    → fault ≡ record { cause = Empty; name = None; spot = no_spot } → IsRefused given fault
 refused_empty given kept setting fault h with' none told = inr (at_objects given h.0 setting fault with' h.1 (no_objects setting given.inputs kept h none) told)
 
-pub refused_use : (given : Given) (grown : Grown) (fault : LinkFault) (of : IsListOf given grown) → IsUseFault of.grown.list fault → IsRefused given fault
+pub refused_use : (given : LinkInput) (grown : Grown) (fault : LinkFault) (of : IsListOf given grown) → IsUseFault of.grown.list fault → IsRefused given fault
 refused_use given grown fault of (inl e) = inl e
 refused_use given grown fault of (inr first) =
     inr (at_names given of.inputs (setting_grown grown) of.grown.list fault (is_setting given grown of) of.are_inputs of.some (is_program given grown of) first)
 
-pub refused_layout : (given : Given) (grown : Grown) (fault : LinkFault) (of : IsListOf given grown) → HasNone (HasUseFault of.grown.list) (asked of.grown.list)
+pub refused_layout : (given : LinkInput) (grown : Grown) (fault : LinkFault) (of : IsListOf given grown) → HasNone (HasUseFault of.grown.list) (all_uses of.grown.list)
     → IsFirst (HasLayoutFault of.grown.list) layout_checks fault → IsRefused given fault
 refused_layout given grown fault of none first =
     inr (at_layout given of.inputs (setting_grown grown) of.grown.list fault (is_setting given grown of) of.are_inputs of.some (is_program given grown of) none first)
 
-pub laid_out : (given : Given) (grown : Grown) (layout : laid.Layout) (of : IsListOf given grown) → HasNone (HasUseFault of.grown.list) (asked of.grown.list) → HasNone (HasLayoutFault of.grown.list) layout_checks
+pub laid_out : (given : LinkInput) (grown : Grown) (layout : laid.LinkLayout) (of : IsListOf given grown) → HasNone (HasUseFault of.grown.list) (all_uses of.grown.list) → HasNone (HasLayoutFault of.grown.list) layout_checks
     → Laid of.grown.list layout → (length layout.loads.items ≤ 254) × AllShort layout.loads.items → IsLaidOut given of.grown.list layout
 laid_out given grown layout of none sound laid fine = record {
   resolved = all_sound given of.inputs (setting_grown grown) of.grown.list (is_setting given grown of) of.are_inputs of.some (is_program given grown of) none sound;
@@ -228,7 +228,7 @@ at_most Program runtimes may = may
 at_most LibraryForm runtimes may = omega (arith, ap (λ (l : List (List ℕ × List ℕ)). length l) may)
 
 -- each of the run-time library files is short, and their number fits in values
-pub few_runtimes : (given : Given) (members : List held.Member) → files_of members ≡ given.runtimes → MayHave given.form given.runtimes → length members < 2 ^ 15
+pub few_runtimes : (given : LinkInput) (members : List held.Member) → files_of members ≡ given.runtimes → MayHave given.form given.runtimes → length members < 2 ^ 15
 few_runtimes given members same may =
     let most = at_most given.form given.runtimes may in
     omega (arith, most, length-map {B = List ℕ × List ℕ} members (λ (m : held.Member). (m.name, m.bytes.items)), ap (λ (l : List (List ℕ × List ℕ)). length l) same)
@@ -238,7 +238,7 @@ short_runtimes [] n less few = tt
 short_runtimes (f ∷ files) n less few = (omega arith, short_runtimes files n (omega arith) few)
 
 -- what is kept, where the load segments have no fault
-pub is_kept : (given : Given) (grown : Grown) (kept : Kept) (layout : laid.Layout) (of : IsListOf given grown) → HasBytes given → IsLaidOut given of.grown.list layout → kept.files.items ≡ grown.files.items → kept.linked ≡ grown.linked
+pub is_kept : (given : LinkInput) (grown : Grown) (kept : ResolvedProgram) (layout : laid.LinkLayout) (of : IsListOf given grown) → HasBytes given → IsLaidOut given of.grown.list layout → kept.files.items ≡ grown.files.items → kept.linked ≡ grown.linked
     → kept.places.items ≡ layout.places.items → AreHeaders 1 layout.loads.items (map fields kept.headers.items) → kept.form ≡ grown.form → kept.given.now ≡ grown.given.now → kept.runtimes.items ≡ grown.runtimes.loads.items
     → kept.outside ≡ grown.runtimes.outside → IsKept of.grown.list kept
 is_kept given grown kept layout of bytes out files linked places headers form members loads table =

@@ -17,16 +17,16 @@ use Rattle.link_meaning.specs.declared.fault.LinkCause.{LinkCause}
 use Rattle.link_meaning.specs.declared.fault.LinkCause.TheVariants as causes
 use Rattle.link_meaning.specs.declared.fault.LinkFault.{LinkFault}
 use Rattle.link_meaning.specs.Member.{RuntimeFile}
-use Rattle.link_meaning.specs.Search.{Found, outside_of, outside_from}
+use Rattle.link_meaning.specs.Search.{FoundDefinition, outside_of, outside_from}
 use Rattle.link_meaning.specs.LinkFaults.{runtime_cause, AreRuntimes, HasRuntimeFault}
-use Rattle.link_program.specs.declared.outside.Outside.{Outside}
+use Rattle.link_program.specs.declared.outside.OutsideNames.{OutsideNames}
 use Rattle.link_program.specs.Outside.{AreOutside}
-use Rattle.link_resolve.specs.Runtimes.{files_of, told_cause, IsFileRefused, IsFirstRefused}
+use Rattle.link_resolve.specs.Runtimes.{files_of, to_link_cause, IsFileRefused, IsFirstRefused}
 use Rattle.link_program.specs.Programs.{runtimes_of}
 use Rattle.link_tables.proofs.Lists.{drop_at, take_more}
 
 -- want of memory has no cause that is told, and no other cause is told as that
-pub not_memory : (cause : LoadCause) (told : LinkCause) → told_cause cause ≡ Some told → told ≡ causes.Memory → ⊥
+pub not_memory : (cause : LoadCause) (told : LinkCause) → to_link_cause cause ≡ Some told → told ≡ causes.Memory → ⊥
 not_memory Truncated told e memory = cc
 not_memory BadHeader told e memory = cc
 not_memory Unsupported told e memory = cc
@@ -40,7 +40,7 @@ not_memory DynamicTarget told e memory = cc
 not_memory BadTable told e memory = cc
 not_memory Memory told e memory = cc
 
-pub untold : (cause : LoadCause) → told_cause cause ≡ None → cause ≡ Memory
+pub untold : (cause : LoadCause) → to_link_cause cause ≡ None → cause ≡ Memory
 untold Truncated e = absurd cc
 untold BadHeader e = absurd cc
 untold Unsupported e = absurd cc
@@ -71,7 +71,7 @@ outside_more file [] r =
 outside_more file (x ∷ runtimes) r =
     let same : file + 1 + length runtimes ≡ file + suc (length runtimes) = omega arith in
     let here = filter_map (outside_of file x) (exports_of x.segments) in
-    ap (λ (l : List Found). here ++ l) (outside_more (file + 1) runtimes r ∙ ap (λ (n : ℕ). outside_from (file + 1) runtimes ++ filter_map (outside_of n r) (exports_of r.segments)) same)
+    ap (λ (l : List FoundDefinition). here ++ l) (outside_more (file + 1) runtimes r ∙ ap (λ (n : ℕ). outside_from (file + 1) runtimes ++ filter_map (outside_of n r) (exports_of r.segments)) same)
     ∙ sym (append_assoc here (outside_from (file + 1) runtimes) (filter_map (outside_of (file + suc (length runtimes)) r) (exports_of r.segments)))
 
 are_more : (files : List (List ℕ × List ℕ)) (runtimes : List RuntimeFile) (m : Member) (segments : List Segment) → AreRuntimes files runtimes → IsRuntime m.bytes.items segments
@@ -88,7 +88,7 @@ runtimes_count (f ∷ files) [] are = absurd are
 runtimes_count (f ∷ files) (r ∷ runtimes) are = ap suc (runtimes_count files runtimes are.2)
 
 -- the files so far were read, and the table has their names
-pub record ReadSoFar (given : List Member) (place : ℕ) (loads : List (List Segment)) (table : Outside) : Type 0 where
+pub record ReadSoFar (given : List Member) (place : ℕ) (loads : List (List Segment)) (table : OutsideNames) : Type 0 where
   pub within : place ≤ length given
   pub count : length loads ≡ place
   pub are : AreRuntimes (take place (files_of given)) (runtimes_of loads given)
@@ -97,8 +97,8 @@ pub record ReadSoFar (given : List Member) (place : ℕ) (loads : List (List Seg
 pub file_at : (given : List Member) (place : ℕ) (m : Member) → slice_get given place ≡ Some m → slice_get (files_of given) place ≡ Some (m.name, m.bytes.items)
 file_at given place m at = slice_get-map (λ (x : Member). (x.name, x.bytes.items)) given place ∙ ap (option_map (λ (x : Member). (x.name, x.bytes.items))) at
 
-pub read_more : (given : List Member) (place : ℕ) (loads : List (List Segment)) (old new : Outside) (m : Member) (segments : List Segment) → ReadSoFar given place loads old → slice_get given place ≡ Some m → IsRuntime m.bytes.items segments
-    → ((fs : List Found) (r : RuntimeFile) → r.segments ≡ segments → AreOutside fs old → AreOutside (fs ++ filter_map (outside_of (place + 2) r) (exports_of r.segments)) new)
+pub read_more : (given : List Member) (place : ℕ) (loads : List (List Segment)) (old new : OutsideNames) (m : Member) (segments : List Segment) → ReadSoFar given place loads old → slice_get given place ≡ Some m → IsRuntime m.bytes.items segments
+    → ((fs : List FoundDefinition) (r : RuntimeFile) → r.segments ≡ segments → AreOutside fs old → AreOutside (fs ++ filter_map (outside_of (place + 2) r) (exports_of r.segments)) new)
     → ReadSoFar given (place + 1) (loads ++ segments ∷ []) new
 read_more given place loads old new m segments so at is adds =
     let there : slice_get given (length loads) ≡ Some m = ap (slice_get given) so.count ∙ at in
@@ -115,12 +115,12 @@ read_more given place loads old new m segments so at is adds =
       are = subst (λ (l : List (List ℕ × List ℕ)). AreRuntimes l (runtimes_of (loads ++ segments ∷ []) given)) (sym files)
           (subst (AreRuntimes (take place (files_of given) ++ (m.name, m.bytes.items) ∷ [])) (sym more) (are_more (take place (files_of given)) runtimes m segments so.are is));
       table' = subst (λ (l : List RuntimeFile). AreOutside (outside_from 2 l) new) (sym more)
-          (subst (λ (l : List Found). AreOutside l new) (ap (λ (n : ℕ). outside_from 2 runtimes ++ filter_map (outside_of n r) (exports_of segments)) number ∙ sym (outside_more 2 runtimes r))
+          (subst (λ (l : List FoundDefinition). AreOutside l new) (ap (λ (n : ℕ). outside_from 2 runtimes ++ filter_map (outside_of n r) (exports_of segments)) number ∙ sym (outside_more 2 runtimes r))
           (adds (outside_from 2 runtimes) r refl so.table'));
     }
 
 -- the file behind those so far is at fault
-pub first_refused : (given : List Member) (inputs place : ℕ) (loads : List (List Segment)) (table : Outside) (m : Member) (fault : LinkFault) → ReadSoFar given place loads table → slice_get given place ≡ Some m
+pub first_refused : (given : List Member) (inputs place : ℕ) (loads : List (List Segment)) (table : OutsideNames) (m : Member) (fault : LinkFault) → ReadSoFar given place loads table → slice_get given place ≡ Some m
     → IsFileRefused (inputs + place + 1) m.bytes.items fault → IsFirstRefused inputs (files_of given) fault
 first_refused given inputs place loads table m fault so at (inl e) = inl e
 first_refused given inputs place loads table m fault so at (inr has) =
@@ -143,7 +143,7 @@ first_refused given inputs place loads table m fault so at (inr has) =
 same : (a b : LinkCause) → Some a ≡ Some b → b ≡ a
 same a b e = cc
 
-known : (c : LoadCause) (cause : LinkCause) (fault : LoadFault) (P : Type 0) → told_cause c ≡ Some cause → UnlessMemory c fault P → P × (cause ≡ runtime_cause c)
+known : (c : LoadCause) (cause : LinkCause) (fault : LoadFault) (P : Type 0) → to_link_cause c ≡ Some cause → UnlessMemory c fault P → P × (cause ≡ runtime_cause c)
 known Truncated cause fault P e is = (is, same (runtime_cause Truncated) cause e)
 known BadHeader cause fault P e is = (is, same (runtime_cause BadHeader) cause e)
 known Unsupported cause fault P e is = (is, same (runtime_cause Unsupported) cause e)
@@ -158,7 +158,7 @@ known BadTable cause fault P e is = (is, same (runtime_cause BadTable) cause e)
 known Memory cause fault P e is = absurd cc
 
 -- the fault of a file as one of the file with this number
-pub file_refused : (fault : LoadFault) (file : ℕ) (bytes : List ℕ) (cause : LinkCause) (its : LinkFault) → told_cause fault.cause ≡ Some cause
+pub file_refused : (fault : LoadFault) (file : ℕ) (bytes : List ℕ) (cause : LinkCause) (its : LinkFault) → to_link_cause fault.cause ≡ Some cause
     → its ≡ record { cause = cause; name = None; spot = record { file = file; segment = fault.segment; at = fault.at } } → IsRuntimeRefused fault bytes → IsFileRefused file bytes its
 file_refused fault file bytes cause its is told refused =
     let both = known fault.cause cause fault (IsFirstRuntimeFault bytes fault) is refused in

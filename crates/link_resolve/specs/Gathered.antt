@@ -4,7 +4,7 @@ use Rattle.std.specs.List.{filter_map}
 use Rattle.omf_format.specs.File.{Segment}
 use Rattle.lib_dict.specs.Library.{LibraryRow, told_row}
 use Rattle.link_meaning.specs.First.{IsIn}
-use Rattle.link_meaning.specs.Member.{Row, Input, Setting, Member, Offer, is_library, members_from, offer_of, objects, offers}
+use Rattle.link_meaning.specs.Member.{Row, Input, LinkSetting, Member, Offer, is_library, members_from, offer_of, objects, library_offers}
 use Rattle.link_meaning.specs.Dictionary.{rows_of}
 use Rattle.link_resolve.specs.declared.gather.Gathered as kept
 use Rattle.link_program.specs.Linked.{Holds}
@@ -15,8 +15,8 @@ use Rattle.link_program.specs.Inputs.{AllStand, IsSoundInput}
 -- what was read of these inputs, with whatever they are linked
 pub record IsGathered (inputs : List Input) (kept : kept.Gathered) : Type 0 where
   pub files : kept.files.items ≡ map (λ i. i.segments) inputs
-  pub objects' : (setting : Setting) → Holds (objects setting inputs) kept.linked
-  pub offers' : (setting : Setting) → AreOffers (offers setting inputs) kept.offers
+  pub objects' : (setting : LinkSetting) → Holds (objects setting inputs) kept.linked
+  pub offers' : (setting : LinkSetting) → AreOffers (library_offers setting inputs) kept.offers
   pub sound : (input : Input) → IsIn inputs input → IsSoundInput input
 
 -- these rows are told of a library
@@ -30,6 +30,6 @@ pub record AreRows (segments : List Segment) (told : List LibraryRow) : Type 0 w
 -- what the input with this number adds: an object file's segments to the list, a library's rows to the offers
 abbrev pub AddsInput : ℕ → Input → kept.Gathered → kept.Gathered → Type 0
 AddsInput file input old new =
-    ((setting : Setting) (before : List Member) → Holds before old.linked
+    ((setting : LinkSetting) (before : List Member) → Holds before old.linked
     → Holds (before ++ (if is_library input.segments then [] else members_from setting file 1 input.segments)) new.linked)
-    × ((setting : Setting) (os : List Offer) → AreOffers os old.offers → AreOffers (os ++ filter_map (offer_of setting file input.segments) input.rows) new.offers)
+    × ((setting : LinkSetting) (os : List Offer) → AreOffers os old.offers → AreOffers (os ++ filter_map (offer_of setting file input.segments) input.rows) new.offers)

@@ -9,7 +9,7 @@ use Rattle.link_meaning.specs.declared.fault.LinkFault.{LinkFault}
 use Rattle.link_meaning.specs.Member.{RuntimeFile}
 use Rattle.link_meaning.specs.Search.{outside_from}
 use Rattle.link_meaning.specs.LinkFaults.{runtime_cause, HasRuntimeFault, AreRuntimes}
-use Rattle.link_program.specs.declared.outside.Outside.{Outside}
+use Rattle.link_program.specs.declared.outside.OutsideNames.{OutsideNames}
 use Rattle.link_program.specs.Memory.{memory_fault}
 use Rattle.link_program.specs.Outside.{AreOutside}
 use Rattle.link_program.specs.Programs.{runtimes_of}
@@ -19,16 +19,16 @@ abbrev pub files_of : List Member → List (List ℕ × List ℕ)
 files_of given = map (λ m. (m.name, m.bytes.items)) given
 
 -- how a run-time library file's cause is told, unless memory ran out
-abbrev pub told_cause : LoadCause → Option LinkCause
-told_cause Memory = None
-told_cause cause = Some (runtime_cause cause)
+abbrev pub to_link_cause : LoadCause → Option LinkCause
+to_link_cause Memory = None
+to_link_cause cause = Some (runtime_cause cause)
 
 -- the file with this number has this fault, unless memory ran out
 abbrev pub IsFileRefused : ℕ → List ℕ → LinkFault → Type 0
 IsFileRefused file bytes fault = (fault ≡ memory_fault) ⊎ HasRuntimeFault file bytes fault
 
 -- these were read of the files that are given, and the table has their names
-pub record AreRead (given : List Member) (loads : List (List Segment)) (table : Outside) : Type 0 where
+pub record AreRead (given : List Member) (loads : List (List Segment)) (table : OutsideNames) : Type 0 where
   pub count : length loads ≡ length given
   pub are : AreRuntimes (files_of given) (runtimes_of loads given)
   pub table' : AreOutside (outside_from 2 (runtimes_of loads given)) table

@@ -8,7 +8,7 @@ ghost use Rattle.link_resolve.specs.Resolved.{all_bytes};
 use lib_dict::Member;
 
 /// The numbers of a file are bytes.
-fn know_file(file: &[u8])
+fn recall_file(file: &[u8])
     ensures { IsBytes file.now }
 {}
 
@@ -17,7 +17,7 @@ pub fn know_bytes(inputs: &Vec<Vec<u8>>)
     ensures { AllByRecursion IsBytes (all_bytes inputs.now.items) }
 {
     'files: for file in inputs {
-        know_file(file.as_slice());
+        recall_file(file.as_slice());
     }
 }
 
@@ -26,6 +26,6 @@ pub fn know_members(given: &[Member])
     ensures { AllByRecursion (λ file. IsBytes file.1) (files_of given.now) }
 {
     'files: for member in given {
-        know_file(member.bytes.as_slice());
+        recall_file(member.bytes.as_slice());
     }
 }

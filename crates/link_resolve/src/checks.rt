@@ -3,7 +3,7 @@
 ghost use Rattle.std.specs.Prelude.{◌≡◌, Some, None, option_map, IfOk, IfErr};
 ghost use Rattle.omf_format.specs.Header.{alignment_of};
 ghost use Rattle.omf_header.specs.View.{fields};
-ghost use Rattle.omf_records.specs.Segments.{IsSound, shown};
+ghost use Rattle.omf_records.specs.Segments.{IsSound, segment_of_view};
 ghost use Rattle.omf_records.specs.View.{view};
 ghost use Rattle.link_meaning.specs.Sizes.{body_size};
 ghost use Rattle.link_meaning.specs.LinkFaults.{type_fault, record_fault, records_fault, length_fault, segment_fault, segments_fault};
@@ -60,9 +60,9 @@ fn record_fault(rec: &Rec, align: u32) -> Option<LinkCause>
 /// with its displacement.
 fn records_size(segment: &SegmentView) -> Result<Option<u32>, (LinkCause, u32)>
     requires { IsSound segment.now }
-    ensures sound { IfOk result (λ _. records_fault (alignment_of segment.now.header.align) (shown segment.now).records ≡ None) }
-    ensures size { IfOk result (λ size. size ≡ in_32_bits (body_size (shown segment.now))) }
-    ensures fault { IfErr result (λ found. records_fault (alignment_of segment.now.header.align) (shown segment.now).records ≡ Some found) }
+    ensures sound { IfOk result (λ _. records_fault (alignment_of segment.now.header.align) (segment_of_view segment.now).records ≡ None) }
+    ensures size { IfOk result (λ size. size ≡ in_32_bits (body_size (segment_of_view segment.now))) }
+    ensures fault { IfErr result (λ found. records_fault (alignment_of segment.now.header.align) (segment_of_view segment.now).records ≡ Some found) }
 {
     let align = segment.header.alignment();
     let mut records = segment.records();
@@ -80,8 +80,8 @@ fn records_size(segment: &SegmentView) -> Result<Option<u32>, (LinkCause, u32)>
 
 /// LENGTH counts the cells of the records and RESSPC.
 fn length_fault(segment: &SegmentView, size: Option<u32>) -> Option<(LinkCause, u32)>
-    requires { size ≡ in_32_bits (body_size (shown segment.now)) }
-    ensures { result ≡ length_fault (shown segment.now) }
+    requires { size ≡ in_32_bits (body_size (segment_of_view segment.now)) }
+    ensures { result ≡ length_fault (segment_of_view segment.now) }
 {
     let length = u64::from(segment.header.length);
     match size {
@@ -94,7 +94,7 @@ fn length_fault(segment: &SegmentView, size: Option<u32>) -> Option<(LinkCause, 
 #[tactic(auto, unfolding(link_meaning::specs::LinkFaults::segment_fault))]
 fn segment_fault(segment: &SegmentView, first: bool) -> Option<(LinkCause, u32)>
     requires { IsSound segment.now }
-    ensures { result ≡ segment_fault first (shown segment.now) }
+    ensures { result ≡ segment_fault first (segment_of_view segment.now) }
 {
     match type_fault(&segment.header, first) {
         Some(cause) => Some((cause, segment.start)),

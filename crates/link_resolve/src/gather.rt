@@ -5,7 +5,7 @@ ghost use Rattle.omf_format.specs.Header.{form_of};
 ghost use Rattle.omf_format.specs.File.{IsFile};
 ghost use Rattle.lib_dict.specs.Rows.{AreReadFrom};
 ghost use Rattle.lib_dict.specs.Library.{HasRows};
-ghost use Rattle.link_meaning.specs.Member.{Input, Setting, Member, is_library, members_from};
+ghost use Rattle.link_meaning.specs.Member.{Input, LinkSetting, Member, is_library, members_from};
 ghost use Rattle.link_meaning.specs.LinkFaults.{segments_fault, IsInput, AreInputs};
 ghost use Rattle.link_resolve.specs.Reading.{IsFileRefused};
 ghost use Rattle.link_program.specs.Linked.{Holds};
@@ -49,7 +49,7 @@ fn add_object<'a>(
 ) -> Result<(), AllocError>
     requires few { length linked.old.members.items + length list.now < 2 ^ 32 }
     requires sound { segments_fault 1 list.now ≡ None }
-    ensures { OnOk result ((setting : Setting) (before : List Member) → Holds before linked.old → Holds (before ++ members_from setting file 1 list.now) linked.new) }
+    ensures { OnOk result ((setting : LinkSetting) (before : List Member) → Holds before linked.old → Holds (before ++ members_from setting file 1 list.now) linked.new) }
 {
     let mut number = 0;
     'segments: while number < list.count() {

@@ -16,7 +16,7 @@ pub use given::{are_few, may_resolve};
 pub use input::read_segments;
 pub use link_meaning::LinkForm;
 pub use link_program::{
-    Definition, LinkMember, Linked, Offers, Origin, Outcome, Program, expression_of, memory_fault,
+    Definition, LinkMember, Linked, Matches, Offers, Origin, Program, expression_of, memory_fault,
     next_record, size_at,
 };
 pub use resolving::{resolve, resolve_with};

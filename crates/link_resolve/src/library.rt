@@ -3,10 +3,10 @@
 ghost use Rattle.std.specs.Prelude.{◌≡◌, ◌+◌, ◌<◌, ◌++◌, ◌∷◌, [], List, ℕ, Some, length, map, slice_get, OnOk};
 ghost use Rattle.std.specs.List.{filter_map};
 ghost use Rattle.omf_format.specs.File.{Segment};
-ghost use Rattle.omf_records.specs.Segments.{IsSound, shown};
+ghost use Rattle.omf_records.specs.Segments.{IsSound, segment_of_view};
 ghost use Rattle.lib_dict.specs.Library.{told_row};
 ghost use Rattle.lib_dict.specs.Rows.{seen_row};
-ghost use Rattle.link_meaning.specs.Member.{Offer, offer_of, Setting};
+ghost use Rattle.link_meaning.specs.Member.{Offer, offer_of, LinkSetting};
 ghost use Rattle.link_meaning.specs.Member as told;
 ghost use Rattle.link_meaning.specs.LinkedList.{has_title};
 ghost use Rattle.link_tables.specs.Offers.{AreOffers};
@@ -54,7 +54,7 @@ fn number_of(list: &SegmentList, at: u32) -> Option<u32>
 
 /// Whether a data segment has this SEGNAME and privacy.
 fn is_titled(segment: &SegmentView, name: &[u8], private: bool) -> bool
-    ensures { result ≡ has_title (shown segment.now) name.now private }
+    ensures { result ≡ has_title (segment_of_view segment.now) name.now private }
 {
     if segment.header.kind.form() != 0x01 {
         return false;
@@ -82,7 +82,7 @@ fn add_row<'a>(
 ) -> Result<(), AllocError>
     requires ascend { StartsAscend segments.now }
     requires told { IsTold segments.now (seen_row row) }
-    ensures { OnOk result ((setting : Setting) (os : List Offer) (r : told.Row) (o : Offer) → seen_row row.entry ≡ told_row segments.now r → StandsIn segments.now r
+    ensures { OnOk result ((setting : LinkSetting) (os : List Offer) (r : told.Row) (o : Offer) → seen_row row.entry ≡ told_row segments.now r → StandsIn segments.now r
         → offer_of setting file segments.now r ≡ Some o → AreOffers os offers.old → AreOffers (os ++ o ∷ []) offers.new) }
 {
     let number = match number_of(segments, row.at) {
@@ -111,7 +111,7 @@ pub fn add_rows<'a>(
 ) -> Result<(), AllocError>
     requires ascend { StartsAscend segments.now }
     requires told { AreTold segments.now dictionary.now }
-    ensures { OnOk result ((setting : Setting) (os : List Offer) (rows : List told.Row) → dictionary.now ≡ map (told_row segments.now) rows → AllStand segments.now rows
+    ensures { OnOk result ((setting : LinkSetting) (os : List Offer) (rows : List told.Row) → dictionary.now ≡ map (told_row segments.now) rows → AllStand segments.now rows
         → AreOffers os offers.old → AreOffers (os ++ filter_map (offer_of setting file segments.now) rows) offers.new) }
 {
     let rows = dictionary.count() as usize;

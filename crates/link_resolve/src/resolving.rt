@@ -6,9 +6,9 @@ ghost use Rattle.link_meaning.specs.declared.form.LinkForm.TheVariants.{Program 
 ghost use Rattle.link_meaning.specs.declared.fault.LinkCause.TheVariants.{Empty};
 ghost use Rattle.link_meaning.specs.First.{HasNone};
 ghost use Rattle.link_meaning.specs.Member as meaning;
-ghost use Rattle.link_meaning.specs.Member.{Setting};
-ghost use Rattle.link_meaning.specs.LinkedList.{asked};
-ghost use Rattle.link_meaning.specs.LinkFaults.{Given, HasBytes, MayHave, nowhere, plain, HasUseFault, IsResolved};
+ghost use Rattle.link_meaning.specs.Member.{LinkSetting};
+ghost use Rattle.link_meaning.specs.LinkedList.{all_uses};
+ghost use Rattle.link_meaning.specs.LinkFaults.{LinkInput, HasBytes, MayHave, no_spot, plain, HasUseFault, IsResolved};
 ghost use Rattle.link_program.specs.Linked.{Holds};
 ghost use Rattle.link_program.specs.Files.{AllAmong};
 ghost use Rattle.link_tables.specs.Laid.{Laid};
@@ -22,7 +22,8 @@ use crate::runtimes::{Runtimes, read_runtimes};
 use lib_dict::Member;
 use link_meaning::{LinkCause, LinkFault, LinkForm};
 use link_program::{
-    Kept, Layout, Linked, Outside, Program, grow, headers, memory_fault, segment_in,
+    LinkLayout, Linked, OutsideNames, Program, ResolvedProgram, grow, headers, memory_fault,
+    segment_in,
 };
 use omf_base::{Name, NameFault, Spot};
 use omf_records::SegmentList;
@@ -30,7 +31,7 @@ use std::alloc::{AllocError, Global};
 
 /// What was read of all files, and what is to be linked with what.
 #[derive(Drop)]
-struct Read<'a> {
+struct InputsRead<'a> {
     gathered: Gathered<'a>,
     runtimes: Runtimes<'a>,
     given: &'a [Member],
@@ -48,7 +49,7 @@ struct Grown<'a> {
 }
 
 /// Reads all inputs.
-fn gather<'a>(alloc: Global, inputs: &'a Vec<Vec<u8>>) -> Result<Gathered<'a>, LinkFault>
+fn read_inputs<'a>(alloc: Global, inputs: &'a Vec<Vec<u8>>) -> Result<Gathered<'a>, LinkFault>
     requires { AreFew (all_bytes inputs.now.items) }
     ensures read { IfOk result (λ gathered. HasGathered (all_bytes inputs.now.items) gathered) }
     ensures refused { IfErr result (λ fault. IsInputFault (all_bytes inputs.now.items) fault) }
@@ -68,7 +69,7 @@ fn gather<'a>(alloc: Global, inputs: &'a Vec<Vec<u8>>) -> Result<Gathered<'a>, L
 
 /// The object files hold no segment.
 fn empty_fault() -> LinkFault
-    ensures { result ≡ record { cause = Empty; name = None; spot = nowhere } }
+    ensures { result ≡ record { cause = Empty; name = None; spot = no_spot } }
 {
     LinkFault {
         cause: LinkCause::Empty,
@@ -87,13 +88,13 @@ fn read_all<'a>(
     inputs: &'a Vec<Vec<u8>>,
     given: &'a [Member],
     form: LinkForm,
-) -> Result<Read<'a>, LinkFault>
+) -> Result<InputsRead<'a>, LinkFault>
     requires few { FewGiven (given_of inputs.now.items given.now form) }
     requires paths { HavePaths (given_of inputs.now.items given.now form) }
     ensures read { IfOk result (λ read. IsReadAll (given_of inputs.now.items given.now form) read) }
     ensures refused { IfErr result (λ fault. IsRefused (given_of inputs.now.items given.now form) fault) }
 {
-    let gathered = gather(alloc, inputs)?;
+    let gathered = read_inputs(alloc, inputs)?;
     let runtimes = match read_runtimes(alloc, given, inputs.len() as u32) {
         Ok(runtimes) => runtimes,
         Err(fault) => {
@@ -106,7 +107,7 @@ fn read_all<'a>(
         drop(runtimes);
         return Err(empty_fault());
     }
-    Ok(Read {
+    Ok(InputsRead {
         gathered,
         runtimes,
         given,
@@ -115,11 +116,11 @@ fn read_all<'a>(
 }
 
 /// Grows the list of what was gathered until no use wants a member. The rows are let go behind it.
-fn grow_whole<'a>(alloc: Global, read: Read<'a>) -> Result<Grown<'a>, AllocError>
-    requires { (given : Given) × FewGiven given × IsReadAll given read }
-    ensures { IfOk result (λ grown. (given : Given) → FewGiven given → IsReadAll given read.entry → IsListOf given grown) }
+fn grow_whole<'a>(alloc: Global, read: InputsRead<'a>) -> Result<Grown<'a>, AllocError>
+    requires { (given : LinkInput) × FewGiven given × IsReadAll given read }
+    ensures { IfOk result (λ grown. (given : LinkInput) → FewGiven given → IsReadAll given read.entry → IsListOf given grown) }
 {
-    let Read {
+    let InputsRead {
         gathered,
         runtimes,
         given,
@@ -156,16 +157,16 @@ fn grow_whole<'a>(alloc: Global, read: Read<'a>) -> Result<Grown<'a>, AllocError
 }
 
 /// The first use that doesn't resolve, as a fault; Ok where each does.
-fn check_names(alloc: Global, linked: &Linked, outside: &Outside) -> Result<(), LinkFault>
+fn check_names(alloc: Global, linked: &Linked, outside: &OutsideNames) -> Result<(), LinkFault>
     requires { (list : List meaning.Member) × Holds list linked.now × IsOutsideOf list outside.now }
-    ensures fine { OnOk result ((list : List meaning.Member) → Holds list linked.now → IsOutsideOf list outside.now → HasNone (HasUseFault list) (asked list)) }
+    ensures fine { OnOk result ((list : List meaning.Member) → Holds list linked.now → IsOutsideOf list outside.now → HasNone (HasUseFault list) (all_uses list)) }
     ensures refused { IfErr result (λ fault. (list : List meaning.Member) → Holds list linked.now → IsOutsideOf list outside.now → IsUseFault list fault) }
 {
-    let (cause, number) = match linked.unresolved(outside) {
+    let (cause, number) = match linked.first_unresolved_use(outside) {
         None => return Ok(()),
         Some(found) => found,
     };
-    let (origin, name, at) = linked.used(number);
+    let (origin, name, at) = linked.use_numbered(number);
     let name = match Name::of(alloc, name) {
         Ok(name) => name,
         Err(NameFault::TooLong) => unreachable!(),
@@ -187,12 +188,12 @@ fn lay_out<'a>(
     alloc: Global,
     files: &[SegmentList<'a>],
     linked: &Linked,
-) -> Result<Layout<'a>, AllocError>
+) -> Result<LinkLayout<'a>, AllocError>
     requires held { (list : List meaning.Member) × Holds list linked.now × AllAmong files.now list }
     requires few { length linked.now.members.items < 2 ^ 32 }
     ensures { IfOk result (λ layout. (list : List meaning.Member) → Holds list linked.now → AllAmong files.now list → Laid list layout) }
 {
-    let mut layout = Layout::new(alloc);
+    let mut layout = LinkLayout::new(alloc);
     let mut place = 0;
     'members: while place < linked.count() {
         place += 1;
@@ -210,10 +211,10 @@ fn lay_out<'a>(
 }
 
 /// The load segments of the whole list, where neither its names nor they have a fault.
-fn lay_out_sound<'a>(alloc: Global, grown: &Grown<'a>) -> Result<Layout<'a>, LinkFault>
-    requires { (given : Given) × IsListOf given grown.now }
-    ensures laid { IfOk result (λ layout. (given : Given) (of : IsListOf given grown.now) → IsLaidOut given of.grown.list layout) }
-    ensures refused { IfErr result (λ fault. (given : Given) → IsListOf given grown.now → IsRefused given fault) }
+fn lay_out_sound<'a>(alloc: Global, grown: &Grown<'a>) -> Result<LinkLayout<'a>, LinkFault>
+    requires { (given : LinkInput) × IsListOf given grown.now }
+    ensures laid { IfOk result (λ layout. (given : LinkInput) (of : IsListOf given grown.now) → IsLaidOut given of.grown.list layout) }
+    ensures refused { IfErr result (λ fault. (given : LinkInput) → IsListOf given grown.now → IsRefused given fault) }
 {
     check_names(alloc, &grown.linked, &grown.runtimes.outside)?;
     let layout = match lay_out(alloc, grown.files.as_slice(), &grown.linked) {
@@ -228,9 +229,9 @@ fn lay_out_sound<'a>(alloc: Global, grown: &Grown<'a>) -> Result<Layout<'a>, Lin
 
 /// The program of a whole list whose names and load segments have no fault.
 fn finish<'a>(alloc: Global, grown: Grown<'a>) -> Result<Program<'a>, LinkFault>
-    requires { (given : Given) × HasBytes given × IsListOf given grown }
-    ensures resolved { (given : Given) → HasBytes given → IsListOf given grown.entry → IfOk result (λ program. IsResolved given program) }
-    ensures refused { (given : Given) → IsListOf given grown.entry → IfErr result (λ fault. IsRefused given fault) }
+    requires { (given : LinkInput) × HasBytes given × IsListOf given grown }
+    ensures resolved { (given : LinkInput) → HasBytes given → IsListOf given grown.entry → IfOk result (λ program. IsResolved given program) }
+    ensures refused { (given : LinkInput) → IsListOf given grown.entry → IfErr result (λ fault. IsRefused given fault) }
 {
     let layout = match lay_out_sound(alloc, &grown) {
         Ok(layout) => layout,
@@ -255,7 +256,7 @@ fn finish<'a>(alloc: Global, grown: Grown<'a>) -> Result<Program<'a>, LinkFault>
         form,
     } = grown;
     let Runtimes { loads, outside } = runtimes;
-    Ok(Program::of(Kept {
+    Ok(Program::of(ResolvedProgram {
         files,
         linked,
         places: layout.places,

@@ -3,12 +3,12 @@
 ghost use Rattle.std.specs.Prelude.{◌≡◌, ◌+◌, ◌<◌, ◌^◌, List, ℕ, None, length, IfOk, IfErr};
 ghost use Rattle.std.specs.List.{AllByRecursion};
 ghost use Rattle.omf_cells.specs.Load.{IsRuntimeRefused};
-ghost use Rattle.link_resolve.specs.Runtimes.{files_of, told_cause, IsFileRefused, AreRead, IsFirstRefused};
+ghost use Rattle.link_resolve.specs.Runtimes.{files_of, to_link_cause, IsFileRefused, AreRead, IsFirstRefused};
 
 use crate::input::fault_in;
 use lib_dict::Member;
 use link_meaning::{LinkCause, LinkFault};
-use link_program::{Outside, memory_fault};
+use link_program::{OutsideNames, memory_fault};
 use load_meaning::{LoadCause, LoadFault};
 use omf_cells::{LoadFile, read_runtime};
 use std::alloc::Global;
@@ -17,12 +17,12 @@ use std::alloc::Global;
 #[derive(Drop)]
 pub struct Runtimes<'a> {
     pub loads: Vec<LoadFile<'a>>,
-    pub outside: Outside<'a>,
+    pub outside: OutsideNames<'a>,
 }
 
 /// How a run-time library file's cause is told; None where memory ran out.
-fn told_cause(cause: LoadCause) -> Option<LinkCause>
-    ensures { result ≡ told_cause cause }
+fn to_link_cause(cause: LoadCause) -> Option<LinkCause>
+    ensures { result ≡ to_link_cause cause }
 {
     match cause {
         LoadCause::Truncated => Some(LinkCause::Truncated),
@@ -45,7 +45,7 @@ fn file_fault(fault: LoadFault, file: u32) -> LinkFault
     ensures told { (bytes : List ℕ) → IsRuntimeRefused fault bytes → IsFileRefused file bytes result }
     ensures memory { result.cause ≡ LinkCause.Memory → fault.cause ≡ LoadCause.Memory }
 {
-    match told_cause(fault.cause) {
+    match to_link_cause(fault.cause) {
         Some(cause) => fault_in(file, fault.segment, fault.at, cause),
         None => memory_fault(),
     }
@@ -64,7 +64,7 @@ pub fn read_runtimes<'a>(
     ensures refused { IfErr result (λ fault. IsFirstRefused inputs (files_of given.now) fault) }
 {
     let mut loads = Vec::new(alloc);
-    let mut outside = Outside::new(alloc);
+    let mut outside = OutsideNames::new(alloc);
     let mut place = 0;
     'files: while place < given.len() {
         let load = match read_runtime(alloc, given[place].bytes.as_slice()) {

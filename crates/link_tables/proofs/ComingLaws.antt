@@ -9,9 +9,9 @@ use Rattle.std.specs.Prelude.{option_map}
 use Rattle.omf_format.specs.laws.BodyLaws.{found_by}
 use Rattle.omf_header.specs.View.{fields}
 use Rattle.omf_records.specs.declared.record.Rec.{Rec}
-use Rattle.omf_records.specs.View.{seen}
+use Rattle.omf_records.specs.View.{record_answer}
 use Rattle.omf_records.specs.declared.segment.SegmentView.{SegmentView}
-use Rattle.omf_records.specs.Segments.{shown, IsSound}
+use Rattle.omf_records.specs.Segments.{segment_of_view, IsSound}
 use Rattle.omf_records.specs.SegmentLaws.{sound_body}
 use Rattle.link_tables.specs.Coming.{Coming, IsComing, Walks, seen_record}
 
@@ -22,8 +22,8 @@ pub coming_all : (r : Reader) → IsBody r → Coming r (records_of r)
 coming_all r is = record { last = is.last; run = is.run; ended = is.ended }
 
 -- all records of a sound view
-pub coming_view : (v : SegmentView) (r : Reader) → IsSound v → r ≡ body_reader v.start (fields v.header) v.file.now → Coming r (shown v).records
-coming_view v r sound is = subst (λ (x : Reader). Coming x (shown v).records) (sym is) (coming_all (body_reader v.start (fields v.header) v.file.now) (sound_body v sound))
+pub coming_view : (v : SegmentView) (r : Reader) → IsSound v → r ≡ body_reader v.start (fields v.header) v.file.now → Coming r (segment_of_view v).records
+coming_view v r sound is = subst (λ (x : Reader). Coming x (segment_of_view v).records) (sym is) (coming_all (body_reader v.start (fields v.header) v.file.now) (sound_body v sound))
 
 pub coming_some : (at after : Reader) (found : ℕ × Record) (back : List (ℕ × Record)) → Coming at back → next_answer at ≡ Ok (Some found) → after ≡ after_next at → Walks after back (Some found)
 coming_some at after found [] coming e is = absurd (open_at_some at found e (ap (λ (r : Reader). r.ended) coming.run ∙ coming.ended))
@@ -44,7 +44,7 @@ coming_fault at fault coming e = by_back coming.0 coming.1
     by_back (found ∷ back) c = let clash : gave found ≡ failed fault = sym c.run.0 ∙ e in cc
 
 -- what a call answered
-pub walked : (at after : Reader) (found : Option (ℕ × Rec)) → seen (Ok found) ≡ next_answer at → after ≡ after_next at → (back : List (ℕ × Record)) → Coming at back
+pub walked : (at after : Reader) (found : Option (ℕ × Rec)) → record_answer (Ok found) ≡ next_answer at → after ≡ after_next at → (back : List (ℕ × Record)) → Coming at back
     → Walks after back (option_map seen_record found)
 walked at after None e is back coming = coming_none at after back coming (sym e)
 walked at after (Some found) e is back coming = coming_some at after (seen_record found) back coming (sym e) is
@@ -53,7 +53,7 @@ ended_stays : (r : Reader) → r.ended ≡ true → after_next r ≡ r
 unfolding after_next
 ended_stays r ended = rw ended refl
 
-pub layout_kept : (at after : Reader) (found : Option (ℕ × Rec)) → seen (Ok found) ≡ next_answer at → after ≡ after_next at → after.layout ≡ at.layout
+pub layout_kept : (at after : Reader) (found : Option (ℕ × Rec)) → record_answer (Ok found) ≡ next_answer at → after ≡ after_next at → after.layout ≡ at.layout
 layout_kept at after None e is = ap (λ (r : Reader). r.layout) (is ∙ ended_stays at (ended_at_none at (sym e)))
 layout_kept at after (Some found) e is =
     let by = found_by at (seen_record found) (sym e) in

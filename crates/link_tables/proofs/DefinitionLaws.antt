@@ -16,23 +16,23 @@ use Rattle.link_meaning.specs.Sizes.{Located, size_at, located_from, place_behin
 use Rattle.link_meaning.specs.Member.{Member}
 use Rattle.link_meaning.specs.Defines.{Definition, outer_scope, defined_by, title_of}
 use Rattle.omf_format.specs.Header.{is_private}
-use Rattle.link_meaning.specs.Search.{Found, step_for, step_of, is_step, sees, named}
+use Rattle.link_meaning.specs.Search.{FoundDefinition, step_for, step_of, is_step, is_seen_by_step, with_this_name}
 use Rattle.link_meaning.specs.declared.search.Step.{Step}
 use Rattle.link_meaning.specs.declared.search.Step.TheVariants.{Within, OfUnit, Everyone}
-use Rattle.link_tables.specs.declared.names.Outcome.{Outcome}
-use Rattle.link_tables.specs.declared.names.Outcome.TheVariants.{One, Several}
-use Rattle.link_tables.specs.declared.names.Names.{Names}
+use Rattle.link_tables.specs.declared.names.Matches.{Matches}
+use Rattle.link_tables.specs.declared.names.Matches.TheVariants.{One, Several}
+use Rattle.link_tables.specs.declared.names.NameTable.{NameTable}
 use Rattle.link_tables.specs.declared.definitions.Defined as kept
 use Rattle.link_tables.specs.declared.definitions.Definitions.{Definitions}
 use Rattle.link_tables.specs.declared.definitions.Origin.{Origin}
 use Rattle.link_tables.specs.Names.{Named, Row, Indexes, is_row, seen_of, outcome}
 use Rattle.link_tables.specs.Coming.{Coming, Walks}
-use Rattle.link_tables.specs.Definitions.{ToldDefinition, definition_of, told_definition, key_of_found, is_found, numbered, local_under, local_rows, AreDefinitions, Sees, IsElsewhere, IsOf, founds_in}
+use Rattle.link_tables.specs.Definitions.{ToldDefinition, definition_of, told_definition, key_of_found, is_found, numbered_rows, local_under, local_rows, AreDefinitions, Sees, IsElsewhere, IsOf, founds_in}
 use Rattle.link_tables.proofs.Grown.{grows}
 
 -- ---- look-ups
 
-sees_more : (all : List Found) (f : Found) (n : ℕ) (row : Row) (ys : List Found) (rs : List Row) → row.1 ≡ n → slice_get all n ≡ Some f → Sees all ys (seen_of rs) → Sees all (f ∷ ys) (seen_of (row ∷ rs))
+sees_more : (all : List FoundDefinition) (f : FoundDefinition) (n : ℕ) (row : Row) (ys : List FoundDefinition) (rs : List Row) → row.1 ≡ n → slice_get all n ≡ Some f → Sees all ys (seen_of rs) → Sees all (f ∷ ys) (seen_of (row ∷ rs))
 sees_more all f n row [] [] is at s = (n, ap One is, at)
 sees_more all f n row [] (r ∷ []) is at s = absurd cc
 sees_more all f n row [] (r ∷ r' ∷ rs) is at s = absurd cc
@@ -41,29 +41,29 @@ sees_more all f n row (y ∷ y' ∷ ys) [] is at s = let clash = s.1 in absurd c
 sees_more all f n row (y ∷ []) (r ∷ rs) is at s = (n, ap Several is, at)
 sees_more all f n row (y ∷ y' ∷ ys) (r ∷ rs) is at s = (n, ap Several is, at)
 
-seen_from : (all fs : List Found) (n : ℕ) (key : Named) → ((k : ℕ) → slice_get all (n + k) ≡ slice_get fs k) → Sees all (filter (is_found key) fs) (outcome (numbered n fs) key)
+seen_from : (all fs : List FoundDefinition) (n : ℕ) (key : Named) → ((k : ℕ) → slice_get all (n + k) ≡ slice_get fs k) → Sees all (filter (is_found key) fs) (outcome (numbered_rows n fs) key)
 seen_from all [] n key at = refl
 seen_from all (f ∷ fs) n key at = settle (is_found key f) (seen_from all fs (n + 1) key (λ k. let same : n + 1 + k ≡ n + suc k = omega arith in ap (slice_get all) same ∙ at (suc k)))
   where
     here : slice_get all n ≡ Some f
     here = let same : n ≡ n + 0 = omega arith in ap (slice_get all) same ∙ at 0
 
-    settle : (b : Bool) → Sees all (filter (is_found key) fs) (outcome (numbered (n + 1) fs) key)
-        → Sees all (if b then f ∷ filter (is_found key) fs else filter (is_found key) fs) (seen_of (if b then (key_of_found f, n) ∷ filter (is_row key) (numbered (n + 1) fs) else filter (is_row key) (numbered (n + 1) fs)))
-    settle true s = sees_more all f n (key_of_found f, n) (filter (is_found key) fs) (filter (is_row key) (numbered (n + 1) fs)) refl here s
+    settle : (b : Bool) → Sees all (filter (is_found key) fs) (outcome (numbered_rows (n + 1) fs) key)
+        → Sees all (if b then f ∷ filter (is_found key) fs else filter (is_found key) fs) (seen_of (if b then (key_of_found f, n) ∷ filter (is_row key) (numbered_rows (n + 1) fs) else filter (is_row key) (numbered_rows (n + 1) fs)))
+    settle true s = sees_more all f n (key_of_found f, n) (filter (is_found key) fs) (filter (is_row key) (numbered_rows (n + 1) fs)) refl here s
     settle false s = s
 
 -- what a table of names answers for definitions in their order
-pub seen_under : (fs : List Found) (names : Names) (key : Named) (answer : Outcome) → Indexes (numbered 0 fs) names → ((rows : List Row) → Indexes rows names → answer ≡ outcome rows key)
+pub seen_under : (fs : List FoundDefinition) (names : NameTable) (key : Named) (answer : Matches) → Indexes (numbered_rows 0 fs) names → ((rows : List Row) → Indexes rows names → answer ≡ outcome rows key)
     → Sees fs (filter (is_found key) fs) answer
 seen_under fs names key answer are looks =
-    subst (λ (o : Outcome). Sees fs (filter (is_found key) fs) o) (sym (looks (numbered 0 fs) are)) (seen_from fs fs 0 key (λ k. let same : 0 + k ≡ k = omega arith in ap (slice_get fs) same))
+    subst (λ (o : Matches). Sees fs (filter (is_found key) fs) o) (sym (looks (numbered_rows 0 fs) are)) (seen_from fs fs 0 key (λ k. let same : 0 + k ≡ k = omega arith in ap (slice_get fs) same))
 
-pub seen_all : (fs : List Found) (table : Definitions) (key : Named) (answer : Outcome) → AreDefinitions fs table → ((rows : List Row) → Indexes rows table.names → answer ≡ outcome rows key)
+pub seen_all : (fs : List FoundDefinition) (table : Definitions) (key : Named) (answer : Matches) → AreDefinitions fs table → ((rows : List Row) → Indexes rows table.names → answer ≡ outcome rows key)
     → Sees fs (filter (is_found key) fs) answer
 seen_all fs table key answer are looks = seen_under fs table.names key answer are.names looks
 
-pub got : (fs : List Found) (table : Definitions) (number : ℕ) (answer : Option kept.Defined) → AreDefinitions fs table → option_map definition_of answer ≡ slice_get table.items number
+pub got : (fs : List FoundDefinition) (table : Definitions) (number : ℕ) (answer : Option kept.Defined) → AreDefinitions fs table → option_map definition_of answer ≡ slice_get table.items number
     → option_map definition_of answer ≡ option_map told_definition (slice_get fs number)
 got fs table number answer are is = is ∙ ap (λ (l : List ToldDefinition). slice_get l number) are.items ∙ slice_get-map told_definition fs number
 
@@ -85,7 +85,7 @@ apart_back place (x ∷ xs) ys apart = apart_back place xs ys apart.1
 abbrev all_key : List ℕ → Named
 all_key name = record { step = Everyone; name = name }
 
-no_local_rows : (fs : List Found) (name : List ℕ) (place : ℕ) → Apart place (filter (is_row (all_key name)) (local_rows fs)) → filter (sees (Within place)) (filter (λ f. bytes_eq name f.definition.name) fs) ≡ []
+no_local_rows : (fs : List FoundDefinition) (name : List ℕ) (place : ℕ) → Apart place (filter (is_row (all_key name)) (local_rows fs)) → filter (is_seen_by_step (Within place)) (filter (λ f. bytes_eq name f.definition.name) fs) ≡ []
 no_local_rows [] name place none = refl
 no_local_rows (f ∷ fs) name place none = settle (step_of f) refl (bytes_eq name f.definition.name) refl both (no_local_rows fs name place (apart_back place (filter (is_row (all_key name)) (local_under (step_of f) f.definition.name)) others both))
   where
@@ -95,59 +95,59 @@ no_local_rows (f ∷ fs) name place none = settle (step_of f) refl (bytes_eq nam
     others : List Row
     others = filter (is_row (all_key name)) (local_rows fs)
 
-    rest : List Found
+    rest : List FoundDefinition
     rest = filter (λ g. bytes_eq name g.definition.name) fs
 
     both : Apart place (filter (is_row (all_key name)) here ++ others)
-    both = subst (Apart place) (ap (filter (is_row (all_key name))) (flat_map-cons (λ (g : Found). local_under (step_of g) g.definition.name) f fs) ∙ filter-append (is_row (all_key name)) here (local_rows fs)) none
+    both = subst (Apart place) (ap (filter (is_row (all_key name))) (flat_map-cons (λ (g : FoundDefinition). local_under (step_of g) g.definition.name) f fs) ∙ filter-append (is_row (all_key name)) here (local_rows fs)) none
 
-    unseen : (t : Step) → step_of f ≡ t → is_step (Within place) t ≡ false → filter (sees (Within place)) rest ≡ [] → filter (sees (Within place)) (f ∷ rest) ≡ []
-    unseen t is apart again = ap (λ (u : Bool). if u then f ∷ filter (sees (Within place)) rest else filter (sees (Within place)) rest) (ap (is_step (Within place)) is ∙ apart) ∙ again
+    unseen : (t : Step) → step_of f ≡ t → is_step (Within place) t ≡ false → filter (is_seen_by_step (Within place)) rest ≡ [] → filter (is_seen_by_step (Within place)) (f ∷ rest) ≡ []
+    unseen t is apart again = ap (λ (u : Bool). if u then f ∷ filter (is_seen_by_step (Within place)) rest else filter (is_seen_by_step (Within place)) rest) (ap (is_step (Within place)) is ∙ apart) ∙ again
 
-    settle : (t : Step) → step_of f ≡ t → (b : Bool) → bytes_eq name f.definition.name ≡ b → Apart place (filter (is_row (all_key name)) here ++ others) → filter (sees (Within place)) rest ≡ []
-        → filter (sees (Within place)) (if bytes_eq name f.definition.name then f ∷ rest else rest) ≡ []
-    settle t is false e none again = ap (λ (b : Bool). filter (sees (Within place)) (if b then f ∷ rest else rest)) e ∙ again
-    settle (OfUnit file from) is true e none again = ap (λ (b : Bool). filter (sees (Within place)) (if b then f ∷ rest else rest)) e ∙ unseen (OfUnit file from) is refl again
-    settle Everyone is true e none again = ap (λ (b : Bool). filter (sees (Within place)) (if b then f ∷ rest else rest)) e ∙ unseen Everyone is refl again
+    settle : (t : Step) → step_of f ≡ t → (b : Bool) → bytes_eq name f.definition.name ≡ b → Apart place (filter (is_row (all_key name)) here ++ others) → filter (is_seen_by_step (Within place)) rest ≡ []
+        → filter (is_seen_by_step (Within place)) (if bytes_eq name f.definition.name then f ∷ rest else rest) ≡ []
+    settle t is false e none again = ap (λ (b : Bool). filter (is_seen_by_step (Within place)) (if b then f ∷ rest else rest)) e ∙ again
+    settle (OfUnit file from) is true e none again = ap (λ (b : Bool). filter (is_seen_by_step (Within place)) (if b then f ∷ rest else rest)) e ∙ unseen (OfUnit file from) is refl again
+    settle Everyone is true e none again = ap (λ (b : Bool). filter (is_seen_by_step (Within place)) (if b then f ∷ rest else rest)) e ∙ unseen Everyone is refl again
     settle (Within p) is true e none again =
         let row : filter (is_row (all_key name)) here ≡ (all_key f.definition.name, p) ∷ [] =
         ap (λ (u : Step). filter (is_row (all_key name)) (local_under u f.definition.name)) is ∙ ap (λ (b : Bool). if b then (all_key f.definition.name, p) ∷ [] else []) e in
         let apart : Apart place ((all_key f.definition.name, p) ∷ others) = subst (λ (l : List Row). Apart place (l ++ others)) row none in
-        ap (λ (b : Bool). filter (sees (Within place)) (if b then f ∷ rest else rest)) e ∙ unseen (Within p) is (ne_eqb place p (λ same. apart.0 (sym same))) again
+        ap (λ (b : Bool). filter (is_seen_by_step (Within place)) (if b then f ∷ rest else rest)) e ∙ unseen (Within p) is (ne_eqb place p (λ same. apart.0 (sym same))) again
 
 -- a segment has none of a name for itself that none has, or another alone
-pub seen_elsewhere : (fs : List Found) (table : Definitions) (name : List ℕ) (o : Outcome) (place : ℕ) → AreDefinitions fs table → ((rows : List Row) → Indexes rows table.locals → o ≡ outcome rows (all_key name)) → IsElsewhere place o
-    → filter (sees (Within place)) (named name fs) ≡ []
-unfolding named
+pub seen_elsewhere : (fs : List FoundDefinition) (table : Definitions) (name : List ℕ) (o : Matches) (place : ℕ) → AreDefinitions fs table → ((rows : List Row) → Indexes rows table.locals → o ≡ outcome rows (all_key name)) → IsElsewhere place o
+    → filter (is_seen_by_step (Within place)) (with_this_name name fs) ≡ []
+unfolding with_this_name
 seen_elsewhere fs table name o place are looks apart =
     no_local_rows fs name place (apart_seen place (filter (is_row (all_key name)) (local_rows fs)) (subst (IsElsewhere place) (looks (local_rows fs) are.locals) apart))
 
 -- ---- one more
 
-pub numbered-snoc : (n : ℕ) (fs : List Found) (f : Found) → numbered n (fs ++ f ∷ []) ≡ numbered n fs ++ (key_of_found f, n + length fs) ∷ []
+pub numbered-snoc : (n : ℕ) (fs : List FoundDefinition) (f : FoundDefinition) → numbered_rows n (fs ++ f ∷ []) ≡ numbered_rows n fs ++ (key_of_found f, n + length fs) ∷ []
 numbered-snoc n [] f = let same : n ≡ n + 0 = omega arith in ap (λ (k : ℕ). (key_of_found f, k) ∷ []) same
 numbered-snoc n (g ∷ fs) f =
     let same : n + 1 + length fs ≡ n + suc (length fs) = omega arith in
-    ap (λ (l : List Row). (key_of_found g, n) ∷ l) (numbered-snoc (n + 1) fs f ∙ ap (λ (k : ℕ). numbered (n + 1) fs ++ (key_of_found f, k) ∷ []) same)
+    ap (λ (l : List Row). (key_of_found g, n) ∷ l) (numbered-snoc (n + 1) fs f ∙ ap (λ (k : ℕ). numbered_rows (n + 1) fs ++ (key_of_found f, k) ∷ []) same)
 
-locals-snoc : (fs : List Found) (f : Found) → local_rows fs ++ local_under (step_of f) f.definition.name ≡ local_rows (fs ++ f ∷ [])
-locals-snoc [] f = sym (flat_map-cons (λ (g : Found). local_under (step_of g) g.definition.name) f [] ∙ append-nil (local_under (step_of f) f.definition.name))
+locals-snoc : (fs : List FoundDefinition) (f : FoundDefinition) → local_rows fs ++ local_under (step_of f) f.definition.name ≡ local_rows (fs ++ f ∷ [])
+locals-snoc [] f = sym (flat_map-cons (λ (g : FoundDefinition). local_under (step_of g) g.definition.name) f [] ∙ append-nil (local_under (step_of f) f.definition.name))
 locals-snoc (g ∷ fs) f =
-    let L : Found → List Row = λ x. local_under (step_of x) x.definition.name in
+    let L : FoundDefinition → List Row = λ x. local_under (step_of x) x.definition.name in
     ap (λ (l : List Row). l ++ L f) (flat_map-cons L g fs) ∙ append_assoc (L g) (local_rows fs) (L f) ∙ ap (λ (l : List Row). L g ++ l) (locals-snoc fs f) ∙ sym (flat_map-cons L g (fs ++ f ∷ []))
 
-pub pushed : (fs : List Found) (f : Found) (old new : Definitions) (key : Named) (number : ℕ) (d : kept.Defined) → AreDefinitions fs old → key ≡ key_of_found f → definition_of d ≡ told_definition f
+pub pushed : (fs : List FoundDefinition) (f : FoundDefinition) (old new : Definitions) (key : Named) (number : ℕ) (d : kept.Defined) → AreDefinitions fs old → key ≡ key_of_found f → definition_of d ≡ told_definition f
     → number ≡ length old.items → ((rows : List Row) → Indexes rows old.names → Indexes (rows ++ (key, number) ∷ []) new.names) → new.items ≡ old.items ++ definition_of d ∷ []
     → ((rows : List Row) → Indexes rows old.locals → Indexes (rows ++ local_under key.step key.name) new.locals) → AreDefinitions (fs ++ f ∷ []) new
 pushed fs f old new key number d are key_is told_is number_is more items more_locals =
     let size : length old.items ≡ length fs = ap length are.items ∙ length-map fs told_definition in
     let front : length fs ≡ 0 + length fs = omega arith in
-    let rows : numbered 0 fs ++ (key, number) ∷ [] ≡ numbered 0 (fs ++ f ∷ []) =
-    ap (λ (k : Named). numbered 0 fs ++ (k, number) ∷ []) key_is ∙ ap (λ (k : ℕ). numbered 0 fs ++ (key_of_found f, k) ∷ []) (number_is ∙ size) ∙ ap (λ (k : ℕ). numbered 0 fs ++ (key_of_found f, k) ∷ []) front ∙ sym (numbered-snoc 0 fs f) in
+    let rows : numbered_rows 0 fs ++ (key, number) ∷ [] ≡ numbered_rows 0 (fs ++ f ∷ []) =
+    ap (λ (k : Named). numbered_rows 0 fs ++ (k, number) ∷ []) key_is ∙ ap (λ (k : ℕ). numbered_rows 0 fs ++ (key_of_found f, k) ∷ []) (number_is ∙ size) ∙ ap (λ (k : ℕ). numbered_rows 0 fs ++ (key_of_found f, k) ∷ []) front ∙ sym (numbered-snoc 0 fs f) in
     let locals : local_rows fs ++ local_under key.step key.name ≡ local_rows (fs ++ f ∷ []) =
     ap (λ (k : Named). local_rows fs ++ local_under k.step k.name) key_is ∙ locals-snoc fs f in
     record {
-      names = subst (λ (l : List Row). Indexes l new.names) rows (more (numbered 0 fs) are.names);
+      names = subst (λ (l : List Row). Indexes l new.names) rows (more (numbered_rows 0 fs) are.names);
       locals = subst (λ (l : List Row). Indexes l new.locals) locals (more_locals (local_rows fs) are.locals);
       items =
           items ∙ ap (λ (l : List ToldDefinition). l ++ definition_of d ∷ []) are.items
@@ -159,16 +159,16 @@ pushed fs f old new key number d are key_is told_is number_is more items more_lo
 
 -- what a table gains: for all that it holds, it holds so much more
 abbrev pub Gains : Definitions → Definitions → Origin → ℕ → List Definition → Type 0
-Gains old new origin place ds = (fs : List Found) (m : Member) → IsOf m origin → AreDefinitions fs old → AreDefinitions (fs ++ founds_in place m ds) new
+Gains old new origin place ds = (fs : List FoundDefinition) (m : Member) → IsOf m origin → AreDefinitions fs old → AreDefinitions (fs ++ founds_in place m ds) new
 
 pub gains_none : (table : Definitions) (origin : Origin) (place : ℕ) → Gains table table origin place []
-gains_none table origin place fs m of are = subst (λ (l : List Found). AreDefinitions l table) (sym (append-nil fs)) are
+gains_none table origin place fs m of are = subst (λ (l : List FoundDefinition). AreDefinitions l table) (sym (append-nil fs)) are
 
 pub gains_both : (old middle new : Definitions) (origin : Origin) (place : ℕ) (xs ys : List Definition) → Gains old middle origin place xs → Gains middle new origin place ys → Gains old new origin place (xs ++ ys)
 gains_both old middle new origin place xs ys p q fs m of are =
     let whole : (fs ++ founds_in place m xs) ++ founds_in place m ys ≡ fs ++ founds_in place m (xs ++ ys) =
-    append_assoc fs (founds_in place m xs) (founds_in place m ys) ∙ ap (λ (l : List Found). fs ++ l) (sym (map-append (λ (d : Definition). record { place = place; member = m; definition = d }) xs ys)) in
-    subst (λ (l : List Found). AreDefinitions l new) whole (q (fs ++ founds_in place m xs) m of (p fs m of are))
+    append_assoc fs (founds_in place m xs) (founds_in place m ys) ∙ ap (λ (l : List FoundDefinition). fs ++ l) (sym (map-append (λ (d : Definition). record { place = place; member = m; definition = d }) xs ys)) in
+    subst (λ (l : List FoundDefinition). AreDefinitions l new) whole (q (fs ++ founds_in place m xs) m of (p fs m of are))
 
 abbrev pub defined_at : Located → List Definition
 defined_at r = defined_by r.at r.location r.content
@@ -234,7 +234,7 @@ key_as t n = record { step = t; name = n }
 
 -- what a push of one definition gains
 abbrev pub Pushes : Definitions → Definitions → Named → ToldDefinition → Type 0
-Pushes old new key told = (fs : List Found) (f : Found) → AreDefinitions fs old → key ≡ key_of_found f → told ≡ told_definition f → AreDefinitions (fs ++ f ∷ []) new
+Pushes old new key told = (fs : List FoundDefinition) (f : FoundDefinition) → AreDefinitions fs old → key ≡ key_of_found f → told ≡ told_definition f → AreDefinitions (fs ++ f ∷ []) new
 
 pub titled : (old new : Definitions) (origin : Origin) (place : ℕ) (s : Segment) (name : List ℕ) (private : Bool) (step : Step) → name ≡ s.fields.name → (name ≡ [] → ⊥) → private ≡ is_private s.fields.kind
     → ((p : ℕ) → step ≡ step_for p origin.file origin.from (outer_scope private))
@@ -248,7 +248,7 @@ titled old new origin place s name private step is some hidden step_is pushes = 
     ])
     by_name [] e more = absurd (more refl)
     by_name (b ∷ bs) e more = λ fs m of are.
-        let f : Found = record { place = place; member = m; definition = record { name = b ∷ bs; scope = outer_scope (is_private s.fields.kind); place = 0; at = s.start; expr = None; size = 0; form = 0x4E } } in
+        let f : FoundDefinition = record { place = place; member = m; definition = record { name = b ∷ bs; scope = outer_scope (is_private s.fields.kind); place = 0; at = s.start; expr = None; size = 0; form = 0x4E } } in
         let key : key_as step name ≡ key_of_found f =
         ap (λ (n : List ℕ). key_as step n) (sym e)
         ∙ ap (λ (t : Step). key_as t (b ∷ bs)) (step_is place

@@ -15,19 +15,19 @@ use Rattle.omf_format.specs.File.{Segment}
 use Rattle.link_meaning.specs.First.{IsFirst}
 use Rattle.link_meaning.specs.laws.FirstLaws.{none_more, none_yet}
 use Rattle.link_meaning.specs.Member.{Member}
-use Rattle.link_meaning.specs.Layout.{in_load, aligned_from, end_from, load_length, load_names, load_members, lesser_bank, cleared, least_bank, greatest_align, of_first, number_in, load_of, offset_of}
+use Rattle.link_meaning.specs.Layout.{in_load, aligned_from, end_from, load_length, load_names, load_members, lesser_bank, load_segment_kind, least_bank, greatest_align, of_first, number_in, load_of, offset_of}
 use Rattle.link_meaning.specs.laws.LayoutLaws.{aligned_from-least, alignment-some}
 use Rattle.link_meaning.specs.LinkFaults.{HasOrgFault, spot_in, first_spot}
-use Rattle.link_tables.specs.declared.layout.Load.{Load}
-use Rattle.link_tables.specs.declared.layout.Place.{Place}
-use Rattle.link_tables.specs.declared.layout.Layout as kept
+use Rattle.link_tables.specs.declared.layout.LoadLayout.{LoadLayout}
+use Rattle.link_tables.specs.declared.layout.LoadOffset.{LoadOffset}
+use Rattle.link_tables.specs.declared.layout.LinkLayout as kept
 use Rattle.link_tables.specs.declared.definitions.Origin.{Origin}
-use Rattle.link_tables.specs.declared.names.Outcome.{Outcome}
-use Rattle.link_tables.specs.declared.names.Outcome.TheVariants.{Nothing, One, Several}
+use Rattle.link_tables.specs.declared.names.Matches.{Matches}
+use Rattle.link_tables.specs.declared.names.Matches.TheVariants.{Nothing, One, Several}
 use Rattle.link_tables.specs.Definitions.{IsOf}
 use Rattle.link_tables.specs.Offers.{number_of}
 use Rattle.link_tables.specs.Names.{Row, Indexes, outcome}
-use Rattle.link_tables.specs.Laid.{IsFresh, IsJoined, IsLoadOf, IsLoad, load_rows, IsPlace, org_fault, conflict_with, IsConflict, Laid, has}
+use Rattle.link_tables.specs.Laid.{IsFresh, IsJoined, IsLoadOf, IsLoad, load_rows, IsPlace, org_fault, conflict_with, IsConflict, Laid, contains_text}
 use Rattle.link_tables.proofs.NameTables.{bytes_same}
 use Rattle.link_tables.proofs.LoadNames.{bytes_refl, has_names, has_at, names_new, names_same, load_number, number_stays, name_key, load_rows-snoc, IsNumber, looked}
 
@@ -167,7 +167,7 @@ start_zero align =
 
 -- ---- the load segment
 
-fresh_load : (m : Member) (spot : Spot) (load : Load) → spot ≡ spot_in m m.segment.start → IsFresh m.segment.fields spot load → IsLoadOf (m ∷ []) (m.segment.fields.length) load
+fresh_load : (m : Member) (spot : Spot) (load : LoadLayout) → spot ≡ spot_in m m.segment.start → IsFresh m.segment.fields spot load → IsLoadOf (m ∷ []) (m.segment.fields.length) load
 fresh_load m spot load at f = record {
   first = f.first ∙ at;
   kind = f.kind;
@@ -178,11 +178,11 @@ fresh_load m spot load at f = record {
   length' = f.length';
 }
 
-joined_load : (members : List Member) (end offset : ℕ) (m : Member) (old new : Load) → (members ≡ [] → ⊥) → IsLoadOf members end old → offset ≡ offset_behind old.length m → IsJoined m.segment.fields offset old new
+joined_load : (members : List Member) (end offset : ℕ) (m : Member) (old new : LoadLayout) → (members ≡ [] → ⊥) → IsLoadOf members end old → offset ≡ offset_behind old.length m → IsJoined m.segment.fields offset old new
     → IsLoadOf (members ++ m ∷ []) (offset_behind end m + m.segment.fields.length) new
 joined_load members end offset m old new some is at j = record {
   first = j.first ∙ is.first ∙ sym (spot_more members m some);
-  kind = ap (λ k. k.bits) j.kind ∙ is.kind ∙ ap cleared (sym (first_more (λ f. f.kind) members m some));
+  kind = ap (λ k. k.bits) j.kind ∙ is.kind ∙ ap load_segment_kind (sym (first_more (λ f. f.kind) members m some));
   org = j.org ∙ is.org ∙ sym (first_more (λ f. f.org) members m some);
   entry = j.entry ∙ is.entry ∙ sym (first_more (λ f. f.entry) members m some);
   align = j.align ∙ ap (λ (n : ℕ). max n m.segment.fields.align) is.align ∙ sym (aligns_more members m);
@@ -193,7 +193,7 @@ joined_load members end offset m old new some is at j = record {
 }
 
 -- a load segment of another name stays
-other_stays : (list : List Member) (m : Member) (load : Load) → in_load load.load_name m ≡ false → IsLoad list load → IsLoad (list ++ m ∷ []) load
+other_stays : (list : List Member) (m : Member) (load : LoadLayout) → in_load load.load_name m ≡ false → IsLoad list load → IsLoad (list ++ m ∷ []) load
 other_stays list m load other is =
     let members : load_members load.load_name (list ++ m ∷ []) ≡ load_members load.load_name list =
     members_more load.load_name list m ∙ ap (λ (b : Bool). load_members load.load_name list ++ (if b then m ∷ [] else [])) other ∙ append-nil (load_members load.load_name list) in
@@ -203,7 +203,7 @@ other_stays list m load other is =
     (subst (λ (n : ℕ). IsLoadOf (load_members load.load_name list) n load) (sym ends) is)
 
 -- that of its own name
-own_load : (list : List Member) (m : Member) (load : Load) → in_load load.load_name m ≡ true → IsLoadOf (load_members load.load_name list ++ m ∷ []) (offset_behind (load_length load.load_name list) m + m.segment.fields.length) load
+own_load : (list : List Member) (m : Member) (load : LoadLayout) → in_load load.load_name m ≡ true → IsLoadOf (load_members load.load_name list ++ m ∷ []) (offset_behind (load_length load.load_name list) m + m.segment.fields.length) load
     → IsLoad (list ++ m ∷ []) load
 own_load list m load own is =
     let members : load_members load.load_name (list ++ m ∷ []) ≡ load_members load.load_name list ++ m ∷ [] =
@@ -248,18 +248,18 @@ map_set {A} {B} f (z ∷ xs) (suc i) x y e same = ap (λ (l : List B). f z ∷ l
 -- ---- names
 
 -- the name of a load segment is one of the list's
-named_at : (list : List Member) (loads : List Load) (k : ℕ) (load : Load) → map (λ l. l.load_name) loads ≡ load_names list → slice_get loads k ≡ Some load → slice_get (load_names list) k ≡ Some load.load_name
+named_at : (list : List Member) (loads : List LoadLayout) (k : ℕ) (load : LoadLayout) → map (λ l. l.load_name) loads ≡ load_names list → slice_get loads k ≡ Some load → slice_get (load_names list) k ≡ Some load.load_name
 named_at list loads k load named there =
-    ap (λ (l : List (List ℕ)). slice_get l k) (sym named) ∙ slice_get-map (λ (l : Load). l.load_name) loads k ∙ ap (option_map (λ (l : Load). l.load_name)) there
+    ap (λ (l : List (List ℕ)). slice_get l k) (sym named) ∙ slice_get-map (λ (l : LoadLayout). l.load_name) loads k ∙ ap (option_map (λ (l : LoadLayout). l.load_name)) there
 
-apart_from : (list : List Member) (m : Member) (load : Load) (k : ℕ) → slice_get (load_names list) k ≡ Some load.load_name → has (name_of m) (load_names list) ≡ false → in_load load.load_name m ≡ false
+apart_from : (list : List Member) (m : Member) (load : LoadLayout) (k : ℕ) → slice_get (load_names list) k ≡ Some load.load_name → contains_text (name_of m) (load_names list) ≡ false → in_load load.load_name m ≡ false
 apart_from list m load k there none = settle (in_load load.load_name m) refl
   where
     settle : (b : Bool) → in_load load.load_name m ≡ b → b ≡ false
     settle false e = refl
     settle true e =
         let same = bytes_same (name_of m) load.load_name e in
-        let clash : false ≡ true = sym none ∙ ap (λ (x : List ℕ). has x (load_names list)) same ∙ has_at (load_names list) k load.load_name there in
+        let clash : false ≡ true = sym none ∙ ap (λ (x : List ℕ). contains_text x (load_names list)) same ∙ has_at (load_names list) k load.load_name there in
         absurd cc
 
 -- ---- places
@@ -276,19 +276,19 @@ any_at (x ∷ list) n (suc k) e = ap (λ (b : Bool). in_load (name_of n) x || b)
     or_true false = refl
 
 -- a member's load name is one of the list's
-pub name_there : (list : List Member) (n : Member) (k : ℕ) → slice_get list k ≡ Some n → has (name_of n) (load_names list) ≡ true
+pub name_there : (list : List Member) (n : Member) (k : ℕ) → slice_get list k ≡ Some n → contains_text (name_of n) (load_names list) ≡ true
 name_there list n k at = has_names (name_of n) list ∙ any_at list n k at
 
 number_same : (list : List Member) (m n : Member) (k : ℕ) → slice_get list k ≡ Some n → number_in (load_names (list ++ m ∷ [])) (name_of n) ≡ number_in (load_names list) (name_of n)
-number_same list m n k at = settle (has (name_of m) (load_names list)) refl
+number_same list m n k at = settle (contains_text (name_of m) (load_names list)) refl
   where
-    settle : (b : Bool) → has (name_of m) (load_names list) ≡ b → number_in (load_names (list ++ m ∷ [])) (name_of n) ≡ number_in (load_names list) (name_of n)
+    settle : (b : Bool) → contains_text (name_of m) (load_names list) ≡ b → number_in (load_names (list ++ m ∷ [])) (name_of n) ≡ number_in (load_names list) (name_of n)
     settle true e = ap (λ (xs : List (List ℕ)). number_in xs (name_of n)) (names_same list m e)
     settle false e =
         ap (λ (xs : List (List ℕ)). number_in xs (name_of n)) (names_new list m e)
         ∙ number_stays (load_names list) (name_of m ∷ []) (name_of n) (name_there list n k at)
 
-place_stays : (list : List Member) (m n : Member) (k : ℕ) (p : Place) → slice_get list k ≡ Some n → IsPlace list k n p → IsPlace (list ++ m ∷ []) k n p
+place_stays : (list : List Member) (m n : Member) (k : ℕ) (p : LoadOffset) → slice_get list k ≡ Some n → IsPlace list k n p → IsPlace (list ++ m ∷ []) k n p
 unfolding load_of offset_of
 place_stays list m n k p at is =
     let within = slice_get_within list k n at in
@@ -301,7 +301,7 @@ place_stays list m n k p at is =
     }
 
 -- the place of one more member
-place_last : (list : List Member) (m : Member) (p : Place) (i : ℕ) → slice_get (load_names (list ++ m ∷ [])) i ≡ Some (name_of m) → p.load ≡ i
+place_last : (list : List Member) (m : Member) (p : LoadOffset) (i : ℕ) → slice_get (load_names (list ++ m ∷ [])) i ≡ Some (name_of m) → p.load ≡ i
     → (end_from 0 (name_of m) list ≤ 16777216 → p.offset ≡ offset_behind (end_from 0 (name_of m) list) m) → IsPlace (list ++ m ∷ []) (length list) m p
 unfolding load_of offset_of
 place_last list m p i there load offset =
@@ -326,7 +326,7 @@ first_stays {A} Has items x what is = record {
 }
 
 pub conflict_none : (list : List Member) (m : Member) (so_far : Option Spot) → list_any (in_load (name_of m)) list ≡ false → IsConflict list so_far → IsConflict (list ++ m ∷ []) so_far
-conflict_none list m None none is = none_more HasOrgFault list m is (λ its has. absurd (not_both (list_any (in_load (name_of m)) list) none has.later))
+conflict_none list m None none is = none_more HasOrgFault list m is (λ its contains_text. absurd (not_both (list_any (in_load (name_of m)) list) none contains_text.later))
   where
     not_both : (b : Bool) → b ≡ false → b ≡ true → ⊥
     not_both b p q = let clash : false ≡ true = sym p ∙ q in cc
@@ -338,7 +338,7 @@ conflict_more list m (Some first) spot there at is = first_stays HasOrgFault lis
 conflict_more list m None spot there at is = settle (m.segment.fields.org == 0) refl
   where
     settle : (b : Bool) → (m.segment.fields.org == 0) ≡ b → IsConflict (list ++ m ∷ []) (if b then None else Some spot)
-    settle true e = none_more HasOrgFault list m is (λ its has. has.asks (eqb-true m.segment.fields.org 0 e))
+    settle true e = none_more HasOrgFault list m is (λ its contains_text. contains_text.asks (eqb-true m.segment.fields.org 0 e))
     settle false e = record {
       before = list;
       item = m;
@@ -353,21 +353,21 @@ conflict_more list m None spot there at is = settle (m.segment.fields.org == 0) 
 
 -- ---- one more member
 
-pub laid_new : (list : List Member) (m : Member) (old new : kept.Layout) (spot : Spot) (load : Load) (p : Place) → Laid list old → has (name_of m) (load_names list) ≡ false → spot ≡ spot_in m m.segment.start → IsFresh m.segment.fields spot load
+pub laid_new : (list : List Member) (m : Member) (old new : kept.LinkLayout) (spot : Spot) (load : LoadLayout) (p : LoadOffset) → Laid list old → contains_text (name_of m) (load_names list) ≡ false → spot ≡ spot_in m m.segment.start → IsFresh m.segment.fields spot load
     → p.load ≡ length old.loads.items → p.offset ≡ 0 → new.loads.items ≡ old.loads.items ++ load ∷ [] → new.places.items ≡ old.places.items ++ p ∷ [] → new.conflict ≡ old.conflict
     → Indexes (load_rows 0 (load_names list) ++ (name_key (name_of m), length old.loads.items) ∷ []) new.names → Laid (list ++ m ∷ []) new
 laid_new list m old new spot load p laid none at fresh number start loads places conflict names =
     let whole = names_new list m none in
-    let size : length old.loads.items ≡ length (load_names list) = sym (length-map old.loads.items (λ (l : Load). l.load_name)) ∙ ap length laid.named in
+    let size : length old.loads.items ≡ length (load_names list) = sym (length-map old.loads.items (λ (l : LoadLayout). l.load_name)) ∙ ap length laid.named in
     let rows : load_rows 0 (load_names list) ++ (name_key (name_of m), length old.loads.items) ∷ [] ≡ load_rows 0 (load_names (list ++ m ∷ [])) =
     ap (λ (n : ℕ). load_rows 0 (load_names list) ++ (name_key (name_of m), n) ∷ []) (omega (arith, size)) ∙ sym (load_rows-snoc 0 (load_names list) (name_of m)) ∙ ap (load_rows 0) (sym whole) in
     record {
-      named = ap (map (λ (l : Load). l.load_name)) loads ∙ map-append (λ (l : Load). l.load_name) old.loads.items (load ∷ [])
+      named = ap (map (λ (l : LoadLayout). l.load_name)) loads ∙ map-append (λ (l : LoadLayout). l.load_name) old.loads.items (load ∷ [])
           ∙ ap (λ (l : List (List ℕ)). l ++ load.load_name ∷ []) laid.named ∙ ap (λ (x : List ℕ). load_names list ++ x ∷ []) fresh.load_name ∙ sym whole;
       names = subst (λ (l : List Row). Indexes l new.names) rows names;
-      loads = λ k l there. load_at k l (at_snoc old.loads.items load k l (ap (λ (ls : List Load). slice_get ls k) (sym loads) ∙ there));
+      loads = λ k l there. load_at k l (at_snoc old.loads.items load k l (ap (λ (ls : List LoadLayout). slice_get ls k) (sym loads) ∙ there));
       count = ap length places ∙ length-append old.places.items (p ∷ []) ∙ ap (λ (n : ℕ). n + 1) laid.count ∙ sym (length-append list (m ∷ []));
-      places = λ k n q there here. place_at k n q (at_snoc list m k n there) (at_snoc old.places.items p k q (ap (λ (ps : List Place). slice_get ps k) (sym places) ∙ here));
+      places = λ k n q there here. place_at k n q (at_snoc list m k n there) (at_snoc old.places.items p k q (ap (λ (ps : List LoadOffset). slice_get ps k) (sym places) ∙ here));
       conflict = subst (IsConflict (list ++ m ∷ [])) (sym conflict) (conflict_none list m old.conflict (sym (has_names (name_of m) list) ∙ none) laid.conflict);
     }
   where
@@ -384,34 +384,34 @@ laid_new list m old new spot load p laid none at fresh number start loads places
         (subst (λ (l : List Member). IsLoadOf l (offset_behind (end_from 0 load.load_name list) m + m.segment.fields.length) load) (sym members)
         (subst (λ (n : ℕ). IsLoadOf (m ∷ []) n load) (sym ends) (fresh_load m spot load at fresh)))
 
-    load_at : (k : ℕ) (l : Load) → (slice_get old.loads.items k ≡ Some l) ⊎ ((k ≡ length old.loads.items) × (load ≡ l)) → IsLoad (list ++ m ∷ []) l
+    load_at : (k : ℕ) (l : LoadLayout) → (slice_get old.loads.items k ≡ Some l) ⊎ ((k ≡ length old.loads.items) × (load ≡ l)) → IsLoad (list ++ m ∷ []) l
     load_at k l (inl there) = other_stays list m l (apart_from list m l k (named_at list old.loads.items k l laid.named there) none) (laid.loads k l there)
     load_at k l (inr is) = subst (IsLoad (list ++ m ∷ [])) is.1 (own_load list m load (ap (λ (x : List ℕ). bytes_eq (name_of m) x) fresh.load_name ∙ bytes_refl (name_of m)) of_fresh)
 
-    place_at : (k : ℕ) (n : Member) (q : Place) → (slice_get list k ≡ Some n) ⊎ ((k ≡ length list) × (m ≡ n)) → (slice_get old.places.items k ≡ Some q) ⊎ ((k ≡ length old.places.items) × (p ≡ q)) → IsPlace (list ++ m ∷ []) k n q
+    place_at : (k : ℕ) (n : Member) (q : LoadOffset) → (slice_get list k ≡ Some n) ⊎ ((k ≡ length list) × (m ≡ n)) → (slice_get old.places.items k ≡ Some q) ⊎ ((k ≡ length old.places.items) × (p ≡ q)) → IsPlace (list ++ m ∷ []) k n q
     place_at k n q (inl a) (inl b) = place_stays list m n k q a (laid.places k n q a b)
     place_at k n q (inl a) (inr b) = let within = slice_get_within list k n a in absurd (omega (arith, within, b.0, laid.count))
     place_at k n q (inr a) (inl b) = let within = slice_get_within old.places.items k q b in absurd (omega (arith, within, a.0, laid.count))
     place_at k n q (inr a) (inr b) =
-        let size : length old.loads.items ≡ length (load_names list) = sym (length-map old.loads.items (λ (l : Load). l.load_name)) ∙ ap length laid.named in
+        let size : length old.loads.items ≡ length (load_names list) = sym (length-map old.loads.items (λ (l : LoadLayout). l.load_name)) ∙ ap length laid.named in
         let there : slice_get (load_names (list ++ m ∷ [])) (length (load_names list)) ≡ Some (name_of m) = ap (λ (l : List (List ℕ)). slice_get l (length (load_names list))) (names_new list m none) ∙ snoc_at (load_names list) (name_of m) in
         let is = place_last list m p (length (load_names list)) there (number ∙ size) (λ small. start ∙ sym (ap (λ (i : ℕ). offset_behind i m) (no_end (name_of m) 0 list absent) ∙ start_zero m.segment.fields.align)) in
-        subst (λ (i : ℕ). IsPlace (list ++ m ∷ []) i n q) (sym a.0) (subst (λ (x : Member). IsPlace (list ++ m ∷ []) (length list) x q) a.1 (subst (λ (x : Place). IsPlace (list ++ m ∷ []) (length list) m x) b.1 is))
+        subst (λ (i : ℕ). IsPlace (list ++ m ∷ []) i n q) (sym a.0) (subst (λ (x : Member). IsPlace (list ++ m ∷ []) (length list) x q) a.1 (subst (λ (x : LoadOffset). IsPlace (list ++ m ∷ []) (length list) m x) b.1 is))
 
-pub laid_same : (list : List Member) (m : Member) (old new : kept.Layout) (spot : Spot) (i : ℕ) (was now : Load) (p : Place) → Laid list old → slice_get (load_names list) i ≡ Some (name_of m) → slice_get old.loads.items i ≡ Some was
+pub laid_same : (list : List Member) (m : Member) (old new : kept.LinkLayout) (spot : Spot) (i : ℕ) (was now : LoadLayout) (p : LoadOffset) → Laid list old → slice_get (load_names list) i ≡ Some (name_of m) → slice_get old.loads.items i ≡ Some was
     → spot ≡ spot_in m m.segment.start → p.load ≡ i → p.offset ≡ offset_behind was.length m → IsJoined m.segment.fields p.offset was now → new.loads.items ≡ set old.loads.items i now → new.places.items ≡ old.places.items ++ p ∷ []
     → new.conflict ≡ conflict_with old.conflict m.segment.fields.org spot → new.names ≡ old.names → Laid (list ++ m ∷ []) new
 laid_same list m old new spot i was now p laid here is_was at number offset joined loads places conflict names =
     record {
-      named = ap (map (λ (l : Load). l.load_name)) loads ∙ map_set (λ (l : Load). l.load_name) old.loads.items i was now is_was joined.load_name ∙ laid.named ∙ sym whole;
+      named = ap (map (λ (l : LoadLayout). l.load_name)) loads ∙ map_set (λ (l : LoadLayout). l.load_name) old.loads.items i was now is_was joined.load_name ∙ laid.named ∙ sym whole;
       names = subst (λ (l : List (List ℕ)). Indexes (load_rows 0 l) new.names) (sym whole) (subst (Indexes (load_rows 0 (load_names list))) (sym names) laid.names);
-      loads = λ k l there. load_at k l (set_at old.loads.items i k now l (ap (λ (ls : List Load). slice_get ls k) (sym loads) ∙ there));
+      loads = λ k l there. load_at k l (set_at old.loads.items i k now l (ap (λ (ls : List LoadLayout). slice_get ls k) (sym loads) ∙ there));
       count = ap length places ∙ length-append old.places.items (p ∷ []) ∙ ap (λ (n : ℕ). n + 1) laid.count ∙ sym (length-append list (m ∷ []));
-      places = λ k n q there here. place_at k n q (at_snoc list m k n there) (at_snoc old.places.items p k q (ap (λ (ps : List Place). slice_get ps k) (sym places) ∙ here));
+      places = λ k n q there here. place_at k n q (at_snoc list m k n there) (at_snoc old.places.items p k q (ap (λ (ps : List LoadOffset). slice_get ps k) (sym places) ∙ here));
       conflict = subst (IsConflict (list ++ m ∷ [])) (sym conflict) (conflict_more list m old.conflict spot present at laid.conflict);
     }
   where
-    there : has (name_of m) (load_names list) ≡ true
+    there : contains_text (name_of m) (load_names list) ≡ true
     there = has_at (load_names list) i (name_of m) here
 
     whole : load_names (list ++ m ∷ []) ≡ load_names list
@@ -435,7 +435,7 @@ laid_same list m old new spot i was now p laid here is_was at number offset join
         subst (λ (x : List ℕ). IsLoadOf (load_members x list ++ m ∷ []) (offset_behind (load_length x list) m + m.segment.fields.length) now) (sym joined.load_name)
         (joined_load (load_members was.load_name list) (load_length was.load_name list) p.offset m was now some (laid.loads i was is_was) offset joined)
 
-    load_at : (k : ℕ) (l : Load) → ((k ≡ i) × (now ≡ l)) ⊎ ((k ≡ i → ⊥) × (slice_get old.loads.items k ≡ Some l)) → IsLoad (list ++ m ∷ []) l
+    load_at : (k : ℕ) (l : LoadLayout) → ((k ≡ i) × (now ≡ l)) ⊎ ((k ≡ i → ⊥) × (slice_get old.loads.items k ≡ Some l)) → IsLoad (list ++ m ∷ []) l
     load_at k l (inl is) = subst (IsLoad (list ++ m ∷ [])) is.1 (own_load list m now (ap (λ (x : List ℕ). bytes_eq (name_of m) x) now_name ∙ bytes_refl (name_of m)) of_joined)
     load_at k l (inr is) = other_stays list m l (settle (in_load l.load_name m) refl) (laid.loads k l is.1)
       where
@@ -450,30 +450,30 @@ laid_same list m old new spot i was now p laid here is_was at number offset join
             let b = load_number list k l.load_name at_k in
             absurd (is.0 (omega (arith, a, b, ap (number_in (load_names list)) same)))
 
-    place_at : (k : ℕ) (n : Member) (q : Place) → (slice_get list k ≡ Some n) ⊎ ((k ≡ length list) × (m ≡ n)) → (slice_get old.places.items k ≡ Some q) ⊎ ((k ≡ length old.places.items) × (p ≡ q)) → IsPlace (list ++ m ∷ []) k n q
+    place_at : (k : ℕ) (n : Member) (q : LoadOffset) → (slice_get list k ≡ Some n) ⊎ ((k ≡ length list) × (m ≡ n)) → (slice_get old.places.items k ≡ Some q) ⊎ ((k ≡ length old.places.items) × (p ≡ q)) → IsPlace (list ++ m ∷ []) k n q
     place_at k n q (inl a) (inl b) = place_stays list m n k q a (laid.places k n q a b)
     place_at k n q (inl a) (inr b) = let within = slice_get_within list k n a in absurd (omega (arith, within, b.0, laid.count))
     place_at k n q (inr a) (inl b) = let within = slice_get_within old.places.items k q b in absurd (omega (arith, within, a.0, laid.count))
     place_at k n q (inr a) (inr b) =
         let is = place_last list m p i (ap (λ (l : List (List ℕ)). slice_get l i) whole ∙ here) number
         (λ small. offset ∙ ap (λ (e : ℕ). offset_behind e m) ((laid.loads i was is_was).length' ∙ ap (λ (x : List ℕ). min (load_length x list) 16777216) was_name ∙ least small)) in
-        subst (λ (j : ℕ). IsPlace (list ++ m ∷ []) j n q) (sym a.0) (subst (λ (x : Member). IsPlace (list ++ m ∷ []) (length list) x q) a.1 (subst (λ (x : Place). IsPlace (list ++ m ∷ []) (length list) m x) b.1 is))
+        subst (λ (j : ℕ). IsPlace (list ++ m ∷ []) j n q) (sym a.0) (subst (λ (x : Member). IsPlace (list ++ m ∷ []) (length list) x q) a.1 (subst (λ (x : LoadOffset). IsPlace (list ++ m ∷ []) (length list) m x) b.1 is))
       where
         least : end_from 0 (name_of m) list ≤ 16777216 → min (load_length (name_of m) list) 16777216 ≡ end_from 0 (name_of m) list
         least small = omega (arith, small, length_is (name_of m) list)
 
-pub laid_none : (new : kept.Layout) → Indexes [] new.names → new.loads.items ≡ [] → new.places.items ≡ [] → new.conflict ≡ None → Laid [] new
+pub laid_none : (new : kept.LinkLayout) → Indexes [] new.names → new.loads.items ≡ [] → new.places.items ≡ [] → new.conflict ≡ None → Laid [] new
 unfolding load_names
 laid_none new names loads places conflict = record {
-  named = ap (map (λ (l : Load). l.load_name)) loads;
+  named = ap (map (λ (l : LoadLayout). l.load_name)) loads;
   names = names;
-  loads = λ k l there. absurd (nothing k l (ap (λ (ls : List Load). slice_get ls k) (sym loads) ∙ there));
+  loads = λ k l there. absurd (nothing k l (ap (λ (ls : List LoadLayout). slice_get ls k) (sym loads) ∙ there));
   count = ap length places;
   places = λ k m p there here. absurd (no_member k m there);
   conflict = subst (IsConflict []) (sym conflict) (none_yet HasOrgFault);
 }
   where
-    nothing : (k : ℕ) (l : Load) → slice_get [] k ≡ Some l → ⊥
+    nothing : (k : ℕ) (l : LoadLayout) → slice_get [] k ≡ Some l → ⊥
     nothing k l e = cc
 
     no_member : (k : ℕ) (m : Member) → slice_get [] k ≡ Some m → ⊥
@@ -489,31 +489,31 @@ spot_is m origin s of same =
     ap (λ (n : ℕ). spot_at n origin.segment s.start) (sym of.0) ∙ ap (λ (n : ℕ). spot_at m.file n s.start) (sym of.1) ∙ ap (λ (x : Segment). spot_at m.file m.number x.start) (sym same)
 
 -- what a look-up of a load name answers
-abbrev pub Looks : kept.Layout → List ℕ → Outcome → Type 0
+abbrev pub Looks : kept.LinkLayout → List ℕ → Matches → Type 0
 Looks layout x answer = (rows : List Row) → Indexes rows layout.names → answer ≡ outcome rows (name_key x)
 
-number_is : (list : List Member) (layout : kept.Layout) (x : List ℕ) (answer : Outcome) → Laid list layout → Looks layout x answer → IsNumber 0 (load_names list) x (number_of answer)
+number_is : (list : List Member) (layout : kept.LinkLayout) (x : List ℕ) (answer : Matches) → Laid list layout → Looks layout x answer → IsNumber 0 (load_names list) x (number_of answer)
 number_is list layout x answer laid looks =
-    subst (λ (o : Outcome). IsNumber 0 (load_names list) x (number_of o)) (sym (looks (load_rows 0 (load_names list)) laid.names)) (looked (load_names list) x)
+    subst (λ (o : Matches). IsNumber 0 (load_names list) x (number_of o)) (sym (looks (load_rows 0 (load_names list)) laid.names)) (looked (load_names list) x)
 
-pub looked_none : (list : List Member) (layout : kept.Layout) (x : List ℕ) (answer : Outcome) → Laid list layout → Looks layout x answer → answer ≡ Nothing → has x (load_names list) ≡ false
-looked_none list layout x answer laid looks is = subst (λ (o : Outcome). IsNumber 0 (load_names list) x (number_of o)) is (number_is list layout x answer laid looks)
+pub looked_none : (list : List Member) (layout : kept.LinkLayout) (x : List ℕ) (answer : Matches) → Laid list layout → Looks layout x answer → answer ≡ Nothing → contains_text x (load_names list) ≡ false
+looked_none list layout x answer laid looks is = subst (λ (o : Matches). IsNumber 0 (load_names list) x (number_of o)) is (number_is list layout x answer laid looks)
 
-looked_at : (list : List Member) (layout : kept.Layout) (x : List ℕ) (answer : Outcome) (i : ℕ) → Laid list layout → Looks layout x answer → (answer ≡ One i) ⊎ (answer ≡ Several i) → slice_get (load_names list) i ≡ Some x
+looked_at : (list : List Member) (layout : kept.LinkLayout) (x : List ℕ) (answer : Matches) (i : ℕ) → Laid list layout → Looks layout x answer → (answer ≡ One i) ⊎ (answer ≡ Several i) → slice_get (load_names list) i ≡ Some x
 looked_at list layout x answer i laid looks is = settle is
   where
     there : IsNumber 0 (load_names list) x (Some i) → slice_get (load_names list) i ≡ Some x
     there n = let same : n.0 ≡ i = omega (arith, n.1) in ap (slice_get (load_names list)) (sym same) ∙ n.2
 
     settle : (answer ≡ One i) ⊎ (answer ≡ Several i) → slice_get (load_names list) i ≡ Some x
-    settle (inl e) = there (subst (λ (o : Outcome). IsNumber 0 (load_names list) x (number_of o)) e (number_is list layout x answer laid looks))
-    settle (inr e) = there (subst (λ (o : Outcome). IsNumber 0 (load_names list) x (number_of o)) e (number_is list layout x answer laid looks))
+    settle (inl e) = there (subst (λ (o : Matches). IsNumber 0 (load_names list) x (number_of o)) e (number_is list layout x answer laid looks))
+    settle (inr e) = there (subst (λ (o : Matches). IsNumber 0 (load_names list) x (number_of o)) e (number_is list layout x answer laid looks))
 
-pub looked_some : (list : List Member) (layout : kept.Layout) (x name : List ℕ) (answer : Outcome) (i : ℕ) → Laid list layout → Looks layout x answer → (answer ≡ One i) ⊎ (answer ≡ Several i) → x ≡ name → slice_get (load_names list) i ≡ Some name
+pub looked_some : (list : List Member) (layout : kept.LinkLayout) (x name : List ℕ) (answer : Matches) (i : ℕ) → Laid list layout → Looks layout x answer → (answer ≡ One i) ⊎ (answer ≡ Several i) → x ≡ name → slice_get (load_names list) i ≡ Some name
 looked_some list layout x name answer i laid looks is named = subst (λ (y : List ℕ). slice_get (load_names list) i ≡ Some y) named (looked_at list layout x answer i laid looks is)
 
-pub load_within : (list : List Member) (layout : kept.Layout) (x : List ℕ) (answer : Outcome) (i : ℕ) → Laid list layout → Looks layout x answer → (answer ≡ One i) ⊎ (answer ≡ Several i) → i < length layout.loads.items
+pub load_within : (list : List Member) (layout : kept.LinkLayout) (x : List ℕ) (answer : Matches) (i : ℕ) → Laid list layout → Looks layout x answer → (answer ≡ One i) ⊎ (answer ≡ Several i) → i < length layout.loads.items
 load_within list layout x answer i laid looks is =
     let at = looked_at list layout x answer i laid looks is in
     let within = slice_get_within (load_names list) i x at in
-    omega (arith, within, length-map layout.loads.items (λ (l : Load). l.load_name), ap length laid.named)
+    omega (arith, within, length-map layout.loads.items (λ (l : LoadLayout). l.load_name), ap length laid.named)

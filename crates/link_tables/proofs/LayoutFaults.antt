@@ -15,10 +15,10 @@ use Rattle.link_meaning.specs.laws.FirstLaws.{none_more, none_yet}
 use Rattle.link_meaning.specs.Member.{Member, form_in}
 use Rattle.link_meaning.specs.declared.form.LinkForm.{LinkForm}
 use Rattle.link_meaning.specs.declared.form.LinkForm.TheVariants.{Program, Runtime as LibraryForm}
-use Rattle.link_meaning.specs.Layout.{load_names, load_length, load_members, least_bank, greatest_align, of_first, load_fields, headers_from, load_headers, cleared}
+use Rattle.link_meaning.specs.Layout.{load_names, load_length, load_members, least_bank, greatest_align, of_first, load_fields, headers_from, load_headers, load_segment_kind}
 use Rattle.link_meaning.specs.LinkFaults.{HasOrgFault, HasLengthFault, HasKindFault, HasLayoutFault, is_too_long, may_not_stand, LayoutCheck, Orgs, Count, Lengths, Kinds}
-use Rattle.link_tables.specs.declared.layout.Load.{Load}
-use Rattle.link_tables.specs.declared.layout.Layout as kept
+use Rattle.link_tables.specs.declared.layout.LoadLayout.{LoadLayout}
+use Rattle.link_tables.specs.declared.layout.LinkLayout as kept
 use Rattle.link_tables.specs.Laid.{IsLoad, IsConflict, org_fault, Laid, layout_checks, is_long, AllShort, IsFirstLong, is_other, AllDynamic, IsFirstOther, ShowsLoad, AreHeaders}
 use Rattle.link_tables.proofs.Lists.{drop_at, take_more}
 
@@ -69,7 +69,7 @@ long_same bank end = settle (le_or_less end 0xFFFFFF)
 abbrev fields_of : List Member → ℕ → List ℕ → Fields
 fields_of list n x = load_fields list n x
 
-long_is : (list : List Member) (n : ℕ) (load : Load) → IsLoad list load → is_long load ≡ is_too_long (fields_of list n load.load_name)
+long_is : (list : List Member) (n : ℕ) (load : LoadLayout) → IsLoad list load → is_long load ≡ is_too_long (fields_of list n load.load_name)
 unfolding load_fields
 long_is list n load is =
     ap (λ (b : ℕ). long_by b load.length) is.bank_size
@@ -110,36 +110,36 @@ header_there list n (y ∷ names) (suc j) x e =
     some : Fields → Option Fields
     some f = Some f
 
-name_at : (list : List Member) (layout : kept.Layout) (k : ℕ) (load : Load) → Laid list layout → slice_get layout.loads.items k ≡ Some load → slice_get (load_names list) k ≡ Some load.load_name
+name_at : (list : List Member) (layout : kept.LinkLayout) (k : ℕ) (load : LoadLayout) → Laid list layout → slice_get layout.loads.items k ≡ Some load → slice_get (load_names list) k ≡ Some load.load_name
 name_at list layout k load laid there =
-    ap (λ (l : List (List ℕ)). slice_get l k) (sym laid.named) ∙ slice_get-map (λ (l : Load). l.load_name) layout.loads.items k ∙ ap (option_map (λ (l : Load). l.load_name)) there
+    ap (λ (l : List (List ℕ)). slice_get l k) (sym laid.named) ∙ slice_get-map (λ (l : LoadLayout). l.load_name) layout.loads.items k ∙ ap (option_map (λ (l : LoadLayout). l.load_name)) there
 
-pub record HasLoad (layout : kept.Layout) (k : ℕ) (x : List ℕ) : Type 0 where
-  pub load : Load
+pub record HasLoad (layout : kept.LinkLayout) (k : ℕ) (x : List ℕ) : Type 0 where
+  pub load : LoadLayout
   pub at : slice_get layout.loads.items k ≡ Some load
   pub name : load.load_name ≡ x
 
-pub load_there : (list : List Member) (layout : kept.Layout) (k : ℕ) (x : List ℕ) → Laid list layout → slice_get (load_names list) k ≡ Some x → HasLoad layout k x
+pub load_there : (list : List Member) (layout : kept.LinkLayout) (k : ℕ) (x : List ℕ) → Laid list layout → slice_get (load_names list) k ≡ Some x → HasLoad layout k x
 load_there list layout k x laid e = settle (slice_get layout.loads.items k) refl
   where
-    both : option_map (λ (l : Load). l.load_name) (slice_get layout.loads.items k) ≡ Some x
-    both = sym (slice_get-map (λ (l : Load). l.load_name) layout.loads.items k) ∙ ap (λ (l : List (List ℕ)). slice_get l k) laid.named ∙ e
+    both : option_map (λ (l : LoadLayout). l.load_name) (slice_get layout.loads.items k) ≡ Some x
+    both = sym (slice_get-map (λ (l : LoadLayout). l.load_name) layout.loads.items k) ∙ ap (λ (l : List (List ℕ)). slice_get l k) laid.named ∙ e
 
     text_same : (a b : List ℕ) → Some a ≡ Some b → a ≡ b
     text_same a b e = cc
 
-    settle : (o : Option Load) → slice_get layout.loads.items k ≡ o → HasLoad layout k x
-    settle None is = let clash : option_map (λ (l : Load). l.load_name) None ≡ Some x = sym (ap (option_map (λ (l : Load). l.load_name)) is) ∙ both in absurd cc
-    settle (Some load) is = record { load = load; at = is; name = text_same load.load_name x (sym (ap (option_map (λ (l : Load). l.load_name)) is) ∙ both) }
+    settle : (o : Option LoadLayout) → slice_get layout.loads.items k ≡ o → HasLoad layout k x
+    settle None is = let clash : option_map (λ (l : LoadLayout). l.load_name) None ≡ Some x = sym (ap (option_map (λ (l : LoadLayout). l.load_name)) is) ∙ both in absurd cc
+    settle (Some load) is = record { load = load; at = is; name = text_same load.load_name x (sym (ap (option_map (λ (l : LoadLayout). l.load_name)) is) ∙ both) }
 
 -- the load segment of a header
-record OfHeader (list : List Member) (layout : kept.Layout) (k : ℕ) (f : Fields) : Type 0 where
-  load : Load
+record OfHeader (list : List Member) (layout : kept.LinkLayout) (k : ℕ) (f : Fields) : Type 0 where
+  load : LoadLayout
   at : slice_get layout.loads.items k ≡ Some load
   is : IsLoad list load
   fields : f ≡ fields_of list (1 + k) load.load_name
 
-of_header : (list : List Member) (layout : kept.Layout) (k : ℕ) (f : Fields) → Laid list layout → slice_get (load_headers list) k ≡ Some f → OfHeader list layout k f
+of_header : (list : List Member) (layout : kept.LinkLayout) (k : ℕ) (f : Fields) → Laid list layout → slice_get (load_headers list) k ≡ Some f → OfHeader list layout k f
 unfolding load_headers
 of_header list layout k f laid e =
     let h = header_from list 1 (load_names list) k f e in
@@ -161,17 +161,17 @@ true_false : (b : Bool) → b ≡ true → b ≡ false → ⊥
 true_false b p q = let clash : true ≡ false = sym p ∙ q in cc
 
 -- a test of load segments is one of their headers
-abbrev IsTest : List Member → (Load → Bool) → (Fields → Bool) → Type 0
-IsTest list bad wrong = (n : ℕ) (load : Load) → IsLoad list load → bad load ≡ wrong (fields_of list n load.load_name)
+abbrev IsTest : List Member → (LoadLayout → Bool) → (Fields → Bool) → Type 0
+IsTest list bad wrong = (n : ℕ) (load : LoadLayout) → IsLoad list load → bad load ≡ wrong (fields_of list n load.load_name)
 
 -- what has a fault fails the test
 abbrev Fails : (List Fields → Fields → LinkFault → Type 0) → (Fields → Bool) → Type 0
 Fails Has wrong = (before : List Fields) (f : Fields) (its : LinkFault) → Has before f its → wrong f ≡ true
 
 -- where the load segments before a place pass, those before it have no fault
-none_bad : (bad : Load → Bool) (wrong : Fields → Bool) (Has : List Fields → Fields → LinkFault → Type 0) (list : List Member) (layout : kept.Layout) (items : List Fields) → IsTest list bad wrong → Fails Has wrong → Laid list layout
+none_bad : (bad : LoadLayout → Bool) (wrong : Fields → Bool) (Has : List Fields → Fields → LinkFault → Type 0) (list : List Member) (layout : kept.LinkLayout) (items : List Fields) → IsTest list bad wrong → Fails Has wrong → Laid list layout
     → ((j : ℕ) (f : Fields) → slice_get items j ≡ Some f → slice_get (load_headers list) j ≡ Some f)
-    → ((j : ℕ) (load : Load) → j < length items → slice_get layout.loads.items j ≡ Some load → bad load ≡ false) → HasNone Has items
+    → ((j : ℕ) (load : LoadLayout) → j < length items → slice_get layout.loads.items j ≡ Some load → bad load ≡ false) → HasNone Has items
 none_bad bad wrong Has list layout items test fails laid front fine before f rest its e has =
     let at : slice_get items (length before) ≡ Some f = ap (λ (l : List Fields). slice_get l (length before)) e ∙ middle_at before f rest in
     let h = of_header list layout (length before) f laid (front (length before) f at) in
@@ -199,16 +199,16 @@ no_conflict list before its none p = none p.before p.item p.after its p.parts p.
 pub no_count : (list : List Member) (before : List LayoutCheck) (its : LinkFault) → length (load_names list) ≤ 254 → HasLayoutFault list before Count its → ⊥
 no_count list before its few p = let within = slice_get_within (load_names list) 254 p.load_name p.there in omega (arith, within, few)
 
-pub no_long : (list : List Member) (layout : kept.Layout) (before : List LayoutCheck) (its : LinkFault) → Laid list layout → AllShort layout.loads.items → HasLayoutFault list before Lengths its → ⊥
+pub no_long : (list : List Member) (layout : kept.LinkLayout) (before : List LayoutCheck) (its : LinkFault) → Laid list layout → AllShort layout.loads.items → HasLayoutFault list before Lengths its → ⊥
 no_long list layout before its laid short p =
     none_bad is_long is_too_long (HasLengthFault list) list layout (load_headers list) (long_test list) (long_fails list) laid (λ j f e. e) (λ j load within there. short j load there) p.before p.item p.after its p.parts p.here
 
 -- of a program no kind is a fault, and of a run-time library file none is where all may stand
-abbrev pub FineKinds : LinkForm → List Load → Type 0
+abbrev pub FineKinds : LinkForm → List LoadLayout → Type 0
 FineKinds Program loads = Unit {0}
 FineKinds LibraryForm loads = AllDynamic loads
 
-pub no_kinds : (form : LinkForm) (list : List Member) (layout : kept.Layout) (before : List LayoutCheck) (its : LinkFault) → form_in list ≡ form → Laid list layout → FineKinds form layout.loads.items → HasLayoutFault list before Kinds its → ⊥
+pub no_kinds : (form : LinkForm) (list : List Member) (layout : kept.LinkLayout) (before : List LayoutCheck) (its : LinkFault) → form_in list ≡ form → Laid list layout → FineKinds form layout.loads.items → HasLayoutFault list before Kinds its → ⊥
 no_kinds Program list layout before its is laid fine p = let clash : false ≡ true = kind_fails list Program is p.before p.item its p.here in absurd cc
 no_kinds LibraryForm list layout before its is laid fine p =
     none_bad is_other (may_not_stand LibraryForm) (HasKindFault list) list layout (load_headers list) (kind_test list) (kind_fails list LibraryForm is) laid (λ j f e. e) (λ j load within there. fine j load there)
@@ -229,10 +229,10 @@ none_orgs list none = none_more (HasLayoutFault list) [] Orgs (none_yet (HasLayo
 none_count : (list : List Member) → HasNone HasOrgFault list → length (load_names list) ≤ 254 → HasNone (HasLayoutFault list) upto_count
 none_count list none few = none_more (HasLayoutFault list) upto_orgs Count (none_orgs list none) (λ its. no_count list upto_orgs its few)
 
-none_lengths : (list : List Member) (layout : kept.Layout) → Laid list layout → HasNone HasOrgFault list → length (load_names list) ≤ 254 → AllShort layout.loads.items → HasNone (HasLayoutFault list) upto_lengths
+none_lengths : (list : List Member) (layout : kept.LinkLayout) → Laid list layout → HasNone HasOrgFault list → length (load_names list) ≤ 254 → AllShort layout.loads.items → HasNone (HasLayoutFault list) upto_lengths
 none_lengths list layout laid none few short = none_more (HasLayoutFault list) upto_count Lengths (none_count list none few) (λ its. no_long list layout upto_count its laid short)
 
-pub none_all : (form : LinkForm) (list : List Member) (layout : kept.Layout) → form_in list ≡ form → Laid list layout → HasNone HasOrgFault list → length (load_names list) ≤ 254 → AllShort layout.loads.items
+pub none_all : (form : LinkForm) (list : List Member) (layout : kept.LinkLayout) → form_in list ≡ form → Laid list layout → HasNone HasOrgFault list → length (load_names list) ≤ 254 → AllShort layout.loads.items
     → FineKinds form layout.loads.items → HasNone (HasLayoutFault list) layout_checks
 none_all form list layout is laid none few short fine =
     none_more (HasLayoutFault list) upto_lengths Kinds (none_lengths list layout laid none few short) (λ its. no_kinds form list layout upto_lengths its is laid fine)
@@ -242,7 +242,7 @@ none_all form list layout is laid none few short fine =
 pub at_orgs : (list : List Member) (spot : Spot) (fault : LinkFault) → IsConflict list (Some spot) → fault ≡ org_fault spot → IsFirst (HasLayoutFault list) layout_checks fault
 at_orgs list spot fault is told = record { before = []; item = Orgs; after = Count ∷ Lengths ∷ Kinds ∷ []; parts = refl; none = none_yet (HasLayoutFault list); here = subst (IsFirst HasOrgFault list) (sym told) is }
 
-pub at_count : (list : List Member) (layout : kept.Layout) (load : Load) (fault : LinkFault) → Laid list layout → HasNone HasOrgFault list → slice_get layout.loads.items 254 ≡ Some load
+pub at_count : (list : List Member) (layout : kept.LinkLayout) (load : LoadLayout) (fault : LinkFault) → Laid list layout → HasNone HasOrgFault list → slice_get layout.loads.items 254 ≡ Some load
     → fault ≡ record { cause = TooManySegments; name = None; spot = load.first } → IsFirst (HasLayoutFault list) layout_checks fault
 at_count list layout load fault laid none there told = record {
   before = upto_orgs;
@@ -276,9 +276,9 @@ take_few (suc n) [] = omega arith
 take_few (suc n) (x ∷ xs) = let rest = take_few n xs in omega arith
 
 -- the first load segment that fails a test has the first fault
-first_bad : (bad : Load → Bool) (wrong : Fields → Bool) (Has : List Fields → Fields → LinkFault → Type 0) (list : List Member) (layout : kept.Layout) (k : ℕ) (load : Load) (fault : LinkFault) → IsTest list bad wrong → Fails Has wrong
+first_bad : (bad : LoadLayout → Bool) (wrong : Fields → Bool) (Has : List Fields → Fields → LinkFault → Type 0) (list : List Member) (layout : kept.LinkLayout) (k : ℕ) (load : LoadLayout) (fault : LinkFault) → IsTest list bad wrong → Fails Has wrong
     → Laid list layout → slice_get layout.loads.items k ≡ Some load
-    → ((j : ℕ) (other : Load) → slice_get (take k layout.loads.items) j ≡ Some other → bad other ≡ false)
+    → ((j : ℕ) (other : LoadLayout) → slice_get (take k layout.loads.items) j ≡ Some other → bad other ≡ false)
     → Has (take k (load_headers list)) (fields_of list (1 + k) load.load_name) fault → IsFirst Has (load_headers list) fault
 unfolding load_headers
 first_bad bad wrong Has list layout k load fault test fails laid at before here =
@@ -295,7 +295,7 @@ first_bad bad wrong Has list layout k load fault test fails laid at before here 
       here = here;
     }
 
-pub at_lengths : (list : List Member) (layout : kept.Layout) (spot : Spot) (fault : LinkFault) → Laid list layout → HasNone HasOrgFault list → length (load_names list) ≤ 254 → IsFirstLong layout.loads.items spot
+pub at_lengths : (list : List Member) (layout : kept.LinkLayout) (spot : Spot) (fault : LinkFault) → Laid list layout → HasNone HasOrgFault list → length (load_names list) ≤ 254 → IsFirstLong layout.loads.items spot
     → fault ≡ record { cause = SegmentTooLong; name = None; spot = spot } → IsFirst (HasLayoutFault list) layout_checks fault
 unfolding load_fields
 at_lengths list layout spot fault laid none few first told =
@@ -313,7 +313,7 @@ at_lengths list layout spot fault laid none few first told =
     long_fault : Spot → LinkFault
     long_fault s = record { cause = SegmentTooLong; name = None; spot = s }
 
-pub at_kinds : (list : List Member) (layout : kept.Layout) (spot : Spot) (fault : LinkFault) → form_in list ≡ LibraryForm → Laid list layout → HasNone HasOrgFault list → length (load_names list) ≤ 254 → AllShort layout.loads.items
+pub at_kinds : (list : List Member) (layout : kept.LinkLayout) (spot : Spot) (fault : LinkFault) → form_in list ≡ LibraryForm → Laid list layout → HasNone HasOrgFault list → length (load_names list) ≤ 254 → AllShort layout.loads.items
     → IsFirstOther layout.loads.items spot → fault ≡ record { cause = NotDynamic; name = None; spot = spot } → IsFirst (HasLayoutFault list) layout_checks fault
 unfolding load_fields
 at_kinds list layout spot fault form laid none few short first told =
@@ -338,7 +338,7 @@ at_kinds list layout spot fault form laid none few short first told =
 
 -- ---- the headers
 
-pub length_short : (list : List Member) (load : Load) → IsLoad list load → is_long load ≡ false → load.length ≡ load_length load.load_name list
+pub length_short : (list : List Member) (load : LoadLayout) → IsLoad list load → is_long load ≡ false → load.length ≡ load_length load.load_name list
 length_short list load is short = settle (le_or_less (load_length load.load_name list) 0xFFFFFF)
   where
     settle : (load_length load.load_name list ≤ 0xFFFFFF) ⊎ (0xFFFFFF < load_length load.load_name list) → load.length ≡ load_length load.load_name list
@@ -347,16 +347,16 @@ length_short list load is short = settle (le_or_less (load_length load.load_name
         let most : load.length ≡ 16777216 = omega (arith, is.length', p) in
         absurd (true_false (is_long load) (or_left (load.length == 16777216) (not (load.bank_size == 0) && nat_lt load.bank_size load.length) (eq-eqb load.length 16777216 most)) short)
 
-one_header : (list : List Member) (n : ℕ) (load : Load) (f : Fields) → IsLoad list load → is_long load ≡ false → ShowsLoad load n f → f ≡ load_fields list n load.load_name
+one_header : (list : List Member) (n : ℕ) (load : LoadLayout) (f : Fields) → IsLoad list load → is_long load ≡ false → ShowsLoad load n f → f ≡ load_fields list n load.load_name
 unfolding load_fields
 one_header list n load f is short shows =
     shows.fields
     ∙ ap (λ (x : ℕ). header_with x load.bank_size load.kind.bits load.org load.align load.entry) (length_short list load is short)
     ∙ ap (λ (x : ℕ). header_with (load_length load.load_name list) x load.kind.bits load.org load.align load.entry) is.bank_size
     ∙ ap (λ (x : ℕ). header_with (load_length load.load_name list) (least_bank members) x load.org load.align load.entry) is.kind
-    ∙ ap (λ (x : ℕ). header_with (load_length load.load_name list) (least_bank members) (cleared (of_first (λ (g : Fields). g.kind) members)) x load.align load.entry) is.org
-    ∙ ap (λ (x : ℕ). header_with (load_length load.load_name list) (least_bank members) (cleared (of_first (λ (g : Fields). g.kind) members)) (of_first (λ (g : Fields). g.org) members) x load.entry) is.align
-    ∙ ap (λ (x : ℕ). header_with (load_length load.load_name list) (least_bank members) (cleared (of_first (λ (g : Fields). g.kind) members)) (of_first (λ (g : Fields). g.org) members) (greatest_align members) x) is.entry
+    ∙ ap (λ (x : ℕ). header_with (load_length load.load_name list) (least_bank members) (load_segment_kind (of_first (λ (g : Fields). g.kind) members)) x load.align load.entry) is.org
+    ∙ ap (λ (x : ℕ). header_with (load_length load.load_name list) (least_bank members) (load_segment_kind (of_first (λ (g : Fields). g.kind) members)) (of_first (λ (g : Fields). g.org) members) x load.entry) is.align
+    ∙ ap (λ (x : ℕ). header_with (load_length load.load_name list) (least_bank members) (load_segment_kind (of_first (λ (g : Fields). g.kind) members)) (of_first (λ (g : Fields). g.org) members) (greatest_align members) x) is.entry
   where
     members : List Member
     members = load_members load.load_name list
@@ -380,19 +380,19 @@ one_header list n load f is short shows =
       name = without_trailing 32 load.load_name;
     }
 
-headers_are : (list : List Member) (n : ℕ) (loads : List Load) (fs : List Fields) → ((k : ℕ) (load : Load) → slice_get loads k ≡ Some load → IsLoad list load) → AllShort loads → AreHeaders n loads fs → fs ≡ headers_from list n (map (λ l. l.load_name) loads)
+headers_are : (list : List Member) (n : ℕ) (loads : List LoadLayout) (fs : List Fields) → ((k : ℕ) (load : LoadLayout) → slice_get loads k ≡ Some load → IsLoad list load) → AllShort loads → AreHeaders n loads fs → fs ≡ headers_from list n (map (λ l. l.load_name) loads)
 headers_are list n [] fs each short are = are
 headers_are list n (load ∷ loads) [] each short are = absurd are
 headers_are list n (load ∷ loads) (f ∷ fs) each short are =
     ap (λ (g : Fields). g ∷ fs) (one_header list n load f (each 0 load refl) (short 0 load refl) are.0)
     ∙ ap (λ (l : List Fields). load_fields list n load.load_name ∷ l) (headers_are list (n + 1) loads fs (λ k l e. each (suc k) l e) (λ k l e. short (suc k) l e) are.1)
 
-pub all_headers : (list : List Member) (layout : kept.Layout) (fs : List Fields) → Laid list layout → AllShort layout.loads.items → AreHeaders 1 layout.loads.items fs → fs ≡ load_headers list
+pub all_headers : (list : List Member) (layout : kept.LinkLayout) (fs : List Fields) → Laid list layout → AllShort layout.loads.items → AreHeaders 1 layout.loads.items fs → fs ≡ load_headers list
 unfolding load_headers
 all_headers list layout fs laid short are = headers_are list 1 layout.loads.items fs laid.loads short are ∙ ap (headers_from list 1) laid.named
 
 -- one more header
-headers-snoc : (n : ℕ) (loads : List Load) (fs : List Fields) (load : Load) (f : Fields) → AreHeaders n loads fs → ShowsLoad load (n + length loads) f → AreHeaders n (loads ++ load ∷ []) (fs ++ f ∷ [])
+headers-snoc : (n : ℕ) (loads : List LoadLayout) (fs : List Fields) (load : LoadLayout) (f : Fields) → AreHeaders n loads fs → ShowsLoad load (n + length loads) f → AreHeaders n (loads ++ load ∷ []) (fs ++ f ∷ [])
 headers-snoc n [] [] load f are shows = let same : n + 0 ≡ n = omega arith in (subst (λ (k : ℕ). ShowsLoad load k f) same shows, refl)
 headers-snoc n [] (g ∷ fs) load f are shows = absurd cc
 headers-snoc n (l ∷ loads) [] load f are shows = absurd are
@@ -400,21 +400,21 @@ headers-snoc n (l ∷ loads) (g ∷ fs) load f are shows =
     let same : n + suc (length loads) ≡ n + 1 + length loads = omega arith in
     (are.0, headers-snoc (n + 1) loads fs load f are.1 (subst (λ (k : ℕ). ShowsLoad load k f) same shows))
 
-pub headers_next : (loads : List Load) (k number : ℕ) (load : Load) (fs : List Fields) (f : Fields) → slice_get loads k ≡ Some load → number ≡ k → AreHeaders 1 (take k loads) fs → ShowsLoad load (number + 1) f
+pub headers_next : (loads : List LoadLayout) (k number : ℕ) (load : LoadLayout) (fs : List Fields) (f : Fields) → slice_get loads k ≡ Some load → number ≡ k → AreHeaders 1 (take k loads) fs → ShowsLoad load (number + 1) f
     → AreHeaders 1 (take (k + 1) loads) (fs ++ f ∷ [])
 headers_next loads k number load fs f at is are shows =
     let within = slice_get_within loads k load at in
     let size = length-take-le k loads (omega (arith, within)) in
     let same : number + 1 ≡ 1 + length (take k loads) = omega (arith, is, size) in
-    subst (λ (l : List Load). AreHeaders 1 l (fs ++ f ∷ [])) (sym (take_more loads k load at))
+    subst (λ (l : List LoadLayout). AreHeaders 1 l (fs ++ f ∷ [])) (sym (take_more loads k load at))
     (headers-snoc 1 (take k loads) fs load f are (subst (λ (n : ℕ). ShowsLoad load n f) same shows))
 
 -- the load segments are as many as the names
-pub loads_are : (list : List Member) (layout : kept.Layout) → Laid list layout → length layout.loads.items ≡ length (load_names list)
-loads_are list layout laid = sym (length-map layout.loads.items (λ (l : Load). l.load_name)) ∙ ap length laid.named
+pub loads_are : (list : List Member) (layout : kept.LinkLayout) → Laid list layout → length layout.loads.items ≡ length (load_names list)
+loads_are list layout laid = sym (length-map layout.loads.items (λ (l : LoadLayout). l.load_name)) ∙ ap length laid.named
 
-pub conflict_is : (list : List Member) (layout : kept.Layout) (spot : Spot) → Laid list layout → layout.conflict ≡ Some spot → IsConflict list (Some spot)
+pub conflict_is : (list : List Member) (layout : kept.LinkLayout) (spot : Spot) → Laid list layout → layout.conflict ≡ Some spot → IsConflict list (Some spot)
 conflict_is list layout spot laid is = subst (IsConflict list) is laid.conflict
 
-pub conflict_free : (list : List Member) (layout : kept.Layout) → Laid list layout → layout.conflict ≡ None → HasNone HasOrgFault list
+pub conflict_free : (list : List Member) (layout : kept.LinkLayout) → Laid list layout → layout.conflict ≡ None → HasNone HasOrgFault list
 conflict_free list layout laid is = subst (IsConflict list) is laid.conflict

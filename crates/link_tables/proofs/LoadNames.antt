@@ -11,7 +11,7 @@ use Rattle.link_meaning.specs.Member.{Member}
 use Rattle.link_meaning.specs.Layout.{in_load, distinct, number_in, load_names}
 use Rattle.link_tables.specs.Names.{Named, Row, is_row, seen_of, outcome}
 use Rattle.link_tables.specs.Offers.{number_of}
-use Rattle.link_tables.specs.Laid.{load_rows, has}
+use Rattle.link_tables.specs.Laid.{load_rows, contains_text}
 use Rattle.link_tables.proofs.NameTables.{bytes_same}
 
 abbrev Text : Type 0
@@ -33,22 +33,22 @@ bytes_sym a b = settle (bytes_eq a b) (bytes_eq b a) refl refl
 
 -- ---- what is there
 
-has-filter : (x y : Text) (xs : List Text) → bytes_eq y x ≡ false → has x (filter (λ z. not (bytes_eq z y)) xs) ≡ has x xs
+has-filter : (x y : Text) (xs : List Text) → bytes_eq y x ≡ false → contains_text x (filter (λ z. not (bytes_eq z y)) xs) ≡ contains_text x xs
 has-filter x y [] other = refl
 has-filter x y (z ∷ xs) other = settle (bytes_eq z y) refl (has-filter x y xs other)
   where
-    settle : (t : Bool) → bytes_eq z y ≡ t → has x (filter (λ w. not (bytes_eq w y)) xs) ≡ has x xs → has x (if not t then z ∷ filter (λ w. not (bytes_eq w y)) xs else filter (λ w. not (bytes_eq w y)) xs) ≡ (bytes_eq z x || has x xs)
+    settle : (t : Bool) → bytes_eq z y ≡ t → contains_text x (filter (λ w. not (bytes_eq w y)) xs) ≡ contains_text x xs → contains_text x (if not t then z ∷ filter (λ w. not (bytes_eq w y)) xs else filter (λ w. not (bytes_eq w y)) xs) ≡ (bytes_eq z x || contains_text x xs)
     settle true e rest =
         let same = bytes_same z y e in
-        rest ∙ sym (ap (λ (b : Bool). b || has x xs) (ap (λ (w : Text). bytes_eq w x) same ∙ other))
+        rest ∙ sym (ap (λ (b : Bool). b || contains_text x xs) (ap (λ (w : Text). bytes_eq w x) same ∙ other))
     settle false e rest = ap (λ (b : Bool). bytes_eq z x || b) rest
 
-pub has-distinct : (x : Text) (xs : List Text) → has x (distinct xs) ≡ has x xs
+pub has-distinct : (x : Text) (xs : List Text) → contains_text x (distinct xs) ≡ contains_text x xs
 has-distinct x [] = refl
 has-distinct x (y ∷ xs) = settle (bytes_eq y x) refl (has-distinct x xs)
   where
-    settle : (t : Bool) → bytes_eq y x ≡ t → has x (distinct xs) ≡ has x xs → (bytes_eq y x || has x (filter (λ z. not (bytes_eq z y)) (distinct xs))) ≡ (bytes_eq y x || has x xs)
-    settle true e rest = ap (λ (b : Bool). b || has x (filter (λ z. not (bytes_eq z y)) (distinct xs))) e ∙ sym (ap (λ (b : Bool). b || has x xs) e)
+    settle : (t : Bool) → bytes_eq y x ≡ t → contains_text x (distinct xs) ≡ contains_text x xs → (bytes_eq y x || contains_text x (filter (λ z. not (bytes_eq z y)) (distinct xs))) ≡ (bytes_eq y x || contains_text x xs)
+    settle true e rest = ap (λ (b : Bool). b || contains_text x (filter (λ z. not (bytes_eq z y)) (distinct xs))) e ∙ sym (ap (λ (b : Bool). b || contains_text x xs) e)
     settle false e rest = ap (λ (b : Bool). bytes_eq y x || b) (has-filter x y (distinct xs) e ∙ rest)
 
 -- ---- one more text
@@ -56,42 +56,42 @@ has-distinct x (y ∷ xs) = settle (bytes_eq y x) refl (has-distinct x xs)
 abbrev if_new : Text → Bool → List Text
 if_new x there = if there then [] else x ∷ []
 
-distinct-snoc : (xs : List Text) (x : Text) → distinct (xs ++ x ∷ []) ≡ distinct xs ++ if_new x (has x (distinct xs))
+distinct-snoc : (xs : List Text) (x : Text) → distinct (xs ++ x ∷ []) ≡ distinct xs ++ if_new x (contains_text x (distinct xs))
 distinct-snoc [] x = refl
 distinct-snoc (y ∷ xs) x =
     let keeps : Text → Bool = λ z. not (bytes_eq z y) in
     ap (λ (l : List Text). y ∷ filter keeps l) (distinct-snoc xs x)
-    ∙ ap (λ (l : List Text). y ∷ l) (filter-append keeps (distinct xs) (if_new x (has x (distinct xs))))
-    ∙ ap (λ (l : List Text). y ∷ (filter keeps (distinct xs) ++ l)) (settle (bytes_eq y x) refl (has x (distinct xs)) refl)
+    ∙ ap (λ (l : List Text). y ∷ l) (filter-append keeps (distinct xs) (if_new x (contains_text x (distinct xs))))
+    ∙ ap (λ (l : List Text). y ∷ (filter keeps (distinct xs) ++ l)) (settle (bytes_eq y x) refl (contains_text x (distinct xs)) refl)
   where
-    settle : (t : Bool) → bytes_eq y x ≡ t → (h : Bool) → has x (distinct xs) ≡ h → filter (λ z. not (bytes_eq z y)) (if_new x h) ≡ if_new x (bytes_eq y x || has x (filter (λ z. not (bytes_eq z y)) (distinct xs)))
-    settle true e true there = sym (ap (λ (b : Bool). if_new x (b || has x (filter (λ z. not (bytes_eq z y)) (distinct xs)))) e)
+    settle : (t : Bool) → bytes_eq y x ≡ t → (h : Bool) → contains_text x (distinct xs) ≡ h → filter (λ z. not (bytes_eq z y)) (if_new x h) ≡ if_new x (bytes_eq y x || contains_text x (filter (λ z. not (bytes_eq z y)) (distinct xs)))
+    settle true e true there = sym (ap (λ (b : Bool). if_new x (b || contains_text x (filter (λ z. not (bytes_eq z y)) (distinct xs)))) e)
     settle true e false there =
         ap (λ (b : Bool). if not b then x ∷ [] else []) (bytes_sym x y ∙ e)
-        ∙ sym (ap (λ (b : Bool). if_new x (b || has x (filter (λ z. not (bytes_eq z y)) (distinct xs)))) e)
-    settle false e true there = sym (ap (λ (b : Bool). if_new x (b || has x (filter (λ z. not (bytes_eq z y)) (distinct xs)))) e ∙ ap (if_new x) (has-filter x y (distinct xs) e ∙ there))
+        ∙ sym (ap (λ (b : Bool). if_new x (b || contains_text x (filter (λ z. not (bytes_eq z y)) (distinct xs)))) e)
+    settle false e true there = sym (ap (λ (b : Bool). if_new x (b || contains_text x (filter (λ z. not (bytes_eq z y)) (distinct xs)))) e ∙ ap (if_new x) (has-filter x y (distinct xs) e ∙ there))
     settle false e false there =
         ap (λ (b : Bool). if not b then x ∷ [] else []) (bytes_sym x y ∙ e)
-        ∙ sym (ap (λ (b : Bool). if_new x (b || has x (filter (λ z. not (bytes_eq z y)) (distinct xs)))) e ∙ ap (if_new x) (has-filter x y (distinct xs) e ∙ there))
+        ∙ sym (ap (λ (b : Bool). if_new x (b || contains_text x (filter (λ z. not (bytes_eq z y)) (distinct xs)))) e ∙ ap (if_new x) (has-filter x y (distinct xs) e ∙ there))
 
 abbrev name_of : Member → Text
 name_of m = m.segment.fields.load_name
 
-names-snoc : (list : List Member) (m : Member) → load_names (list ++ m ∷ []) ≡ load_names list ++ if_new (name_of m) (has (name_of m) (load_names list))
+names-snoc : (list : List Member) (m : Member) → load_names (list ++ m ∷ []) ≡ load_names list ++ if_new (name_of m) (contains_text (name_of m) (load_names list))
 unfolding load_names
 names-snoc list m = ap distinct (map-append name_of list (m ∷ [])) ∙ distinct-snoc (map name_of list) (name_of m)
 
-pub names_new : (list : List Member) (m : Member) → has (name_of m) (load_names list) ≡ false → load_names (list ++ m ∷ []) ≡ load_names list ++ name_of m ∷ []
+pub names_new : (list : List Member) (m : Member) → contains_text (name_of m) (load_names list) ≡ false → load_names (list ++ m ∷ []) ≡ load_names list ++ name_of m ∷ []
 names_new list m other = names-snoc list m ∙ ap (λ (b : Bool). load_names list ++ if_new (name_of m) b) other
 
-pub names_same : (list : List Member) (m : Member) → has (name_of m) (load_names list) ≡ true → load_names (list ++ m ∷ []) ≡ load_names list
+pub names_same : (list : List Member) (m : Member) → contains_text (name_of m) (load_names list) ≡ true → load_names (list ++ m ∷ []) ≡ load_names list
 names_same list m there = names-snoc list m ∙ ap (λ (b : Bool). load_names list ++ if_new (name_of m) b) there ∙ append-nil (load_names list)
 
-pub has_names : (x : Text) (list : List Member) → has x (load_names list) ≡ list_any (in_load x) list
+pub has_names : (x : Text) (list : List Member) → contains_text x (load_names list) ≡ list_any (in_load x) list
 unfolding load_names
 has_names x list = has-distinct x (map name_of list) ∙ over list
   where
-    over : (list : List Member) → has x (map name_of list) ≡ list_any (in_load x) list
+    over : (list : List Member) → contains_text x (map name_of list) ≡ list_any (in_load x) list
     over [] = refl
     over (m ∷ list) = ap (λ (b : Bool). bytes_eq (name_of m) x || b) (over list)
 
@@ -99,17 +99,17 @@ has_names x list = has-distinct x (map name_of list) ∙ over list
 
 abbrev AllApart : List Text → Type 0
 AllApart [] = Unit {0}
-AllApart (x ∷ xs) = (has x xs ≡ false) × AllApart xs
+AllApart (x ∷ xs) = (contains_text x xs ≡ false) × AllApart xs
 
-has_less : (x : Text) (p : Text → Bool) (xs : List Text) → has x xs ≡ false → has x (filter p xs) ≡ false
+has_less : (x : Text) (p : Text → Bool) (xs : List Text) → contains_text x xs ≡ false → contains_text x (filter p xs) ≡ false
 has_less x p [] e = refl
-has_less x p (y ∷ xs) e = settle (bytes_eq y x) (has x xs) refl refl e (λ r. has_less x p xs r)
+has_less x p (y ∷ xs) e = settle (bytes_eq y x) (contains_text x xs) refl refl e (λ r. has_less x p xs r)
   where
-    by : (t : Bool) → bytes_eq y x ≡ false → has x (filter p xs) ≡ false → has x (if t then y ∷ filter p xs else filter p xs) ≡ false
-    by true q r = ap (λ (b : Bool). b || has x (filter p xs)) q ∙ r
+    by : (t : Bool) → bytes_eq y x ≡ false → contains_text x (filter p xs) ≡ false → contains_text x (if t then y ∷ filter p xs else filter p xs) ≡ false
+    by true q r = ap (λ (b : Bool). b || contains_text x (filter p xs)) q ∙ r
     by false q r = r
 
-    settle : (a b : Bool) → bytes_eq y x ≡ a → has x xs ≡ b → (a || b) ≡ false → (has x xs ≡ false → has x (filter p xs) ≡ false) → has x (filter p (y ∷ xs)) ≡ false
+    settle : (a b : Bool) → bytes_eq y x ≡ a → contains_text x xs ≡ b → (a || b) ≡ false → (contains_text x xs ≡ false → contains_text x (filter p xs) ≡ false) → contains_text x (filter p (y ∷ xs)) ≡ false
     settle true b q r e go = absurd cc
     settle false true q r e go = absurd cc
     settle false false q r e go = by (p y) q (go r)
@@ -122,13 +122,13 @@ filter_apart p (x ∷ xs) apart = by (p x) (filter_apart p xs apart.1)
     by true rest = (has_less x p xs apart.0, rest)
     by false rest = rest
 
-has_none : (y : Text) (xs : List Text) → has y (filter (λ z. not (bytes_eq z y)) xs) ≡ false
+has_none : (y : Text) (xs : List Text) → contains_text y (filter (λ z. not (bytes_eq z y)) xs) ≡ false
 has_none y [] = refl
 has_none y (z ∷ xs) = settle (bytes_eq z y) refl (has_none y xs)
   where
-    settle : (t : Bool) → bytes_eq z y ≡ t → has y (filter (λ w. not (bytes_eq w y)) xs) ≡ false → has y (if not t then z ∷ filter (λ w. not (bytes_eq w y)) xs else filter (λ w. not (bytes_eq w y)) xs) ≡ false
+    settle : (t : Bool) → bytes_eq z y ≡ t → contains_text y (filter (λ w. not (bytes_eq w y)) xs) ≡ false → contains_text y (if not t then z ∷ filter (λ w. not (bytes_eq w y)) xs else filter (λ w. not (bytes_eq w y)) xs) ≡ false
     settle true e rest = rest
-    settle false e rest = ap (λ (b : Bool). b || has y (filter (λ w. not (bytes_eq w y)) xs)) e ∙ rest
+    settle false e rest = ap (λ (b : Bool). b || contains_text y (filter (λ w. not (bytes_eq w y)) xs)) e ∙ rest
 
 distinct_apart : (xs : List Text) → AllApart (distinct xs)
 distinct_apart [] = tt
@@ -137,9 +137,9 @@ distinct_apart (y ∷ xs) = (has_none y (distinct xs), filter_apart (λ z. not (
 some_same : (a b : Text) → Some a ≡ Some b → a ≡ b
 some_same a b e = cc
 
-pub has_at : (xs : List Text) (k : ℕ) (x : Text) → slice_get xs k ≡ Some x → has x xs ≡ true
+pub has_at : (xs : List Text) (k : ℕ) (x : Text) → slice_get xs k ≡ Some x → contains_text x xs ≡ true
 has_at [] k x e = absurd cc
-has_at (y ∷ xs) zero x e = ap (λ (b : Bool). b || has x xs) (ap (bytes_eq y) (sym (some_same y x e)) ∙ bytes_refl y)
+has_at (y ∷ xs) zero x e = ap (λ (b : Bool). b || contains_text x xs) (ap (bytes_eq y) (sym (some_same y x e)) ∙ bytes_refl y)
 has_at (y ∷ xs) (suc k) x e = ap (λ (b : Bool). bytes_eq y x || b) (has_at xs k x e) ∙ or_true (bytes_eq y x)
   where
     or_true : (b : Bool) → (b || true) ≡ true
@@ -157,7 +157,7 @@ number_at (y ∷ xs) (suc k) x apart e =
   where
     settle : (t : Bool) → bytes_eq y x ≡ t → t ≡ false
     settle true same =
-        let clash : false ≡ true = sym apart.0 ∙ ap (λ (z : Text). has z xs) (bytes_same y x same) ∙ has_at xs k x e in
+        let clash : false ≡ true = sym apart.0 ∙ ap (λ (z : Text). contains_text z xs) (bytes_same y x same) ∙ has_at xs k x e in
         absurd cc
     settle false other = refl
 
@@ -166,11 +166,11 @@ unfolding load_names
 load_number list k x e = number_at (distinct (map name_of list)) k x (distinct_apart (map name_of list)) e
 
 -- more names behind change no number
-pub number_stays : (xs ys : List Text) (x : Text) → has x xs ≡ true → number_in (xs ++ ys) x ≡ number_in xs x
+pub number_stays : (xs ys : List Text) (x : Text) → contains_text x xs ≡ true → number_in (xs ++ ys) x ≡ number_in xs x
 number_stays [] ys x e = absurd cc
 number_stays (y ∷ xs) ys x e = settle (bytes_eq y x) e (λ rest. number_stays xs ys x rest)
   where
-    settle : (t : Bool) → (t || has x xs) ≡ true → (has x xs ≡ true → number_in (xs ++ ys) x ≡ number_in xs x) → (if t then 1 else 1 + number_in (xs ++ ys) x) ≡ (if t then 1 else 1 + number_in xs x)
+    settle : (t : Bool) → (t || contains_text x xs) ≡ true → (contains_text x xs ≡ true → number_in (xs ++ ys) x ≡ number_in xs x) → (if t then 1 else 1 + number_in (xs ++ ys) x) ≡ (if t then 1 else 1 + number_in xs x)
     settle true e go = refl
     settle false e go = ap (λ (n : ℕ). 1 + n) (go e)
 
@@ -178,7 +178,7 @@ number_stays (y ∷ xs) ys x e = settle (bytes_eq y x) e (λ rest. number_stays 
 
 -- no load segment has the name, or the one with this number, from `n`
 abbrev pub IsNumber : ℕ → List Text → Text → Option ℕ → Type 0
-IsNumber n xs x None = has x xs ≡ false
+IsNumber n xs x None = contains_text x xs ≡ false
 IsNumber n xs x (Some i) = (k : ℕ) × (i ≡ n + k) × (slice_get xs k ≡ Some x)
 
 abbrev pub name_key : Text → Named
@@ -196,7 +196,7 @@ looked_from n (y ∷ xs) x = settle (bytes_eq x y) refl (looked_from (n + 1) xs 
     rest = filter (is_row (name_key x)) (load_rows (n + 1) xs)
 
     further : (o : Option ℕ) → bytes_eq y x ≡ false → IsNumber (n + 1) xs x o → IsNumber n (y ∷ xs) x o
-    further None other is = ap (λ (b : Bool). b || has x xs) other ∙ is
+    further None other is = ap (λ (b : Bool). b || contains_text x xs) other ∙ is
     further (Some i) other is = (suc is.0, omega (arith, is.1), is.2)
 
     settle : (t : Bool) → bytes_eq x y ≡ t → IsNumber (n + 1) xs x (number_of (seen_of rest)) → IsNumber n (y ∷ xs) x (number_of (seen_of (if t then (name_key y, n) ∷ rest else rest)))

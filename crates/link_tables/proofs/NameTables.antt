@@ -14,25 +14,25 @@ use Rattle.link_meaning.specs.declared.search.Step.TheVariants.{Within, OfUnit, 
 use Rattle.link_tables.specs.declared.names.PublicName.{PublicName}
 use Rattle.link_tables.specs.declared.names.OwnName.{OwnName}
 use Rattle.link_tables.specs.declared.names.UnitName.{UnitName}
-use Rattle.link_tables.specs.declared.names.Outcome.{Outcome}
-use Rattle.link_tables.specs.declared.names.Outcome.TheVariants.{One, Several}
-use Rattle.link_tables.specs.declared.names.Names.{Names}
-use Rattle.link_tables.specs.Names.{Named, Row, is_key, is_row, seen_of, added, outcome, found_or, kept_under, Keeps, Indexes}
+use Rattle.link_tables.specs.declared.names.Matches.{Matches}
+use Rattle.link_tables.specs.declared.names.Matches.TheVariants.{One, Several}
+use Rattle.link_tables.specs.declared.names.NameTable.{NameTable}
+use Rattle.link_tables.specs.Names.{Named, Row, is_key, is_row, seen_of, with_one_more, outcome, found_or, kept_under, Keeps, Indexes}
 
 abbrev pub named_as : Step → List ℕ → Named
 named_as step name = record { step = step; name = name }
 
-pub looked : (rows : List Row) (names : Names) (k : Named) (s : Step) → Indexes rows names → k.step ≡ s → found_or (kept_under s k.name names) ≡ outcome rows k
+pub looked : (rows : List Row) (names : NameTable) (k : Named) (s : Step) → Indexes rows names → k.step ≡ s → found_or (kept_under s k.name names) ≡ outcome rows k
 looked rows names k s ix is = ap (λ (t : Step). found_or (kept_under t k.name names)) (sym is) ∙ ix k
 
 -- a table with the same entries
-pub same_entries : (rows : List Row) (old new : Names) → new.public.entries ≡ old.public.entries → new.own ≡ old.own → new.units ≡ old.units → Indexes rows old → Indexes rows new
+pub same_entries : (rows : List Row) (old new : NameTable) → new.public.entries ≡ old.public.entries → new.own ≡ old.own → new.units ≡ old.units → Indexes rows old → Indexes rows new
 same_entries rows old new same own units ix = λ key. settle key.step key.name ∙ ix key
   where
     settle : (s : Step) (name : List ℕ) → found_or (kept_under s name new) ≡ found_or (kept_under s name old)
-    settle (Within place) name = ap (λ (m : IndexMap OwnName Outcome _). found_or (get_by (λ k. place == k.place && bytes_eq name k.name.now) m)) own
-    settle (OfUnit file from) name = ap (λ (m : IndexMap UnitName Outcome _). found_or (get_by (λ k. file == k.file && (from == k.from && bytes_eq name k.name.now)) m)) units
-    settle Everyone name = ap (λ (es : List (PublicName × Outcome)). found_or (lookup (λ k. bytes_eq name k.name.now) es)) same
+    settle (Within place) name = ap (λ (m : IndexMap OwnName Matches _). found_or (get_by (λ k. place == k.place && bytes_eq name k.name.now) m)) own
+    settle (OfUnit file from) name = ap (λ (m : IndexMap UnitName Matches _). found_or (get_by (λ k. file == k.file && (from == k.from && bytes_eq name k.name.now)) m)) units
+    settle Everyone name = ap (λ (es : List (PublicName × Matches)). found_or (lookup (λ k. bytes_eq name k.name.now) es)) same
 
 -- ---- one key, and one more row
 
@@ -70,7 +70,7 @@ key_sym a b = settle (is_key a b) (is_key b a) refl refl
     settle false true p q = let same = key_same b a q in subst (λ (c : Named). is_key c b ≡ true) same (subst (λ (c : Named). is_key b c ≡ true) (sym same) q) ∙ sym q
     settle false false p q = p ∙ sym q
 
-seen-snoc : (rows : List Row) (row : Row) → seen_of (rows ++ row ∷ []) ≡ added (seen_of rows) row.1
+seen-snoc : (rows : List Row) (row : Row) → seen_of (rows ++ row ∷ []) ≡ with_one_more (seen_of rows) row.1
 seen-snoc [] row = refl
 seen-snoc (x ∷ []) row = refl
 seen-snoc (x ∷ y ∷ rows) row = refl
@@ -86,26 +86,26 @@ filter-snoc test (x ∷ rows) row = settle (test x) (test row) (filter-snoc test
     settle false true e = e
     settle false false e = e
 
-abbrev IsKept : Names → Names → Named → Outcome → Step → List ℕ → Type 0
+abbrev IsKept : NameTable → NameTable → Named → Matches → Step → List ℕ → Type 0
 IsKept old new k now s name = kept_under s name new ≡ (if is_key k (named_as s name) then Some now else kept_under s name old)
 
-pub keeps_public : (old new : Names) (k : PublicName) (now : Outcome) → Updates (test_public.ghosts).eq old.public new.public k (Some now)
+pub keeps_public : (old new : NameTable) (k : PublicName) (now : Matches) → Updates (test_public.ghosts).eq old.public new.public k (Some now)
     → new.own ≡ old.own → new.units ≡ old.units → Keeps old new (named_as Everyone k.name.now) now
 keeps_public old new k now updates own units = λ at. settle at.step at.name
   where
     settle : (s : Step) (name : List ℕ) → IsKept old new (named_as Everyone k.name.now) now s name
-    settle (Within place) name = ap (λ (m : IndexMap OwnName Outcome _). get_by (λ x. place == x.place && bytes_eq name x.name.now) m) own
-    settle (OfUnit file from) name = ap (λ (m : IndexMap UnitName Outcome _). get_by (λ x. file == x.file && (from == x.from && bytes_eq name x.name.now)) m) units
+    settle (Within place) name = ap (λ (m : IndexMap OwnName Matches _). get_by (λ x. place == x.place && bytes_eq name x.name.now) m) own
+    settle (OfUnit file from) name = ap (λ (m : IndexMap UnitName Matches _). get_by (λ x. file == x.file && (from == x.from && bytes_eq name x.name.now)) m) units
     settle Everyone name = updates.0 (record { name = record k.name { now = name } })
 
-pub keeps_own : (old new : Names) (k : OwnName) (now : Outcome) → Updates (test_own.ghosts).eq old.own new.own k (Some now)
+pub keeps_own : (old new : NameTable) (k : OwnName) (now : Matches) → Updates (test_own.ghosts).eq old.own new.own k (Some now)
     → new.public ≡ old.public → new.units ≡ old.units → Keeps old new (named_as (Within k.place) k.name.now) now
 keeps_own old new k now updates public units = λ at. settle at.step at.name
   where
     settle : (s : Step) (name : List ℕ) → IsKept old new (named_as (Within k.place) k.name.now) now s name
     settle (Within place) name = updates.0 (record { place = place; name = record k.name { now = name } })
-    settle (OfUnit file from) name = ap (λ (m : IndexMap UnitName Outcome _). get_by (λ x. file == x.file && (from == x.from && bytes_eq name x.name.now)) m) units
-    settle Everyone name = ap (λ (m : IndexMap PublicName Outcome _). get_by (λ x. bytes_eq name x.name.now) m) public
+    settle (OfUnit file from) name = ap (λ (m : IndexMap UnitName Matches _). get_by (λ x. file == x.file && (from == x.from && bytes_eq name x.name.now)) m) units
+    settle Everyone name = ap (λ (m : IndexMap PublicName Matches _). get_by (λ x. bytes_eq name x.name.now) m) public
 
 -- the test of a unit and a name, which a key has in two parts
 unit_key : (file from : ℕ) (name : List ℕ) (file' from' : ℕ) (name' : List ℕ)
@@ -116,19 +116,19 @@ unit_key file from name file' from' name' = settle (file == file')
     settle true = refl
     settle false = refl
 
-pub keeps_unit : (old new : Names) (k : UnitName) (now : Outcome) → Updates (test_unit.ghosts).eq old.units new.units k (Some now)
+pub keeps_unit : (old new : NameTable) (k : UnitName) (now : Matches) → Updates (test_unit.ghosts).eq old.units new.units k (Some now)
     → new.public ≡ old.public → new.own ≡ old.own → Keeps old new (named_as (OfUnit k.file k.from) k.name.now) now
 keeps_unit old new k now updates public own = λ at. settle at.step at.name
   where
     settle : (s : Step) (name : List ℕ) → IsKept old new (named_as (OfUnit k.file k.from) k.name.now) now s name
-    settle (Within place) name = ap (λ (m : IndexMap OwnName Outcome _). get_by (λ x. place == x.place && bytes_eq name x.name.now) m) own
+    settle (Within place) name = ap (λ (m : IndexMap OwnName Matches _). get_by (λ x. place == x.place && bytes_eq name x.name.now) m) own
     settle (OfUnit file from) name =
         updates.0 (record { file = file; from = from; name = record k.name { now = name } })
         ∙ ap (λ (b : Bool). if b then Some now else kept_under (OfUnit file from) name old) (unit_key k.file k.from k.name.now file from name)
-    settle Everyone name = ap (λ (m : IndexMap PublicName Outcome _). get_by (λ x. bytes_eq name x.name.now) m) public
+    settle Everyone name = ap (λ (m : IndexMap PublicName Matches _). get_by (λ x. bytes_eq name x.name.now) m) public
 
 -- what is kept under the same key once more lies in the place of the first
-pub keeps_again : (old mid new : Names) (k : Named) (first now : Outcome) → Keeps old mid k first → Keeps mid new k now → Keeps old new k now
+pub keeps_again : (old mid new : NameTable) (k : Named) (first now : Matches) → Keeps old mid k first → Keeps mid new k now → Keeps old new k now
 keeps_again old mid new k first now once again = λ key. again key ∙ settle key (is_key k key) refl
   where
     settle : (key : Named) (b : Bool) → is_key k key ≡ b
@@ -143,11 +143,11 @@ keeps_again old mid new k first now once again = λ key. again key ∙ settle ke
         ∙ sym (ap (λ (b : Bool). if b then Some now else kept_under key.step key.name old) e)
 
 -- behind one that was found, or the first of several, one more is no first one
-pub one_more : (before : Outcome) (first number : ℕ) → (before ≡ One first) ⊎ (before ≡ Several first) → Several first ≡ added before number
-one_more before first number (inl one) = ap (λ (o : Outcome). added o number) (sym one)
-one_more before first number (inr several) = ap (λ (o : Outcome). added o number) (sym several)
+pub one_more : (before : Matches) (first number : ℕ) → (before ≡ One first) ⊎ (before ≡ Several first) → Several first ≡ with_one_more before number
+one_more before first number (inl one) = ap (λ (o : Matches). with_one_more o number) (sym one)
+one_more before first number (inr several) = ap (λ (o : Matches). with_one_more o number) (sym several)
 
-pub added_row : (rows : List Row) (old new : Names) (k : Named) (number : ℕ) (so_far now : Outcome) → Indexes rows old → so_far ≡ outcome rows k → now ≡ added so_far number
+pub added_row : (rows : List Row) (old new : NameTable) (k : Named) (number : ℕ) (so_far now : Matches) → Indexes rows old → so_far ≡ outcome rows k → now ≡ with_one_more so_far number
     → Keeps old new k now → Indexes (rows ++ (k, number) ∷ []) new
 added_row rows old new k number so_far now ix seen is puts key = settle (is_key key k) refl
   where
@@ -159,7 +159,7 @@ added_row rows old new k number so_far now ix seen is puts key = settle (is_key 
         let there : is_key k key ≡ true = key_sym k key ∙ e in
         looks
         ∙ ap (λ (b : Bool). found_or (if b then Some now else kept_under key.step key.name old)) there
-        ∙ is ∙ ap (λ (o : Outcome). added o number) (seen ∙ ap (outcome rows) (sym (key_same key k e)))
+        ∙ is ∙ ap (λ (o : Matches). with_one_more o number) (seen ∙ ap (outcome rows) (sym (key_same key k e)))
         ∙ sym (seen-snoc (filter (is_row key) rows) (k, number))
         ∙ sym (ap seen_of (filter-snoc (is_row key) rows (k, number) ∙ ap (λ (b : Bool). if b then filter (is_row key) rows ++ (k, number) ∷ [] else filter (is_row key) rows) e))
     settle false e =

@@ -11,21 +11,21 @@ use Rattle.link_meaning.specs.declared.fault.LinkCause.TheVariants.{OrgConflict}
 use Rattle.link_meaning.specs.declared.fault.LinkFault.{LinkFault}
 use Rattle.link_meaning.specs.First.{HasNone, IsFirst}
 use Rattle.link_meaning.specs.Member.{Member}
-use Rattle.link_meaning.specs.Layout.{load_names, load_length, load_members, least_bank, greatest_align, of_first, load_of, offset_of, end_from, lesser_bank, cleared}
+use Rattle.link_meaning.specs.Layout.{load_names, load_length, load_members, least_bank, greatest_align, of_first, load_of, offset_of, end_from, lesser_bank, load_segment_kind}
 use Rattle.link_meaning.specs.LinkFaults.{HasOrgFault, first_spot, spot_in, LayoutCheck, Orgs, Count, Lengths, Kinds}
-use Rattle.link_tables.specs.declared.layout.Load.{Load}
-use Rattle.link_tables.specs.declared.layout.Place.{Place}
-use Rattle.link_tables.specs.declared.layout.Layout as kept
+use Rattle.link_tables.specs.declared.layout.LoadLayout.{LoadLayout}
+use Rattle.link_tables.specs.declared.layout.LoadOffset.{LoadOffset}
+use Rattle.link_tables.specs.declared.layout.LinkLayout as kept
 use Rattle.link_tables.specs.Names.{Row, Indexes}
 
 abbrev pub layout_checks : List LayoutCheck
 layout_checks = Orgs ∷ Count ∷ Lengths ∷ Kinds ∷ []
 
 -- a load segment of one member, which starts there
-pub record IsFresh (f : Fields) (spot : Spot) (load : Load) : Type 0 where
+pub record IsFresh (f : Fields) (spot : Spot) (load : LoadLayout) : Type 0 where
   pub first : load.first ≡ spot
   pub load_name : load.load_name ≡ f.load_name
-  pub kind : load.kind.bits ≡ cleared f.kind
+  pub kind : load.kind.bits ≡ load_segment_kind f.kind
   pub org : load.org ≡ f.org
   pub entry : load.entry ≡ f.entry
   pub align : load.align ≡ f.align
@@ -33,7 +33,7 @@ pub record IsFresh (f : Fields) (spot : Spot) (load : Load) : Type 0 where
   pub length' : load.length ≡ min f.length 16777216
 
 -- with one more member
-pub record IsJoined (f : Fields) (offset : ℕ) (old new : Load) : Type 0 where
+pub record IsJoined (f : Fields) (offset : ℕ) (old new : LoadLayout) : Type 0 where
   pub first : new.first ≡ old.first
   pub load_name : new.load_name ≡ old.load_name
   pub kind : new.kind ≡ old.kind
@@ -44,9 +44,9 @@ pub record IsJoined (f : Fields) (offset : ℕ) (old new : Load) : Type 0 where
   pub length' : new.length ≡ min (offset + f.length) 16777216
 
 -- a load segment of these members that ends there
-pub record IsLoadOf (members : List Member) (end : ℕ) (load : Load) : Type 0 where
+pub record IsLoadOf (members : List Member) (end : ℕ) (load : LoadLayout) : Type 0 where
   pub first : load.first ≡ first_spot members
-  pub kind : load.kind.bits ≡ cleared (of_first (λ f. f.kind) members)
+  pub kind : load.kind.bits ≡ load_segment_kind (of_first (λ f. f.kind) members)
   pub org : load.org ≡ of_first (λ f. f.org) members
   pub entry : load.entry ≡ of_first (λ f. f.entry) members
   pub align : load.align ≡ greatest_align members
@@ -54,7 +54,7 @@ pub record IsLoadOf (members : List Member) (end : ℕ) (load : Load) : Type 0 w
   pub length' : load.length ≡ min end 16777216
 
 -- the load segment of its name
-abbrev pub IsLoad : List Member → Load → Type 0
+abbrev pub IsLoad : List Member → LoadLayout → Type 0
 IsLoad list load = IsLoadOf (load_members load.load_name list) (load_length load.load_name list) load
 
 -- where the first conflict is, if there was one or this member with another one before it asks for an address
@@ -68,7 +68,7 @@ load_rows n [] = []
 load_rows n (x ∷ xs) = (record { step = Everyone; name = x }, n) ∷ load_rows (n + 1) xs
 
 -- the place is that of the member with this number, from 0; its offset where its load segment isn't too long before it
-pub record IsPlace (list : List Member) (k : ℕ) (m : Member) (p : Place) : Type 0 where
+pub record IsPlace (list : List Member) (k : ℕ) (m : Member) (p : LoadOffset) : Type 0 where
   pub load : p.load + 1 ≡ load_of list m
   pub offset : end_from 0 m.segment.fields.load_name (take k list) ≤ 16777216 → p.offset ≡ offset_of list (k + 1) m
 
@@ -81,16 +81,16 @@ IsConflict list None = HasNone HasOrgFault list
 IsConflict list (Some spot) = IsFirst HasOrgFault list (org_fault spot)
 
 -- these are the load segments of the list
-pub record Laid (list : List Member) (kept : kept.Layout) : Type 0 where
+pub record Laid (list : List Member) (kept : kept.LinkLayout) : Type 0 where
   pub named : map (λ load. load.load_name) kept.loads.items ≡ load_names list
   pub names : Indexes (load_rows 0 (load_names list)) kept.names
-  pub loads : (k : ℕ) (load : Load) → slice_get kept.loads.items k ≡ Some load → IsLoad list load
+  pub loads : (k : ℕ) (load : LoadLayout) → slice_get kept.loads.items k ≡ Some load → IsLoad list load
   pub count : length kept.places.items ≡ length list
-  pub places : (k : ℕ) (m : Member) (p : Place) → slice_get list k ≡ Some m → slice_get kept.places.items k ≡ Some p → IsPlace list k m p
+  pub places : (k : ℕ) (m : Member) (p : LoadOffset) → slice_get list k ≡ Some m → slice_get kept.places.items k ≡ Some p → IsPlace list k m p
   pub conflict : IsConflict list kept.conflict
 
 -- the header of a load segment with this number
-pub record ShowsLoad (load : Load) (number : ℕ) (f : Fields) : Type 0 where
+pub record ShowsLoad (load : LoadLayout) (number : ℕ) (f : Fields) : Type 0 where
   pub fields : f ≡ record {
     byte_count = 0;
     res_spc = 0;
@@ -110,8 +110,8 @@ pub record ShowsLoad (load : Load) (number : ℕ) (f : Fields) : Type 0 where
   }
 
 -- the text is among these
-abbrev pub has : List ℕ → List (List ℕ) → Bool
-has x xs = list_any (λ y. bytes_eq y x) xs
+abbrev pub contains_text : List ℕ → List (List ℕ) → Bool
+contains_text x xs = list_any (λ y. bytes_eq y x) xs
 
 -- where the member starts
 abbrev pub IsSpotOf : Member → Spot → Type 0
@@ -124,39 +124,39 @@ IsAt m s spot = (m.segment ≡ s) × IsSpotOf m spot
 -- ---- lengths
 
 -- the load segment is too long
-abbrev pub is_long : Load → Bool
+abbrev pub is_long : LoadLayout → Bool
 is_long load = load.length == 16777216 || (not (load.bank_size == 0) && nat_lt load.bank_size load.length)
 
-abbrev pub AllShort : List Load → Type 0
-AllShort loads = (k : ℕ) (load : Load) → slice_get loads k ≡ Some load → is_long load ≡ false
+abbrev pub AllShort : List LoadLayout → Type 0
+AllShort loads = (k : ℕ) (load : LoadLayout) → slice_get loads k ≡ Some load → is_long load ≡ false
 
 -- the first one that is too long starts there
-pub record IsFirstLong (loads : List Load) (spot : Spot) : Type 0 where
+pub record IsFirstLong (loads : List LoadLayout) (spot : Spot) : Type 0 where
   pub k : ℕ
-  pub load : Load
+  pub load : LoadLayout
   pub at : slice_get loads k ≡ Some load
   pub long : is_long load ≡ true
   pub spot' : spot ≡ load.first
   pub before : AllShort (take k loads)
 
 -- the load segment may not stand in a run-time library file
-abbrev pub is_other : Load → Bool
+abbrev pub is_other : LoadLayout → Bool
 is_other load = not (is_dynamic load.kind.bits && not (is_skipped load.kind.bits))
 
-abbrev pub AllDynamic : List Load → Type 0
-AllDynamic loads = (k : ℕ) (load : Load) → slice_get loads k ≡ Some load → is_other load ≡ false
+abbrev pub AllDynamic : List LoadLayout → Type 0
+AllDynamic loads = (k : ℕ) (load : LoadLayout) → slice_get loads k ≡ Some load → is_other load ≡ false
 
 -- the first one that may not starts there
-pub record IsFirstOther (loads : List Load) (spot : Spot) : Type 0 where
+pub record IsFirstOther (loads : List LoadLayout) (spot : Spot) : Type 0 where
   pub k : ℕ
-  pub load : Load
+  pub load : LoadLayout
   pub at : slice_get loads k ≡ Some load
   pub other : is_other load ≡ true
   pub spot' : spot ≡ load.first
   pub before : AllDynamic (take k loads)
 
 -- the headers of load segments, the first with this number
-abbrev pub AreHeaders : ℕ → List Load → List Fields → Type 0
+abbrev pub AreHeaders : ℕ → List LoadLayout → List Fields → Type 0
 AreHeaders n [] fs = fs ≡ []
 AreHeaders n (load ∷ loads) [] = ⊥
 AreHeaders n (load ∷ loads) (f ∷ fs) = ShowsLoad load n f × AreHeaders (n + 1) loads fs

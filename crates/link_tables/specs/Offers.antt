@@ -5,8 +5,8 @@ use Rattle.link_meaning.specs.declared.search.Step.{Step}
 use Rattle.link_meaning.specs.declared.search.Step.TheVariants.{OfUnit, Everyone}
 use Rattle.link_meaning.specs.Member.{Member, Offer}
 use Rattle.link_meaning.specs.LinkedList.{has_title}
-use Rattle.link_tables.specs.declared.names.Outcome.{Outcome}
-use Rattle.link_tables.specs.declared.names.Outcome.TheVariants.{Nothing, One, Several}
+use Rattle.link_tables.specs.declared.names.Matches.{Matches}
+use Rattle.link_tables.specs.declared.names.Matches.TheVariants.{Nothing, One, Several}
 use Rattle.link_tables.specs.declared.definitions.Origin.{Origin}
 use Rattle.link_tables.specs.declared.offers.Offers as kept
 use Rattle.link_tables.specs.Names.{Named, Row, Indexes, outcome}
@@ -48,7 +48,7 @@ pub record IsOfferOf (o : Offer) (name : List ℕ) (private : Bool) (origin : Or
   pub origin' : told_origin o ≡ origin
   pub titled' : is_titled o ≡ titled
 
-abbrev pub number_of : Outcome → Option ℕ
+abbrev pub number_of : Matches → Option ℕ
 number_of Nothing = None
 number_of (One number) = Some number
 number_of (Several number) = Some number

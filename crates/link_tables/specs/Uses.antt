@@ -6,23 +6,23 @@ use Rattle.omf_format.specs.Field.{Layout}
 use Rattle.omf_format.specs.Record.{Record, IsRecord}
 use Rattle.link_meaning.specs.declared.search.Want.{Want}
 use Rattle.link_meaning.specs.Uses.{Use}
-use Rattle.link_meaning.specs.LinkedList.{Asked}
+use Rattle.link_meaning.specs.LinkedList.{PlacedUse}
 use Rattle.link_tables.specs.declared.uses.Use as kept
-use Rattle.link_tables.specs.declared.uses.Site.{Site}
+use Rattle.link_tables.specs.declared.uses.UseSite.{UseSite}
 
 -- a use, and the place of its member: what it wants beside the rest
-abbrev pub use_of_site : Want × Site → ℕ × Use
+abbrev pub use_of_site : Want × UseSite → ℕ × Use
 use_of_site p = (p.1.place, record { want = p.0; name = p.1.name.now; at = p.1.at })
 
 -- uses whose wants lie apart
-abbrev pub uses_of_sites : List Want → List Site → List (ℕ × Use)
+abbrev pub uses_of_sites : List Want → List UseSite → List (ℕ × Use)
 uses_of_sites wants sites = map use_of_site (zip wants sites)
 
 -- a use, and the place of its member
 abbrev pub use_of : kept.Use → ℕ × Use
 use_of u = (u.place, record { want = u.want; name = u.name.now; at = u.at })
 
-abbrev pub told_use : Asked → ℕ × Use
+abbrev pub told_use : PlacedUse → ℕ × Use
 told_use a = (a.place, a.use')
 
 -- the uses of the member at this place

@@ -2,12 +2,12 @@
 
 ghost use Rattle.std.specs.Prelude.{◌≡◌, ◌<◌, ◌^◌, ◌++◌, List, OnOk};
 ghost use Rattle.std.specs.List.{flat_map};
-ghost use Rattle.omf_records.specs.Segments.{IsSound, shown};
-ghost use Rattle.link_meaning.specs.Sizes.{located, body_size};
+ghost use Rattle.omf_records.specs.Segments.{IsSound, segment_of_view};
+ghost use Rattle.link_meaning.specs.Sizes.{records_with_offsets, body_size};
 ghost use Rattle.link_meaning.specs.Member.{Member};
 ghost use Rattle.link_meaning.specs.Defines.{defined_by};
 ghost use Rattle.link_meaning.specs.Uses.{uses_of};
-ghost use Rattle.link_meaning.specs.Search.{Found};
+ghost use Rattle.link_meaning.specs.Search.{FoundDefinition};
 ghost use Rattle.link_tables.specs.Definitions.{AreDefinitions, IsOf, founds_in};
 ghost use Rattle.link_tables.specs.Uses.{at_place, HaveShortNames};
 
@@ -28,10 +28,10 @@ pub fn add_body<'a>(
     place: u32,
 ) -> Result<(), AllocError>
     requires sound { IsSound segment.now }
-    requires small { body_size (shown segment.now) < 2 ^ 32 }
-    ensures defines { OnOk result ((fs : List Found) (m : Member) → IsOf m origin → AreDefinitions fs definitions.old
-        → AreDefinitions (fs ++ founds_in place m (flat_map (λ r. defined_by r.at r.location r.content) (located (shown segment.now)))) definitions.new) }
-    ensures gave { OnOk result (uses.new ≡ uses.old ++ at_place place (uses_of (shown segment.now))) }
+    requires small { body_size (segment_of_view segment.now) < 2 ^ 32 }
+    ensures defines { OnOk result ((fs : List FoundDefinition) (m : Member) → IsOf m origin → AreDefinitions fs definitions.old
+        → AreDefinitions (fs ++ founds_in place m (flat_map (λ r. defined_by r.at r.location r.content) (records_with_offsets (segment_of_view segment.now)))) definitions.new) }
+    ensures gave { OnOk result (uses.new ≡ uses.old ++ at_place place (uses_of (segment_of_view segment.now))) }
     ensures short { OnOk result (HaveShortNames uses.old → HaveShortNames uses.new) }
 {
     let lab_len = segment.header.lab_len;

@@ -1,17 +1,17 @@
 //! What the members of the linked list define.
 
 ghost use Rattle.std.specs.Prelude.{◌≡◌, ◌<◌, ◌^◌, ◌++◌, ◌∷◌, [], List, ℕ, length, OnOk, filter, slice_get, option_map};
-ghost use Rattle.omf_records.specs.Segments.{IsSound, shown};
+ghost use Rattle.omf_records.specs.Segments.{IsSound, segment_of_view};
 ghost use Rattle.omf_records.specs.View.{view};
 ghost use Rattle.link_meaning.specs.Member.{Member};
 ghost use Rattle.link_meaning.specs.Defines.{scope_of, title_of, defined_by};
-ghost use Rattle.link_meaning.specs.Search.{Found, step_for};
+ghost use Rattle.link_meaning.specs.Search.{FoundDefinition, step_for};
 ghost use Rattle.link_tables.specs.Names.{Row, Indexes, key_of};
 ghost use Rattle.link_tables.specs.Definitions.{AreDefinitions, AreHolders, Sees, IsOf, local_under, is_found, key_of_found, told_definition, founds_in};
 ghost use Rattle.link_tables.specs.Listed.{definition_of};
 
 use crate::listed::Listed;
-use crate::names::{Key, Names, Outcome};
+use crate::names::{Key, Matches, NameTable};
 use crate::segname::title;
 use link_meaning::Step;
 use omf_records::{Rec, SegmentView};
@@ -44,9 +44,9 @@ pub struct Origin {
 /// Definitions in list and record order, with a look-up by step and name.
 #[derive(Drop)]
 pub struct Definitions<'a> {
-    names: Names<'a>,
+    names: NameTable<'a>,
     /// What segments have for themselves, by name alone, with the places of their members.
-    locals: Names<'a>,
+    locals: NameTable<'a>,
     items: Listed<'a>,
 }
 
@@ -56,22 +56,22 @@ impl<'a> Definitions<'a> {
         ensures { AreDefinitions [] result }
     {
         Definitions {
-            names: Names::new(alloc),
-            locals: Names::new(alloc),
+            names: NameTable::new(alloc),
+            locals: NameTable::new(alloc),
             items: Listed::new(alloc),
         }
     }
 
     /// What a step finds under a name.
-    pub fn look(&self, key: Key) -> Outcome
-        ensures { (fs : List Found) → AreDefinitions fs self.now → Sees fs (filter (is_found (key_of key.entry)) fs) result }
+    pub fn look(&self, key: Key) -> Matches
+        ensures { (fs : List FoundDefinition) → AreDefinitions fs self.now → Sees fs (filter (is_found (key_of key.entry)) fs) result }
     {
         self.names.look(key)
     }
 
     /// The members whose segments have the name for themselves, by their places in the list, each as often as it has it.
-    pub fn holders(&self, name: &[u8]) -> Outcome
-        ensures { (fs : List Found) → AreDefinitions fs self.now → AreHolders fs name.now result }
+    pub fn holders(&self, name: &[u8]) -> Matches
+        ensures { (fs : List FoundDefinition) → AreDefinitions fs self.now → AreHolders fs name.now result }
     {
         self.locals.look(Key {
             step: Step::Everyone,
@@ -81,7 +81,7 @@ impl<'a> Definitions<'a> {
 
     /// How many definitions there are.
     pub fn count(&self) -> usize
-        ensures value { (fs : List Found) → AreDefinitions fs self.now → result ≡ length fs }
+        ensures value { (fs : List FoundDefinition) → AreDefinitions fs self.now → result ≡ length fs }
         ensures few { result < 2 ^ 63 }
     {
         self.items.count()
@@ -89,13 +89,13 @@ impl<'a> Definitions<'a> {
 
     /// The definition with this number, from 0.
     pub fn get(&self, number: usize) -> Option<Defined<'a>>
-        ensures { (fs : List Found) → AreDefinitions fs self.now → option_map definition_of result ≡ option_map told_definition (slice_get fs number) }
+        ensures { (fs : List FoundDefinition) → AreDefinitions fs self.now → option_map definition_of result ≡ option_map told_definition (slice_get fs number) }
     {
         self.items.get(number)
     }
 
     fn push(&mut self, key: Key<'a>, definition: Defined<'a>) -> Result<(), AllocError>
-        ensures { OnOk result ((fs : List Found) (f : Found) → AreDefinitions fs self.old → key_of key.entry ≡ key_of_found f
+        ensures { OnOk result ((fs : List FoundDefinition) (f : FoundDefinition) → AreDefinitions fs self.old → key_of key.entry ≡ key_of_found f
             → definition_of definition.entry ≡ told_definition f → AreDefinitions (fs ++ f ∷ []) self.new) }
     {
         let number = self.items.count();
@@ -112,8 +112,8 @@ impl<'a> Definitions<'a> {
         place: u32,
     ) -> Result<(), AllocError>
         requires { IsSound segment.now }
-        ensures { OnOk result ((fs : List Found) (m : Member) → IsOf m origin → AreDefinitions fs self.old
-            → AreDefinitions (fs ++ founds_in place m (title_of (shown segment.now))) self.new) }
+        ensures { OnOk result ((fs : List FoundDefinition) (m : Member) → IsOf m origin → AreDefinitions fs self.old
+            → AreDefinitions (fs ++ founds_in place m (title_of (segment_of_view segment.now))) self.new) }
     {
         let name = title(segment);
         if name.is_empty() {
@@ -138,7 +138,7 @@ impl<'a> Definitions<'a> {
         origin: Origin,
         place: u32,
     ) -> Result<(), AllocError>
-        ensures { OnOk result ((fs : List Found) (m : Member) (at : ℕ) → IsOf m origin → AreDefinitions fs self.old
+        ensures { OnOk result ((fs : List FoundDefinition) (m : Member) (at : ℕ) → IsOf m origin → AreDefinitions fs self.old
             → AreDefinitions (fs ++ founds_in place m (defined_by at location (view rec.now))) self.new) }
     {
         match rec {
@@ -201,7 +201,7 @@ impl<'a> Definitions<'a> {
 }
 
 /// Adds a name that a segment has for itself.
-fn add_local<'a>(locals: &mut Names<'a>, key: Key<'a>) -> Result<(), AllocError>
+fn add_local<'a>(locals: &mut NameTable<'a>, key: Key<'a>) -> Result<(), AllocError>
     ensures { OnOk result ((rows : List Row) → Indexes rows locals.old → Indexes (rows ++ local_under key.entry.step key.entry.name.now) locals.new) }
 {
     match key.step {

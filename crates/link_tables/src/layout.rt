@@ -1,17 +1,17 @@
 //! Load segments: which members one has, where in it each stands, and its header's fields.
 
 ghost use Rattle.std.specs.Prelude.{◌≡◌, ◌+◌, ◌<◌, ◌≤◌, ◌^◌, ◌/◌, ◌*◌, ◌%◌, ◌++◌, ◌∷◌, [], List, ℕ, Some, None, map, false, slice_get, min, length, MatchOption, OnOk, IfOk};
-ghost use Rattle.omf_records.specs.Segments.{IsSound, IsPlaced, placed, shown};
+ghost use Rattle.omf_records.specs.Segments.{IsSound, IsPlaced, placed_view, segment_of_view};
 ghost use Rattle.omf_header.specs.View.{fields};
 ghost use Rattle.link_meaning.specs.First.{HasNone, IsFirst};
 ghost use Rattle.link_meaning.specs.Member.{Member, form_in};
-ghost use Rattle.link_meaning.specs.Layout.{aligned_from, lesser_bank, cleared, load_headers, load_names};
+ghost use Rattle.link_meaning.specs.Layout.{aligned_from, lesser_bank, load_segment_kind, load_headers, load_names};
 ghost use Rattle.link_meaning.specs.LinkFaults.{HasLayoutFault};
 ghost use Rattle.link_tables.specs.Definitions.{IsOf};
-ghost use Rattle.link_tables.specs.Laid.{Laid, IsFresh, IsJoined, IsAt, IsSpotOf, conflict_with, has, is_long, is_other, AllShort, IsFirstLong, AllDynamic, IsFirstOther, layout_checks, ShowsLoad, AreHeaders};
+ghost use Rattle.link_tables.specs.Laid.{Laid, IsFresh, IsJoined, IsAt, IsSpotOf, conflict_with, contains_text, is_long, is_other, AllShort, IsFirstLong, AllDynamic, IsFirstOther, layout_checks, ShowsLoad, AreHeaders};
 
 use crate::definitions::Origin;
-use crate::names::{Key, Names, Outcome};
+use crate::names::{Key, Matches, NameTable};
 use crate::segname::load_name;
 use link_meaning::{LinkCause, LinkFault, LinkForm, Step};
 use omf_base::{Name, Spot, without_trailing};
@@ -27,7 +27,7 @@ const MOST_LOADS: usize = 254;
 
 /// A load segment so far.
 #[derive(Clone, Copy)]
-pub struct Load {
+pub struct LoadLayout {
     /// Where the first member starts.
     first: Spot,
     load_name: [u8; 10],
@@ -42,17 +42,17 @@ pub struct Load {
 
 /// Where a member stands: its load segment, from 0, and its offset there.
 #[derive(Clone, Copy)]
-pub struct Place {
+pub struct LoadOffset {
     pub load: usize,
     pub offset: u64,
 }
 
 /// The load segments of the members so far.
 #[derive(Drop)]
-pub struct Layout<'a> {
-    names: Names<'a>,
-    pub loads: Vec<Load>,
-    pub places: Vec<Place>,
+pub struct LinkLayout<'a> {
+    names: NameTable<'a>,
+    pub loads: Vec<LoadLayout>,
+    pub places: Vec<LoadOffset>,
     /// Where the first member starts that asks for an address behind another one of its load segment.
     conflict: Option<Spot>,
 }
@@ -71,8 +71,8 @@ fn lesser_bank(a: u32, b: u32) -> u32
 }
 
 /// The kind of a load segment: bits 5 to 7 say nothing.
-fn cleared(kind: Kind) -> Kind
-    ensures { result.bits ≡ cleared kind.bits }
+fn load_segment_kind(kind: Kind) -> Kind
+    ensures { result.bits ≡ load_segment_kind kind.bits }
 {
     Kind {
         bits: kind.bits / 256 * 256 + kind.bits % 32,
@@ -80,7 +80,7 @@ fn cleared(kind: Kind) -> Kind
 }
 
 /// The least multiple of an alignment at or behind an end.
-fn aligned(end: u32, align: u32) -> u64
+fn align_up(end: u32, align: u32) -> u64
     requires some { 0 < align }
     requires small { align ≤ 2 ^ 16 }
     ensures value { result ≡ aligned_from align end }
@@ -108,13 +108,13 @@ fn conflict_with(so_far: Option<Spot>, org: u32, spot: Spot) -> Option<Spot>
 }
 
 /// A load segment of one member.
-fn fresh(header: &Header, spot: Spot) -> Load
+fn load_of_member(header: &Header, spot: Spot) -> LoadLayout
     ensures { IsFresh (fields header.now) spot result }
 {
-    Load {
+    LoadLayout {
         first: spot,
         load_name: header.load_name,
-        kind: cleared(header.kind),
+        kind: load_segment_kind(header.kind),
         org: header.org,
         entry: header.entry,
         align: header.align,
@@ -124,11 +124,11 @@ fn fresh(header: &Header, spot: Spot) -> Load
 }
 
 /// A load segment with one more member at this offset.
-fn joined(load: Load, header: &Header, offset: u64) -> Load
+fn load_with_member(load: LoadLayout, header: &Header, offset: u64) -> LoadLayout
     requires { offset < 2 ^ 33 }
     ensures { IsJoined (fields header.now) offset load result }
 {
-    Load {
+    LoadLayout {
         align: load.align.max(header.align),
         bank_size: lesser_bank(load.bank_size, header.bank_size),
         length: end_of(offset, header.length),
@@ -137,25 +137,25 @@ fn joined(load: Load, header: &Header, offset: u64) -> Load
 }
 
 /// More bytes than BANKSIZE lets it have, or than any load segment has.
-fn is_long(load: &Load) -> bool
+fn is_long(load: &LoadLayout) -> bool
     ensures { result ≡ is_long load.now }
 {
     load.length == TOO_LONG || (load.bank_size != 0 && load.bank_size < load.length)
 }
 
 /// It isn't dynamic, or is skipped, as no load segment of a run-time library file may be.
-fn is_other(load: &Load) -> bool
+fn is_other(load: &LoadLayout) -> bool
     ensures { result ≡ is_other load.now }
 {
     !(load.kind.is_dynamic() && !load.kind.is_skip())
 }
 
-impl<'a> Layout<'a> {
-    pub fn new(alloc: Global) -> Layout<'a>
+impl<'a> LinkLayout<'a> {
+    pub fn new(alloc: Global) -> LinkLayout<'a>
         ensures { Laid [] result }
     {
-        Layout {
-            names: Names::new(alloc),
+        LinkLayout {
+            names: NameTable::new(alloc),
             loads: Vec::new(alloc),
             places: Vec::new(alloc),
             conflict: None,
@@ -169,8 +169,8 @@ impl<'a> Layout<'a> {
         name: &'a [u8],
         spot: Spot,
     ) -> Result<(), AllocError>
-        ensures { OnOk result ((list : List Member) (m : Member) → IsAt m (shown segment.now) spot → name.now ≡ m.segment.fields.load_name
-            → has name.now (load_names list) ≡ false → Laid list self.old → Laid (list ++ m ∷ []) self.new) }
+        ensures { OnOk result ((list : List Member) (m : Member) → IsAt m (segment_of_view segment.now) spot → name.now ≡ m.segment.fields.load_name
+            → contains_text name.now (load_names list) ≡ false → Laid list self.old → Laid (list ++ m ∷ []) self.new) }
     {
         let load = self.loads.as_slice().len();
         let key = Key {
@@ -178,8 +178,8 @@ impl<'a> Layout<'a> {
             name,
         };
         self.names.add(key, load)?;
-        self.loads.push(fresh(&segment.header, spot))?;
-        self.places.push(Place { load, offset: 0 })?;
+        self.loads.push(load_of_member(&segment.header, spot))?;
+        self.places.push(LoadOffset { load, offset: 0 })?;
         Ok(())
     }
 
@@ -190,18 +190,18 @@ impl<'a> Layout<'a> {
             → slice_get (load_names list) load ≡ Some m.segment.fields.load_name → Laid list self.old → Laid (list ++ m ∷ []) self.new) }
     {
         let old = self.loads[load];
-        let offset = aligned(old.length, header.alignment());
+        let offset = align_up(old.length, header.alignment());
         self.conflict = conflict_with(self.conflict, header.org, spot);
-        self.places.push(Place { load, offset })?;
-        self.loads[load] = joined(old, header, offset);
+        self.places.push(LoadOffset { load, offset })?;
+        self.loads[load] = load_with_member(old, header, offset);
         Ok(())
     }
 
     /// One more member, behind the others.
     pub fn add(&mut self, segment: &SegmentView<'a>, origin: Origin) -> Result<(), AllocError>
-        requires placed { IsPlaced (placed segment.now) }
+        requires placed_view { IsPlaced (placed_view segment.now) }
         requires laid { (list : List Member) × Laid list self.old }
-        ensures { OnOk result ((list : List Member) (m : Member) → IsOf m origin → m.segment ≡ shown segment.now → Laid list self.old → Laid (list ++ m ∷ []) self.new) }
+        ensures { OnOk result ((list : List Member) (m : Member) → IsOf m origin → m.segment ≡ segment_of_view segment.now → Laid list self.old → Laid (list ++ m ∷ []) self.new) }
     {
         let name = load_name(segment);
         let spot = Spot {
@@ -214,9 +214,9 @@ impl<'a> Layout<'a> {
             name,
         };
         match self.names.look(key) {
-            Outcome::Nothing => self.open(segment, name, spot),
-            Outcome::One(load) => self.join(&segment.header, load, spot),
-            Outcome::Several(load) => self.join(&segment.header, load, spot),
+            Matches::Nothing => self.open(segment, name, spot),
+            Matches::One(load) => self.join(&segment.header, load, spot),
+            Matches::Several(load) => self.join(&segment.header, load, spot),
         }
     }
 
@@ -285,7 +285,7 @@ fn fault_at(cause: LinkCause, spot: Spot) -> LinkFault
 }
 
 /// The header of a load segment with this number.
-fn header_of(alloc: Global, load: &Load, number: u16) -> Result<Header, AllocError>
+fn header_of(alloc: Global, load: &LoadLayout, number: u16) -> Result<Header, AllocError>
     ensures { IfOk result (λ header. ShowsLoad load.now number (fields header)) }
 {
     let name = Name::from_vec(Vec::from_slice(alloc, without_trailing(&load.load_name, 0x20))?);
@@ -309,7 +309,7 @@ fn header_of(alloc: Global, load: &Load, number: u16) -> Result<Header, AllocErr
 }
 
 /// The headers of the load segments, in order of number.
-pub fn headers(alloc: Global, layout: &Layout) -> Result<Vec<Header>, AllocError>
+pub fn headers(alloc: Global, layout: &LinkLayout) -> Result<Vec<Header>, AllocError>
     requires { length layout.now.loads.items < 2 ^ 16 }
     ensures { IfOk result (λ headers. AreHeaders 1 layout.now.loads.items (map (λ header. fields header) headers.items)) }
 {

@@ -10,7 +10,7 @@ use std::marker::Model;
 
 /// A definition without its expression, and whether it has one.
 #[derive(Clone, Copy)]
-struct Mark {
+struct DefinitionMark {
     member: u32,
     at: u32,
     length: u16,
@@ -21,7 +21,7 @@ struct Mark {
 /// Definitions in order. The expressions of equates lie apart, by number, since most definitions are none.
 #[derive(Drop)]
 pub struct Listed<'a> {
-    marks: Vec<Mark>,
+    marks: Vec<DefinitionMark>,
     exprs: IndexMap<usize, &'a [u8]>,
 }
 
@@ -110,7 +110,7 @@ impl<'a> Listed<'a> {
     {
         let number = self.marks.as_slice().len();
         let is_equate = keep_expr(&mut self.exprs, number, definition.expr)?;
-        self.marks.push(Mark {
+        self.marks.push(DefinitionMark {
             member: definition.member,
             at: definition.at,
             length: definition.length,

@@ -38,7 +38,7 @@ struct UnitName<'a> {
 
 /// What a step finds: nothing, one thing, or several, of which this is the first.
 #[derive(Clone, Copy, Debug, PartialEq, Eq)]
-pub enum Outcome {
+pub enum Matches {
     Nothing,
     One(usize),
     Several(usize),
@@ -48,28 +48,28 @@ pub enum Outcome {
 /// see, what members have for themselves and what units have lie apart: where there is none of a kind, as often, a name isn't
 /// hashed to look for it there, and a key holds no more than it says.
 #[derive(Drop)]
-pub struct Names<'a> {
-    public: IndexMap<PublicName<'a>, Outcome>,
-    own: IndexMap<OwnName<'a>, Outcome>,
-    units: IndexMap<UnitName<'a>, Outcome>,
+pub struct NameTable<'a> {
+    public: IndexMap<PublicName<'a>, Matches>,
+    own: IndexMap<OwnName<'a>, Matches>,
+    units: IndexMap<UnitName<'a>, Matches>,
 }
 
 /// What was kept under a key.
-fn found_or(kept: Option<Outcome>) -> Outcome
+fn found_or(kept: Option<Matches>) -> Matches
     ensures { result ≡ found_or kept }
 {
     match kept {
         Some(found) => found,
-        None => Outcome::Nothing,
+        None => Matches::Nothing,
     }
 }
 
-impl<'a> Names<'a> {
+impl<'a> NameTable<'a> {
     /// No name.
-    pub fn new(alloc: Global) -> Names<'a>
+    pub fn new(alloc: Global) -> NameTable<'a>
         ensures { Indexes [] result }
     {
-        Names {
+        NameTable {
             public: IndexMap::new(alloc),
             own: IndexMap::new(alloc),
             units: IndexMap::new(alloc),
@@ -78,7 +78,7 @@ impl<'a> Names<'a> {
 
     /// What a step finds under a name.
     #[inline(always)]
-    pub fn look(&self, key: Key) -> Outcome
+    pub fn look(&self, key: Key) -> Matches
         ensures { (rows : List Row) → Indexes rows self.now → result ≡ outcome rows (key_of key.entry) }
     {
         match key.step {
@@ -90,33 +90,33 @@ impl<'a> Names<'a> {
 
     /// What all see under a name.
     #[inline(always)]
-    fn look_public(&self, name: &[u8]) -> Outcome
+    fn look_public(&self, name: &[u8]) -> Matches
         ensures { result ≡ found_or (kept_under Everyone name.now self.now) }
     {
         if self.public.is_empty() {
-            return Outcome::Nothing;
+            return Matches::Nothing;
         }
         found_or(self.public.get(&PublicName { name }).copied())
     }
 
     /// What the member at a place of the list has for itself under a name.
     #[inline(always)]
-    fn look_own(&self, place: usize, name: &[u8]) -> Outcome
+    fn look_own(&self, place: usize, name: &[u8]) -> Matches
         ensures { result ≡ found_or (kept_under (Within place) name.now self.now) }
     {
         if self.own.is_empty() {
-            return Outcome::Nothing;
+            return Matches::Nothing;
         }
         found_or(self.own.get(&OwnName { place, name }).copied())
     }
 
     /// What a unit has for itself under a name.
     #[inline(always)]
-    fn look_unit(&self, file: u32, from: u16, name: &[u8]) -> Outcome
+    fn look_unit(&self, file: u32, from: u16, name: &[u8]) -> Matches
         ensures { result ≡ found_or (kept_under (OfUnit file from) name.now self.now) }
     {
         if self.units.is_empty() {
-            return Outcome::Nothing;
+            return Matches::Nothing;
         }
         found_or(self.units.get(&UnitName { file, from, name }).copied())
     }
@@ -132,16 +132,16 @@ impl<'a> Names<'a> {
     pub fn add(&mut self, key: Key<'a>, number: usize) -> Result<(), AllocError>
         ensures { OnOk result ((rows : List Row) → Indexes rows self.old → Indexes (rows ++ (key_of key.entry, number) ∷ []) self.new) }
     {
-        let first = match self.keep(key, Outcome::One(number))? {
-            Outcome::Nothing => return Ok(()),
-            Outcome::One(first) | Outcome::Several(first) => first,
+        let first = match self.keep(key, Matches::One(number))? {
+            Matches::Nothing => return Ok(()),
+            Matches::One(first) | Matches::Several(first) => first,
         };
-        self.keep(key, Outcome::Several(first))?;
+        self.keep(key, Matches::Several(first))?;
         Ok(())
     }
 
     /// Keeps this under a key, and gives what was there.
-    fn keep(&mut self, key: Key<'a>, found: Outcome) -> Result<Outcome, AllocError>
+    fn keep(&mut self, key: Key<'a>, found: Matches) -> Result<Matches, AllocError>
         ensures kept { OnOk result (Keeps self.old self.new (key_of key.entry) found) }
         ensures before { IfOk result (λ before. before ≡ found_or (kept_under key.entry.step key.entry.name.now self.old)) }
     {

@@ -9,7 +9,7 @@ ghost use Rattle.link_tables.specs.Definitions.{IsOf};
 ghost use Rattle.link_tables.specs.Offers.{AreOffers, told_origin, IsOfferOf, IsRow, number_of, first_number};
 
 use crate::definitions::{Origin, outer_step};
-use crate::names::{Key, Names, Outcome};
+use crate::names::{Key, Matches, NameTable};
 use link_meaning::{Step, Want};
 use std::alloc::{AllocError, Global};
 
@@ -17,13 +17,13 @@ use std::alloc::{AllocError, Global};
 #[derive(Drop)]
 pub struct Offers<'a> {
     origins: Vec<Origin>,
-    names: Names<'a>,
-    titles: Names<'a>,
+    names: NameTable<'a>,
+    titles: NameTable<'a>,
 }
 
 /// A key with its number, where it is one of a title.
 fn add_title<'a>(
-    titles: &mut Names<'a>,
+    titles: &mut NameTable<'a>,
     key: Key<'a>,
     number: usize,
     titled: bool,
@@ -38,7 +38,7 @@ fn add_title<'a>(
 }
 
 /// The number of the first row of the user's unit with this name, or else of the first that isn't private.
-fn first_row(names: &Names, user: Origin, name: &[u8]) -> Option<usize>
+fn first_row(names: &NameTable, user: Origin, name: &[u8]) -> Option<usize>
     ensures { (rows : List Row) → Indexes rows names.now
         → result ≡ first_number rows (record { step = OfUnit user.file user.from; name = name.now }) (record { step = Everyone; name = name.now }) }
 {
@@ -47,23 +47,23 @@ fn first_row(names: &Names, user: Origin, name: &[u8]) -> Option<usize>
         from: user.from,
     };
     match names.look(Key { step: unit, name }) {
-        Outcome::Nothing => first_public(names, name),
-        Outcome::One(number) => Some(number),
-        Outcome::Several(number) => Some(number),
+        Matches::Nothing => first_public(names, name),
+        Matches::One(number) => Some(number),
+        Matches::Several(number) => Some(number),
     }
 }
 
 /// The number of the first row with this name that isn't private.
-fn first_public(names: &Names, name: &[u8]) -> Option<usize>
+fn first_public(names: &NameTable, name: &[u8]) -> Option<usize>
     ensures { (rows : List Row) → Indexes rows names.now → result ≡ number_of (outcome rows (record { step = Everyone; name = name.now })) }
 {
     match names.look(Key {
         step: Step::Everyone,
         name,
     }) {
-        Outcome::Nothing => None,
-        Outcome::One(number) => Some(number),
-        Outcome::Several(number) => Some(number),
+        Matches::Nothing => None,
+        Matches::One(number) => Some(number),
+        Matches::Several(number) => Some(number),
     }
 }
 
@@ -74,8 +74,8 @@ impl<'a> Offers<'a> {
     {
         Offers {
             origins: Vec::new(alloc),
-            names: Names::new(alloc),
-            titles: Names::new(alloc),
+            names: NameTable::new(alloc),
+            titles: NameTable::new(alloc),
         }
     }
 

@@ -1,7 +1,7 @@
 //! The name of a segment, lent from the file.
 
 ghost use Rattle.std.specs.Prelude.{◌≡◌, ◌+◌, ◌<◌, ◌≤◌, ◌^◌, ◌==◌, if◌then◌else◌, length, take, drop};
-ghost use Rattle.omf_records.specs.Segments.{placed, IsPlaced};
+ghost use Rattle.omf_records.specs.Segments.{placed_view, IsPlaced};
 
 use omf_records::SegmentView;
 
@@ -23,7 +23,7 @@ fn name_start(names: usize, lab_len: u8) -> usize
 
 /// SEGNAME, without what pads it, as a slice of the file (LABLEN, DISPNAME).
 pub fn title<'a>(segment: &SegmentView<'a>) -> &'a [u8]
-    requires { IsPlaced (placed segment.now) }
+    requires { IsPlaced (placed_view segment.now) }
     ensures { result.now ≡ segment.now.header.name }
 {
     let names = name_start(
@@ -36,7 +36,7 @@ pub fn title<'a>(segment: &SegmentView<'a>) -> &'a [u8]
 
 /// LOADNAME, as a slice of the file (DISPNAME).
 pub fn load_name<'a>(segment: &SegmentView<'a>) -> &'a [u8]
-    requires { IsPlaced (placed segment.now) }
+    requires { IsPlaced (placed_view segment.now) }
     ensures { result.now ≡ segment.now.header.load_name }
 {
     let start = segment.start as usize + segment.header.disp_name as usize;

@@ -26,7 +26,7 @@ pub struct Use<'a> {
 
 /// A use of a name, without what it wants.
 #[derive(Clone, Copy)]
-struct Site<'a> {
+struct UseSite<'a> {
     name: &'a [u8],
     at: u32,
     place: u32,
@@ -36,7 +36,7 @@ struct Site<'a> {
 #[derive(Drop)]
 pub struct Uses<'a> {
     wants: Vec<Want>,
-    sites: Vec<Site<'a>>,
+    sites: Vec<UseSite<'a>>,
 }
 
 impl<'a> Model for Uses<'a> {
@@ -87,7 +87,7 @@ impl<'a> Uses<'a> {
     fn push(&mut self, used: Use<'a>) -> Result<(), AllocError>
         ensures { OnOk result (self.new ≡ self.old ++ use_of used.entry ∷ []) }
     {
-        let site = Site {
+        let site = UseSite {
             name: used.name,
             at: used.at,
             place: used.place,

@@ -8,10 +8,10 @@ use Rattle.omf_format.specs.Record.{Record}
 use Rattle.omf_format.specs.Reading.{Reader}
 use Rattle.omf_format.specs.Header.{is_private}
 use Rattle.omf_format.specs.File.{Segment}
-use Rattle.link_meaning.specs.Sizes.{Located, size_at, located_from, located, place_behind}
+use Rattle.link_meaning.specs.Sizes.{Located, size_at, located_from, records_with_offsets, place_behind}
 use Rattle.link_meaning.specs.Member.{Member}
 use Rattle.link_meaning.specs.Defines.{Definition, outer_scope, title_of, defined_by, defined_in}
-use Rattle.link_meaning.specs.Search.{Found, entries_from, entries}
+use Rattle.link_meaning.specs.Search.{FoundDefinition, entries_from, entries}
 use Rattle.omf_base.specs.declared.spot.Spot.{Spot}
 use Rattle.link_meaning.specs.declared.fault.LinkCause.TheVariants.{Circular}
 use Rattle.link_meaning.specs.declared.fault.LinkFault.{LinkFault}
@@ -45,7 +45,7 @@ so_far-more s done found =
 
 -- all of them
 pub so_far-all : (s : Segment) (done back : List (ℕ × Record)) → s.records ≡ done ++ back → defined_in s ≡ defined_so_far s done ++ flat_map of_located (located_from (place_behind 0 done) back)
-unfolding defined_in located
+unfolding defined_in records_with_offsets
 so_far-all s done back parts =
     ap (λ (l : List (ℕ × Record)). title_of s ++ flat_map of_located (located_from 0 l)) parts
     ∙ ap (λ (l : List Located). title_of s ++ flat_map of_located l) (located-more 0 done back)
@@ -143,14 +143,14 @@ counted_all s number left at c none =
 
 -- ---- members
 
-abbrev founds : ℕ → Member → List Definition → List Found
+abbrev founds : ℕ → Member → List Definition → List FoundDefinition
 founds place m ds = map (λ (d : Definition). record { place = place; member = m; definition = d }) ds
 
 pub entries-append : (place : ℕ) (front back : List Member) → entries_from defined_in place (front ++ back) ≡ entries_from defined_in place front ++ entries_from defined_in (place + length front) back
 entries-append place [] back = ap (λ (n : ℕ). entries_from defined_in n back) (omega arith)
 entries-append place (m ∷ front) back =
     let next : place + 1 + length front ≡ place + length (m ∷ front) = omega arith in
-    ap (λ (l : List Found). founds place m (defined_in m.segment) ++ l) (entries-append (place + 1) front back)
+    ap (λ (l : List FoundDefinition). founds place m (defined_in m.segment) ++ l) (entries-append (place + 1) front back)
     ∙ sym (append_assoc (founds place m (defined_in m.segment)) (entries_from defined_in (place + 1) front) (entries_from defined_in (place + 1 + length front) back))
     ∙ ap (λ (n : ℕ). (founds place m (defined_in m.segment) ++ entries_from defined_in (place + 1) front) ++ entries_from defined_in n back) next
 
@@ -172,12 +172,12 @@ get_map place m [] k d e = absurd cc
 get_map place m (x ∷ ds) zero d e = let same : x ≡ d = cc in ap (λ (y : Definition). Some (record { place = place; member = m; definition = y })) same
 get_map place m (x ∷ ds) (suc k) d e = get_map place m ds k d e
 
-get_front : (xs ys : List Found) (k : ℕ) (f : Found) → slice_get xs k ≡ Some f → slice_get (xs ++ ys) k ≡ Some f
+get_front : (xs ys : List FoundDefinition) (k : ℕ) (f : FoundDefinition) → slice_get xs k ≡ Some f → slice_get (xs ++ ys) k ≡ Some f
 get_front [] ys k f e = absurd cc
 get_front (x ∷ xs) ys zero f e = e
 get_front (x ∷ xs) ys (suc k) f e = get_front xs ys k f e
 
-get_back : (xs ys : List Found) (n k : ℕ) → n ≡ length xs + k → slice_get (xs ++ ys) n ≡ slice_get ys k
+get_back : (xs ys : List FoundDefinition) (n k : ℕ) → n ≡ length xs + k → slice_get (xs ++ ys) n ≡ slice_get ys k
 get_back [] ys n k is = let same : n ≡ k = omega (arith, is) in ap (slice_get ys) same
 get_back (x ∷ xs) ys zero k is = absurd (omega (arith, is))
 get_back (x ∷ xs) ys (suc n) k is = get_back xs ys n k (omega (arith, is))
@@ -188,7 +188,7 @@ pub counts_there : (list : List Member) (number place left : ℕ) (c : CountsTo 
 unfolding entries
 counts_there list number place left c m back d is at =
     ap (λ (l : List Member). slice_get (entries_from defined_in 1 l) number) (c.parts ∙ ap (λ (l : List Member). c.front ++ l) is)
-    ∙ ap (λ (l : List Found). slice_get l number) (entries-append 1 c.front (m ∷ back))
+    ∙ ap (λ (l : List FoundDefinition). slice_get l number) (entries-append 1 c.front (m ∷ back))
     ∙ get_back (entries_from defined_in 1 c.front) (entries_from defined_in (1 + length c.front) (m ∷ back)) number left c.count
     ∙ get_front (founds (1 + length c.front) m (defined_in m.segment)) (entries_from defined_in (1 + length c.front + 1) back) left _ (get_map (1 + length c.front) m (defined_in m.segment) left d at)
 
@@ -242,15 +242,15 @@ ring_here list number place left s name at fault c less shown d told e entry =
     let here = counts_there list number place left c n.0 n.1 d.0 n.2 (subst (λ (t : Segment). slice_get (defined_in t) left ≡ Some d.0) same d.1) in
     by_fault e (same_found (record { place = 1 + length c.front; member = n.0; definition = d.0 }) e (sym here ∙ entry)) (told n.0 there)
   where
-    same_found : (x y : Found) → Some x ≡ Some y → x ≡ y
+    same_found : (x y : FoundDefinition) → Some x ≡ Some y → x ≡ y
     same_found x y e = cc
 
     fault_by : List ℕ → Spot → LinkFault
     fault_by its spot = record { cause = Circular; name = Some its; spot = spot }
 
-    by_fault : (e : Found) → record { place = 1 + length c.front; member = (next_member list number place left c less).0; definition = d.0 } ≡ e
+    by_fault : (e : FoundDefinition) → record { place = 1 + length c.front; member = (next_member list number place left c less).0; definition = d.0 } ≡ e
         → (fault ≡ memory_fault) ⊎ (fault ≡ record { cause = Circular; name = Some name; spot = spot_in (next_member list number place left c less).0 at })
         → (fault ≡ memory_fault) ⊎ (fault ≡ record { cause = Circular; name = Some e.definition.name; spot = spot_in e.member e.definition.at })
     by_fault e is (inl memory) = inl memory
     by_fault e is (inr told) = inr (told ∙ ap (λ (n : List ℕ). fault_by n (spot_in (next_member list number place left c less).0 at)) d.2 ∙ ap (λ (n : ℕ). fault_by d.0.name (spot_in (next_member list number place left c less).0 n)) d.3
-        ∙ ap (λ (f : Found). fault_by f.definition.name (spot_in f.member f.definition.at)) is)
+        ∙ ap (λ (f : FoundDefinition). fault_by f.definition.name (spot_in f.member f.definition.at)) is)

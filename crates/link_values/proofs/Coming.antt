@@ -7,7 +7,7 @@ use Rattle.omf_format.specs.File.{body_reader}
 use Rattle.omf_header.specs.View.{fields}
 use Rattle.omf_records.specs.declared.record.Rec.{Rec}
 use Rattle.omf_records.specs.declared.segment.SegmentView.{SegmentView}
-use Rattle.omf_records.specs.Segments.{shown, IsSound}
+use Rattle.omf_records.specs.Segments.{segment_of_view, IsSound}
 use Rattle.omf_records.specs.SegmentLaws.{sound_body}
 use Rattle.link_tables.specs.Coming.{Coming, Walks, seen_record}
 
@@ -15,8 +15,8 @@ coming_all : (r : Reader) → IsBody r → Coming r (records_of r)
 coming_all r is = record { last = is.last; run = is.run; ended = is.ended }
 
 -- all records of the view
-pub coming_view : (v : SegmentView) (r : Reader) → IsSound v → r ≡ body_reader v.start (fields v.header) v.file.now → Coming r (shown v).records
-coming_view v r sound is = subst (λ (x : Reader). Coming x (shown v).records) (sym is) (coming_all (body_reader v.start (fields v.header) v.file.now) (sound_body v sound))
+pub coming_view : (v : SegmentView) (r : Reader) → IsSound v → r ≡ body_reader v.start (fields v.header) v.file.now → Coming r (segment_of_view v).records
+coming_view v r sound is = subst (λ (x : Reader). Coming x (segment_of_view v).records) (sym is) (coming_all (body_reader v.start (fields v.header) v.file.now) (sound_body v sound))
 
 pub body_lab_len : (v : SegmentView) (r : Reader) → r ≡ body_reader v.start (fields v.header) v.file.now → r.layout.lab_len ≡ v.header.lab_len
 unfolding body_reader

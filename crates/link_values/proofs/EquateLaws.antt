@@ -16,10 +16,10 @@ use Rattle.link_meaning.specs.LinkFaults.{spot_in}
 use Rattle.link_meaning.specs.First.{IsIn}
 use Rattle.link_meaning.specs.laws.MemberLists.{in_filter, filter_in}
 use Rattle.link_meaning.specs.Member.{Member}
-use Rattle.link_meaning.specs.Search.{Found, entries}
+use Rattle.link_meaning.specs.Search.{FoundDefinition, entries}
 use Rattle.link_program.specs.Outside.{all_found}
 use Rattle.link_meaning.specs.Rings.{has_expr, is_equate, equates, LeadsTo, Path, Last, Through, IsCircular}
-use Rattle.link_meaning.specs.LinkValues.{Told, told, outside_value, value_in, equate_value}
+use Rattle.link_meaning.specs.LinkValues.{Told, value_of_definition, outside_value, value_in, equate_value}
 use Rattle.link_meaning.specs.laws.TableLaws.{by_rings}
 use Rattle.link_meaning.specs.EquateValues.{HasValue, ByOthers, TellValues}
 use Rattle.link_meaning.specs.laws.EquateValueLaws.{are_table}
@@ -27,13 +27,13 @@ use Rattle.link_meaning.specs.laws.EquatePlaces.{apart}
 use Rattle.link_program.specs.declared.program.Definition as kept
 use Rattle.link_program.specs.Programs.{ToldSymbol, symbol_of, told_symbol}
 use Rattle.link_program.specs.Memory.{memory_fault}
-use Rattle.rings.specs.Graphs as rings
-use Rattle.rings.specs.Graphs.{row_at, Way}
-use Rattle.link_values.specs.declared.slots.Slot.{Slot}
-use Rattle.link_values.specs.declared.slots.Slot.TheVariants.{Open, Done, Failed}
+use Rattle.cycles.specs.Graphs as rings
+use Rattle.cycles.specs.Graphs.{row_at, Way}
+use Rattle.link_values.specs.declared.slots.ValueSlot.{ValueSlot}
+use Rattle.link_values.specs.declared.slots.ValueSlot.TheVariants.{Open, Done, Failed}
 use Rattle.link_program.specs.OfFiles.{IsOfFiles}
 use Rattle.link_values.specs.Slots.{answer_of, row_of, rows_of, label_place, AreSlots, AreOnce}
-use Rattle.link_values.specs.declared.seat.Seat.{Seat}
+use Rattle.link_values.specs.declared.member_place.MemberPlace.{MemberPlace}
 use Rattle.link_values.specs.Seats.{IsSeat, SeatOf}
 use Rattle.link_values.specs.Circulars.{IsCircularAt}
 use Rattle.link_values.specs.Equates.{IsFirstSlot, AreFirstSlots, IsOpen, AreTrue, IsRow, AreRows, AreSettled, open_count, with_slot, AreValues, IsRingRefused}
@@ -41,7 +41,7 @@ use Rattle.link_values.proofs.SlotLaws.{or_open, told_rows, has_slot}
 use Rattle.link_values.proofs.AllFound.{found_same, entry_in, outer_at, inside_equate, all_equates}
 use Rattle.link_values.proofs.FileFacts.{once_of, entry_at, near_of, place_there, definition_place, spelled_of}
 
-slot_same : (x y : Slot) → Some x ≡ Some y → x ≡ y
+slot_same : (x y : ValueSlot) → Some x ≡ Some y → x ≡ y
 slot_same x y e = cc
 
 answer_same : (x y : Result Value ValueFault) → Some x ≡ Some y → x ≡ y
@@ -52,49 +52,49 @@ true_false e = cc
 
 -- ---- definitions
 
-pub text_of : (list : List Member) (d : kept.Definition) (f : Found) (text : Bor (List ℕ)) → d.expr ≡ Some text → symbol_of d ≡ told_symbol list f → f.definition.expr ≡ Some text.now
+pub text_of : (list : List Member) (d : kept.Definition) (f : FoundDefinition) (text : Bor (List ℕ)) → d.expr ≡ Some text → symbol_of d ≡ told_symbol list f → f.definition.expr ≡ Some text.now
 text_of list d f text is same = sym (ap (λ (t : ToldSymbol). t.expr) same) ∙ ap (option_map (λ (x : Bor (List ℕ)). x.now)) is
 
-pub no_text : (list : List Member) (d : kept.Definition) (f : Found) → d.expr ≡ None → symbol_of d ≡ told_symbol list f → f.definition.expr ≡ None
+pub no_text : (list : List Member) (d : kept.Definition) (f : FoundDefinition) → d.expr ≡ None → symbol_of d ≡ told_symbol list f → f.definition.expr ≡ None
 no_text list d f is same = sym (ap (λ (t : ToldSymbol). t.expr) same) ∙ ap (option_map (λ (x : Bor (List ℕ)). x.now)) is
 
 -- a name of a run-time library file tells its place
-pub outside_told : (list : List Member) (d : kept.Definition) (f : Found) → f.place ≡ 0 → symbol_of d ≡ told_symbol list f → At d.file d.segment d.at (pos 0) ≡ outside_value f
+pub outside_told : (list : List Member) (d : kept.Definition) (f : FoundDefinition) → f.place ≡ 0 → symbol_of d ≡ told_symbol list f → At d.file d.segment d.at (pos 0) ≡ outside_value f
 outside_told list d f none same =
     let zero' : eqb f.place 0 ≡ true = eq-eqb f.place 0 none in
     ap (λ (n : ℕ). At n d.segment d.at (pos 0)) (ap (λ (t : ToldSymbol). t.file) same ∙ ap (λ (b : Bool). cond b f.member.file 1) zero')
     ∙ ap (λ (n : ℕ). At f.member.file n d.at (pos 0)) (ap (λ (t : ToldSymbol). t.segment) same ∙ ap (λ (b : Bool). cond b f.member.number (load_of list f.member)) zero')
     ∙ ap (λ (n : ℕ). At f.member.file f.member.number n (pos 0)) (ap (λ (t : ToldSymbol). t.at) same)
 
-pub first_label : (list : List Member) (f : Found) (v : Value) → f.definition.expr ≡ None → v ≡ label_place list f → IsFirstSlot list f (Done v)
+pub first_label : (list : List Member) (f : FoundDefinition) (v : Value) → f.definition.expr ≡ None → v ≡ label_place list f → IsFirstSlot list f (Done v)
 first_label list f v is value = record { label = λ none. ap (λ (x : Value). Done x) value; equate = λ e. absurd (true_false (sym e ∙ ap has_expr is)) }
 
 -- one slot more
-pub firsts_more : (list : List Member) (fs : List Found) (slots : List Slot) (f : Found) (slot : Slot) → AreFirstSlots list (take (length slots) fs) slots → slice_get fs (length slots) ≡ Some f → IsFirstSlot list f slot
+pub firsts_more : (list : List Member) (fs : List FoundDefinition) (slots : List ValueSlot) (f : FoundDefinition) (slot : ValueSlot) → AreFirstSlots list (take (length slots) fs) slots → slice_get fs (length slots) ≡ Some f → IsFirstSlot list f slot
     → AreFirstSlots list (take (length (slots ++ slot ∷ [])) fs) (slots ++ slot ∷ [])
 firsts_more list [] [] f slot are at is = absurd cc
-firsts_more list (g ∷ fs) [] f slot are at is = (subst (λ (x : Found). IsFirstSlot list x slot) (sym (found_same g f at)) is, none fs)
+firsts_more list (g ∷ fs) [] f slot are at is = (subst (λ (x : FoundDefinition). IsFirstSlot list x slot) (sym (found_same g f at)) is, none fs)
   where
-    none : (xs : List Found) → AreFirstSlots list (take 0 xs) []
+    none : (xs : List FoundDefinition) → AreFirstSlots list (take 0 xs) []
     none [] = tt
     none (x ∷ xs) = tt
 firsts_more list [] (s ∷ slots) f slot are at is = absurd cc
 firsts_more list (g ∷ fs) (s ∷ slots) f slot are at is = (are.0, firsts_more list fs slots f slot are.1 at is)
 
-pub first_at : (list : List Member) (fs : List Found) (slots : List Slot) (k : ℕ) (f : Found) (slot : Slot) → AreFirstSlots list fs slots → slice_get fs k ≡ Some f → slice_get slots k ≡ Some slot → IsFirstSlot list f slot
+pub first_at : (list : List Member) (fs : List FoundDefinition) (slots : List ValueSlot) (k : ℕ) (f : FoundDefinition) (slot : ValueSlot) → AreFirstSlots list fs slots → slice_get fs k ≡ Some f → slice_get slots k ≡ Some slot → IsFirstSlot list f slot
 first_at list [] slots k f slot are at there = absurd cc
 first_at list (g ∷ fs) [] k f slot are at there = absurd are
-first_at list (g ∷ fs) (s ∷ slots) zero f slot are at there = subst (IsFirstSlot list f) (slot_same s slot there) (subst (λ (x : Found). IsFirstSlot list x s) (found_same g f at) are.0)
+first_at list (g ∷ fs) (s ∷ slots) zero f slot are at there = subst (IsFirstSlot list f) (slot_same s slot there) (subst (λ (x : FoundDefinition). IsFirstSlot list x s) (found_same g f at) are.0)
 first_at list (g ∷ fs) (s ∷ slots) (suc k) f slot are at there = first_at list fs slots k f slot are.1 at there
 
-firsts_slots : (list : List Member) (fs : List Found) (slots : List Slot) → AreFirstSlots list fs slots → AreSlots list fs slots
+firsts_slots : (list : List Member) (fs : List FoundDefinition) (slots : List ValueSlot) → AreFirstSlots list fs slots → AreSlots list fs slots
 firsts_slots list [] [] are = tt
 firsts_slots list [] (s ∷ slots) are = are
 firsts_slots list (f ∷ fs) [] are = are
 firsts_slots list (f ∷ fs) (s ∷ slots) are = (are.0.label, firsts_slots list fs slots are.1)
 
 -- what is there at first is true
-pub firsts_true : (list : List Member) (slots : List Slot) → IsOfFiles list → AreFirstSlots list (all_found list) slots → AreTrue list slots
+pub firsts_true : (list : List Member) (slots : List ValueSlot) → IsOfFiles list → AreFirstSlots list (all_found list) slots → AreTrue list slots
 firsts_true list slots of are = record {
   known = record { once = once_of list of; are = firsts_slots list (all_found list) slots are };
   values = λ k f slot answer at there equate is. absurd (no_answer answer (sym is ∙ ap answer_of ((first_at list (all_found list) slots k f slot are at there).equate equate)));
@@ -103,7 +103,7 @@ firsts_true list slots of are = record {
     no_answer : (answer : Result Value ValueFault) → Some answer ≡ None → ⊥
     no_answer answer e = cc
 
-pub open_equate : (list : List Member) (fs : List Found) (slots : List Slot) (k : ℕ) → AreSlots list fs slots → IsOpen slots k → (f : Found) × (slice_get fs k ≡ Some f) × (is_equate f ≡ true)
+pub open_equate : (list : List Member) (fs : List FoundDefinition) (slots : List ValueSlot) (k : ℕ) → AreSlots list fs slots → IsOpen slots k → (f : FoundDefinition) × (slice_get fs k ≡ Some f) × (is_equate f ≡ true)
 open_equate list [] [] k are unset = absurd cc
 open_equate list [] (s ∷ slots) k are unset = absurd are
 open_equate list (f ∷ fs) [] k are unset = absurd cc
@@ -112,14 +112,14 @@ open_equate list (f ∷ fs) (s ∷ slots) zero are unset = by_test (is_equate f)
     clash : (v : Value) → Open ≡ Done v → ⊥
     clash v e = cc
 
-    by_test : (b : Bool) → is_equate f ≡ b → (g : Found) × (slice_get (f ∷ fs) 0 ≡ Some g) × (is_equate g ≡ true)
+    by_test : (b : Bool) → is_equate f ≡ b → (g : FoundDefinition) × (slice_get (f ∷ fs) 0 ≡ Some g) × (is_equate g ≡ true)
     by_test true is = (f, refl, is)
     by_test false is = absurd (clash _ (sym (slot_same s Open unset) ∙ are.0 is))
 open_equate list (f ∷ fs) (s ∷ slots) (suc k) are unset = open_equate list fs slots k are.1 unset
 
 -- ---- a slot that is set
 
-pub get_set : (slots : List Slot) (k j : ℕ) (slot t : Slot) → slice_get (slice_set slots k slot) j ≡ Some t → ((j ≡ k) × (t ≡ slot)) ⊎ (slice_get slots j ≡ Some t)
+pub get_set : (slots : List ValueSlot) (k j : ℕ) (slot t : ValueSlot) → slice_get (slice_set slots k slot) j ≡ Some t → ((j ≡ k) × (t ≡ slot)) ⊎ (slice_get slots j ≡ Some t)
 get_set [] k j slot t e = inr e
 get_set (s ∷ slots) zero zero slot t e = inl (refl, sym (slot_same slot t e))
 get_set (s ∷ slots) zero (suc j) slot t e = inr e
@@ -129,35 +129,35 @@ get_set (s ∷ slots) (suc k) (suc j) slot t e = elim (get_set slots k j slot t 
   | inr h ↦ inr h
 ]
 
-slots_set : (list : List Member) (fs : List Found) (slots : List Slot) (k : ℕ) (slot : Slot) → AreSlots list fs slots → ((f : Found) → slice_get fs k ≡ Some f → is_equate f ≡ true) → AreSlots list fs (slice_set slots k slot)
+slots_set : (list : List Member) (fs : List FoundDefinition) (slots : List ValueSlot) (k : ℕ) (slot : ValueSlot) → AreSlots list fs slots → ((f : FoundDefinition) → slice_get fs k ≡ Some f → is_equate f ≡ true) → AreSlots list fs (slice_set slots k slot)
 slots_set list [] [] k slot are each = tt
 slots_set list [] (s ∷ slots) k slot are each = absurd are
 slots_set list (f ∷ fs) [] k slot are each = absurd are
 slots_set list (f ∷ fs) (s ∷ slots) zero slot are each = ((λ label. absurd (true_false (sym (each f refl) ∙ label))), are.1)
 slots_set list (f ∷ fs) (s ∷ slots) (suc k) slot are each = (are.0, slots_set list fs slots k slot are.1 each)
 
-pub true_set : (list : List Member) (slots : List Slot) (k : ℕ) (f : Found) (slot : Slot) (answer : Result Value ValueFault) → AreTrue list slots → slice_get (all_found list) k ≡ Some f → is_equate f ≡ true
+pub true_set : (list : List Member) (slots : List ValueSlot) (k : ℕ) (f : FoundDefinition) (slot : ValueSlot) (answer : Result Value ValueFault) → AreTrue list slots → slice_get (all_found list) k ≡ Some f → is_equate f ≡ true
     → answer_of slot ≡ Some answer → HasValue list f answer → AreTrue list (with_slot slots k slot)
 true_set list slots k f slot answer are at equate is has = record {
   known = record { once = are.known.once; are = slots_set list (all_found list) slots k slot are.known.are (λ g there. ap is_equate (found_same g f (sym there ∙ at)) ∙ equate) };
   values = λ j g t a here there e says. by_set j g t a here e says (get_set slots k j slot t there);
 }
   where
-    by_set : (j : ℕ) (g : Found) (t : Slot) (a : Result Value ValueFault) → slice_get (all_found list) j ≡ Some g → is_equate g ≡ true → answer_of t ≡ Some a → ((j ≡ k) × (t ≡ slot)) ⊎ (slice_get slots j ≡ Some t) → HasValue list g a
+    by_set : (j : ℕ) (g : FoundDefinition) (t : ValueSlot) (a : Result Value ValueFault) → slice_get (all_found list) j ≡ Some g → is_equate g ≡ true → answer_of t ≡ Some a → ((j ≡ k) × (t ≡ slot)) ⊎ (slice_get slots j ≡ Some t) → HasValue list g a
     by_set j g t a here e says (inl own) =
         let same : g ≡ f = found_same g f (sym here ∙ ap (slice_get (all_found list)) own.0 ∙ at) in
         let told' : a ≡ answer = answer_same a answer (sym says ∙ ap answer_of own.1 ∙ is) in
-        subst (HasValue list g) (sym told') (subst (λ (x : Found). HasValue list x answer) (sym same) has)
+        subst (HasValue list g) (sym told') (subst (λ (x : FoundDefinition). HasValue list x answer) (sym same) has)
     by_set j g t a here e says (inr old) = are.values j g t a here old e says
 
-pub fewer_set : (slots : List Slot) (k : ℕ) (slot : Slot) (answer : Result Value ValueFault) → IsOpen slots k → answer_of slot ≡ Some answer → open_count (with_slot slots k slot) < open_count slots
+pub fewer_set : (slots : List ValueSlot) (k : ℕ) (slot : ValueSlot) (answer : Result Value ValueFault) → IsOpen slots k → answer_of slot ≡ Some answer → open_count (with_slot slots k slot) < open_count slots
 fewer_set [] k slot answer unset is = absurd cc
 fewer_set (s ∷ slots) zero slot answer unset is = by_slot s slot (slot_same s Open unset) is
   where
     no_answer : None ≡ Some answer → ⊥
     no_answer e = cc
 
-    by_slot : (s slot : Slot) → s ≡ Open → answer_of slot ≡ Some answer → open_count (slot ∷ slots) < open_count (s ∷ slots)
+    by_slot : (s slot : ValueSlot) → s ≡ Open → answer_of slot ≡ Some answer → open_count (slot ∷ slots) < open_count (s ∷ slots)
     by_slot Open Open e is = absurd (no_answer is)
     by_slot Open (Done v) e is = omega arith
     by_slot Open (Failed fault) e is = omega arith
@@ -169,26 +169,26 @@ fewer_set (Failed fault ∷ slots) (suc k) slot answer unset is = fewer_set slot
 
 -- ---- rows
 
-pub row_is : (list : List Member) (fs : List Found) (rows : List (List ℕ)) (k : ℕ) (f : Found) → AreRows list fs rows → slice_get fs k ≡ Some f → IsRow list f (row_at rows k)
+pub row_is : (list : List Member) (fs : List FoundDefinition) (rows : List (List ℕ)) (k : ℕ) (f : FoundDefinition) → AreRows list fs rows → slice_get fs k ≡ Some f → IsRow list f (row_at rows k)
 row_is list [] rows k f are at = absurd cc
 row_is list (g ∷ fs) [] k f are at = absurd are
-row_is list (g ∷ fs) (row ∷ rows) zero f are at = subst (λ (x : Found). IsRow list x row) (found_same g f at) are.0
+row_is list (g ∷ fs) (row ∷ rows) zero f are at = subst (λ (x : FoundDefinition). IsRow list x row) (found_same g f at) are.0
 row_is list (g ∷ fs) (row ∷ rows) (suc k) f are at = row_is list fs rows k f are.1 at
 
-pub rows_size : (list : List Member) (fs : List Found) (rows : List (List ℕ)) → AreRows list fs rows → length rows ≡ length fs
+pub rows_size : (list : List Member) (fs : List FoundDefinition) (rows : List (List ℕ)) → AreRows list fs rows → length rows ≡ length fs
 rows_size list [] [] are = refl
 rows_size list [] (row ∷ rows) are = absurd are
 rows_size list (f ∷ fs) [] are = absurd are
 rows_size list (f ∷ fs) (row ∷ rows) are = ap suc (rows_size list fs rows are.1)
 
-row_found : (list : List Member) (fs : List Found) (rows : List (List ℕ)) (k n : ℕ) → AreRows list fs rows → rings.IsIn (row_at rows k) n → (f : Found) × (slice_get fs k ≡ Some f) × IsRow list f (row_at rows k)
+row_found : (list : List Member) (fs : List FoundDefinition) (rows : List (List ℕ)) (k n : ℕ) → AreRows list fs rows → rings.IsIn (row_at rows k) n → (f : FoundDefinition) × (slice_get fs k ≡ Some f) × IsRow list f (row_at rows k)
 row_found list [] [] k n are is = absurd is
 row_found list [] (row ∷ rows) k n are is = absurd are
 row_found list (f ∷ fs) [] k n are is = absurd are
 row_found list (f ∷ fs) (row ∷ rows) zero n are is = (f, refl, are.0)
 row_found list (f ∷ fs) (row ∷ rows) (suc k) n are is = row_found list fs rows k n are.1 is
 
-get_within : (fs : List Found) (k : ℕ) (f : Found) → slice_get fs k ≡ Some f → k < length fs
+get_within : (fs : List FoundDefinition) (k : ℕ) (f : FoundDefinition) → slice_get fs k ≡ Some f → k < length fs
 get_within [] k f e = absurd cc
 get_within (g ∷ fs) zero f e = omega arith
 get_within (g ∷ fs) (suc k) f e = omega (arith, get_within fs k f e)
@@ -199,12 +199,12 @@ inside list rows are from to is =
     let there = row.2.sound to is in
     omega (arith, get_within (all_found list) to there.0 there.1, rows_size list (all_found list) rows are)
 
-pub rows_more : (list : List Member) (fs : List Found) (rows : List (List ℕ)) (f : Found) (row : List ℕ) → AreRows list (take (length rows) fs) rows → slice_get fs (length rows) ≡ Some f → IsRow list f row
+pub rows_more : (list : List Member) (fs : List FoundDefinition) (rows : List (List ℕ)) (f : FoundDefinition) (row : List ℕ) → AreRows list (take (length rows) fs) rows → slice_get fs (length rows) ≡ Some f → IsRow list f row
     → AreRows list (take (length (rows ++ row ∷ [])) fs) (rows ++ row ∷ [])
 rows_more list [] [] f row are at is = absurd cc
-rows_more list (g ∷ fs) [] f row are at is = (subst (λ (x : Found). IsRow list x row) (sym (found_same g f at)) is, none fs)
+rows_more list (g ∷ fs) [] f row are at is = (subst (λ (x : FoundDefinition). IsRow list x row) (sym (found_same g f at)) is, none fs)
   where
-    none : (xs : List Found) → AreRows list (take 0 xs) []
+    none : (xs : List FoundDefinition) → AreRows list (take 0 xs) []
     none [] = tt
     none (x ∷ xs) = tt
 rows_more list [] (r ∷ rows) f row are at is = absurd cc
@@ -212,29 +212,29 @@ rows_more list (g ∷ fs) (r ∷ rows) f row are at is = (are.0, rows_more list 
 
 -- ---- the value of an equate whose leads have theirs
 
-pub value_by : (list : List Member) (rows : List (List ℕ)) (slots : List Slot) (k : ℕ) (f : Found) → AreTrue list slots → AreRows list (all_found list) rows → slice_get (all_found list) k ≡ Some f
+pub value_by : (list : List Member) (rows : List (List ℕ)) (slots : List ValueSlot) (k : ℕ) (f : FoundDefinition) → AreTrue list slots → AreRows list (all_found list) rows → slice_get (all_found list) k ≡ Some f
     → ((n : ℕ) → rings.IsIn (row_at rows k) n → IsOpen slots n → ⊥) → HasValue list f (equate_value list (rows_of (all_found list) slots) f)
 value_by list rows slots k f are row at closed = ByOthers f table (equate_value list table f) refl others
   where
     table : List Told
     table = rows_of (all_found list) slots
 
-    by_slot : (g : Found) (n : ℕ) (s t : Slot) → slice_get (all_found list) n ≡ Some g → is_equate g ≡ true → slice_get slots n ≡ Some s → (s ≡ Open → ⊥) → t ≡ s → HasValue list g (or_open (answer_of t))
+    by_slot : (g : FoundDefinition) (n : ℕ) (s t : ValueSlot) → slice_get (all_found list) n ≡ Some g → is_equate g ≡ true → slice_get slots n ≡ Some s → (s ≡ Open → ⊥) → t ≡ s → HasValue list g (or_open (answer_of t))
     by_slot g n s Open there equate slot shut e = absurd (shut (sym e))
     by_slot g n s (Done v) there equate slot shut e = are.values n g s (Ok v) there slot equate (ap answer_of (sym e))
     by_slot g n s (Failed fault) there equate slot shut e = are.values n g s (Err fault) there slot equate (ap answer_of (sym e))
 
-    others : (g : Found) → LeadsTo list f g → HasValue list g (told table g.place g.definition.at)
+    others : (g : FoundDefinition) → LeadsTo list f g → HasValue list g (value_of_definition table g.place g.definition.at)
     others g leads =
         let n = (row_is list (all_found list) rows k f row at).whole g leads in
         let s = has_slot list (all_found list) slots n.0 g are.known.are n.2 in
         subst (HasValue list g) (sym (told_rows (all_found list) slots n.0 g s.0 are.known.once n.2 s.1 leads.equate))
-        (by_slot g n.0 s.0 s.0 n.2 leads.equate s.1 (λ unset. closed n.0 n.1 (s.1 ∙ ap (λ (t : Slot). Some t) unset)) refl)
+        (by_slot g n.0 s.0 s.0 n.2 leads.equate s.1 (λ unset. closed n.0 n.1 (s.1 ∙ ap (λ (t : ValueSlot). Some t) unset)) refl)
 
 -- ---- all values
 
-tell_rows : (list : List Member) (fs : List Found) (slots : List Slot) → AreSlots list fs slots
-    → ((k : ℕ) (f : Found) (s : Slot) → slice_get fs k ≡ Some f → slice_get slots k ≡ Some s → is_equate f ≡ true → (a : Result Value ValueFault) × (answer_of s ≡ Some a) × HasValue list f a)
+tell_rows : (list : List Member) (fs : List FoundDefinition) (slots : List ValueSlot) → AreSlots list fs slots
+    → ((k : ℕ) (f : FoundDefinition) (s : ValueSlot) → slice_get fs k ≡ Some f → slice_get slots k ≡ Some s → is_equate f ≡ true → (a : Result Value ValueFault) × (answer_of s ≡ Some a) × HasValue list f a)
     → TellValues list (filter is_equate fs) (rows_of fs slots)
 tell_rows list [] [] are each = tt
 tell_rows list [] (s ∷ slots) are each = absurd are
@@ -252,28 +252,28 @@ tell_rows list (f ∷ fs) (s ∷ slots) are each = by_test (is_equate f) refl (t
         no_row (Some a) is = ap (λ (b : Bool). cond b (record { place = f.place; at = f.definition.at; answer = a } ∷ []) []) is
 
 -- where no slot is unset they are the values
-pub all_valued : (list : List Member) (slots : List Slot) → IsOfFiles list → AreTrue list slots → ((k : ℕ) → IsOpen slots k → ⊥) → AreValues list slots
+pub all_valued : (list : List Member) (slots : List ValueSlot) → IsOfFiles list → AreTrue list slots → ((k : ℕ) → IsOpen slots k → ⊥) → AreValues list slots
 unfolding equates
 all_valued list slots of are closed = record {
   known = are.known;
   table = are_table list (rows_of (all_found list) slots)
-      (subst (λ (es : List Found). TellValues list es (rows_of (all_found list) slots)) (all_equates list) (tell_rows list (all_found list) slots are.known.are valued))
+      (subst (λ (es : List FoundDefinition). TellValues list es (rows_of (all_found list) slots)) (all_equates list) (tell_rows list (all_found list) slots are.known.are valued))
       (apart of.given list of.bytes of.resolved);
 }
   where
-    by_slot : (k : ℕ) (f : Found) (s t : Slot) → slice_get (all_found list) k ≡ Some f → slice_get slots k ≡ Some s → is_equate f ≡ true → t ≡ s → (a : Result Value ValueFault) × (answer_of t ≡ Some a) × HasValue list f a
-    by_slot k f s Open there slot equate e = absurd (closed k (slot ∙ ap (λ (t : Slot). Some t) (sym e)))
+    by_slot : (k : ℕ) (f : FoundDefinition) (s t : ValueSlot) → slice_get (all_found list) k ≡ Some f → slice_get slots k ≡ Some s → is_equate f ≡ true → t ≡ s → (a : Result Value ValueFault) × (answer_of t ≡ Some a) × HasValue list f a
+    by_slot k f s Open there slot equate e = absurd (closed k (slot ∙ ap (λ (t : ValueSlot). Some t) (sym e)))
     by_slot k f s (Done v) there slot equate e = (Ok v, refl, are.values k f s (Ok v) there slot equate (ap answer_of (sym e)))
     by_slot k f s (Failed fault) there slot equate e = (Err fault, refl, are.values k f s (Err fault) there slot equate (ap answer_of (sym e)))
 
-    valued : (k : ℕ) (f : Found) (s : Slot) → slice_get (all_found list) k ≡ Some f → slice_get slots k ≡ Some s → is_equate f ≡ true → (a : Result Value ValueFault) × (answer_of s ≡ Some a) × HasValue list f a
+    valued : (k : ℕ) (f : FoundDefinition) (s : ValueSlot) → slice_get (all_found list) k ≡ Some f → slice_get slots k ≡ Some s → is_equate f ≡ true → (a : Result Value ValueFault) × (answer_of s ≡ Some a) × HasValue list f a
     valued k f s there slot equate = by_slot k f s s there slot equate refl
 
 -- ---- rings
 
 module _ (list : List Member) (rows : List (List ℕ)) (are : AreRows list (all_found list) rows) where
   -- a way is a path
-  path_of : (a b : ℕ) (x y : Found) → Way rows a b → slice_get (all_found list) a ≡ Some x → slice_get (all_found list) b ≡ Some y → Path list x y
+  path_of : (a b : ℕ) (x y : FoundDefinition) → Way rows a b → slice_get (all_found list) a ≡ Some x → slice_get (all_found list) b ≡ Some y → Path list x y
   path_of a b x y (rings.Last from to is) here there =
       let t = (row_is list (all_found list) rows from x are here).sound to is in
       Last x y (subst (LeadsTo list x) (found_same t.0 y (sym t.1 ∙ there)) t.2)
@@ -282,7 +282,7 @@ module _ (list : List Member) (rows : List (List ℕ)) (are : AreRows list (all_
       Through x t.0 y t.2 (path_of next to t.0 y way t.1 there)
 
   -- and a path is a way
-  way_of : (a : ℕ) (x y : Found) → Path list x y → slice_get (all_found list) a ≡ Some x → (b : ℕ) × (slice_get (all_found list) b ≡ Some y) × Way rows a b
+  way_of : (a : ℕ) (x y : FoundDefinition) → Path list x y → slice_get (all_found list) a ≡ Some x → (b : ℕ) × (slice_get (all_found list) b ≡ Some y) × Way rows a b
   way_of a x y (Last from to leads) here =
       let n = (row_is list (all_found list) rows a from are here).whole to leads in
       (n.0, n.2, rings.Last a n.0 n.1)
@@ -291,19 +291,19 @@ module _ (list : List Member) (rows : List (List ℕ)) (are : AreRows list (all_
       let rest = way_of n.0 next to path n.2 in
       (rest.0, rest.1, rings.Through a n.0 rest.0 n.1 rest.2)
 
-  ends_equate : (x y : Found) → Path list x y → is_equate y ≡ true
+  ends_equate : (x y : FoundDefinition) → Path list x y → is_equate y ≡ true
   ends_equate x y (Last from to leads) = leads.equate
   ends_equate x y (Through from next to leads path) = ends_equate next to path
 
   -- an equate on a ring of equates lies on one of numbers
-  ring_of : AreOnce (all_found list) → (a : ℕ) (x : Found) → IsCircular list x → slice_get (all_found list) a ≡ Some x → rings.IsOnRing rows a
+  ring_of : AreOnce (all_found list) → (a : ℕ) (x : FoundDefinition) → IsCircular list x → slice_get (all_found list) a ≡ Some x → rings.IsOnRing rows a
   ring_of once a x ring here =
       let w = way_of a x x ring here in
       let equate = ends_equate x x ring in
       subst (Way rows a) (once w.0 a x x w.1 here equate equate refl refl) w.2
 
   -- a number on a ring is an equate's
-  ring_there : (a b : ℕ) → Way rows a b → (x : Found) × (slice_get (all_found list) b ≡ Some x)
+  ring_there : (a b : ℕ) → Way rows a b → (x : FoundDefinition) × (slice_get (all_found list) b ≡ Some x)
   ring_there a b (rings.Last from to is) = let t = (row_found list (all_found list) rows from to are is).2.sound to is in (t.0, t.1)
   ring_there a b (rings.Through from next to is way) = ring_there next to way
 
@@ -314,22 +314,22 @@ module _ (list : List Member) (rows : List (List ℕ)) (are : AreRows list (all_
       get_within (entries list) n e.0 (inside_equate list n e.0 e.1 (ends_equate e.0 e.0 (path_of n n e.0 e.0 ring e.1 e.1)))
 
   -- without rings no slot stays unset
-  pub none_open : (slots : List Slot) → IsOfFiles list → AreTrue list slots → AreSettled rows slots → ((k : ℕ) → k < length rows → rings.IsOnRing rows k → ⊥) → (k : ℕ) → IsOpen slots k → ⊥
+  pub none_open : (slots : List ValueSlot) → IsOfFiles list → AreTrue list slots → AreSettled rows slots → ((k : ℕ) → k < length rows → rings.IsOnRing rows k → ⊥) → (k : ℕ) → IsOpen slots k → ⊥
   unfolding equates
   none_open slots of true' settled none k unset =
       let e = open_equate list (all_found list) slots k true'.known.are unset in
       by_rings list Shut straight step e.0 (filter_in is_equate (entries list) e.0 (entry_in (entries list) k e.0 (inside_equate list k e.0 e.1 e.2)) e.2) k e.1 unset
     where
-      Shut : Found → Type 0
+      Shut : FoundDefinition → Type 0
       Shut f = (n : ℕ) → slice_get (all_found list) n ≡ Some f → IsOpen slots n → ⊥
 
-      straight : (g : Found) → IsIn (equates list) g → IsCircular list g → ⊥
+      straight : (g : FoundDefinition) → IsIn (equates list) g → IsCircular list g → ⊥
       straight g is ring =
           let at = entry_at (entries list) g (in_filter is_equate (entries list) g is) in
           let there = outer_at list at.0 g at.1 in
           none at.0 (omega (arith, get_within (all_found list) at.0 g there, rows_size list (all_found list) rows are)) (ring_of true'.known.once at.0 g ring there)
 
-      step : (g : Found) → IsIn (equates list) g → ((f : Found) → LeadsTo list g f → Shut f) → Shut g
+      step : (g : FoundDefinition) → IsIn (equates list) g → ((f : FoundDefinition) → LeadsTo list g f → Shut f) → Shut g
       step g is go n here unset' =
           let m = settled n unset' in
           let t = (row_is list (all_found list) rows n g are here).sound m.0 m.1 in
@@ -343,30 +343,30 @@ module _ (list : List Member) (rows : List (List ℕ)) (are : AreRows list (all_
       let at = inside_equate list n e.0 e.1 (ends_equate e.0 e.0 (path_of n n e.0 e.0 ring e.1 e.1)) in
       by_fault e.0 at (is e.0 at)
     where
-      split_at : (fs : List Found) (k : ℕ) (f : Found) → slice_get fs k ≡ Some f → (front : List Found) × (back : List Found) × (fs ≡ front ++ f ∷ back) × (k ≡ length front)
+      split_at : (fs : List FoundDefinition) (k : ℕ) (f : FoundDefinition) → slice_get fs k ≡ Some f → (front : List FoundDefinition) × (back : List FoundDefinition) × (fs ≡ front ++ f ∷ back) × (k ≡ length front)
       split_at [] k f e = absurd cc
-      split_at (g ∷ fs) zero f e = ([], fs, ap (λ (x : Found). x ∷ fs) (found_same g f e), refl)
-      split_at (g ∷ fs) (suc k) f e = let rest = split_at fs k f e in (g ∷ rest.0, rest.1, ap (λ (l : List Found). g ∷ l) rest.2, ap suc rest.3)
+      split_at (g ∷ fs) zero f e = ([], fs, ap (λ (x : FoundDefinition). x ∷ fs) (found_same g f e), refl)
+      split_at (g ∷ fs) (suc k) f e = let rest = split_at fs k f e in (g ∷ rest.0, rest.1, ap (λ (l : List FoundDefinition). g ∷ l) rest.2, ap suc rest.3)
 
-      filter-append : (xs ys : List Found) → filter is_equate (xs ++ ys) ≡ filter is_equate xs ++ filter is_equate ys
+      filter-append : (xs ys : List FoundDefinition) → filter is_equate (xs ++ ys) ≡ filter is_equate xs ++ filter is_equate ys
       filter-append [] ys = refl
       filter-append (x ∷ xs) ys = by_test (is_equate x) (filter-append xs ys)
         where
           by_test : (b : Bool) → filter is_equate (xs ++ ys) ≡ filter is_equate xs ++ filter is_equate ys
               → cond b (x ∷ filter is_equate (xs ++ ys)) (filter is_equate (xs ++ ys)) ≡ cond b (x ∷ filter is_equate xs) (filter is_equate xs) ++ filter is_equate ys
-          by_test true rest = ap (λ (l : List Found). x ∷ l) rest
+          by_test true rest = ap (λ (l : List FoundDefinition). x ∷ l) rest
           by_test false rest = rest
 
-      in_middle : (front : List Found) (x : Found) (back : List Found) → IsIn (front ++ x ∷ back) x
+      in_middle : (front : List FoundDefinition) (x : FoundDefinition) (back : List FoundDefinition) → IsIn (front ++ x ∷ back) x
       in_middle [] x back = inl refl
       in_middle (y ∷ front) x back = inr (in_middle front x back)
 
-      get_front : (xs ys : List Found) (k : ℕ) (x : Found) → slice_get xs k ≡ Some x → slice_get (xs ++ ys) k ≡ Some x
+      get_front : (xs ys : List FoundDefinition) (k : ℕ) (x : FoundDefinition) → slice_get xs k ≡ Some x → slice_get (xs ++ ys) k ≡ Some x
       get_front [] ys k x e = absurd cc
       get_front (y ∷ xs) ys zero x e = e
       get_front (y ∷ xs) ys (suc k) x e = get_front xs ys k x e
 
-      by_fault : (e : Found) → slice_get (entries list) n ≡ Some e → (fault ≡ memory_fault) ⊎ (fault ≡ record { cause = Circular; name = Some e.definition.name; spot = spot_in e.member e.definition.at })
+      by_fault : (e : FoundDefinition) → slice_get (entries list) n ≡ Some e → (fault ≡ memory_fault) ⊎ (fault ≡ record { cause = Circular; name = Some e.definition.name; spot = spot_in e.member e.definition.at })
           → IsRingRefused list fault
       by_fault e at (inl memory) = inl memory
       by_fault e at (inr told') =
@@ -383,46 +383,46 @@ module _ (list : List Member) (rows : List (List ℕ)) (are : AreRows list (all_
             after = filter is_equate s.1;
             parts = parts;
             none = λ before other rest its split has.
-                let inside' : IsIn front other = subst (λ (l : List Found). IsIn l other) (sym split) (in_middle before other rest) in
+                let inside' : IsIn front other = subst (λ (l : List FoundDefinition). IsIn l other) (sym split) (in_middle before other rest) in
                 let k = entry_at s.0 other (in_filter is_equate s.0 other inside') in
-                let own : slice_get (entries list) k.0 ≡ Some other = ap (λ (l : List Found). slice_get l k.0) s.2 ∙ get_front s.0 (e ∷ s.1) k.0 other k.1 in
+                let own : slice_get (entries list) k.0 ≡ Some other = ap (λ (l : List FoundDefinition). slice_get l k.0) s.2 ∙ get_front s.0 (e ∷ s.1) k.0 other k.1 in
                 none k.0 (omega (arith, get_within s.0 k.0 other k.1, s.3)) (ring_of once k.0 other has.ring (outer_at list k.0 other own));
-            here = record { ring = path; told = told' };
+            here = record { ring = path; value_of_definition = told' };
           })
 
 -- ---- where an equate stands
 
-pub told_there : (list : List Member) (k : ℕ) (d : ToldSymbol) → Some d ≡ option_map (told_symbol list) (slice_get (all_found list) k) → (f : Found) × (slice_get (all_found list) k ≡ Some f) × (d ≡ told_symbol list f)
+pub told_there : (list : List Member) (k : ℕ) (d : ToldSymbol) → Some d ≡ option_map (told_symbol list) (slice_get (all_found list) k) → (f : FoundDefinition) × (slice_get (all_found list) k ≡ Some f) × (d ≡ told_symbol list f)
 told_there list k d e = by_found (slice_get (all_found list) k) refl e
   where
     same : (x y : ToldSymbol) → Some x ≡ Some y → x ≡ y
     same x y e = cc
 
-    by_found : (o : Option Found) → slice_get (all_found list) k ≡ o → Some d ≡ option_map (told_symbol list) o → (f : Found) × (slice_get (all_found list) k ≡ Some f) × (d ≡ told_symbol list f)
+    by_found : (o : Option FoundDefinition) → slice_get (all_found list) k ≡ o → Some d ≡ option_map (told_symbol list) o → (f : FoundDefinition) × (slice_get (all_found list) k ≡ Some f) × (d ≡ told_symbol list f)
     by_found None is e = absurd cc
     by_found (Some f) is e = (f, is, same d (told_symbol list f) e)
 
-module _ (list : List Member) (of : IsOfFiles list) (k : ℕ) (f : Found) (at : slice_get (entries list) k ≡ Some f) (place : ℕ) (place_is : place ≡ f.place) where
+module _ (list : List Member) (of : IsOfFiles list) (k : ℕ) (f : FoundDefinition) (at : slice_get (entries list) k ≡ Some f) (place : ℕ) (place_is : place ≡ f.place) where
   there : member_at list place ≡ Some f.member
   there = ap (member_at list) place_is ∙ place_there list f.place f.member f.definition.place (definition_place list k f at)
 
   pub no_seat : SeatOf list place (member_at list place) None → ⊥
   no_seat seat = subst (λ (o : Option Member). SeatOf list place o None) there seat
 
-  pub its_seat : (seat : Seat) → SeatOf list place (member_at list place) (Some seat) → (seat.place ≡ place) × IsSeat list f.member seat
+  pub its_seat : (seat : MemberPlace) → SeatOf list place (member_at list place) (Some seat) → (seat.place ≡ place) × IsSeat list f.member seat
   its_seat seat is = subst (λ (o : Option Member). SeatOf list place o (Some seat)) there is
 
-  pub seat_near : (seat : Seat) (here : ℕ) → SeatOf list place (member_at list place) (Some seat) → here ≡ f.definition.place → seat.offset + here < 2 ^ 32
+  pub seat_near : (seat : MemberPlace) (here : ℕ) → SeatOf list place (member_at list place) (Some seat) → here ≡ f.definition.place → seat.offset + here < 2 ^ 32
   seat_near seat here is here_is =
       let s = its_seat seat is in
       let near = near_of list of f.place f.member f.definition.place (definition_place list k f at) in
       let offset : seat.offset ≡ offset_of list f.place f.member = s.1.offset' ∙ ap (λ (n : ℕ). offset_of list n f.member) (s.0 ∙ place_is) in
       omega (arith, near, offset, here_is)
 
-  pub seat_spelled : (seat : Seat) (text : List ℕ) → SeatOf list place (member_at list place) (Some seat) → f.definition.expr ≡ Some text → IsExpression seat.lab_len text
+  pub seat_spelled : (seat : MemberPlace) (text : List ℕ) → SeatOf list place (member_at list place) (Some seat) → f.definition.expr ≡ Some text → IsExpression seat.lab_len text
   seat_spelled seat text is expr = subst (λ (l : ℕ). IsExpression l text) (sym (its_seat seat is).1.lab_len') (spelled_of list of k f text at expr)
 
-  pub equate_worth : (seat : Seat) (here : ℕ) (text : List ℕ) (table : List Told) (r : Result Value ValueFault) → SeatOf list place (member_at list place) (Some seat) → here ≡ f.definition.place → f.definition.expr ≡ Some text
+  pub equate_worth : (seat : MemberPlace) (here : ℕ) (text : List ℕ) (table : List Told) (r : Result Value ValueFault) → SeatOf list place (member_at list place) (Some seat) → here ≡ f.definition.place → f.definition.expr ≡ Some text
       → ((m : Member) → IsSeat list m seat → r ≡ value_in list table seat.place m here text) → r ≡ equate_value list table f
   equate_worth seat here text table r is here_is expr value =
       let s = its_seat seat is in
@@ -437,32 +437,32 @@ module _ (list : List Member) (of : IsOfFiles list) (k : ℕ) (f : Found) (at : 
       by_expr (Some t) e = let same : text ≡ t = cc in ap (value_in list table f.place f.member f.definition.place) same
 
 -- a definition with a number is one
-pub one_found : (list : List Member) (k : ℕ) (f g : Found) → slice_get (all_found list) k ≡ Some f → slice_get (all_found list) k ≡ Some g → f ≡ g
+pub one_found : (list : List Member) (k : ℕ) (f g : FoundDefinition) → slice_get (all_found list) k ≡ Some f → slice_get (all_found list) k ≡ Some g → f ≡ g
 one_found list k f g here there = found_same f g (sym here ∙ there)
 
 -- ---- a pass
 
-pub fewer_on : (old new first : List Slot) (b : Bool) → (b ≡ true → open_count old < open_count first) → (b ≡ false → old ≡ first) → open_count new < open_count old → open_count new < open_count first
+pub fewer_on : (old new first : List ValueSlot) (b : Bool) → (b ≡ true → open_count old < open_count first) → (b ≡ false → old ≡ first) → open_count new < open_count old → open_count new < open_count first
 fewer_on old new first true fewer same less = omega (arith, less, fewer refl)
 fewer_on old new first false fewer same less = omega (arith, less, ap open_count (same refl))
 
-pub settled_on : (rows : List (List ℕ)) (old first : List Slot) (number : ℕ) → old ≡ first → ((k : ℕ) → k < number → IsOpen first k → (n : ℕ) × rings.IsIn (row_at rows k) n × IsOpen first n)
+pub settled_on : (rows : List (List ℕ)) (old first : List ValueSlot) (number : ℕ) → old ≡ first → ((k : ℕ) → k < number → IsOpen first k → (n : ℕ) × rings.IsIn (row_at rows k) n × IsOpen first n)
     → (IsOpen old number → (n : ℕ) × rings.IsIn (row_at rows number) n × IsOpen old n) → (k : ℕ) → k < number + 1 → IsOpen first k → (n : ℕ) × rings.IsIn (row_at rows k) n × IsOpen first n
 settled_on rows old first number same before here k lt unset = by_place (cases_lt k number)
   where
     moved : (k : ℕ) → IsOpen first k → IsOpen old k
-    moved k is = subst (λ (l : List Slot). IsOpen l k) (sym same) is
+    moved k is = subst (λ (l : List ValueSlot). IsOpen l k) (sym same) is
 
     by_place : (k < number) ⊎ (number ≤ k) → (n : ℕ) × rings.IsIn (row_at rows k) n × IsOpen first n
     by_place (inl less) = before k less unset
     by_place (inr le) =
         let is : k ≡ number = omega (arith, lt, le) in
         let h = here (subst (IsOpen old) is (moved k unset)) in
-        (h.0, subst (λ (j : ℕ). rings.IsIn (row_at rows j) h.0) (sym is) h.1, subst (λ (l : List Slot). IsOpen l h.0) same h.2)
+        (h.0, subst (λ (j : ℕ). rings.IsIn (row_at rows j) h.0) (sym is) h.1, subst (λ (l : List ValueSlot). IsOpen l h.0) same h.2)
 
-pub all_settled : (list : List Member) (rows : List (List ℕ)) (slots first : List Slot) (number : ℕ) → AreRows list (all_found list) rows → AreTrue list slots → slots ≡ first → length rows ≤ number
+pub all_settled : (list : List Member) (rows : List (List ℕ)) (slots first : List ValueSlot) (number : ℕ) → AreRows list (all_found list) rows → AreTrue list slots → slots ≡ first → length rows ≤ number
     → ((k : ℕ) → k < number → IsOpen first k → (n : ℕ) × rings.IsIn (row_at rows k) n × IsOpen first n) → AreSettled rows slots
 all_settled list rows slots first number are true' same past each k unset =
     let e = open_equate list (all_found list) slots k true'.known.are unset in
-    let h = each k (omega (arith, get_within (all_found list) k e.0 e.1, rows_size list (all_found list) rows are, past)) (subst (λ (l : List Slot). IsOpen l k) same unset) in
-    (h.0, h.1, subst (λ (l : List Slot). IsOpen l h.0) (sym same) h.2)
+    let h = each k (omega (arith, get_within (all_found list) k e.0 e.1, rows_size list (all_found list) rows are, past)) (subst (λ (l : List ValueSlot). IsOpen l k) same unset) in
+    (h.0, h.1, subst (λ (l : List ValueSlot). IsOpen l h.0) (sym same) h.2)

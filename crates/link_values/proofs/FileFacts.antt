@@ -16,8 +16,8 @@ use Rattle.link_meaning.specs.Member.{Member}
 use Rattle.link_meaning.specs.Defines.{Definition, defined_by}
 use Rattle.link_meaning.specs.Terms.{asks_value}
 use Rattle.link_meaning.specs.Uses.{Use, used_by_term, used_by, uses_of}
-use Rattle.link_meaning.specs.Search.{Found, entries, finds}
-use Rattle.link_meaning.specs.LinkedList.{asked_from, asked, found_for}
+use Rattle.link_meaning.specs.Search.{FoundDefinition, entries, finds}
+use Rattle.link_meaning.specs.LinkedList.{asked_from, all_uses, found_for}
 use Rattle.link_meaning.specs.Layout.{load_names, offset_of}
 use Rattle.link_meaning.specs.Rings.{has_expr}
 use Rattle.link_meaning.specs.LinkValues.{place_value}
@@ -71,12 +71,12 @@ place_there list place m at is = ap (member_at list) is.number ∙ parts_there l
 
 -- ---- definitions
 
-pub entry_at : (fs : List Found) (f : Found) → IsIn fs f → (k : ℕ) × (slice_get fs k ≡ Some f)
+pub entry_at : (fs : List FoundDefinition) (f : FoundDefinition) → IsIn fs f → (k : ℕ) × (slice_get fs k ≡ Some f)
 entry_at [] f is = absurd is
-entry_at (g ∷ fs) f (inl e) = (zero, ap (λ (x : Found). Some x) e)
+entry_at (g ∷ fs) f (inl e) = (zero, ap (λ (x : FoundDefinition). Some x) e)
 entry_at (g ∷ fs) f (inr more) = let rest = entry_at fs f more in (suc rest.0, rest.1)
 
-pub definition_place : (list : List Member) (k : ℕ) (f : Found) → slice_get (entries list) k ≡ Some f → IsPlaceIn list f.place f.member f.definition.place
+pub definition_place : (list : List Member) (k : ℕ) (f : FoundDefinition) → slice_get (entries list) k ≡ Some f → IsPlaceIn list f.place f.member f.definition.place
 definition_place list k f at = entry_there list f (entry_in (entries list) k f at)
 
 pub once_of : (list : List Member) → IsOfFiles list → AreOnce (all_found list)
@@ -134,14 +134,14 @@ equate_record s at place (Equate global name size form private expr) d text amon
 equate_record s at place (Formula code count n expr) d text among is e = absurd is
 equate_record s at place (Entry segment offset name) d text among is e = absurd is
 
-of_equate : (list : List Member) (k : ℕ) (f : Found) (text : List ℕ) → slice_get (entries list) k ≡ Some f → f.definition.expr ≡ Some text → OfEquate f.member.segment text
+of_equate : (list : List Member) (k : ℕ) (f : FoundDefinition) (text : List ℕ) → slice_get (entries list) k ≡ Some f → f.definition.expr ≡ Some text → OfEquate f.member.segment text
 of_equate list k f text at e =
     let s = f.member.segment in
     let there = in_records 0 s.records f.definition (of_record s f.definition (in_entries_is list f (entry_in (entries list) k f at)) (ap has_expr e)) in
     equate_record s there.0.at there.0.location there.0.content f.definition text (from_located 0 s.records there.0 there.1) there.2 e
 
 -- its expression is one
-pub spelled_of : (list : List Member) → IsOfFiles list → (k : ℕ) (f : Found) (text : List ℕ) → slice_get (entries list) k ≡ Some f → f.definition.expr ≡ Some text → IsExpression f.member.segment.fields.lab_len text
+pub spelled_of : (list : List Member) → IsOfFiles list → (k : ℕ) (f : FoundDefinition) (text : List ℕ) → slice_get (entries list) k ≡ Some f → f.definition.expr ≡ Some text → IsExpression f.member.segment.fields.lab_len text
 spelled_of list of k f text at e =
     let s = f.member.segment in
     let r = of_equate list k f text at e in
@@ -204,7 +204,7 @@ in_flat f [] x y is there = absurd is
 in_flat {A} {B} f (z ∷ xs) x y (inl e) there = subst (λ (l : List B). IsIn l y) (sym (flat_map-cons f z xs)) (in_left (f z) (flat_map f xs) y (subst (λ (w : A). IsIn (f w) y) (sym e) there))
 in_flat {A} {B} f (z ∷ xs) x y (inr more) there = subst (λ (l : List B). IsIn l y) (sym (flat_map-cons f z xs)) (in_right (f z) (flat_map f xs) y (in_flat f xs x y more there))
 
-one_of : (want : Want) (found : List Found) (f g : Found) → (want ≡ Any) ⊎ (want ≡ One) → use_cause want found ≡ None → IsIn found f → IsIn found g → f ≡ g
+one_of : (want : Want) (found : List FoundDefinition) (f g : FoundDefinition) → (want ≡ Any) ⊎ (want ≡ One) → use_cause want found ≡ None → IsIn found f → IsIn found g → f ≡ g
 one_of want [] f g wants e is there = absurd is
 one_of want (x ∷ []) f g wants e (inl a) (inl b) = sym a ∙ b
 one_of want (x ∷ []) f g wants e (inl a) (inr b) = absurd b
@@ -219,9 +219,9 @@ one_of want (x ∷ y ∷ more) f g (inr one) e is there = absurd (several (ap (�
     several e = cc
 
 -- a name of an equate's expression finds one thing at most
-pub find_one_of : (list : List Member) → IsOfFiles list → (k : ℕ) (e : Found) (text : List ℕ) → slice_get (entries list) k ≡ Some e → e.definition.expr ≡ Some text
+pub find_one_of : (list : List Member) → IsOfFiles list → (k : ℕ) (e : FoundDefinition) (text : List ℕ) → slice_get (entries list) k ≡ Some e → e.definition.expr ≡ Some text
     → FindOne list e.place e.member (flat_map (λ placed. asks_value placed.1) (terms_in e.member.segment.fields.lab_len 0 text))
-unfolding asked uses_of
+unfolding all_uses uses_of
 find_one_of list of k e text at has name f g asks is there =
     let s = e.member.segment in
     let r = of_equate list k e text at has in

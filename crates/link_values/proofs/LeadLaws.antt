@@ -11,14 +11,14 @@ use Rattle.link_meaning.specs.First.{IsIn}
 use Rattle.link_meaning.specs.Member.{Member}
 use Rattle.link_meaning.specs.Terms.{asks_value, asked_by, asked_in}
 use Rattle.link_meaning.specs.laws.TreeInLaws.{tree_in-again}
-use Rattle.link_meaning.specs.Search.{Found, entries, finds}
+use Rattle.link_meaning.specs.Search.{FoundDefinition, entries, finds}
 use Rattle.link_program.specs.Outside.{all_found}
 use Rattle.link_meaning.specs.Rings.{is_equate, names_in}
 use Rattle.link_program.specs.Linked.{member_at}
 use Rattle.link_program.specs.Finding.{IsFirstOf, finds_for}
-use Rattle.rings.specs.Graphs as rings
-use Rattle.link_values.specs.declared.slots.Slot.{Slot}
-use Rattle.link_values.specs.declared.slots.Slot.TheVariants.{Open, Done}
+use Rattle.cycles.specs.Graphs as rings
+use Rattle.link_values.specs.declared.slots.ValueSlot.{ValueSlot}
+use Rattle.link_values.specs.declared.slots.ValueSlot.TheVariants.{Open, Done}
 use Rattle.link_values.specs.Equates.{AreFirstSlots, IsOpen, IsRow, NameRow, FindOne}
 use Rattle.link_values.proofs.ValueLaws.{placed-append}
 use Rattle.link_program.specs.OfFiles.{IsOfFiles}
@@ -100,13 +100,13 @@ row_pushed (z ∷ xs) n x (inr more) = elim (row_pushed xs n x more) [
 ]
 
 more_sound : (list : List Member) (place : ℕ) (m : Member) (names : List (List ℕ)) (name : List ℕ) (row : List ℕ) → NameRow list place m names row → (k : ℕ) → rings.IsIn row k
-    → (f : Found) × (slice_get (all_found list) k ≡ Some f) × ((other : List ℕ) × IsIn (names ++ name ∷ []) other × IsIn (finds list place m other) f) × (is_equate f ≡ true)
+    → (f : FoundDefinition) × (slice_get (all_found list) k ≡ Some f) × ((other : List ℕ) × IsIn (names ++ name ∷ []) other × IsIn (finds list place m other) f) × (is_equate f ≡ true)
 more_sound list place m names name row is k there =
     let s = is.sound k there in
     (s.0, s.1, (s.2.0, in_left names (name ∷ []) s.2.0 s.2.1, s.2.2), s.3)
 
 -- a name that finds no equate
-pub name_without : (list : List Member) (place : ℕ) (m : Member) (names : List (List ℕ)) (name : List ℕ) (row : List ℕ) → ((f : Found) → IsIn (finds list place m name) f → is_equate f ≡ true → ⊥)
+pub name_without : (list : List Member) (place : ℕ) (m : Member) (names : List (List ℕ)) (name : List ℕ) (row : List ℕ) → ((f : FoundDefinition) → IsIn (finds list place m name) f → is_equate f ≡ true → ⊥)
     → NameRow list place m names row → NameRow list place m (names ++ name ∷ []) row
 name_without list place m names name row none is = record {
   sound = more_sound list place m names name row is;
@@ -117,22 +117,22 @@ name_without list place m names name row none is = record {
 }
 
 -- a name that finds one
-pub name_with : (list : List Member) (place : ℕ) (m : Member) (names : List (List ℕ)) (name : List ℕ) (row : List ℕ) (n : ℕ) (f : Found) → slice_get (all_found list) n ≡ Some f → is_equate f ≡ true
-    → IsIn (finds list place m name) f → ((g : Found) → IsIn (finds list place m name) g → f ≡ g) → NameRow list place m names row → NameRow list place m (names ++ name ∷ []) (row ++ n ∷ [])
+pub name_with : (list : List Member) (place : ℕ) (m : Member) (names : List (List ℕ)) (name : List ℕ) (row : List ℕ) (n : ℕ) (f : FoundDefinition) → slice_get (all_found list) n ≡ Some f → is_equate f ≡ true
+    → IsIn (finds list place m name) f → ((g : FoundDefinition) → IsIn (finds list place m name) g → f ≡ g) → NameRow list place m names row → NameRow list place m (names ++ name ∷ []) (row ++ n ∷ [])
 name_with list place m names name row n f at equate found one is = record {
   sound = λ k there. by_sound k (row_pushed row n k there);
   whole = λ g other asked finds' equate'. by_whole g other finds' equate' (in_pushed names name other asked);
 }
   where
-    by_sound : (k : ℕ) → rings.IsIn row k ⊎ (n ≡ k) → (f : Found) × (slice_get (all_found list) k ≡ Some f) × ((other : List ℕ) × IsIn (names ++ name ∷ []) other × IsIn (finds list place m other) f) × (is_equate f ≡ true)
+    by_sound : (k : ℕ) → rings.IsIn row k ⊎ (n ≡ k) → (f : FoundDefinition) × (slice_get (all_found list) k ≡ Some f) × ((other : List ℕ) × IsIn (names ++ name ∷ []) other × IsIn (finds list place m other) f) × (is_equate f ≡ true)
     by_sound k (inl h) = more_sound list place m names name row is k h
     by_sound k (inr e) = (f, subst (λ (x : ℕ). slice_get (all_found list) x ≡ Some f) e at, (name, in_right names (name ∷ []) name (inl refl), found), equate)
 
-    by_whole : (g : Found) (other : List ℕ) → IsIn (finds list place m other) g → is_equate g ≡ true → IsIn names other ⊎ (name ≡ other) → (k : ℕ) × rings.IsIn (row ++ n ∷ []) k × (slice_get (all_found list) k ≡ Some g)
+    by_whole : (g : FoundDefinition) (other : List ℕ) → IsIn (finds list place m other) g → is_equate g ≡ true → IsIn names other ⊎ (name ≡ other) → (k : ℕ) × rings.IsIn (row ++ n ∷ []) k × (slice_get (all_found list) k ≡ Some g)
     by_whole g other finds' equate' (inl h) = let w = is.whole g other h finds' equate' in (w.0, row_front row n w.0 w.1, w.2)
     by_whole g other finds' equate' (inr e) =
         let same : f ≡ g = one g (subst (λ (x : List ℕ). IsIn (finds list place m x) g) (sym e) finds') in
-        (n, row_last row n, subst (λ (x : Found). slice_get (all_found list) n ≡ Some x) same at)
+        (n, row_last row n, subst (λ (x : FoundDefinition). slice_get (all_found list) n ≡ Some x) same at)
 
 -- ---- what the number of the first that was found says
 
@@ -141,46 +141,46 @@ finds_there : (list : List Member) (place : ℕ) (m : Member) (name : List ℕ) 
 finds_there list place m name o there first = subst (λ (x : Option Member). IsFirstOf (all_found list) (finds_for list place x name) o) there first
 
 pub found_none : (list : List Member) (place : ℕ) (m : Member) (name : List ℕ) → member_at list place ≡ Some m → IsFirstOf (all_found list) (finds_for list place (member_at list place) name) None
-    → (f : Found) → IsIn (finds list place m name) f → is_equate f ≡ true → ⊥
+    → (f : FoundDefinition) → IsIn (finds list place m name) f → is_equate f ≡ true → ⊥
 found_none list place m name there first f is equate = by_found (finds list place m name) (finds_there list place m name None there first) is
   where
-    by_found : (found : List Found) → IsFirstOf (all_found list) found None → IsIn found f → ⊥
+    by_found : (found : List FoundDefinition) → IsFirstOf (all_found list) found None → IsIn found f → ⊥
     by_found [] first is = is
     by_found (g ∷ found) first is = first
 
 pub found_some : (list : List Member) (place : ℕ) (m : Member) (name : List ℕ) (n : ℕ) → member_at list place ≡ Some m → IsFirstOf (all_found list) (finds_for list place (member_at list place) name) (Some n)
-    → (f : Found) × (slice_get (all_found list) n ≡ Some f) × IsIn (finds list place m name) f
+    → (f : FoundDefinition) × (slice_get (all_found list) n ≡ Some f) × IsIn (finds list place m name) f
 found_some list place m name n there first = by_found (finds list place m name) refl (finds_there list place m name (Some n) there first)
   where
-    by_found : (found : List Found) → finds list place m name ≡ found → IsFirstOf (all_found list) found (Some n) → (f : Found) × (slice_get (all_found list) n ≡ Some f) × IsIn (finds list place m name) f
+    by_found : (found : List FoundDefinition) → finds list place m name ≡ found → IsFirstOf (all_found list) found (Some n) → (f : FoundDefinition) × (slice_get (all_found list) n ≡ Some f) × IsIn (finds list place m name) f
     by_found [] e first = absurd first
-    by_found (f ∷ found) e first = (f, first, subst (λ (l : List Found). IsIn l f) (sym e) (inl refl))
+    by_found (f ∷ found) e first = (f, first, subst (λ (l : List FoundDefinition). IsIn l f) (sym e) (inl refl))
 
 open_done : (v : Value) → Open ≡ Done v → ⊥
 open_done v e = cc
 
-has_slot_at : (list : List Member) (fs : List Found) (slots : List Slot) (n : ℕ) (f : Found) → AreFirstSlots list fs slots → slice_get fs n ≡ Some f → (s : Slot) × (slice_get slots n ≡ Some s)
+has_slot_at : (list : List Member) (fs : List FoundDefinition) (slots : List ValueSlot) (n : ℕ) (f : FoundDefinition) → AreFirstSlots list fs slots → slice_get fs n ≡ Some f → (s : ValueSlot) × (slice_get slots n ≡ Some s)
 has_slot_at list [] slots n f are here = absurd cc
 has_slot_at list (g ∷ fs) [] n f are here = absurd are
 has_slot_at list (g ∷ fs) (s ∷ slots) zero f are here = (s, refl)
 has_slot_at list (g ∷ fs) (s ∷ slots) (suc k) f are here = has_slot_at list fs slots k f are.1 here
 
 -- an unset slot is an equate's
-pub open_is : (list : List Member) (slots : List Slot) (n : ℕ) (f : Found) → AreFirstSlots list (all_found list) slots → slice_get (all_found list) n ≡ Some f → IsOpen slots n → is_equate f ≡ true
+pub open_is : (list : List Member) (slots : List ValueSlot) (n : ℕ) (f : FoundDefinition) → AreFirstSlots list (all_found list) slots → slice_get (all_found list) n ≡ Some f → IsOpen slots n → is_equate f ≡ true
 open_is list slots n f are at unset = by_test (is_equate f) refl
   where
     by_test : (b : Bool) → is_equate f ≡ b → is_equate f ≡ true
     by_test true is = is
     by_test false is = absurd (open_done _ ((first_at list (all_found list) slots n f Open are at unset).label is))
 
-pub shut_is : (list : List Member) (slots : List Slot) (n : ℕ) (f : Found) → AreFirstSlots list (all_found list) slots → slice_get (all_found list) n ≡ Some f → (IsOpen slots n → ⊥) → is_equate f ≡ true → ⊥
+pub shut_is : (list : List Member) (slots : List ValueSlot) (n : ℕ) (f : FoundDefinition) → AreFirstSlots list (all_found list) slots → slice_get (all_found list) n ≡ Some f → (IsOpen slots n → ⊥) → is_equate f ≡ true → ⊥
 shut_is list slots n f are at shut equate =
     let s = has_slot_at list (all_found list) slots n f are at in
-    shut (s.1 ∙ ap (λ (t : Slot). Some t) ((first_at list (all_found list) slots n f s.0 are at s.1).equate equate))
+    shut (s.1 ∙ ap (λ (t : ValueSlot). Some t) ((first_at list (all_found list) slots n f s.0 are at s.1).equate equate))
 
 -- ---- the row of a definition
 
-pub row_of_names : (list : List Member) (e : Found) (text : List ℕ) (t : Tree) (row : List ℕ) → e.definition.expr ≡ Some text → Spells e.member.segment.fields.lab_len text t
+pub row_of_names : (list : List Member) (e : FoundDefinition) (text : List ℕ) (t : Tree) (row : List ℕ) → e.definition.expr ≡ Some text → Spells e.member.segment.fields.lab_len text t
     → NameRow list e.place e.member (flat_map (λ placed. asks_value placed.1) (terms_in e.member.segment.fields.lab_len 0 text)) row → IsRow list e row
 row_of_names list e text t row has spells is = record {
   sound = λ k there. let s = is.sound k there in (s.0, s.1, record { name = s.2.0; asked = subst (λ (l : List (List ℕ)). IsIn l s.2.0) (sym names) s.2.1; found = s.2.2; equate = s.3 });
@@ -212,7 +212,7 @@ split_terms (x ∷ all) rest t e is =
     ap (λ (y : ℕ × Term). y ∷ all) (sym same) ∙ ap (λ (l : List (ℕ × Term)). t ∷ l) (sym is)
 
 -- the row of the names that an equate's expression asks for
-pub row_from : (list : List Member) → IsOfFiles list → (k : ℕ) (f : Found) → slice_get (entries list) k ≡ Some f → (place l : ℕ) (text row old : List ℕ) → f.definition.expr ≡ Some text → place ≡ f.place
+pub row_from : (list : List Member) → IsOfFiles list → (k : ℕ) (f : FoundDefinition) → slice_get (entries list) k ≡ Some f → (place l : ℕ) (text row old : List ℕ) → f.definition.expr ≡ Some text → place ≡ f.place
     → l ≡ f.member.segment.fields.lab_len → member_at list place ≡ Some f.member → old ≡ []
     → ((m : Member) → member_at list place ≡ Some m → FindOne list place m (flat_map (λ placed. asks_value placed.1) (terms_in l 0 text)) → old ≡ [] → NameRow list place m (flat_map (λ placed. asks_value placed.1) (terms_in l 0 text)) row)
     → IsRow list f row

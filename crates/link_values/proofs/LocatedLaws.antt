@@ -6,7 +6,7 @@ use Rattle.link_meaning.specs.declared.fault.LinkCause.{LinkCause}
 use Rattle.link_meaning.specs.Sizes.{Located, size_at, located_from, place_behind}
 use Rattle.link_meaning.specs.Member.{Member}
 use Rattle.link_meaning.specs.LinkValues.{Told}
-use Rattle.link_meaning.specs.LinkedCells.{Item, State, Made, made, gained, state_from}
+use Rattle.link_meaning.specs.LinkedCells.{Item, LinkState, Made, made, state_after_item, state_from}
 use Rattle.link_meaning.specs.LinkWritten.{AreMade}
 use Rattle.link_meaning.specs.laws.LinkedRuns.{item, state_from-append}
 
@@ -30,20 +30,20 @@ pub items-more : (place : ℕ) (m : Member) (xs : List (ℕ × Record)) (found :
     → map (item place m) (located_from 0 (xs ++ found ∷ [])) ≡ map (item place m) (located_from 0 xs) ++ item place m (one_located found (place_behind 0 xs)) ∷ []
 items-more place m xs found = ap (map (item place m)) (located-append 0 xs found) ∙ map-append (item place m) (located_from 0 xs) (one_located found (place_behind 0 xs) ∷ [])
 
-pub made-more : (list : List Member) (told : List Told) (state : State) (xs : List Item) (i : Item) (x : Made) → AreMade list told state xs → made list told (state_from list told state xs) i ≡ Ok x → AreMade list told state (xs ++ i ∷ [])
+pub made-more : (list : List Member) (told : List Told) (state : LinkState) (xs : List Item) (i : Item) (x : Made) → AreMade list told state xs → made list told (state_from list told state xs) i ≡ Ok x → AreMade list told state (xs ++ i ∷ [])
 made-more list told state [] i x are is = (x, is, tt)
-made-more list told state (j ∷ xs) i x are is = (are.0, are.1, made-more list told (gained state j (made list told state j)) xs i x are.2 is)
+made-more list told state (j ∷ xs) i x are is = (are.0, are.1, made-more list told (state_after_item state j (made list told state j)) xs i x are.2 is)
 
-pub made-append : (list : List Member) (told : List Told) (state : State) (xs ys : List Item) → AreMade list told state xs → AreMade list told (state_from list told state xs) ys → AreMade list told state (xs ++ ys)
+pub made-append : (list : List Member) (told : List Told) (state : LinkState) (xs ys : List Item) → AreMade list told state xs → AreMade list told (state_from list told state xs) ys → AreMade list told state (xs ++ ys)
 made-append list told state [] ys are more = more
-made-append list told state (x ∷ xs) ys are more = (are.0, are.1, made-append list told (gained state x (made list told state x)) xs ys are.2 more)
+made-append list told state (x ∷ xs) ys are more = (are.0, are.1, made-append list told (state_after_item state x (made list told state x)) xs ys are.2 more)
 
-pub state-more : (list : List Member) (told : List Told) (state : State) (xs : List Item) (i : Item) (x : Made) → made list told (state_from list told state xs) i ≡ Ok x
-    → state_from list told state (xs ++ i ∷ []) ≡ gained (state_from list told state xs) i (Ok x)
-state-more list told state xs i x is = state_from-append list told state xs (i ∷ []) ∙ ap (gained (state_from list told state xs) i) is
+pub state-more : (list : List Member) (told : List Told) (state : LinkState) (xs : List Item) (i : Item) (x : Made) → made list told (state_from list told state xs) i ≡ Ok x
+    → state_from list told state (xs ++ i ∷ []) ≡ state_after_item (state_from list told state xs) i (Ok x)
+state-more list told state xs i x is = state_from-append list told state xs (i ∷ []) ∙ ap (state_after_item (state_from list told state xs) i) is
 
 -- behind a record of the member the cells are the member's
-pub state-there : (list : List Member) (told : List Told) (state : State) (place : ℕ) (m : Member) (rs : List Located) → AreMade list told state (map (item place m) rs) → (state.place ≡ place) ⊎ ((r : Located) × (more : List Located) × (rs ≡ r ∷ more))
+pub state-there : (list : List Member) (told : List Told) (state : LinkState) (place : ℕ) (m : Member) (rs : List Located) → AreMade list told state (map (item place m) rs) → (state.place ≡ place) ⊎ ((r : Located) × (more : List Located) × (rs ≡ r ∷ more))
     → (state_from list told state (map (item place m) rs)).place ≡ place
 state-there list told state place m [] are (inl is) = is
 state-there list told state place m [] are (inr some) = absurd (none some.0 some.1 some.2)
@@ -51,4 +51,4 @@ state-there list told state place m [] are (inr some) = absurd (none some.0 some
     none : (r : Located) (more : List Located) → [] ≡ r ∷ more → ⊥
     none r more e = cc
 state-there list told state place m (r ∷ rs) are some =
-    state-there list told (gained state (item place m r) (made list told state (item place m r))) place m rs are.2 (inl (ap (λ (g : Result Made LinkCause). (gained state (item place m r) g).place) are.1))
+    state-there list told (state_after_item state (item place m r) (made list told state (item place m r))) place m rs are.2 (inl (ap (λ (g : Result Made LinkCause). (state_after_item state (item place m r) g).place) are.1))

@@ -6,14 +6,14 @@ use Rattle.omf_format.specs.File.{Segment}
 use Rattle.link_meaning.specs.Member.{Member}
 use Rattle.link_meaning.specs.Layout.{load_of, offset_of}
 use Rattle.link_program.specs.Outside.{all_found}
-use Rattle.link_meaning.specs.LinkValues.{place_value, environment}
+use Rattle.link_meaning.specs.LinkValues.{place_value, member_environment}
 use Rattle.link_program.specs.declared.program.LinkMember.{LinkMember}
 use Rattle.link_program.specs.Linked.{member_at}
 use Rattle.link_program.specs.Programs.{linked_at}
-use Rattle.link_values.specs.declared.seat.Seat.{Seat}
-use Rattle.link_values.specs.declared.slots.Slot.{Slot}
+use Rattle.link_values.specs.declared.member_place.MemberPlace.{MemberPlace}
+use Rattle.link_values.specs.declared.slots.ValueSlot.{ValueSlot}
 use Rattle.link_values.specs.Slots.{rows_of}
-use Rattle.link_values.specs.Seats.{SeatOf, meets}
+use Rattle.link_values.specs.Seats.{SeatOf, environment_in_member}
 
 abbrev nothing : {A : Type 0} → Option A
 nothing = None
@@ -39,7 +39,7 @@ no_member list place e = by_member (member_at list place) e
     by_member None e = tt
     by_member (Some m) e = absurd (some_none (link_of list place m) e)
 
-pub seated : (list : List Member) (place : ℕ) (lm : LinkMember) (s : Segment) (seat : Seat) → linked_at list place ≡ Some lm → option_map (λ (m : Member). m.segment) (member_at list place) ≡ Some s
+pub seated : (list : List Member) (place : ℕ) (lm : LinkMember) (s : Segment) (seat : MemberPlace) → linked_at list place ≡ Some lm → option_map (λ (m : Member). m.segment) (member_at list place) ≡ Some s
     → seat.place ≡ place → seat.lab_len ≡ s.fields.lab_len → seat.load_segment ≡ lm.load_segment → seat.offset ≡ lm.offset → SeatOf list place (member_at list place) (Some seat)
 seated list place lm s seat e f at lab_len load offset = by_member (member_at list place) refl e f
   where
@@ -59,10 +59,10 @@ seated list place lm s seat e f at lab_len load offset = by_member (member_at li
 
 -- ---- the environment
 
-pub meets_there : (list : List Member) (slots : List Slot) (place : ℕ) (m : Member) (location : ℕ) (here start : Value) → member_at list place ≡ Some m → here ≡ place_value list place m location
-    → start ≡ place_value list place m 0 → meets list slots place (member_at list place) here start ≡ environment list (rows_of (all_found list) slots) place m location
-unfolding environment
+pub meets_there : (list : List Member) (slots : List ValueSlot) (place : ℕ) (m : Member) (location : ℕ) (here start : Value) → member_at list place ≡ Some m → here ≡ place_value list place m location
+    → start ≡ place_value list place m 0 → environment_in_member list slots place (member_at list place) here start ≡ member_environment list (rows_of (all_found list) slots) place m location
+unfolding member_environment
 meets_there list slots place m location here start there here_is start_is =
-    ap (λ (o : Option Member). meets list slots place o here start) there
-    ∙ ap (λ (v : Value). meets list slots place (Some m) v start) here_is
-    ∙ ap (meets list slots place (Some m) (place_value list place m location)) start_is
+    ap (λ (o : Option Member). environment_in_member list slots place o here start) there
+    ∙ ap (λ (v : Value). environment_in_member list slots place (Some m) v start) here_is
+    ∙ ap (environment_in_member list slots place (Some m) (place_value list place m location)) start_is

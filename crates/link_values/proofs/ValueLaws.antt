@@ -12,16 +12,16 @@ use Rattle.omf_format.specs.Value.{Environment, value}
 use Rattle.link_meaning.specs.Member.{Member}
 use Rattle.link_meaning.specs.Terms.{tree_in, term_at}
 use Rattle.link_meaning.specs.laws.TreeInLaws.{tree_in-again}
-use Rattle.link_meaning.specs.Search.{Found, finds}
+use Rattle.link_meaning.specs.Search.{FoundDefinition, finds}
 use Rattle.link_program.specs.Outside.{all_found}
 use Rattle.link_meaning.specs.Rings.{has_expr, is_equate}
-use Rattle.link_meaning.specs.LinkValues.{Told, told, place_value, environment, found_value, fault_found, fault_named, settled, tree_value, value_in}
+use Rattle.link_meaning.specs.LinkValues.{Told, value_of_definition, place_value, member_environment, found_value, fault_found, fault_named, value_or_equate_fault, tree_value, value_in}
 use Rattle.link_program.specs.Linked.{member_at}
 use Rattle.link_program.specs.Finding.{IsFirstOf, finds_for}
-use Rattle.link_values.specs.declared.seat.Seat.{Seat}
-use Rattle.link_values.specs.declared.slots.Slot.{Slot}
+use Rattle.link_values.specs.declared.member_place.MemberPlace.{MemberPlace}
+use Rattle.link_values.specs.declared.slots.ValueSlot.{ValueSlot}
 use Rattle.link_values.specs.Slots.{answer_of, label_place, AreOnce, AreSlots, rows_of}
-use Rattle.link_values.specs.Seats.{IsSeat, meets, Surroundings, environment_of}
+use Rattle.link_values.specs.Seats.{IsSeat, environment_in_member, Surroundings, environment_of}
 use Rattle.link_values.specs.Told.{operand, operand_in}
 use Rattle.link_values.proofs.SeatLaws.{meets_there}
 use Rattle.link_values.proofs.SlotLaws.{or_open, told_rows, label_slot}
@@ -93,30 +93,30 @@ abbrev fault_in : Result Value ValueFault → ValueFault → ValueFault
 fault_in r fault = elim r [ Ok v ↦ fault | Err of ↦ of ]
 
 -- what the slot of the first that was found says
-module _ (list : List Member) (all : List Found) (slots : List Slot) (n : ℕ) (once : AreOnce all) (are : AreSlots list all slots) (fault : ValueFault) where
-  equate_says : (f : Found) (s : Slot) → slice_get all n ≡ Some f → slice_get slots n ≡ Some s → is_equate f ≡ true → fault_in (found_value list (rows_of all slots) f) fault ≡ fault_in (or_open (answer_of s)) fault
+module _ (list : List Member) (all : List FoundDefinition) (slots : List ValueSlot) (n : ℕ) (once : AreOnce all) (are : AreSlots list all slots) (fault : ValueFault) where
+  equate_says : (f : FoundDefinition) (s : ValueSlot) → slice_get all n ≡ Some f → slice_get slots n ≡ Some s → is_equate f ≡ true → fault_in (found_value list (rows_of all slots) f) fault ≡ fault_in (or_open (answer_of s)) fault
   equate_says f s here there is = by_expr f.definition.expr refl
     where
       true_false : true ≡ false → ⊥
       true_false e = cc
 
       by_expr : (x : Option (List ℕ)) → f.definition.expr ≡ x
-          → fault_in (elim x as (λ y. Result Value ValueFault) [ None ↦ Ok (label_place list f) | Some text ↦ told (rows_of all slots) f.place f.definition.at ]) fault ≡ fault_in (or_open (answer_of s)) fault
+          → fault_in (elim x as (λ y. Result Value ValueFault) [ None ↦ Ok (label_place list f) | Some text ↦ value_of_definition (rows_of all slots) f.place f.definition.at ]) fault ≡ fault_in (or_open (answer_of s)) fault
       by_expr None e = absurd (true_false (sym is ∙ ap has_expr e))
       by_expr (Some text) e = ap (λ (r : Result Value ValueFault). fault_in r fault) (told_rows all slots n f s once here there is)
 
-  label_says : (f : Found) (s : Slot) → slice_get all n ≡ Some f → slice_get slots n ≡ Some s → is_equate f ≡ false → fault_in (found_value list (rows_of all slots) f) fault ≡ fault_in (or_open (answer_of s)) fault
+  label_says : (f : FoundDefinition) (s : ValueSlot) → slice_get all n ≡ Some f → slice_get slots n ≡ Some s → is_equate f ≡ false → fault_in (found_value list (rows_of all slots) f) fault ≡ fault_in (or_open (answer_of s)) fault
   label_says f s here there is = by_expr f.definition.expr refl
     where
       true_false : true ≡ false → ⊥
       true_false e = cc
 
       by_expr : (x : Option (List ℕ)) → f.definition.expr ≡ x
-          → fault_in (elim x as (λ y. Result Value ValueFault) [ None ↦ Ok (label_place list f) | Some text ↦ told (rows_of all slots) f.place f.definition.at ]) fault ≡ fault_in (or_open (answer_of s)) fault
-      by_expr None e = ap (λ (t : Slot). fault_in (or_open (answer_of t)) fault) (sym (label_slot list all slots n f s are here there is))
+          → fault_in (elim x as (λ y. Result Value ValueFault) [ None ↦ Ok (label_place list f) | Some text ↦ value_of_definition (rows_of all slots) f.place f.definition.at ]) fault ≡ fault_in (or_open (answer_of s)) fault
+      by_expr None e = ap (λ (t : ValueSlot). fault_in (or_open (answer_of t)) fault) (sym (label_slot list all slots n f s are here there is))
       by_expr (Some text) e = absurd (true_false (sym (ap has_expr e) ∙ is))
 
-  pub fault_says : (founds : List Found) (s : Slot) → IsFirstOf all founds (Some n) → slice_get slots n ≡ Some s → fault_in (or_open (answer_of s)) fault ≡ fault_found list (rows_of all slots) fault founds
+  pub fault_says : (founds : List FoundDefinition) (s : ValueSlot) → IsFirstOf all founds (Some n) → slice_get slots n ≡ Some s → fault_in (or_open (answer_of s)) fault ≡ fault_found list (rows_of all slots) fault founds
   fault_says [] s first there = absurd first
   fault_says (f ∷ founds) s first there = sym (by_test (is_equate f) refl)
     where
@@ -126,22 +126,22 @@ module _ (list : List Member) (all : List Found) (slots : List Slot) (n : ℕ) (
 
 -- ---- values
 
-pub value_settled : (list : List Member) (slots : List Slot) (seat : Seat) (m : Member) (location : ℕ) (here start : Value) (text : List ℕ) (t : Tree) (r : Result Value ValueFault) → IsSeat list m seat
-    → here ≡ place_value list seat.place m location → start ≡ place_value list seat.place m 0 → Spells seat.lab_len text t → r ≡ value (meets list slots seat.place (member_at list seat.place) here start) seat.lab_len 0 t
-    → settled list (rows_of (all_found list) slots) seat.place m t r ≡ value_in list (rows_of (all_found list) slots) seat.place m location text
+pub value_settled : (list : List Member) (slots : List ValueSlot) (seat : MemberPlace) (m : Member) (location : ℕ) (here start : Value) (text : List ℕ) (t : Tree) (r : Result Value ValueFault) → IsSeat list m seat
+    → here ≡ place_value list seat.place m location → start ≡ place_value list seat.place m 0 → Spells seat.lab_len text t → r ≡ value (environment_in_member list slots seat.place (member_at list seat.place) here start) seat.lab_len 0 t
+    → value_or_equate_fault list (rows_of (all_found list) slots) seat.place m t r ≡ value_in list (rows_of (all_found list) slots) seat.place m location text
 unfolding value_in
 value_settled list slots seat m location here start text t r is here_is start_is spells value_is =
     let rows = rows_of (all_found list) slots in
     let tree : tree_in m.segment.fields.lab_len text ≡ Some t = tree_in-again m.segment.fields.lab_len text t (subst (λ (l : ℕ). Spells l text t) is.lab_len' spells) in
-    ap (settled list rows seat.place m t) (value_is
+    ap (value_or_equate_fault list rows seat.place m t) (value_is
     ∙ ap (λ (e : Environment). value e seat.lab_len 0 t) (meets_there list slots seat.place m location here start is.there here_is start_is)
-    ∙ ap (λ (l : ℕ). value (environment list rows seat.place m location) l 0 t) is.lab_len')
+    ∙ ap (λ (l : ℕ). value (member_environment list rows seat.place m location) l 0 t) is.lab_len')
     ∙ sym (ap (tree_value list rows seat.place m location) tree)
 
 -- the value in the environment of a place
-pub evaluated : (e : Expression) (s : Surroundings) (l : ℕ) (text : List ℕ) (list : List Member) (slots : List Slot) (place : ℕ) (here start : Value) (t : Tree) (r : Result Value ValueFault) → e ≡ record { text = text; lab_len = l }
+pub evaluated : (e : Expression) (s : Surroundings) (l : ℕ) (text : List ℕ) (list : List Member) (slots : List ValueSlot) (place : ℕ) (here start : Value) (t : Tree) (r : Result Value ValueFault) → e ≡ record { text = text; lab_len = l }
     → s ≡ record { list = list; slots = slots; place = place; location = here; start = start } → ((u : Tree) → Spells e.lab_len e.text u → r ≡ value (environment_of s) e.lab_len 0 u) → Spells l text t
-    → r ≡ value (meets list slots place (member_at list place) here start) l 0 t
+    → r ≡ value (environment_in_member list slots place (member_at list place) here start) l 0 t
 evaluated e s l text list slots place here start t r e_is s_is go spells =
     go t (subst (λ (x : Expression). Spells x.lab_len x.text t) (sym e_is) spells)
     ∙ ap (λ (x : Expression). value (environment_of s) x.lab_len 0 t) e_is

@@ -11,7 +11,7 @@ use Rattle.link_meaning.specs.declared.fault.LinkCause.TheVariants.{Circular}
 use Rattle.link_meaning.specs.declared.fault.LinkFault.{LinkFault}
 use Rattle.link_meaning.specs.Member.{Member}
 use Rattle.link_meaning.specs.Defines.{Definition, title_of, defined_by, defined_in}
-use Rattle.link_meaning.specs.Search.{Found, entries_from, entries}
+use Rattle.link_meaning.specs.Search.{FoundDefinition, entries_from, entries}
 use Rattle.link_meaning.specs.LinkFaults.{spot_in}
 use Rattle.link_program.specs.Memory.{memory_fault}
 
@@ -32,7 +32,7 @@ IsNth ds number (Err left) = number ≡ length ds + left
 
 -- the fault of the definition with a number, as one that leads back to itself, unless memory ran out
 abbrev pub IsCircularAt : List Member → ℕ → LinkFault → Type 0
-IsCircularAt list number fault = (e : Found) → slice_get (entries list) number ≡ Some e
+IsCircularAt list number fault = (e : FoundDefinition) → slice_get (entries list) number ≡ Some e
     → (fault ≡ memory_fault) ⊎ (fault ≡ record { cause = Circular; name = Some e.definition.name; spot = spot_in e.member e.definition.at })
 
 -- what a segment's name and its first records define

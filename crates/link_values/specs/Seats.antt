@@ -8,32 +8,32 @@ use Rattle.link_program.specs.Outside.{all_found}
 use Rattle.link_meaning.specs.LinkValues.{label_value, attribute_value}
 use Rattle.link_program.specs.Linked.{member_at}
 use Rattle.link_program.specs.Finding.{finds_for}
-use Rattle.link_values.specs.declared.seat.Seat.{Seat}
-use Rattle.link_values.specs.declared.slots.Slot.{Slot}
+use Rattle.link_values.specs.declared.member_place.MemberPlace.{MemberPlace}
+use Rattle.link_values.specs.declared.slots.ValueSlot.{ValueSlot}
 use Rattle.link_values.specs.Slots.{AreOnce, AreSlots, rows_of}
 
 -- the member stands there
-pub record IsSeat (list : List Member) (m : Member) (seat : Seat) : Type 0 where
+pub record IsSeat (list : List Member) (m : Member) (seat : MemberPlace) : Type 0 where
   pub there : member_at list seat.place ≡ Some m
   pub lab_len' : seat.lab_len ≡ m.segment.fields.lab_len
   pub load : seat.load_segment ≡ load_of list m
   pub offset' : seat.offset ≡ offset_of list seat.place m
 
 -- so does the member at this place, if there is one
-abbrev pub SeatOf : List Member → ℕ → Option Member → Option Seat → Type 0
+abbrev pub SeatOf : List Member → ℕ → Option Member → Option MemberPlace → Type 0
 SeatOf list place None None = Unit {0}
 SeatOf list place None (Some seat) = ⊥
 SeatOf list place (Some m) None = ⊥
 SeatOf list place (Some m) (Some seat) = (seat.place ≡ place) × IsSeat list m seat
 
 -- there is a slot for each definition, and no two equates are told by one place and displacement
-pub record AreKnown (list : List Member) (slots : List Slot) : Type 0 where
+pub record AreKnown (list : List Member) (slots : List ValueSlot) : Type 0 where
   pub once : AreOnce (all_found list)
   pub are : AreSlots list (all_found list) slots
 
 -- what an expression meets in a member at a place, if there is one
-abbrev pub meets : List Member → List Slot → ℕ → Option Member → Value → Value → Environment
-meets list slots place m location start = record {
+abbrev pub environment_in_member : List Member → List ValueSlot → ℕ → Option Member → Value → Value → Environment
+environment_in_member list slots place m location start = record {
   label = λ name weak. label_value list (rows_of (all_found list) slots) weak (finds_for list place m name);
   attribute = λ code name. attribute_value code (finds_for list place m name);
   location = location;
@@ -43,11 +43,11 @@ meets list slots place m location start = record {
 -- a place in a program whose definitions have these values
 pub record Surroundings : Type 0 where
   pub list : List Member
-  pub slots : List Slot
+  pub slots : List ValueSlot
   pub place : ℕ
   pub location : Value
   pub start : Value
 
 -- what an expression meets there
 abbrev pub environment_of : Surroundings → Environment
-environment_of s = meets s.list s.slots s.place (member_at s.list s.place) s.location s.start
+environment_of s = environment_in_member s.list s.slots s.place (member_at s.list s.place) s.location s.start

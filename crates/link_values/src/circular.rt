@@ -1,7 +1,7 @@
 //! The fault of an equate that leads back to itself.
 
 ghost use Rattle.std.specs.Prelude.{◌≡◌, ◌<◌, ℕ, length, option_map};
-ghost use Rattle.omf_records.specs.Segments.{IsSound, shown};
+ghost use Rattle.omf_records.specs.Segments.{IsSound, segment_of_view};
 ghost use Rattle.omf_records.specs.View.{view};
 ghost use Rattle.link_meaning.specs.Defines.{defined_by, defined_in};
 ghost use Rattle.link_meaning.specs.Search.{entries};
@@ -40,7 +40,7 @@ fn defined_name<'a>(rec: &Rec<'a>) -> Option<&'a [u8]>
 
 /// How many numbers are left behind the name of a segment; None where the number is the name's.
 fn behind_title(segment: &SegmentView, number: usize) -> Option<usize>
-    ensures { IsBehindTitle (shown segment.now) number result }
+    ensures { IsBehindTitle (segment_of_view segment.now) number result }
 {
     if segment.header.name.bytes().is_empty() {
         return Some(number);
@@ -55,7 +55,7 @@ fn behind_title(segment: &SegmentView, number: usize) -> Option<usize>
 /// the last one.
 fn nth<'s, 'a>(segment: &'s SegmentView<'a>, number: usize) -> Result<(&'s [u8], u32), usize>
     requires { IsSound segment.now }
-    ensures { IsNth (defined_in (shown segment.now)) number result }
+    ensures { IsNth (defined_in (segment_of_view segment.now)) number result }
 {
     let mut left = match behind_title(segment, number) {
         Some(left) => left,
@@ -79,7 +79,7 @@ fn nth<'s, 'a>(segment: &'s SegmentView<'a>, number: usize) -> Result<(&'s [u8],
 }
 
 /// The fault, with the name and the place of the equate with this number, from 0 among all definitions.
-pub fn ring_fault(alloc: Global, program: &Program, number: usize) -> LinkFault
+pub fn cycle_fault(alloc: Global, program: &Program, number: usize) -> LinkFault
     requires { number < length (entries program.now) }
     ensures { IsCircularAt program.now number result }
 {

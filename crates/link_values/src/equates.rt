@@ -2,10 +2,10 @@
 
 ghost use Rattle.std.specs.Prelude.{◌≡◌, ◌<◌, ◌≤◌, ◌^◌, pos, true, false, ℕ, List, Some, IfOk, IfErr, OnOk, length, slice_get};
 ghost use Rattle.std.specs.Bool.{OnTrue};
-ghost use Rattle.rings.specs.Graphs.{IsIn, row_at};
+ghost use Rattle.cycles.specs.Graphs.{IsIn, row_at};
 ghost use Rattle.omf_format.specs.declared.value.Value.TheVariants.{At};
 ghost use Rattle.link_meaning.specs.LinkValues.{equate_value};
-ghost use Rattle.link_meaning.specs.Search.{Found};
+ghost use Rattle.link_meaning.specs.Search.{FoundDefinition};
 ghost use Rattle.link_program.specs.Outside.{all_found};
 ghost use Rattle.link_meaning.specs.Rings.{is_equate};
 ghost use Rattle.link_program.specs.Programs.{symbol_of, told_symbol};
@@ -13,15 +13,15 @@ ghost use Rattle.link_program.specs.OfFiles.{IsOfFiles};
 ghost use Rattle.link_values.specs.Slots.{answer_of, rows_of};
 ghost use Rattle.link_values.specs.Equates.{IsFirstSlot, AreFirstSlots, IsOpen, AreTrue, AreRows, AreSettled, open_count, with_slot, AreValues, IsRingRefused};
 
-use crate::circular::ring_fault;
+use crate::circular::cycle_fault;
 use crate::leads::leads_of;
-use crate::seat::seat_of;
-use crate::slots::Slot;
+use crate::member_place::place_of_member;
+use crate::slots::ValueSlot;
 use crate::value::{place_at, value_in};
+use cycles::{Edges, first_cycle, order_of};
 use link_meaning::LinkFault;
 use link_program::{Definition, Program, memory_fault};
 use omf_format::{Value, ValueFault};
-use rings::{Edges, first_ring, order_of};
 use std::alloc::{AllocError, Global};
 
 /// The place that a name of a run-time library file stands for.
@@ -37,19 +37,19 @@ fn place_outside(definition: &Definition) -> Value
 }
 
 /// What is known at first of what a name can find: the place of a label, or of a name of a run-time library file.
-fn first_slot(program: &Program, definition: &Definition) -> Slot
+fn first_slot(program: &Program, definition: &Definition) -> ValueSlot
     requires files { IsOfFiles program.now }
-    requires there { (k : ℕ) × (f : Found) × (slice_get (all_found program.now) k ≡ Some f) × (symbol_of definition.now ≡ told_symbol program.now f) }
-    ensures { (k : ℕ) (f : Found) → slice_get (all_found program.now) k ≡ Some f → symbol_of definition.now ≡ told_symbol program.now f → IsFirstSlot program.now f result }
+    requires there { (k : ℕ) × (f : FoundDefinition) × (slice_get (all_found program.now) k ≡ Some f) × (symbol_of definition.now ≡ told_symbol program.now f) }
+    ensures { (k : ℕ) (f : FoundDefinition) → slice_get (all_found program.now) k ≡ Some f → symbol_of definition.now ≡ told_symbol program.now f → IsFirstSlot program.now f result }
 {
     match definition.expr {
-        Some(_) => Slot::Open,
+        Some(_) => ValueSlot::Open,
         None => {
             if definition.member == 0 {
-                return Slot::Done(place_outside(definition));
+                return ValueSlot::Done(place_outside(definition));
             }
-            match seat_of(program, definition.member) {
-                Some(seat) => Slot::Done(place_at(seat, definition.at)),
+            match place_of_member(program, definition.member) {
+                Some(seat) => ValueSlot::Done(place_at(seat, definition.at)),
                 None => unreachable!(),
             }
         }
@@ -57,7 +57,7 @@ fn first_slot(program: &Program, definition: &Definition) -> Slot
 }
 
 /// What is known at first of all that a name can find.
-fn first_slots(alloc: Global, program: &Program) -> Result<Vec<Slot>, AllocError>
+fn first_slots(alloc: Global, program: &Program) -> Result<Vec<ValueSlot>, AllocError>
     requires { IsOfFiles program.now }
     ensures { IfOk result (λ slots. AreFirstSlots program.now (all_found program.now) slots.items) }
 {
@@ -72,20 +72,20 @@ fn first_slots(alloc: Global, program: &Program) -> Result<Vec<Slot>, AllocError
 }
 
 /// Whether a definition has no value yet.
-pub(crate) fn is_open(slots: &[Slot], number: usize) -> bool
+pub(crate) fn is_open(slots: &[ValueSlot], number: usize) -> bool
     ensures holds { OnTrue result (IsOpen slots.now number) }
     ensures fails { result ≡ false → IsOpen slots.now number → ⊥ }
 {
     match slots.get(number) {
-        Some(Slot::Open) => true,
-        Some(Slot::Done(_)) => false,
-        Some(Slot::Failed(_)) => false,
+        Some(ValueSlot::Open) => true,
+        Some(ValueSlot::Done(_)) => false,
+        Some(ValueSlot::Failed(_)) => false,
         None => false,
     }
 }
 
 /// The first definition of these that has no value yet.
-fn first_open(slots: &[Slot], row: &[usize]) -> Option<usize>
+fn first_open(slots: &[ValueSlot], row: &[usize]) -> Option<usize>
     ensures found { (k : ℕ) → result ≡ Some k → IsIn row.now k × IsOpen slots.now k }
     ensures none { result ≡ None → (k : ℕ) → IsIn row.now k → IsOpen slots.now k → ⊥ }
 {
@@ -98,32 +98,32 @@ fn first_open(slots: &[Slot], row: &[usize]) -> Option<usize>
 }
 
 /// The value of an equate, where those to which it leads have theirs.
-fn slot_of(program: &Program, slots: &[Slot], number: usize) -> Slot
+fn slot_of(program: &Program, slots: &[ValueSlot], number: usize) -> ValueSlot
     requires files { IsOfFiles program.now }
     requires are { AreTrue program.now slots.now }
-    ensures { (f : Found) → slice_get (all_found program.now) number ≡ Some f → is_equate f ≡ true
+    ensures { (f : FoundDefinition) → slice_get (all_found program.now) number ≡ Some f → is_equate f ≡ true
         → answer_of result ≡ Some (equate_value program.now (rows_of (all_found program.now) slots.now) f) }
 {
     let definition = match program.definition(number) {
         Some(definition) => definition,
-        None => return Slot::Open,
+        None => return ValueSlot::Open,
     };
     let expr = match definition.expr {
         Some(expr) => expr,
-        None => return Slot::Open,
+        None => return ValueSlot::Open,
     };
-    let seat = match seat_of(program, definition.member) {
+    let seat = match place_of_member(program, definition.member) {
         Some(seat) => seat,
         None => unreachable!(),
     };
     match value_in(program, slots, seat, definition.at, expr) {
-        Ok(value) => Slot::Done(value),
-        Err(fault) => Slot::Failed(fault),
+        Ok(value) => ValueSlot::Done(value),
+        Err(fault) => ValueSlot::Failed(fault),
     }
 }
 
 /// Gives a definition its slot.
-fn set_slot(slots: &mut Vec<Slot>, number: usize, slot: Slot)
+fn set_slot(slots: &mut Vec<ValueSlot>, number: usize, slot: ValueSlot)
     requires { number < length slots.old.items }
     ensures { slots.new.items ≡ with_slot slots.old.items number slot }
 {
@@ -131,7 +131,7 @@ fn set_slot(slots: &mut Vec<Slot>, number: usize, slot: Slot)
 }
 
 /// Finds the value of an equate that has none yet, where those to which it leads have theirs; whether it was found.
-fn settle(program: &Program, edges: &Edges, slots: &mut Vec<Slot>, number: usize) -> bool
+fn find_value(program: &Program, edges: &Edges, slots: &mut Vec<ValueSlot>, number: usize) -> bool
     requires files { IsOfFiles program.now }
     requires rows { AreRows program.now (all_found program.now) edges.now }
     requires are { AreTrue program.now slots.old.items }
@@ -153,19 +153,24 @@ fn settle(program: &Program, edges: &Edges, slots: &mut Vec<Slot>, number: usize
 }
 
 /// Finds values in an order.
-fn settle_in(program: &Program, edges: &Edges, slots: &mut Vec<Slot>, order: &[usize])
+fn find_values_in_order(
+    program: &Program,
+    edges: &Edges,
+    slots: &mut Vec<ValueSlot>,
+    order: &[usize],
+)
     requires files { IsOfFiles program.now }
     requires rows { AreRows program.now (all_found program.now) edges.now }
     requires are { AreTrue program.now slots.old.items }
     ensures { AreTrue program.now slots.new.items }
 {
     'order: for number in order {
-        let _found = settle(program, edges, slots, *number);
+        let _found = find_value(program, edges, slots, *number);
     }
 }
 
 /// Finds values from the first definition to the last; whether there was one.
-fn settle_once(program: &Program, edges: &Edges, slots: &mut Vec<Slot>) -> bool
+fn find_values_once(program: &Program, edges: &Edges, slots: &mut Vec<ValueSlot>) -> bool
     requires files { IsOfFiles program.now }
     requires rows { AreRows program.now (all_found program.now) edges.now }
     requires are { AreTrue program.now slots.old.items }
@@ -176,7 +181,7 @@ fn settle_once(program: &Program, edges: &Edges, slots: &mut Vec<Slot>) -> bool
     let mut number = 0;
     let mut found = false;
     'definitions: while number < edges.count() {
-        if settle(program, edges, slots, number) {
+        if find_value(program, edges, slots, number) {
             found = true;
         }
         number += 1;
@@ -185,7 +190,7 @@ fn settle_once(program: &Program, edges: &Edges, slots: &mut Vec<Slot>) -> bool
 }
 
 /// Finds values until there are no more to be found.
-fn settle_all(program: &Program, edges: &Edges, slots: &mut Vec<Slot>)
+fn find_all_values(program: &Program, edges: &Edges, slots: &mut Vec<ValueSlot>)
     requires files { IsOfFiles program.now }
     requires rows { AreRows program.now (all_found program.now) edges.now }
     requires are { AreTrue program.now slots.old.items }
@@ -193,14 +198,14 @@ fn settle_all(program: &Program, edges: &Edges, slots: &mut Vec<Slot>)
     ensures settled { AreSettled edges.now slots.new.items }
 {
     'passes: loop {
-        if !settle_once(program, edges, slots) {
+        if !find_values_once(program, edges, slots) {
             return;
         }
     }
 }
 
 /// Whether a definition has no value.
-fn has_open(slots: &[Slot]) -> bool
+fn has_open(slots: &[ValueSlot]) -> bool
     ensures some { OnTrue result ((k : ℕ) × IsOpen slots.now k) }
     ensures none { result ≡ false → (k : ℕ) → IsOpen slots.now k → ⊥ }
 {
@@ -215,7 +220,7 @@ fn has_open(slots: &[Slot]) -> bool
 }
 
 /// The values of all definitions, or the first equate that leads back to itself.
-pub fn values_of(alloc: Global, program: &Program) -> Result<Vec<Slot>, LinkFault>
+pub fn values_of(alloc: Global, program: &Program) -> Result<Vec<ValueSlot>, LinkFault>
     requires { IsOfFiles program.now }
     ensures valued { IfOk result (λ slots. AreValues program.now slots.items) }
     ensures refused { IfErr result (λ fault. IsRingRefused program.now fault) }
@@ -235,13 +240,13 @@ pub fn values_of(alloc: Global, program: &Program) -> Result<Vec<Slot>, LinkFaul
         Ok(order) => order,
         Err(_) => return Err(memory_fault()),
     };
-    settle_in(program, &edges, &mut slots, order.order.as_slice());
-    settle_all(program, &edges, &mut slots);
+    find_values_in_order(program, &edges, &mut slots, order.order.as_slice());
+    find_all_values(program, &edges, &mut slots);
     if !has_open(slots.as_slice()) {
         return Ok(slots);
     }
-    match first_ring(alloc, &edges, order.ranks.as_slice()) {
-        Ok(Some(number)) => Err(ring_fault(alloc, program, number)),
+    match first_cycle(alloc, &edges, order.ranks.as_slice()) {
+        Ok(Some(number)) => Err(cycle_fault(alloc, program, number)),
         Ok(None) => unreachable!(),
         Err(_) => Err(memory_fault()),
     }

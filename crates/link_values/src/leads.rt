@@ -6,7 +6,7 @@ ghost use Rattle.omf_format.specs.Expression.{IsExpression, terms_in};
 ghost use Rattle.omf_expr.specs.View.{view};
 ghost use Rattle.link_meaning.specs.Member.{Member};
 ghost use Rattle.link_meaning.specs.Terms.{asks_value};
-ghost use Rattle.link_meaning.specs.Search.{Found};
+ghost use Rattle.link_meaning.specs.Search.{FoundDefinition};
 ghost use Rattle.link_program.specs.Outside.{all_found};
 ghost use Rattle.link_program.specs.Programs.{symbol_of, told_symbol};
 ghost use Rattle.link_program.specs.Linked.{member_at};
@@ -14,17 +14,17 @@ ghost use Rattle.link_program.specs.OfFiles.{IsOfFiles};
 ghost use Rattle.link_values.specs.Equates.{AreFirstSlots, IsRow, AreRows, NameRow, FindOne};
 
 use crate::equates::is_open;
-use crate::seat::seat_of;
-use crate::slots::Slot;
+use crate::member_place::place_of_member;
+use crate::slots::ValueSlot;
+use cycles::Edges;
 use link_program::{Definition, Program, expression_of};
 use omf_expr::Term;
-use rings::Edges;
 use std::alloc::{AllocError, Global};
 
 /// Adds the number of the equate that a term's name finds.
 fn add_lead(
     program: &Program,
-    slots: &[Slot],
+    slots: &[ValueSlot],
     place: u32,
     term: Term,
     row: &mut Vec<usize>,
@@ -54,7 +54,7 @@ fn add_lead(
 /// Adds the numbers of the equates that the names of an expression find.
 fn add_leads(
     program: &Program,
-    slots: &[Slot],
+    slots: &[ValueSlot],
     place: u32,
     lab_len: u8,
     expr: &[u8],
@@ -77,19 +77,19 @@ fn add_leads(
 /// The numbers of the equates to which a definition leads.
 fn find_row(
     program: &Program,
-    slots: &[Slot],
+    slots: &[ValueSlot],
     definition: &Definition,
     row: &mut Vec<usize>,
 ) -> Result<(), AllocError>
     requires files { IsOfFiles program.now }
     requires slots { AreFirstSlots program.now (all_found program.now) slots.now }
-    requires there { (k : ℕ) × (f : Found) × (slice_get (all_found program.now) k ≡ Some f) × (symbol_of definition.now ≡ told_symbol program.now f) }
-    ensures { OnOk result ((k : ℕ) (f : Found) → slice_get (all_found program.now) k ≡ Some f → symbol_of definition.now ≡ told_symbol program.now f → IsRow program.now f row.new.items) }
+    requires there { (k : ℕ) × (f : FoundDefinition) × (slice_get (all_found program.now) k ≡ Some f) × (symbol_of definition.now ≡ told_symbol program.now f) }
+    ensures { OnOk result ((k : ℕ) (f : FoundDefinition) → slice_get (all_found program.now) k ≡ Some f → symbol_of definition.now ≡ told_symbol program.now f → IsRow program.now f row.new.items) }
 {
     row.clear();
     match definition.expr {
         None => Ok(()),
-        Some(expr) => match seat_of(program, definition.member) {
+        Some(expr) => match place_of_member(program, definition.member) {
             Some(seat) => add_leads(program, slots, seat.place, seat.lab_len, expr, row),
             None => unreachable!(),
         },
@@ -97,7 +97,7 @@ fn find_row(
 }
 
 /// Which equates lead to which: a vertex for each definition.
-pub fn leads_of(alloc: Global, program: &Program, slots: &[Slot]) -> Result<Edges, AllocError>
+pub fn leads_of(alloc: Global, program: &Program, slots: &[ValueSlot]) -> Result<Edges, AllocError>
     requires files { IsOfFiles program.now }
     requires slots { AreFirstSlots program.now (all_found program.now) slots.now }
     ensures { IfOk result (λ edges. AreRows program.now (all_found program.now) edges) }

@@ -5,12 +5,12 @@
 mod circular;
 mod equates;
 mod leads;
-mod meets;
-mod seat;
+mod member_env;
+mod member_place;
 mod slots;
 mod value;
 
 pub use equates::values_of;
-pub use seat::{Seat, seat_of};
-pub use slots::{Slot, label_of};
+pub use member_place::{MemberPlace, place_of_member};
+pub use slots::{ValueSlot, label_of};
 pub use value::{place_at, value_in};

@@ -2,7 +2,7 @@
 
 ghost use Rattle.std.specs.Prelude.{◌≡◌, List};
 ghost use Rattle.link_meaning.specs.Member.{Member};
-ghost use Rattle.link_meaning.specs.Search.{Found};
+ghost use Rattle.link_meaning.specs.Search.{FoundDefinition};
 ghost use Rattle.link_meaning.specs.LinkValues.{label_value};
 ghost use Rattle.link_program.specs.Finding.{IsFirstOf};
 ghost use Rattle.link_values.specs.Slots.{AreOnce, AreSlots, rows_of, value_of};
@@ -11,27 +11,27 @@ use omf_format::{Value, ValueFault};
 
 /// What is known of a definition's value.
 #[derive(Clone, Copy)]
-pub enum Slot {
+pub enum ValueSlot {
     /// Nothing yet: an equate whose expression wasn't evaluated.
     Open,
     Done(Value),
     Failed(ValueFault),
 }
 
-fn value_of(slot: Slot) -> Option<Value>
+fn value_of(slot: ValueSlot) -> Option<Value>
     ensures { result ≡ value_of slot }
 {
     match slot {
-        Slot::Open => None,
-        Slot::Done(value) => Some(value),
-        Slot::Failed(_) => None,
+        ValueSlot::Open => None,
+        ValueSlot::Done(value) => Some(value),
+        ValueSlot::Failed(_) => None,
     }
 }
 
 /// The value of a name, by the number of the first definition that it finds. A faulty equate has none, and a weak name without
 /// a definition is 0.
-pub fn label_of(slots: &[Slot], found: Option<usize>, weak: bool) -> Option<Value>
-    ensures { (list : List Member) (all founds : List Found) → AreOnce all → AreSlots list all slots.now → IsFirstOf all founds found
+pub fn label_of(slots: &[ValueSlot], found: Option<usize>, weak: bool) -> Option<Value>
+    ensures { (list : List Member) (all founds : List FoundDefinition) → AreOnce all → AreSlots list all slots.now → IsFirstOf all founds found
         → result ≡ label_value list (rows_of all slots.now) weak founds }
 {
     match found {

@@ -4,7 +4,7 @@ ghost use Rattle.std.specs.Prelude.{◌≡◌, ◌+◌, ◌<◌, ◌^◌, ℕ, L
 ghost use Rattle.omf_format.specs.Expression.{Tree, Spells, IsExpression, terms_in};
 ghost use Rattle.omf_expr.specs.View.{view};
 ghost use Rattle.link_meaning.specs.Member.{Member};
-ghost use Rattle.link_meaning.specs.Search.{Found};
+ghost use Rattle.link_meaning.specs.Search.{FoundDefinition};
 ghost use Rattle.link_program.specs.Outside.{all_found};
 ghost use Rattle.link_meaning.specs.Terms.{term_at};
 ghost use Rattle.link_meaning.specs.LinkValues.{fault_found, fault_named, place_value, value_in};
@@ -13,15 +13,15 @@ ghost use Rattle.link_values.specs.Slots.{AreOnce, AreSlots, rows_of};
 ghost use Rattle.link_values.specs.Seats.{IsSeat, AreKnown};
 ghost use Rattle.link_values.specs.Told.{operand, operand_in};
 
-use crate::meets::Meets;
-use crate::seat::Seat;
-use crate::slots::Slot;
+use crate::member_env::MemberEnv;
+use crate::member_place::MemberPlace;
+use crate::slots::ValueSlot;
 use link_program::{Program, expression_of};
 use omf_expr::{Expr, Term, evaluate};
 use omf_format::{Value, ValueFault};
 
 /// A place of a member, counted from its start.
-pub fn place_at(seat: Seat, at: u32) -> Value
+pub fn place_at(seat: MemberPlace, at: u32) -> Value
     requires { seat.offset + at < 2 ^ 32 }
     ensures { (list : List Member) (m : Member) → IsSeat list m seat → result ≡ place_value list seat.place m at }
 {
@@ -67,16 +67,16 @@ fn operand_at<'a>(expr: &Expr<'a>, at: usize) -> Option<Term<'a>>
 }
 
 /// The fault of the equate that a name found, by its number; otherwise the other one.
-fn fault_of(slots: &[Slot], found: Option<usize>, fault: ValueFault) -> ValueFault
-    ensures { (list : List Member) (all founds : List Found) → AreOnce all → AreSlots list all slots.now → IsFirstOf all founds found
+fn fault_of(slots: &[ValueSlot], found: Option<usize>, fault: ValueFault) -> ValueFault
+    ensures { (list : List Member) (all founds : List FoundDefinition) → AreOnce all → AreSlots list all slots.now → IsFirstOf all founds found
         → result ≡ fault_found list (rows_of all slots.now) fault founds }
 {
     match found {
         None => fault,
         Some(number) => match slots.get(number) {
-            Some(Slot::Open) => ValueFault::NotRelocatable,
-            Some(Slot::Done(_)) => fault,
-            Some(Slot::Failed(of)) => *of,
+            Some(ValueSlot::Open) => ValueFault::NotRelocatable,
+            Some(ValueSlot::Done(_)) => fault,
+            Some(ValueSlot::Failed(of)) => *of,
             None => fault,
         },
     }
@@ -85,7 +85,7 @@ fn fault_of(slots: &[Slot], found: Option<usize>, fault: ValueFault) -> ValueFau
 /// The fault of a name at a place among the expression's bytes that has no value: that of its equate.
 fn fault_at(
     program: &Program,
-    slots: &[Slot],
+    slots: &[ValueSlot],
     place: u32,
     expr: &Expr,
     at: usize,
@@ -116,8 +116,8 @@ ghost use Rattle.link_program.specs.Linked.{member_at};
 /// The value of an expression of a member, where so many of its cells are before the record.
 pub fn value_in(
     program: &Program,
-    slots: &[Slot],
-    seat: Seat,
+    slots: &[ValueSlot],
+    seat: MemberPlace,
     location: u32,
     expr: &[u8],
 ) -> Result<Value, ValueFault>
@@ -130,7 +130,7 @@ pub fn value_in(
     let text = expression_of(expr, seat.lab_len);
     let location = place_at(seat, location);
     let start = place_at(seat, 0);
-    let meets = Meets::new(program, slots, seat.place, location, start);
+    let meets = MemberEnv::new(program, slots, seat.place, location, start);
     match evaluate(&text, &meets) {
         Ok(value) => Ok(value),
         Err(ValueFault::DivideByZero) => Err(ValueFault::DivideByZero),

@@ -7,8 +7,8 @@ use Rattle.omf_format.specs.laws.TreeLaws.{operand_counts}
 use Rattle.omf_format.specs.laws.ExpressionLaws.{tree_leads_to_one}
 use Rattle.link_meaning.specs.Terms.{with_term, trees_behind, last_tree, tree_in}
 use Rattle.list_meaning.specs.Listed.{formula_text, operator_text, as_operand}
-use Rattle.list_lines.specs.declared.formula.Part.{Part}
-use Rattle.list_lines.specs.FormulaView.{bare, is_leaf, enclosed, part_view, told, all_told, AreParts}
+use Rattle.list_lines.specs.declared.formula.FormulaPart.{FormulaPart}
+use Rattle.list_lines.specs.FormulaView.{terms_alone, is_leaf, parenthesized, part_view, part_of_tree, all_told, AreParts}
 use Rattle.list_lines.proofs.TermLaws.{bare_are, front_term}
 
 -- ---- the first bytes
@@ -75,32 +75,32 @@ both_are : (a c : List ℕ) (b d : Bool) → a ≡ c → b ≡ d → ◌≡◌ {
 both_are a c b d p q = ap (λ (x : List ℕ). (x, b)) p ∙ ap (λ (x : Bool). (c, x)) q
 
 -- a part as an operand is its tree as an operand
-enclosed_told : (part : Part) (t : Tree) → part_view part ≡ told t → take 256 (enclosed part.alone part.text) ≡ take 256 (as_operand t (formula_text t))
+enclosed_told : (part : FormulaPart) (t : Tree) → part_view part ≡ part_of_tree t → take 256 (parenthesized part.alone part.text) ≡ take 256 (as_operand t (formula_text t))
 enclosed_told part t e = by t (right_is (take 256 part.text) (take 256 (formula_text t)) part.alone (is_leaf t) e) (left_is (take 256 part.text) (take 256 (formula_text t)) part.alone (is_leaf t) e)
   where
     parens : (text other : List ℕ) → take 256 text ≡ take 256 other → take 256 (codes "(" ++ (text ++ codes ")")) ≡ take 256 (codes "(" ++ (other ++ codes ")"))
     parens text other e = cut_behind 256 (codes "(") (text ++ codes ")") (other ++ codes ")") (cut_before 256 text other (codes ")") e)
 
-    by : (t : Tree) → part.alone ≡ is_leaf t → take 256 part.text ≡ take 256 (formula_text t) → take 256 (enclosed part.alone part.text) ≡ take 256 (as_operand t (formula_text t))
-    by (Leaf term) alone text = ap (λ (b : Bool). take 256 (enclosed b part.text)) alone ∙ text
-    by (Unary code a) alone text = ap (λ (b : Bool). take 256 (enclosed b part.text)) alone ∙ parens part.text (formula_text (Unary code a)) text
-    by (Binary code a b) alone text = ap (λ (b : Bool). take 256 (enclosed b part.text)) alone ∙ parens part.text (formula_text (Binary code a b)) text
+    by : (t : Tree) → part.alone ≡ is_leaf t → take 256 part.text ≡ take 256 (formula_text t) → take 256 (parenthesized part.alone part.text) ≡ take 256 (as_operand t (formula_text t))
+    by (Leaf term) alone text = ap (λ (b : Bool). take 256 (parenthesized b part.text)) alone ∙ text
+    by (Unary code a) alone text = ap (λ (b : Bool). take 256 (parenthesized b part.text)) alone ∙ parens part.text (formula_text (Unary code a)) text
+    by (Binary code a b) alone text = ap (λ (b : Bool). take 256 (parenthesized b part.text)) alone ∙ parens part.text (formula_text (Binary code a b)) text
 
 -- an operator over one part
-pub told_one : (code : ℕ) (part right : Part) (a : Tree) → part_view right ≡ told a → take 256 part.text ≡ take 256 (operator_text code ++ enclosed right.alone right.text) → part.alone ≡ false → part_view part ≡ told (Unary code a)
+pub told_one : (code : ℕ) (part right : FormulaPart) (a : Tree) → part_view right ≡ part_of_tree a → take 256 part.text ≡ take 256 (operator_text code ++ parenthesized right.alone right.text) → part.alone ≡ false → part_view part ≡ part_of_tree (Unary code a)
 told_one code part right a is text alone =
     both_are (take 256 part.text) (take 256 (formula_text (Unary code a))) part.alone false
-    (text ∙ cut_behind 256 (operator_text code) (enclosed right.alone right.text) (as_operand a (formula_text a)) (enclosed_told right a is)) alone
+    (text ∙ cut_behind 256 (operator_text code) (parenthesized right.alone right.text) (as_operand a (formula_text a)) (enclosed_told right a is)) alone
 
 -- an operator over two parts
-pub told_two : (code : ℕ) (part left right : Part) (a b : Tree) → part_view left ≡ told a → part_view right ≡ told b
-    → take 256 part.text ≡ take 256 (enclosed left.alone left.text ++ (operator_text code ++ enclosed right.alone right.text)) → part.alone ≡ false → part_view part ≡ told (Binary code a b)
+pub told_two : (code : ℕ) (part left right : FormulaPart) (a b : Tree) → part_view left ≡ part_of_tree a → part_view right ≡ part_of_tree b
+    → take 256 part.text ≡ take 256 (parenthesized left.alone left.text ++ (operator_text code ++ parenthesized right.alone right.text)) → part.alone ≡ false → part_view part ≡ part_of_tree (Binary code a b)
 told_two code part left right a b is are text alone =
-    let behind = operator_text code ++ enclosed right.alone right.text in
+    let behind = operator_text code ++ parenthesized right.alone right.text in
     let other = operator_text code ++ as_operand b (formula_text b) in
     both_are (take 256 part.text) (take 256 (formula_text (Binary code a b))) part.alone false
-    (text ∙ cut_before 256 (enclosed left.alone left.text) (as_operand a (formula_text a)) behind (enclosed_told left a is)
-    ∙ cut_behind 256 (as_operand a (formula_text a)) behind other (cut_behind 256 (operator_text code) (enclosed right.alone right.text) (as_operand b (formula_text b)) (enclosed_told right b are))) alone
+    (text ∙ cut_before 256 (parenthesized left.alone left.text) (as_operand a (formula_text a)) behind (enclosed_told left a is)
+    ∙ cut_behind 256 (as_operand a (formula_text a)) behind other (cut_behind 256 (operator_text code) (parenthesized right.alone right.text) (as_operand b (formula_text b)) (enclosed_told right b are))) alone
 
 -- ---- parts one behind another
 
@@ -118,22 +118,22 @@ ends_same (z ∷ xs) (w ∷ ys) x y e =
     let more = ends_same xs ys x y tail in
     record { before = ap (λ (k : _). k ∷ xs) head ∙ ap (λ (l : List _). w ∷ l) more.before; last = more.last }
 
-map_last : (rest : List Part) (x : Part) → map part_view (rest ++ x ∷ []) ≡ map part_view rest ++ part_view x ∷ []
+map_last : (rest : List FormulaPart) (x : FormulaPart) → map part_view (rest ++ x ∷ []) ≡ map part_view rest ++ part_view x ∷ []
 map_last [] x = refl
 map_last (y ∷ rest) x = ap (λ (l : List (List ℕ × Bool)). part_view y ∷ l) (map_last rest x)
 
 -- the last part is that of the first tree
-pub record Popped (trees : List Tree) (rest : List Part) (x : Part) : Type 0 where
+pub record Popped (trees : List Tree) (rest : List FormulaPart) (x : FormulaPart) : Type 0 where
   pub tree : Tree
   pub others : List Tree
   pub are : trees ≡ tree ∷ others
   pub view : map part_view rest ≡ all_told others
-  pub last : part_view x ≡ told tree
+  pub last : part_view x ≡ part_of_tree tree
 
-pub popped : (trees : List Tree) (items rest : List Part) (x : Part) → map part_view items ≡ all_told trees → items ≡ rest ++ x ∷ [] → Popped trees rest x
+pub popped : (trees : List Tree) (items rest : List FormulaPart) (x : FormulaPart) → map part_view items ≡ all_told trees → items ≡ rest ++ x ∷ [] → Popped trees rest x
 popped [] items rest x view are = absurd (omega (arith, ap length (sym (map_last rest x) ∙ sym (ap (map part_view) are) ∙ view), length-append (map part_view rest) (part_view x ∷ [])))
 popped (t ∷ trees) items rest x view are =
-    let same = ends_same (map part_view rest) (all_told trees) (part_view x) (told t) (sym (map_last rest x) ∙ sym (ap (map part_view) are) ∙ view) in
+    let same = ends_same (map part_view rest) (all_told trees) (part_view x) (part_of_tree t) (sym (map_last rest x) ∙ sym (ap (map part_view) are) ∙ view) in
     record { tree = t; others = trees; are = refl; view = same.before; last = same.last }
 
 one_behind : (code : ℕ) (a : Tree) (trees : List Tree) → eqb (operand_count code) 1 ≡ true → with_term (a ∷ trees) (Operator code) ≡ Unary code a ∷ trees
@@ -143,8 +143,8 @@ two_behind : (code : ℕ) (a b : Tree) (trees : List Tree) → eqb (operand_coun
 two_behind code a b trees is = rw is refl
 
 -- what an operator over the last part leaves
-pub over_last : (code : ℕ) (trees : List Tree) (items rest : List Part) (right part : Part) → map part_view items ≡ all_told trees → items ≡ rest ++ right ∷ [] → eqb (operand_count code) 1 ≡ true
-    → take 256 part.text ≡ take 256 (operator_text code ++ enclosed right.alone right.text) → part.alone ≡ false → map part_view rest ++ part_view part ∷ [] ≡ all_told (with_term trees (Operator code))
+pub over_last : (code : ℕ) (trees : List Tree) (items rest : List FormulaPart) (right part : FormulaPart) → map part_view items ≡ all_told trees → items ≡ rest ++ right ∷ [] → eqb (operand_count code) 1 ≡ true
+    → take 256 part.text ≡ take 256 (operator_text code ++ parenthesized right.alone right.text) → part.alone ≡ false → map part_view rest ++ part_view part ∷ [] ≡ all_told (with_term trees (Operator code))
 over_last code trees items rest right part view are one text alone =
     let p = popped trees items rest right view are in
     ap (λ (l : List (List ℕ × Bool)). l ++ part_view part ∷ []) p.view
@@ -152,8 +152,8 @@ over_last code trees items rest right part view are one text alone =
     ∙ ap all_told (sym (ap (λ (ts : List Tree). with_term ts (Operator code)) p.are ∙ one_behind code p.tree p.others one))
 
 -- what an operator over the last two parts leaves
-pub over_both : (code : ℕ) (trees : List Tree) (items middle rest : List Part) (left right part : Part) → map part_view items ≡ all_told trees → items ≡ middle ++ right ∷ [] → middle ≡ rest ++ left ∷ [] → eqb (operand_count code) 1 ≡ false
-    → take 256 part.text ≡ take 256 (enclosed left.alone left.text ++ (operator_text code ++ enclosed right.alone right.text)) → part.alone ≡ false → map part_view rest ++ part_view part ∷ [] ≡ all_told (with_term trees (Operator code))
+pub over_both : (code : ℕ) (trees : List Tree) (items middle rest : List FormulaPart) (left right part : FormulaPart) → map part_view items ≡ all_told trees → items ≡ middle ++ right ∷ [] → middle ≡ rest ++ left ∷ [] → eqb (operand_count code) 1 ≡ false
+    → take 256 part.text ≡ take 256 (parenthesized left.alone left.text ++ (operator_text code ++ parenthesized right.alone right.text)) → part.alone ≡ false → map part_view rest ++ part_view part ∷ [] ≡ all_told (with_term trees (Operator code))
 over_both code trees items middle rest left right part view are then two text alone =
     let p = popped trees items middle right view are in
     let q = popped p.others middle rest left p.view then in
@@ -162,20 +162,20 @@ over_both code trees items middle rest left right part view are then two text al
     ∙ ap all_told (sym (ap (λ (ts : List Tree). with_term ts (Operator code)) (p.are ∙ ap (λ (ts : List Tree). p.tree ∷ ts) q.are) ∙ two_behind code q.tree p.tree q.others two))
 
 -- the same of answers
-pub one_answer : {E : Type 0} (r : Result Part E) (code : ℕ) (items rest : List Part) (right : Part) → items ≡ rest ++ right ∷ [] → eqb (operand_count code) 1 ≡ true
-    → IfOk r (λ part. take 256 part.text ≡ take 256 (operator_text code ++ enclosed right.alone right.text)) → IfOk r (λ part. part.alone ≡ false)
+pub one_answer : {E : Type 0} (r : Result FormulaPart E) (code : ℕ) (items rest : List FormulaPart) (right : FormulaPart) → items ≡ rest ++ right ∷ [] → eqb (operand_count code) 1 ≡ true
+    → IfOk r (λ part. take 256 part.text ≡ take 256 (operator_text code ++ parenthesized right.alone right.text)) → IfOk r (λ part. part.alone ≡ false)
     → (trees : List Tree) → map part_view items ≡ all_told trees → IfOk r (λ part. map part_view rest ++ part_view part ∷ [] ≡ all_told (with_term trees (Operator code)))
 one_answer (Ok part) code items rest right are one text alone trees view = over_last code trees items rest right part view are one text alone
 one_answer (Err e) code items rest right are one text alone trees view = tt
 
-pub two_answer : {E : Type 0} (r : Result Part E) (code : ℕ) (items middle rest : List Part) (left right : Part) → items ≡ middle ++ right ∷ [] → middle ≡ rest ++ left ∷ [] → eqb (operand_count code) 1 ≡ false
-    → IfOk r (λ part. take 256 part.text ≡ take 256 (enclosed left.alone left.text ++ (operator_text code ++ enclosed right.alone right.text))) → IfOk r (λ part. part.alone ≡ false)
+pub two_answer : {E : Type 0} (r : Result FormulaPart E) (code : ℕ) (items middle rest : List FormulaPart) (left right : FormulaPart) → items ≡ middle ++ right ∷ [] → middle ≡ rest ++ left ∷ [] → eqb (operand_count code) 1 ≡ false
+    → IfOk r (λ part. take 256 part.text ≡ take 256 (parenthesized left.alone left.text ++ (operator_text code ++ parenthesized right.alone right.text))) → IfOk r (λ part. part.alone ≡ false)
     → (trees : List Tree) → map part_view items ≡ all_told trees → IfOk r (λ part. map part_view rest ++ part_view part ∷ [] ≡ all_told (with_term trees (Operator code)))
 two_answer (Ok part) code items middle rest left right are then two text alone trees view = over_both code trees items middle rest left right part view are then two text alone
 two_answer (Err e) code items middle rest left right are then two text alone trees view = tt
 
 -- a part that takes no others
-pub leaf_behind : (term : Term) (trees : List Tree) (items : List Part) (part : Part) → operands_of term ≡ 0 → map part_view items ≡ all_told trees → part_view part ≡ told (Leaf term) → map part_view items ++ part_view part ∷ [] ≡ all_told (with_term trees term)
+pub leaf_behind : (term : Term) (trees : List Tree) (items : List FormulaPart) (part : FormulaPart) → operands_of term ≡ 0 → map part_view items ≡ all_told trees → part_view part ≡ part_of_tree (Leaf term) → map part_view items ++ part_view part ∷ [] ≡ all_told (with_term trees term)
 leaf_behind (Operator code) trees items part none view is = absurd (omega (arith, none, some code))
   where
     some : (code : ℕ) → 1 ≤ operand_count code
@@ -193,14 +193,14 @@ leaf_behind (Offset n) trees items part none view is = ap (λ (l : List (List �
 
 told_count : (trees : List Tree) → length (all_told trees) ≡ length trees
 told_count [] = refl
-told_count (t ∷ trees) = length-append (all_told trees) (told t ∷ []) ∙ omega (arith, told_count trees)
+told_count (t ∷ trees) = length-append (all_told trees) (part_of_tree t ∷ []) ∙ omega (arith, told_count trees)
 
-map_count : (items : List Part) → length (map part_view items) ≡ length items
+map_count : (items : List FormulaPart) → length (map part_view items) ≡ length items
 map_count [] = refl
 map_count (x ∷ items) = ap suc (map_count items)
 
 -- there are as many parts as trees
-pub part_count : (trees : List Tree) (items : List Part) → map part_view items ≡ all_told trees → length items ≡ length trees
+pub part_count : (trees : List Tree) (items : List FormulaPart) → map part_view items ≡ all_told trees → length items ≡ length trees
 part_count trees items view = sym (map_count items) ∙ ap length view ∙ told_count trees
 
 with_count : (trees : List Tree) (term : Term) → operands_of term ≤ length trees → length (with_term trees term) ≡ length trees - operands_of term + 1
@@ -221,19 +221,19 @@ with_count trees (Named code name) some = omega arith
 with_count trees (Offset n) some = omega arith
 
 -- at first there are no parts
-pub parts_begin : (l : ℕ) (text : List ℕ) → IsExpression l text → AreParts (bare (terms_in l 0 text)) (bare (terms_in l 0 text)) []
+pub parts_begin : (l : ℕ) (text : List ℕ) → IsExpression l text → AreParts (terms_alone (terms_in l 0 text)) (terms_alone (terms_in l 0 text)) []
 parts_begin l text is =
     record { trees = []; view = refl; same = refl; leads = subst (λ (ts : List Term). Lead 0 ts 1) (sym (bare_are l text is.tree is.spells)) (tree_leads_to_one l is.tree is.spells.formed is.spells.shallow) }
 
 -- and leaves parts
-pub parts_on : (all : List Term) (left next : List (ℕ × Term)) (at : ℕ) (term : Term) (parts rest more : List Part) (part : Part) → AreParts all (bare left) parts → Some (at, term) ≡ slice_get left 0 → next ≡ drop 1 left
-    → ((trees : List Tree) → map part_view parts ≡ all_told trees → map part_view rest ++ part_view part ∷ [] ≡ all_told (with_term trees term)) → more ≡ rest ++ part ∷ [] → AreParts all (bare next) more
+pub parts_on : (all : List Term) (left next : List (ℕ × Term)) (at : ℕ) (term : Term) (parts rest more : List FormulaPart) (part : FormulaPart) → AreParts all (terms_alone left) parts → Some (at, term) ≡ slice_get left 0 → next ≡ drop 1 left
+    → ((trees : List Tree) → map part_view parts ≡ all_told trees → map part_view rest ++ part_view part ∷ [] ≡ all_told (with_term trees term)) → more ≡ rest ++ part ∷ [] → AreParts all (terms_alone next) more
 parts_on all left next at term parts rest more part are e after gives is =
     let front = front_term left (at, term) e in
-    let on : Lead (length are.trees) (term ∷ bare (drop 1 left)) 1 = subst (λ (ps : List (ℕ × Term)). Lead (length are.trees) (bare ps) 1) front are.leads in
-    let leads : Lead (length (with_term are.trees term)) (bare (drop 1 left)) 1 = subst (λ (n : ℕ). Lead n (bare (drop 1 left)) 1) (sym (with_count are.trees term on.0)) on.2 in
-    let same : trees_behind (with_term are.trees term) (bare (drop 1 left)) ≡ trees_behind [] all = sym (ap (λ (ps : List (ℕ × Term)). trees_behind are.trees (bare ps)) front) ∙ are.same in
-    subst (λ (ps : List (ℕ × Term)). AreParts all (bare ps) more) (sym after) (record {
+    let on : Lead (length are.trees) (term ∷ terms_alone (drop 1 left)) 1 = subst (λ (ps : List (ℕ × Term)). Lead (length are.trees) (terms_alone ps) 1) front are.leads in
+    let leads : Lead (length (with_term are.trees term)) (terms_alone (drop 1 left)) 1 = subst (λ (n : ℕ). Lead n (terms_alone (drop 1 left)) 1) (sym (with_count are.trees term on.0)) on.2 in
+    let same : trees_behind (with_term are.trees term) (terms_alone (drop 1 left)) ≡ trees_behind [] all = sym (ap (λ (ps : List (ℕ × Term)). trees_behind are.trees (terms_alone ps)) front) ∙ are.same in
+    subst (λ (ps : List (ℕ × Term)). AreParts all (terms_alone ps) more) (sym after) (record {
       trees = with_term are.trees term;
       view = ap (map part_view) is ∙ map_last rest part ∙ gives are.trees are.view;
       same = same;
@@ -241,22 +241,22 @@ parts_on all left next at term parts rest more part are e after gives is =
     })
 
 -- at the end there is one
-parts_one : (trees : List Tree) (items rest : List Part) (part : Part) (tree : Tree) → length trees ≡ 1 → map part_view items ≡ all_told trees → items ≡ rest ++ part ∷ [] → last_tree trees ≡ Some tree → take 256 part.text ≡ take 256 (formula_text tree)
+parts_one : (trees : List Tree) (items rest : List FormulaPart) (part : FormulaPart) (tree : Tree) → length trees ≡ 1 → map part_view items ≡ all_told trees → items ≡ rest ++ part ∷ [] → last_tree trees ≡ Some tree → take 256 part.text ≡ take 256 (formula_text tree)
 parts_one trees items rest part tree one view are last =
     let p = popped trees items rest part view are in
     let first : Some p.tree ≡ Some tree = sym (ap last_tree p.are) ∙ last in
     let same : p.tree ≡ tree = cc in
     left_is (take 256 part.text) (take 256 (formula_text p.tree)) part.alone (is_leaf p.tree) p.last ∙ ap (λ (t : Tree). take 256 (formula_text t)) same
 
-pub parts_end : (l : ℕ) (text : List ℕ) (left : List (ℕ × Term)) (parts rest : List Part) (part : Part) → AreParts (bare (terms_in l 0 text)) (bare left) parts → left ≡ [] → parts ≡ rest ++ part ∷ []
+pub parts_end : (l : ℕ) (text : List ℕ) (left : List (ℕ × Term)) (parts rest : List FormulaPart) (part : FormulaPart) → AreParts (terms_alone (terms_in l 0 text)) (terms_alone left) parts → left ≡ [] → parts ≡ rest ++ part ∷ []
     → (tree : Tree) → tree_in l text ≡ Some tree → take 256 part.text ≡ take 256 (formula_text tree)
 unfolding tree_in
 parts_end l text left parts rest part are none last tree is =
-    let same : are.trees ≡ trees_behind [] (bare (terms_in l 0 text)) = sym (ap (λ (ps : List (ℕ × Term)). trees_behind are.trees (bare ps)) none) ∙ are.same in
-    let one : length are.trees ≡ 1 = subst (λ (ps : List (ℕ × Term)). Lead (length are.trees) (bare ps) 1) none are.leads in
+    let same : are.trees ≡ trees_behind [] (terms_alone (terms_in l 0 text)) = sym (ap (λ (ps : List (ℕ × Term)). trees_behind are.trees (terms_alone ps)) none) ∙ are.same in
+    let one : length are.trees ≡ 1 = subst (λ (ps : List (ℕ × Term)). Lead (length are.trees) (terms_alone ps) 1) none are.leads in
     parts_one are.trees parts rest part tree one are.view last (ap last_tree same ∙ is)
 
-pub parts_left : (all : List Term) (left : List (ℕ × Term)) (parts : List Part) → AreParts all (bare left) parts → left ≡ [] → 1 ≤ length parts
+pub parts_left : (all : List Term) (left : List (ℕ × Term)) (parts : List FormulaPart) → AreParts all (terms_alone left) parts → left ≡ [] → 1 ≤ length parts
 parts_left all left parts are none =
-    let one : length are.trees ≡ 1 = subst (λ (ps : List (ℕ × Term)). Lead (length are.trees) (bare ps) 1) none are.leads in
+    let one : length are.trees ≡ 1 = subst (λ (ps : List (ℕ × Term)). Lead (length are.trees) (terms_alone ps) 1) none are.leads in
     omega (arith, one, part_count are.trees parts are.view)

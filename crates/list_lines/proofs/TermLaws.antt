@@ -8,22 +8,22 @@ use Rattle.omf_format.specs.laws.ExpressionLaws.{terms_are}
 use Rattle.omf_format.specs.laws.TreeLaws.{tree_has_terms, tree-same}
 use Rattle.list_meaning.specs.Listed as listed
 use Rattle.list_meaning.specs.Listing.{simple_of, weak_of, number_of}
-use Rattle.list_lines.specs.FormulaView.{bare, all_terms, any_term, term_at, moved_by, simple_four, weak_two, number_two, is_leaf}
+use Rattle.list_lines.specs.FormulaView.{terms_alone, all_terms, any_term, term_at, moved_by, simple_four, weak_two, number_two, is_leaf}
 
 -- ---- terms without their places
 
-pub bare_placed : (l at : ℕ) (terms : List Term) → bare (placed_terms l at terms) ≡ terms
+pub bare_placed : (l at : ℕ) (terms : List Term) → terms_alone (placed_terms l at terms) ≡ terms
 bare_placed l at [] = refl
 bare_placed l at (t ∷ terms) = ap (λ (ts : List Term). t ∷ ts) (bare_placed l (at + length (term_text l t)) terms)
 
-pub bare_are : (l : ℕ) (text : List ℕ) (tree : Tree) → Spells l text tree → bare (terms_in l 0 text) ≡ terms_of tree
-bare_are l text tree is = ap bare (terms_are l text tree is) ∙ bare_placed l 0 (terms_of tree)
+pub bare_are : (l : ℕ) (text : List ℕ) (tree : Tree) → Spells l text tree → terms_alone (terms_in l 0 text) ≡ terms_of tree
+bare_are l text tree is = ap terms_alone (terms_are l text tree is) ∙ bare_placed l 0 (terms_of tree)
 
-all_bare : (test : Term → Bool) (placed : List (ℕ × Term)) → all_terms test placed ≡ list_all test (bare placed)
+all_bare : (test : Term → Bool) (placed : List (ℕ × Term)) → all_terms test placed ≡ list_all test (terms_alone placed)
 all_bare test [] = refl
 all_bare test (p ∷ placed) = ap (λ (b : Bool). test p.1 && b) (all_bare test placed)
 
-any_bare : (test : Term → Bool) (placed : List (ℕ × Term)) → any_term test placed ≡ list_any test (bare placed)
+any_bare : (test : Term → Bool) (placed : List (ℕ × Term)) → any_term test placed ≡ list_any test (terms_alone placed)
 any_bare test [] = refl
 any_bare test (p ∷ placed) = ap (λ (b : Bool). test p.1 || b) (any_bare test placed)
 
@@ -79,11 +79,11 @@ any_end test known left e = ap (λ (ps : List (ℕ × Term)). known || any_term 
 
 -- ---- the first terms
 
-first_bare : (placed : List (ℕ × Term)) → term_at placed 0 ≡ slice_get (bare placed) 0
+first_bare : (placed : List (ℕ × Term)) → term_at placed 0 ≡ slice_get (terms_alone placed) 0
 first_bare [] = refl
 first_bare (p ∷ placed) = refl
 
-drop_bare : (placed : List (ℕ × Term)) → bare (drop 1 placed) ≡ drop 1 (bare placed)
+drop_bare : (placed : List (ℕ × Term)) → terms_alone (drop 1 placed) ≡ drop 1 (terms_alone placed)
 drop_bare [] = refl
 drop_bare (p ∷ placed) = refl
 
@@ -259,19 +259,19 @@ module _ (e : Expression) (tree : Tree) (spells : Spells e.lab_len e.text tree) 
   place_0 : term_at (terms_in e.lab_len 0 e.text) 0 ≡ first (terms_of tree)
   place_0 = first_bare (terms_in e.lab_len 0 e.text) ∙ ap first (bare_are e.lab_len e.text tree spells)
 
-  dropped : bare (drop 1 (terms_in e.lab_len 0 e.text)) ≡ drop 1 (terms_of tree)
+  dropped : terms_alone (drop 1 (terms_in e.lab_len 0 e.text)) ≡ drop 1 (terms_of tree)
   dropped = drop_bare (terms_in e.lab_len 0 e.text) ∙ ap (drop 1) (bare_are e.lab_len e.text tree spells)
 
   place_1 : term_at (drop 1 (terms_in e.lab_len 0 e.text)) 0 ≡ first (drop 1 (terms_of tree))
   place_1 = first_bare (drop 1 (terms_in e.lab_len 0 e.text)) ∙ ap first dropped
 
-  dropped_2 : bare (drop 1 (drop 1 (terms_in e.lab_len 0 e.text))) ≡ drop 1 (drop 1 (terms_of tree))
+  dropped_2 : terms_alone (drop 1 (drop 1 (terms_in e.lab_len 0 e.text))) ≡ drop 1 (drop 1 (terms_of tree))
   dropped_2 = drop_bare (drop 1 (terms_in e.lab_len 0 e.text)) ∙ ap (drop 1) dropped
 
   place_2 : term_at (drop 1 (drop 1 (terms_in e.lab_len 0 e.text))) 0 ≡ first (drop 1 (drop 1 (terms_of tree)))
   place_2 = first_bare (drop 1 (drop 1 (terms_in e.lab_len 0 e.text))) ∙ ap first dropped_2
 
-  dropped_3 : bare (drop 1 (drop 1 (drop 1 (terms_in e.lab_len 0 e.text)))) ≡ drop 1 (drop 1 (drop 1 (terms_of tree)))
+  dropped_3 : terms_alone (drop 1 (drop 1 (drop 1 (terms_in e.lab_len 0 e.text)))) ≡ drop 1 (drop 1 (drop 1 (terms_of tree)))
   dropped_3 = drop_bare (drop 1 (drop 1 (terms_in e.lab_len 0 e.text))) ∙ ap (drop 1) dropped_2
 
   place_3 : term_at (drop 1 (drop 1 (drop 1 (terms_in e.lab_len 0 e.text)))) 0 ≡ first (drop 1 (drop 1 (drop 1 (terms_of tree))))

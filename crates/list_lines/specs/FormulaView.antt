@@ -7,13 +7,13 @@ use Rattle.link_meaning.specs.Terms.{trees_behind}
 use Rattle.list_meaning.specs.Listed as listed
 use Rattle.list_meaning.specs.Listed.{formula_text}
 use Rattle.list_lines.specs.declared.formula.Front.{Front}
-use Rattle.list_lines.specs.declared.formula.Part.{Part}
+use Rattle.list_lines.specs.declared.formula.FormulaPart.{FormulaPart}
 
 -- ---- terms
 
 -- terms without their displacements
-abbrev pub bare : List (ℕ × Term) → List Term
-bare placed = map (λ p. p.1) placed
+abbrev pub terms_alone : List (ℕ × Term) → List Term
+terms_alone placed = map (λ p. p.1) placed
 
 -- all terms pass a test
 abbrev pub all_terms : (Term → Bool) → List (ℕ × Term) → Bool
@@ -59,25 +59,25 @@ is_leaf (Unary code a) = false
 is_leaf (Binary code a b) = false
 
 -- an operand in its parentheses
-abbrev pub enclosed : Bool → List ℕ → List ℕ
-enclosed true text = text
-enclosed false text = codes "(" ++ (text ++ codes ")")
+abbrev pub parenthesized : Bool → List ℕ → List ℕ
+parenthesized true text = text
+parenthesized false text = codes "(" ++ (text ++ codes ")")
 
 -- of a part its first 256 bytes count
-abbrev pub part_view : Part → List ℕ × Bool
+abbrev pub part_view : FormulaPart → List ℕ × Bool
 part_view part = (take 256 part.text, part.alone)
 
 -- the part that a tree is
-abbrev pub told : Tree → List ℕ × Bool
-told tree = (take 256 (formula_text tree), is_leaf tree)
+abbrev pub part_of_tree : Tree → List ℕ × Bool
+part_of_tree tree = (take 256 (formula_text tree), is_leaf tree)
 
 -- the parts of trees, of which the last comes first
 abbrev pub all_told : List Tree → List (List ℕ × Bool)
 all_told [] = []
-all_told (tree ∷ trees) = all_told trees ++ told tree ∷ []
+all_told (tree ∷ trees) = all_told trees ++ part_of_tree tree ∷ []
 
 -- the parts are those of the terms so far, and the terms that are left find their operands
-pub record AreParts (all left : List Term) (parts : List Part) : Type 0 where
+pub record AreParts (all left : List Term) (parts : List FormulaPart) : Type 0 where
   pub trees : List Tree
   pub view : map part_view parts ≡ all_told trees
   pub same : trees_behind trees left ≡ trees_behind [] all

@@ -1,7 +1,7 @@
 -- A text line by line, as long as it may have so many bytes and lines.
 use Rattle.std.specs.Prelude.{ℕ, ◌+◌, ◌&&◌, nat_lt, List, [], ◌∷◌, ◌++◌, length, Option, Some, None, if◌then◌else◌}
 use Rattle.omf_format.specs.Ascii as ascii
-use Rattle.list_meaning.specs.Listed.{Said, said_text, listing_text}
+use Rattle.list_meaning.specs.Listed.{ListedStatement, said_text, listing_text}
 use Rattle.list_meaning.specs.Listing.{is_small}
 
 -- the whole lines and their number, unless they are too many
@@ -9,7 +9,7 @@ abbrev pub Kept : Type 0
 Kept = Option (List ℕ × ℕ)
 
 -- what is kept of these lines
-abbrev pub so_far : List Said → Kept
+abbrev pub so_far : List ListedStatement → Kept
 so_far all = if is_small all then Some (listing_text all, length all) else None
 
 -- one more line
@@ -19,6 +19,6 @@ with_line line (Some (text, lines)) =
     if nat_lt lines 65536 && nat_lt (length text + length line) 16777216 then Some (text ++ (line ++ ascii.line_feed ∷ []), lines + 1) else None
 
 -- these lines
-abbrev pub with_lines : List Said → Kept → Kept
+abbrev pub with_lines : List ListedStatement → Kept → Kept
 with_lines [] kept = kept
 with_lines (said ∷ rest) kept = with_lines rest (with_line (said_text said) kept)

@@ -8,8 +8,8 @@ kept_by true text lines = None
 kept_by false text lines = Some (text, lines)
 
 -- the whole lines
-abbrev pub kept : Output → Kept
-kept o = kept_by o.over (take o.start o.text) o.lines
+abbrev pub finished_lines : Output → Kept
+finished_lines o = kept_by o.over (take o.start o.text) o.lines
 
 -- one more line may be kept
 abbrev pub has_room : Bool → ℕ → ℕ → Bool

@@ -6,7 +6,7 @@ ghost use Rattle.omf_expr.specs.View.{view};
 ghost use Rattle.link_meaning.specs.Terms.{tree_in, with_term};
 ghost use Rattle.list_meaning.specs.Listed.{operator_text, formula_text, term_text};
 ghost use Rattle.list_meaning.specs.Listing.{is_open, term_listable, term_may_stand};
-ghost use Rattle.list_lines.specs.FormulaView.{all_terms, any_term, term_at, moved_by, simple_four, weak_two, number_two, IsFront, enclosed, part_view, told, all_told};
+ghost use Rattle.list_lines.specs.FormulaView.{all_terms, any_term, term_at, moved_by, simple_four, weak_two, number_two, IsFront, parenthesized, part_view, part_of_tree, all_told};
 ghost use Rattle.list_lines.specs.LineView.{HasSize, operand_view};
 ghost use Rattle.list_lines.specs.NamesView.{AreNames};
 
@@ -135,7 +135,7 @@ pub fn front_of<'a>(expr: &Expr<'a>) -> Front<'a>
 }
 
 /// What a name with a number that an operator joins to it means.
-fn moved<'a>(name: &'a [u8], n: u32, operator: u8) -> Option<Wanted<'a>>
+fn name_with_number<'a>(name: &'a [u8], n: u32, operator: u8) -> Option<Wanted<'a>>
     ensures value { option_map operand_view result ≡ moved_by name.now n operator }
     ensures size { IfSome result (λ operand. HasSize (operand_view operand)) }
 {
@@ -160,7 +160,7 @@ impl<'a> Front<'a> {
                 Some(Term::Constant(n)),
                 Some(Term::Operator(code)),
                 None,
-            ) => moved(name, n, code),
+            ) => name_with_number(name, n, code),
             _ => None,
         }
     }
@@ -188,7 +188,7 @@ impl<'a> Front<'a> {
 
 /// The text of a part of a formula, its first 256 bytes at least where it has as many.
 #[derive(Drop)]
-struct Part {
+struct FormulaPart {
     text: Line,
     /// As an operand it stands without parentheses.
     alone: bool,
@@ -202,7 +202,7 @@ pub fn first_bytes(bytes: &[u8], most: usize) -> &[u8]
 }
 
 /// Appends bytes, as far as they count.
-fn put(text: &mut Line, bytes: &[u8]) -> Result<(), LineFault>
+fn append_capped(text: &mut Line, bytes: &[u8]) -> Result<(), LineFault>
     ensures { OnOk result (take 256 text.new ≡ take 256 (text.old ++ bytes.now)) }
 {
     let left = MAX_TEXT - text.bytes().len().min(MAX_TEXT);
@@ -210,15 +210,15 @@ fn put(text: &mut Line, bytes: &[u8]) -> Result<(), LineFault>
 }
 
 /// Appends a part as an operand.
-fn put_operand(text: &mut Line, part: &Part) -> Result<(), LineFault>
-    ensures { OnOk result (take 256 text.new ≡ take 256 (text.old ++ enclosed part.now.alone part.now.text)) }
+fn put_operand(text: &mut Line, part: &FormulaPart) -> Result<(), LineFault>
+    ensures { OnOk result (take 256 text.new ≡ take 256 (text.old ++ parenthesized part.now.alone part.now.text)) }
 {
     if part.alone {
-        return put(text, part.text.bytes());
+        return append_capped(text, part.text.bytes());
     }
-    put(text, b"(")?;
-    put(text, part.text.bytes())?;
-    put(text, b")")
+    append_capped(text, b"(")?;
+    append_capped(text, part.text.bytes())?;
+    append_capped(text, b")")
 }
 
 /// How an operator is written.
@@ -247,16 +247,16 @@ fn operator_text(code: u8) -> &'static str
 }
 
 /// Appends an operator and the operand behind it.
-fn put_right(text: &mut Line, code: u8, part: &Part) -> Result<(), LineFault>
-    ensures { OnOk result (take 256 text.new ≡ take 256 (text.old ++ (operator_text code ++ enclosed part.now.alone part.now.text))) }
+fn put_right(text: &mut Line, code: u8, part: &FormulaPart) -> Result<(), LineFault>
+    ensures { OnOk result (take 256 text.new ≡ take 256 (text.old ++ (operator_text code ++ parenthesized part.now.alone part.now.text))) }
 {
-    put(text, operator_text(code).as_bytes())?;
+    append_capped(text, operator_text(code).as_bytes())?;
     put_operand(text, part)
 }
 
 /// The part that a term is which takes no operands.
-fn leaf(alloc: Global, term: Term) -> Result<Part, LineFault>
-    ensures { IfOk result (λ part. part_view part ≡ told (Leaf (view term.entry))) }
+fn leaf(alloc: Global, term: Term) -> Result<FormulaPart, LineFault>
+    ensures { IfOk result (λ part. part_view part ≡ part_of_tree (Leaf (view term.entry))) }
 {
     let mut text = Line::new(alloc);
     match term {
@@ -268,29 +268,34 @@ fn leaf(alloc: Global, term: Term) -> Result<Part, LineFault>
         Term::Named(_, name) => text.put(name)?,
         Term::Operator(_) | Term::Offset(_) => {}
     }
-    Ok(Part { text, alone: true })
+    Ok(FormulaPart { text, alone: true })
 }
 
 /// An operator over one operand.
-fn over_one(alloc: Global, code: u8, right: &Part) -> Result<Part, LineFault>
-    ensures text { IfOk result (λ part. take 256 part.text ≡ take 256 (operator_text code ++ enclosed right.now.alone right.now.text)) }
+fn over_one(alloc: Global, code: u8, right: &FormulaPart) -> Result<FormulaPart, LineFault>
+    ensures text { IfOk result (λ part. take 256 part.text ≡ take 256 (operator_text code ++ parenthesized right.now.alone right.now.text)) }
     ensures alone { IfOk result (λ part. part.alone ≡ false) }
 {
     let mut text = Line::new(alloc);
     put_right(&mut text, code, right)?;
-    Ok(Part { text, alone: false })
+    Ok(FormulaPart { text, alone: false })
 }
 
 /// An operator over two operands.
-fn over_two(alloc: Global, code: u8, left: &Part, right: &Part) -> Result<Part, LineFault>
+fn over_two(
+    alloc: Global,
+    code: u8,
+    left: &FormulaPart,
+    right: &FormulaPart,
+) -> Result<FormulaPart, LineFault>
     ensures text { IfOk result (λ part. take 256 part.text
-        ≡ take 256 (enclosed left.now.alone left.now.text ++ (operator_text code ++ enclosed right.now.alone right.now.text))) }
+        ≡ take 256 (parenthesized left.now.alone left.now.text ++ (operator_text code ++ parenthesized right.now.alone right.now.text))) }
     ensures alone { IfOk result (λ part. part.alone ≡ false) }
 {
     let mut text = Line::new(alloc);
     put_operand(&mut text, left)?;
     put_right(&mut text, code, right)?;
-    Ok(Part { text, alone: false })
+    Ok(FormulaPart { text, alone: false })
 }
 
 /// Whether an operator has one operand.
@@ -302,7 +307,11 @@ fn is_unary(code: u8) -> bool
 
 /// An operator over the last parts.
 #[tactic(auto, using(crate::proofs::PartLaws::part_count))]
-fn over(alloc: Global, parts: &mut Vec<Part>, code: u8) -> Result<Part, LineFault>
+fn apply_operator(
+    alloc: Global,
+    parts: &mut Vec<FormulaPart>,
+    code: u8,
+) -> Result<FormulaPart, LineFault>
     requires { operand_count code ≤ vec_len parts.old }
     ensures { (trees : List Tree) → map part_view parts.old.items ≡ all_told trees
         → IfOk result (λ part. map part_view parts.new.items ++ part_view part ∷ [] ≡ all_told (with_term trees (Operator code))) }
@@ -321,13 +330,17 @@ fn over(alloc: Global, parts: &mut Vec<Part>, code: u8) -> Result<Part, LineFaul
 
 /// The part of a term and of the parts that it takes.
 #[tactic(auto, using(crate::proofs::PartLaws::leaf_behind))]
-fn part_of(alloc: Global, parts: &mut Vec<Part>, term: Term) -> Result<Part, LineFault>
+fn part_of(
+    alloc: Global,
+    parts: &mut Vec<FormulaPart>,
+    term: Term,
+) -> Result<FormulaPart, LineFault>
     requires { operands_of (view term) ≤ vec_len parts.old }
     ensures { (trees : List Tree) → map part_view parts.old.items ≡ all_told trees
         → IfOk result (λ part. map part_view parts.new.items ++ part_view part ∷ [] ≡ all_told (with_term trees (view term.entry))) }
 {
     match term {
-        Term::Operator(code) => over(alloc, parts, code),
+        Term::Operator(code) => apply_operator(alloc, parts, code),
         Term::Location | Term::Constant(_) | Term::Named(_, _) | Term::Offset(_) => {
             leaf(alloc, term)
         }
@@ -335,7 +348,7 @@ fn part_of(alloc: Global, parts: &mut Vec<Part>, term: Term) -> Result<Part, Lin
 }
 
 /// One more part.
-fn add(parts: &mut Vec<Part>, part: Part) -> Result<(), AllocError>
+fn add(parts: &mut Vec<FormulaPart>, part: FormulaPart) -> Result<(), AllocError>
     ensures { OnOk result (parts.new.items ≡ parts.old.items ++ part ∷ []) }
 {
     parts.push(part)?;
@@ -347,7 +360,7 @@ pub fn text_of(alloc: Global, expr: &Expr) -> Result<Line, LineFault>
     requires { IsExpression expr.now.lab_len expr.now.text }
     ensures { IfOk result (λ text. (tree : Tree) → tree_in expr.now.lab_len expr.now.text ≡ Some tree → take 256 text ≡ take 256 (formula_text tree)) }
 {
-    let mut parts: Vec<Part> = Vec::new(alloc);
+    let mut parts: Vec<FormulaPart> = Vec::new(alloc);
     let mut terms = expr.terms();
     'terms: loop {
         match terms.next() {

@@ -3,14 +3,14 @@
 ghost use Rattle.std.specs.Prelude.{◌≡◌, ◌++◌, ◌∷◌, ◌≤◌, ◌<◌, ◌*◌, [], codes, false, length, take, OnOk, IsErrOf, if◌then◌else◌};
 ghost use Rattle.omf_base.specs.Digits.{hexadecimal};
 ghost use Rattle.omf_format.specs.Expression.{Tree};
-ghost use Rattle.list_meaning.specs.Listed.{NextAlign, NextOrg, Begins, Kinds, Turns, Spaces, Aligns, Moves, Uses, Asks, Labels, Equates, Instructs, Bytes, Weakly, Sums, Ends, spaced, number_text, wanted_text, operand_text, formula_text, switch_text, on_text};
+ghost use Rattle.list_meaning.specs.Listed.{NextAlignIs, NextOrg, StartIs, KindIs, SwitchIs, Ds, Aligns, OrgIs, UsingIs, StrongIs, Labels, Equates, Instructs, Bytes, WeakIs, FormulaIs, EndIs, with_leading_space, number_text, wanted_text, operand_text, formula_text, switch_text, on_text};
 ghost use Rattle.list_meaning.specs.Listing.{is_short};
 ghost use Rattle.list_lines.specs.LineView.{Wrote, HasSize, has_no_text, operand_view};
-ghost use Rattle.list_lines.specs.OutputView.{kept, open_line};
+ghost use Rattle.list_lines.specs.OutputView.{finished_lines, open_line};
 
 use crate::output::Output;
 use crate::spellings::{shape, spelling};
-use crate::stop::Stop;
+use crate::stop::LineStop;
 use asm_meaning::Switch;
 use omf_base::LineFault;
 use orca_meaning::{Mnemonic, Mode};
@@ -34,7 +34,7 @@ pub enum Wanted<'a> {
 fn statement(out: &mut Output, label: &[u8], operation: &str) -> Result<(), LineFault>
     requires { open_line out.old ≡ [] }
     ensures line { OnOk result (open_line out.new ≡ label.now ++ (0x20 ∷ operation.now)) }
-    ensures kept { OnOk result (kept out.new ≡ kept out.old) }
+    ensures finished_lines { OnOk result (finished_lines out.new ≡ finished_lines out.old) }
 {
     out.put(label)?;
     out.word(" ")?;
@@ -43,8 +43,8 @@ fn statement(out: &mut Output, label: &[u8], operation: &str) -> Result<(), Line
 
 /// Writes an operand behind a space, or nothing where there is none.
 fn operand(out: &mut Output, text: &[u8]) -> Result<(), LineFault>
-    ensures line { OnOk result (open_line out.new ≡ open_line out.old ++ spaced text.now) }
-    ensures kept { OnOk result (kept out.new ≡ kept out.old) }
+    ensures line { OnOk result (open_line out.new ≡ open_line out.old ++ with_leading_space text.now) }
+    ensures finished_lines { OnOk result (finished_lines out.new ≡ finished_lines out.old) }
 {
     if text.is_empty() {
         return Ok(());
@@ -57,7 +57,7 @@ fn operand(out: &mut Output, text: &[u8]) -> Result<(), LineFault>
 fn number(out: &mut Output, n: u32, digits: u32) -> Result<(), LineFault>
     requires { digits ≤ 8 }
     ensures line { OnOk result (open_line out.new ≡ open_line out.old ++ number_text digits n) }
-    ensures kept { OnOk result (kept out.new ≡ kept out.old) }
+    ensures finished_lines { OnOk result (finished_lines out.new ≡ finished_lines out.old) }
 {
     out.word("$")?;
     out.digits(n, digits)
@@ -65,10 +65,10 @@ fn number(out: &mut Output, n: u32, digits: u32) -> Result<(), LineFault>
 
 /// ALIGN before START.
 #[tactic(auto, using(crate::proofs::Written::wrote_of, crate::proofs::Written::long_of), unfolding(list_meaning::specs::Listed::said_text))]
-pub fn next_align(out: &mut Output, n: u32) -> Result<(), Stop>
+pub fn put_next_align(out: &mut Output, n: u32) -> Result<(), LineStop>
     requires { open_line out.old ≡ [] }
-    ensures wrote { OnOk result (Wrote (NextAlign n) out.old out.new) }
-    ensures long { IsErrOf result Stop.NotListable → is_short (NextAlign n) ≡ false }
+    ensures wrote { OnOk result (Wrote (NextAlignIs n) out.old out.new) }
+    ensures long { IsErrOf result LineStop.NotListable → is_short (NextAlignIs n) ≡ false }
 {
     statement(out, b"", "ALIGN ")?;
     number(out, n, 8)?;
@@ -77,10 +77,10 @@ pub fn next_align(out: &mut Output, n: u32) -> Result<(), Stop>
 
 /// ORG before START.
 #[tactic(auto, using(crate::proofs::Written::wrote_of, crate::proofs::Written::long_of), unfolding(list_meaning::specs::Listed::said_text))]
-pub fn next_org(out: &mut Output, n: u32) -> Result<(), Stop>
+pub fn put_next_org(out: &mut Output, n: u32) -> Result<(), LineStop>
     requires { open_line out.old ≡ [] }
     ensures wrote { OnOk result (Wrote (NextOrg n) out.old out.new) }
-    ensures long { IsErrOf result Stop.NotListable → is_short (NextOrg n) ≡ false }
+    ensures long { IsErrOf result LineStop.NotListable → is_short (NextOrg n) ≡ false }
 {
     statement(out, b"", "ORG ")?;
     number(out, n, 8)?;
@@ -89,10 +89,15 @@ pub fn next_org(out: &mut Output, n: u32) -> Result<(), Stop>
 
 /// START, or DATA where the segment may cross banks.
 #[tactic(auto, using(crate::proofs::Written::wrote_of, crate::proofs::Written::long_of), unfolding(list_meaning::specs::Listed::said_text))]
-pub fn begins(out: &mut Output, crosses: bool, name: &[u8], load_name: &[u8]) -> Result<(), Stop>
+pub fn put_start(
+    out: &mut Output,
+    crosses: bool,
+    name: &[u8],
+    load_name: &[u8],
+) -> Result<(), LineStop>
     requires { open_line out.old ≡ [] }
-    ensures wrote { OnOk result (Wrote (Begins crosses name.now load_name.now) out.old out.new) }
-    ensures long { IsErrOf result Stop.NotListable → is_short (Begins crosses name.now load_name.now) ≡ false }
+    ensures wrote { OnOk result (Wrote (StartIs crosses name.now load_name.now) out.old out.new) }
+    ensures long { IsErrOf result LineStop.NotListable → is_short (StartIs crosses name.now load_name.now) ≡ false }
 {
     statement(out, name, if crosses { "DATA" } else { "START" })?;
     operand(out, load_name)?;
@@ -101,10 +106,10 @@ pub fn begins(out: &mut Output, crosses: bool, name: &[u8], load_name: &[u8]) ->
 
 /// KIND.
 #[tactic(auto, using(crate::proofs::Written::wrote_of, crate::proofs::Written::long_of), unfolding(list_meaning::specs::Listed::said_text))]
-pub fn kinds(out: &mut Output, n: u16) -> Result<(), Stop>
+pub fn put_kind(out: &mut Output, n: u16) -> Result<(), LineStop>
     requires { open_line out.old ≡ [] }
-    ensures wrote { OnOk result (Wrote (Kinds n) out.old out.new) }
-    ensures long { IsErrOf result Stop.NotListable → is_short (Kinds n) ≡ false }
+    ensures wrote { OnOk result (Wrote (KindIs n) out.old out.new) }
+    ensures long { IsErrOf result LineStop.NotListable → is_short (KindIs n) ≡ false }
 {
     statement(out, b"", "KIND ")?;
     number(out, u32::from(n), 4)?;
@@ -124,10 +129,10 @@ fn switch_word(switch: Switch) -> &'static str
 
 /// LONGA or LONGI.
 #[tactic(auto, using(crate::proofs::Written::wrote_of, crate::proofs::Written::long_of), unfolding(list_meaning::specs::Listed::said_text))]
-pub fn turns(out: &mut Output, switch: Switch, on: bool) -> Result<(), Stop>
+pub fn put_switch(out: &mut Output, switch: Switch, on: bool) -> Result<(), LineStop>
     requires { open_line out.old ≡ [] }
-    ensures wrote { OnOk result (Wrote (Turns switch on) out.old out.new) }
-    ensures long { IsErrOf result Stop.NotListable → is_short (Turns switch on) ≡ false }
+    ensures wrote { OnOk result (Wrote (SwitchIs switch on) out.old out.new) }
+    ensures long { IsErrOf result LineStop.NotListable → is_short (SwitchIs switch on) ≡ false }
 {
     statement(out, b"", switch_word(switch))?;
     out.word(if on { " ON" } else { " OFF" })?;
@@ -136,10 +141,10 @@ pub fn turns(out: &mut Output, switch: Switch, on: bool) -> Result<(), Stop>
 
 /// DS.
 #[tactic(auto, using(crate::proofs::Written::wrote_of, crate::proofs::Written::long_of), unfolding(list_meaning::specs::Listed::said_text))]
-pub fn spaces(out: &mut Output, n: u32) -> Result<(), Stop>
+pub fn put_ds(out: &mut Output, n: u32) -> Result<(), LineStop>
     requires { open_line out.old ≡ [] }
-    ensures wrote { OnOk result (Wrote (Spaces n) out.old out.new) }
-    ensures long { IsErrOf result Stop.NotListable → is_short (Spaces n) ≡ false }
+    ensures wrote { OnOk result (Wrote (Ds n) out.old out.new) }
+    ensures long { IsErrOf result LineStop.NotListable → is_short (Ds n) ≡ false }
 {
     statement(out, b"", "DS ")?;
     number(out, n, 8)?;
@@ -148,10 +153,10 @@ pub fn spaces(out: &mut Output, n: u32) -> Result<(), Stop>
 
 /// ALIGN in a segment.
 #[tactic(auto, using(crate::proofs::Written::wrote_of, crate::proofs::Written::long_of), unfolding(list_meaning::specs::Listed::said_text))]
-pub fn aligns(out: &mut Output, n: u32) -> Result<(), Stop>
+pub fn put_align(out: &mut Output, n: u32) -> Result<(), LineStop>
     requires { open_line out.old ≡ [] }
     ensures wrote { OnOk result (Wrote (Aligns n) out.old out.new) }
-    ensures long { IsErrOf result Stop.NotListable → is_short (Aligns n) ≡ false }
+    ensures long { IsErrOf result LineStop.NotListable → is_short (Aligns n) ≡ false }
 {
     statement(out, b"", "ALIGN ")?;
     number(out, n, 8)?;
@@ -160,10 +165,10 @@ pub fn aligns(out: &mut Output, n: u32) -> Result<(), Stop>
 
 /// ORG in a segment.
 #[tactic(auto, using(crate::proofs::Written::wrote_of, crate::proofs::Written::long_of), unfolding(list_meaning::specs::Listed::said_text))]
-pub fn moves(out: &mut Output, n: u32) -> Result<(), Stop>
+pub fn put_org(out: &mut Output, n: u32) -> Result<(), LineStop>
     requires { open_line out.old ≡ [] }
-    ensures wrote { OnOk result (Wrote (Moves n) out.old out.new) }
-    ensures long { IsErrOf result Stop.NotListable → is_short (Moves n) ≡ false }
+    ensures wrote { OnOk result (Wrote (OrgIs n) out.old out.new) }
+    ensures long { IsErrOf result LineStop.NotListable → is_short (OrgIs n) ≡ false }
 {
     statement(out, b"", "ORG *+")?;
     number(out, n, 8)?;
@@ -172,10 +177,10 @@ pub fn moves(out: &mut Output, n: u32) -> Result<(), Stop>
 
 /// USING.
 #[tactic(auto, using(crate::proofs::Written::wrote_of, crate::proofs::Written::long_of), unfolding(list_meaning::specs::Listed::said_text))]
-pub fn uses(out: &mut Output, name: &[u8]) -> Result<(), Stop>
+pub fn put_using(out: &mut Output, name: &[u8]) -> Result<(), LineStop>
     requires { open_line out.old ≡ [] }
-    ensures wrote { OnOk result (Wrote (Uses name.now) out.old out.new) }
-    ensures long { IsErrOf result Stop.NotListable → is_short (Uses name.now) ≡ false }
+    ensures wrote { OnOk result (Wrote (UsingIs name.now) out.old out.new) }
+    ensures long { IsErrOf result LineStop.NotListable → is_short (UsingIs name.now) ≡ false }
 {
     statement(out, b"", "USING")?;
     operand(out, name)?;
@@ -184,10 +189,10 @@ pub fn uses(out: &mut Output, name: &[u8]) -> Result<(), Stop>
 
 /// DC R.
 #[tactic(auto, using(crate::proofs::Written::wrote_of, crate::proofs::Written::long_of), unfolding(list_meaning::specs::Listed::said_text))]
-pub fn asks(out: &mut Output, name: &[u8]) -> Result<(), Stop>
+pub fn put_dc_strong(out: &mut Output, name: &[u8]) -> Result<(), LineStop>
     requires { open_line out.old ≡ [] }
-    ensures wrote { OnOk result (Wrote (Asks name.now) out.old out.new) }
-    ensures long { IsErrOf result Stop.NotListable → is_short (Asks name.now) ≡ false }
+    ensures wrote { OnOk result (Wrote (StrongIs name.now) out.old out.new) }
+    ensures long { IsErrOf result LineStop.NotListable → is_short (StrongIs name.now) ≡ false }
 {
     statement(out, b"", "DC R'")?;
     out.put(name)?;
@@ -197,10 +202,10 @@ pub fn asks(out: &mut Output, name: &[u8]) -> Result<(), Stop>
 
 /// ENTRY or ANOP.
 #[tactic(auto, using(crate::proofs::Written::wrote_of, crate::proofs::Written::long_of), unfolding(list_meaning::specs::Listed::said_text))]
-pub fn labels(out: &mut Output, global: bool, name: &[u8]) -> Result<(), Stop>
+pub fn put_label(out: &mut Output, global: bool, name: &[u8]) -> Result<(), LineStop>
     requires { open_line out.old ≡ [] }
     ensures wrote { OnOk result (Wrote (Labels global name.now) out.old out.new) }
-    ensures long { IsErrOf result Stop.NotListable → is_short (Labels global name.now) ≡ false }
+    ensures long { IsErrOf result LineStop.NotListable → is_short (Labels global name.now) ≡ false }
 {
     statement(out, name, if global { "ENTRY" } else { "ANOP" })?;
     out.finish()
@@ -208,10 +213,10 @@ pub fn labels(out: &mut Output, global: bool, name: &[u8]) -> Result<(), Stop>
 
 /// GEQU or EQU.
 #[tactic(auto, using(crate::proofs::Written::wrote_of, crate::proofs::Written::long_of), unfolding(list_meaning::specs::Listed::said_text))]
-pub fn equates(out: &mut Output, global: bool, name: &[u8], n: u32) -> Result<(), Stop>
+pub fn put_equate(out: &mut Output, global: bool, name: &[u8], n: u32) -> Result<(), LineStop>
     requires { open_line out.old ≡ [] }
     ensures wrote { OnOk result (Wrote (Equates global name.now n) out.old out.new) }
-    ensures long { IsErrOf result Stop.NotListable → is_short (Equates global name.now n) ≡ false }
+    ensures long { IsErrOf result LineStop.NotListable → is_short (Equates global name.now n) ≡ false }
 {
     statement(out, name, if global { "GEQU " } else { "EQU " })?;
     number(out, n, 8)?;
@@ -222,7 +227,7 @@ pub fn equates(out: &mut Output, global: bool, name: &[u8], n: u32) -> Result<()
 fn formula(out: &mut Output, wanted: Wanted) -> Result<(), LineFault>
     requires { HasSize (operand_view wanted) }
     ensures line { OnOk result (open_line out.new ≡ open_line out.old ++ wanted_text (operand_view wanted.entry)) }
-    ensures kept { OnOk result (kept out.new ≡ kept out.old) }
+    ensures finished_lines { OnOk result (finished_lines out.new ≡ finished_lines out.old) }
 {
     match wanted {
         Wanted::Missing => Ok(()),
@@ -256,7 +261,7 @@ fn is_nothing(wanted: Wanted) -> bool
 fn whole_operand(out: &mut Output, front: &str, wanted: Wanted, back: &str) -> Result<(), LineFault>
     requires { HasSize (operand_view wanted) }
     ensures line { OnOk result (open_line out.new ≡ open_line out.old ++ (front.now ++ (wanted_text (operand_view wanted.entry) ++ back.now))) }
-    ensures kept { OnOk result (kept out.new ≡ kept out.old) }
+    ensures finished_lines { OnOk result (finished_lines out.new ≡ finished_lines out.old) }
 {
     out.word(front)?;
     formula(out, wanted)?;
@@ -272,8 +277,8 @@ fn spaced_operand(
     back: &str,
 ) -> Result<(), LineFault>
     requires { HasSize (operand_view wanted) }
-    ensures line { OnOk result (open_line out.new ≡ open_line out.old ++ spaced (front.now ++ (wanted_text (operand_view wanted.entry) ++ back.now))) }
-    ensures kept { OnOk result (kept out.new ≡ kept out.old) }
+    ensures line { OnOk result (open_line out.new ≡ open_line out.old ++ with_leading_space (front.now ++ (wanted_text (operand_view wanted.entry) ++ back.now))) }
+    ensures finished_lines { OnOk result (finished_lines out.new ≡ finished_lines out.old) }
 {
     if front.is_empty() && is_nothing(wanted) && back.is_empty() {
         return Ok(());
@@ -284,16 +289,16 @@ fn spaced_operand(
 
 /// An instruction.
 #[tactic(auto, using(crate::proofs::Written::wrote_of, crate::proofs::Written::long_of), unfolding(list_meaning::specs::Listed::said_text))]
-pub fn instructs(
+pub fn put_instruction(
     out: &mut Output,
     mnemonic: Mnemonic,
     mode: Mode,
     wanted: Wanted,
-) -> Result<(), Stop>
+) -> Result<(), LineStop>
     requires line { open_line out.old ≡ [] }
     requires size { HasSize (operand_view wanted) }
     ensures wrote { OnOk result (Wrote (Instructs mnemonic mode (operand_view wanted.entry)) out.old out.new) }
-    ensures long { IsErrOf result Stop.NotListable → is_short (Instructs mnemonic mode (operand_view wanted.entry)) ≡ false }
+    ensures long { IsErrOf result LineStop.NotListable → is_short (Instructs mnemonic mode (operand_view wanted.entry)) ≡ false }
 {
     statement(out, b"", spelling(mnemonic))?;
     let (front, back) = shape(mode);
@@ -303,10 +308,10 @@ pub fn instructs(
 
 /// DC H.
 #[tactic(auto, using(crate::proofs::Written::wrote_of, crate::proofs::Written::long_of), unfolding(list_meaning::specs::Listed::said_text))]
-pub fn bytes(out: &mut Output, bytes: &[u8]) -> Result<(), Stop>
+pub fn put_dc_bytes(out: &mut Output, bytes: &[u8]) -> Result<(), LineStop>
     requires { open_line out.old ≡ [] }
-    ensures wrote { OnOk result (Wrote (Bytes bytes.now) out.old out.new) }
-    ensures long { IsErrOf result Stop.NotListable → is_short (Bytes bytes.now) ≡ false }
+    ensures wrote { OnOk result (Wrote (Bytes put_dc_bytes.now) out.old out.new) }
+    ensures long { IsErrOf result LineStop.NotListable → is_short (Bytes put_dc_bytes.now) ≡ false }
 {
     statement(out, b"", "DC H'")?;
     'bytes: for place in 0..bytes.len() {
@@ -318,10 +323,10 @@ pub fn bytes(out: &mut Output, bytes: &[u8]) -> Result<(), Stop>
 
 /// DC A with a formula, of which the first 256 bytes are enough.
 #[tactic(auto, using(crate::proofs::Formulas::sum_wrote, crate::proofs::Formulas::sum_long))]
-pub fn sums(out: &mut Output, count: u32, formula: &[u8]) -> Result<(), Stop>
+pub fn put_dc_formula(out: &mut Output, count: u32, formula: &[u8]) -> Result<(), LineStop>
     requires { open_line out.old ≡ [] }
-    ensures wrote { OnOk result ((tree : Tree) → formula.now ≡ take 256 (formula_text tree) → Wrote (Sums count tree) out.old out.new) }
-    ensures long { IsErrOf result Stop.NotListable → (tree : Tree) → formula.now ≡ take 256 (formula_text tree) → is_short (Sums count tree) ≡ false }
+    ensures wrote { OnOk result ((tree : Tree) → formula.now ≡ take 256 (formula_text tree) → Wrote (FormulaIs count tree) out.old out.new) }
+    ensures long { IsErrOf result LineStop.NotListable → (tree : Tree) → formula.now ≡ take 256 (formula_text tree) → is_short (FormulaIs count tree) ≡ false }
 {
     statement(out, b"", "DC A")?;
     out.digits(count, 1)?;
@@ -333,10 +338,10 @@ pub fn sums(out: &mut Output, count: u32, formula: &[u8]) -> Result<(), Stop>
 
 /// DC S.
 #[tactic(auto, using(crate::proofs::Written::wrote_of, crate::proofs::Written::long_of), unfolding(list_meaning::specs::Listed::said_text))]
-pub fn weakly(out: &mut Output, name: &[u8]) -> Result<(), Stop>
+pub fn put_dc_weak(out: &mut Output, name: &[u8]) -> Result<(), LineStop>
     requires { open_line out.old ≡ [] }
-    ensures wrote { OnOk result (Wrote (Weakly name.now) out.old out.new) }
-    ensures long { IsErrOf result Stop.NotListable → is_short (Weakly name.now) ≡ false }
+    ensures wrote { OnOk result (Wrote (WeakIs name.now) out.old out.new) }
+    ensures long { IsErrOf result LineStop.NotListable → is_short (WeakIs name.now) ≡ false }
 {
     statement(out, b"", "DC S'")?;
     out.put(name)?;
@@ -346,10 +351,10 @@ pub fn weakly(out: &mut Output, name: &[u8]) -> Result<(), Stop>
 
 /// END.
 #[tactic(auto, using(crate::proofs::Written::wrote_of, crate::proofs::Written::long_of), unfolding(list_meaning::specs::Listed::said_text))]
-pub fn ends(out: &mut Output) -> Result<(), Stop>
+pub fn put_end(out: &mut Output) -> Result<(), LineStop>
     requires { open_line out.old ≡ [] }
-    ensures wrote { OnOk result (Wrote Ends out.old out.new) }
-    ensures long { IsErrOf result Stop.NotListable → is_short Ends ≡ false }
+    ensures wrote { OnOk result (Wrote EndIs out.old out.new) }
+    ensures long { IsErrOf result LineStop.NotListable → is_short EndIs ≡ false }
 {
     statement(out, b"", "END")?;
     out.finish()

@@ -2,7 +2,7 @@
 
 ghost use Rattle.std.specs.Prelude.{◌≤◌, length};
 
-use crate::stop::Stop;
+use crate::stop::LineStop;
 use omf_base::{Line, LineFault};
 use std::alloc::Global;
 
@@ -33,11 +33,11 @@ impl Output {
     ghost use Rattle.std.specs.Prelude.{◌≡◌, ◌++◌, [], ◌<◌, Some, None, option_map, OnOk, IsErrOf};
     ghost use Rattle.omf_base.specs.Digits.{hexadecimal};
     ghost use Rattle.list_lines.specs.Kept.{with_line};
-    ghost use Rattle.list_lines.specs.OutputView.{has_room, kept, open_line};
+    ghost use Rattle.list_lines.specs.OutputView.{has_room, finished_lines, open_line};
 
     /// Nothing.
     pub fn new(alloc: Global) -> Output
-        ensures kept { kept result ≡ Some ([], 0) }
+        ensures finished_lines { finished_lines result ≡ Some ([], 0) }
         ensures line { open_line result ≡ [] }
     {
         Output {
@@ -52,7 +52,7 @@ impl Output {
     /// Appends bytes to the open line.
     pub(crate) fn put(&mut self, piece: &[u8]) -> Result<(), LineFault>
         ensures line { OnOk result (open_line self.new ≡ open_line self.old ++ piece.now) }
-        ensures kept { OnOk result (kept self.new ≡ kept self.old) }
+        ensures finished_lines { OnOk result (finished_lines self.new ≡ finished_lines self.old) }
     {
         self.text.put(piece)
     }
@@ -60,7 +60,7 @@ impl Output {
     /// Appends a text to the open line.
     pub(crate) fn word(&mut self, piece: &str) -> Result<(), LineFault>
         ensures line { OnOk result (open_line self.new ≡ open_line self.old ++ piece.now) }
-        ensures kept { OnOk result (kept self.new ≡ kept self.old) }
+        ensures finished_lines { OnOk result (finished_lines self.new ≡ finished_lines self.old) }
     {
         self.text.text(piece)
     }
@@ -69,7 +69,7 @@ impl Output {
     pub(crate) fn digits(&mut self, value: u32, digits: u32) -> Result<(), LineFault>
         requires { digits ≤ 8 }
         ensures line { OnOk result (open_line self.new ≡ open_line self.old ++ hexadecimal digits value) }
-        ensures kept { OnOk result (kept self.new ≡ kept self.old) }
+        ensures finished_lines { OnOk result (finished_lines self.new ≡ finished_lines self.old) }
     {
         self.text.hex(value, digits)
     }
@@ -83,15 +83,15 @@ impl Output {
 
     /// Ends the open line. A line of more than 255 bytes can't be listed.
     #[tactic(auto, using(crate::proofs::Ended::no_room, crate::proofs::Ended::room))]
-    pub(crate) fn finish(&mut self) -> Result<(), Stop>
-        ensures kept { OnOk result (kept self.new ≡ with_line (open_line self.old) (kept self.old)) }
+    pub(crate) fn finish(&mut self) -> Result<(), LineStop>
+        ensures finished_lines { OnOk result (finished_lines self.new ≡ with_line (open_line self.old) (finished_lines self.old)) }
         ensures line { OnOk result (open_line self.new ≡ []) }
         ensures short { OnOk result (length (open_line self.old) ≤ 255) }
-        ensures long { IsErrOf result Stop.NotListable → 255 < length (open_line self.old) }
+        ensures long { IsErrOf result LineStop.NotListable → 255 < length (open_line self.old) }
     {
         let size = self.text.bytes().len();
         if size - self.start > MAX_LINE {
-            return Err(Stop::NotListable);
+            return Err(LineStop::NotListable);
         }
         if !self.has_room() {
             self.give_up();
@@ -105,7 +105,7 @@ impl Output {
 
     /// The text is too long: the lines behind are only looked at, and what was written needn't be kept.
     fn give_up(&mut self)
-        ensures kept { kept self.new ≡ None }
+        ensures finished_lines { finished_lines self.new ≡ None }
         ensures line { open_line self.new ≡ [] }
     {
         self.over = true;
@@ -119,7 +119,7 @@ impl Output {
     #[tactic(auto, using(crate::proofs::Ended::whole_text))]
     pub fn into_text(self) -> Option<Vec<u8>>
         requires { open_line self ≡ [] }
-        ensures { option_map (λ text. text.items) result ≡ option_map (λ found. found.0) (kept self) }
+        ensures { option_map (λ text. text.items) result ≡ option_map (λ found. found.0) (finished_lines self) }
     {
         if self.over {
             return None;

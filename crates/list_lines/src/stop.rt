@@ -5,31 +5,31 @@ use std::alloc::AllocError;
 
 /// Why writing stops.
 #[derive(Clone, Copy, Debug, PartialEq, Eq)]
-pub enum Stop {
+pub enum LineStop {
     /// There is no line for what stands here.
     NotListable,
     /// Memory ran out.
     Memory,
 }
 
-impl From<AllocError> for Stop {
+impl From<AllocError> for LineStop {
     ghost use Rattle.std.specs.Prelude.{◌≡◌};
-    ghost use Rattle.list_lines.specs.declared.stop.Stop.TheVariants.{Memory};
+    ghost use Rattle.list_lines.specs.declared.stop.LineStop.TheVariants.{Memory};
 
     ghost from_gives = { λ _ stop. stop ≡ Memory };
 
-    fn from(_: AllocError) -> Stop {
-        Stop::Memory
+    fn from(_: AllocError) -> LineStop {
+        LineStop::Memory
     }
 }
 
-impl From<LineFault> for Stop {
+impl From<LineFault> for LineStop {
     ghost use Rattle.std.specs.Prelude.{◌≡◌};
-    ghost use Rattle.list_lines.specs.declared.stop.Stop.TheVariants.{Memory};
+    ghost use Rattle.list_lines.specs.declared.stop.LineStop.TheVariants.{Memory};
 
     ghost from_gives = { λ _ stop. stop ≡ Memory };
 
-    fn from(_: LineFault) -> Stop {
-        Stop::Memory
+    fn from(_: LineFault) -> LineStop {
+        LineStop::Memory
     }
 }

@@ -7,14 +7,14 @@ use Rattle.omf_format.specs.File.{Segment, IsFile, IsFirstFault}
 use Rattle.list_meaning.specs.declared.faults.ListCause.{ListCause}
 use Rattle.list_meaning.specs.declared.faults.ListCause.TheVariants.{Truncated, BadHeader, Unsupported, BadRecord, NotListable, TooLong, Memory}
 use Rattle.list_meaning.specs.declared.faults.ListFault.{ListFault}
-use Rattle.list_meaning.specs.Listed.{Said, listing_text}
+use Rattle.list_meaning.specs.Listed.{ListedStatement, listing_text}
 use Rattle.list_meaning.specs.Listing.{listing_from, is_small}
 
 -- the file's segments have a listing of at most 16,777,216 bytes and 65,536 lines, and this is its text
 pub record IsListing (file text : List ℕ) : Type 0 where
   pub segments : List Segment
   pub is_file : IsFile segments file
-  pub all : List Said
+  pub all : List ListedStatement
   pub lines : listing_from 1 segments ≡ Ok all
   pub small : is_small all ≡ true
   pub is : text ≡ listing_text all
@@ -37,7 +37,7 @@ pub record IsNotListable (file : List ℕ) (number at : ℕ) : Type 0 where
 pub record IsTooLong (file : List ℕ) : Type 0 where
   pub segments : List Segment
   pub is_file : IsFile segments file
-  pub all : List Said
+  pub all : List ListedStatement
   pub lines : listing_from 1 segments ≡ Ok all
   pub large : is_small all ≡ false
 

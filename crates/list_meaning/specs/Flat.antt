@@ -12,9 +12,9 @@ use Rattle.asm_meaning.specs.Formulas.{expression_text}
 -- ---- flat
 
 -- a place: a byte, or a byte of the number that an expression record stands for
-pub data Place : Type 0 where
-  One : (byte : ℕ) → Place
-  Part : (code count n : ℕ) (expr : List ℕ) (index : ℕ) → Place
+pub data FlatCell : Type 0 where
+  One : (byte : ℕ) → FlatCell
+  Part : (code count n : ℕ) (expr : List ℕ) (index : ℕ) → FlatCell
 
 -- the expression with its names behind a length byte (LABLEN 0)
 abbrev pub text_or : List ℕ → Option Tree → List ℕ
@@ -26,16 +26,16 @@ abbrev pub respelled : ℕ → List ℕ → List ℕ
 respelled lab_len expr = text_or expr (tree_in lab_len expr)
 
 -- the bytes of the number that an expression record stands for
-abbrev pub parts_from : ℕ → ℕ → ℕ → List ℕ → ℕ → ℕ → List Place
+abbrev pub parts_from : ℕ → ℕ → ℕ → List ℕ → ℕ → ℕ → List FlatCell
 parts_from code count n expr index zero = []
 parts_from code count n expr index (suc left) = Part code count n expr index ∷ parts_from code count n expr (index + 1) left
 
 -- so many bytes 0
-abbrev pub zeros : ℕ → List Place
+abbrev pub zeros : ℕ → List FlatCell
 zeros n = replicate n (One 0)
 
 -- the places that a record gives which stands at this one; spaces, alignments and forward moves give zeros
-abbrev pub places_at : ℕ → ℕ → Record → List Place
+abbrev pub places_at : ℕ → ℕ → Record → List FlatCell
 places_at lab_len at End = []
 places_at lab_len at (Const bytes) = map One bytes
 places_at lab_len at (LongConst bytes) = map One bytes
@@ -55,7 +55,7 @@ places_at lab_len at (Formula code count n expr) = parts_from code count n (resp
 places_at lab_len at (Entry segment offset name) = []
 
 -- the places that records give, of which the first stands at this one
-unfoldable pub places_from : ℕ → ℕ → List Record → List Place
+unfoldable pub places_from : ℕ → ℕ → List Record → List FlatCell
 places_from lab_len at [] = []
 places_from lab_len at (content ∷ contents) = places_at lab_len at content ++ places_from lab_len (at + size_at at content) contents
 
@@ -64,7 +64,7 @@ abbrev pub contents_of : Segment → List Record
 contents_of s = map (λ found. found.1) s.records
 
 -- what a segment gives place by place, the zeros of RESSPC last
-unfoldable pub flat : Segment → List Place
+unfoldable pub flat : Segment → List FlatCell
 flat s = places_from s.fields.lab_len 0 (contents_of s) ++ zeros s.fields.res_spc
 
 -- ---- definitions and uses
@@ -82,12 +82,12 @@ value_in lab_len None = None
 value_in lab_len (Some expr) = tree_in lab_len expr
 
 -- a definition as it is compared
-abbrev pub told : ℕ → Definition → Defined
-told lab_len d = record { name = d.name; scope = d.scope; place = d.place; value = value_in lab_len d.expr }
+abbrev pub comparable_definition : ℕ → Definition → Defined
+comparable_definition lab_len d = record { name = d.name; scope = d.scope; place = d.place; value = value_in lab_len d.expr }
 
 -- what the linker finds defined in the segment, its SEGNAME first
 abbrev pub definitions : Segment → List Defined
-definitions s = map (told s.fields.lab_len) (defined_in s)
+definitions s = map (comparable_definition s.fields.lab_len) (defined_in s)
 
 -- the name that a USING names
 abbrev pub used_by : Record → List (List ℕ)

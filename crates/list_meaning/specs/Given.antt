@@ -16,7 +16,7 @@ use Rattle.asm_meaning.specs.Formulas.{expression_text}
 use Rattle.asm_meaning.specs.Instruction.{Widths, kind_of, operand_bytes, operand_record, opcode_in}
 use Rattle.asm_meaning.specs.Pieces.{place_behind}
 use Rattle.asm_meaning.specs.State.{State, Segment, Names, no_names}
-use Rattle.list_meaning.specs.Listed.{Said, NextAlign, NextOrg, Begins, Kinds, Turns, Spaces, Aligns, Moves, Uses, Asks, Labels, Equates, Instructs, Bytes, Weakly, Sums, Ends, Wanted, None', Number, Banks, Label, Moved}
+use Rattle.list_meaning.specs.Listed.{ListedStatement, NextAlignIs, NextOrg, StartIs, KindIs, SwitchIs, Ds, Aligns, OrgIs, UsingIs, StrongIs, Labels, Equates, Instructs, Bytes, WeakIs, FormulaIs, EndIs, Wanted, None', Number, Banks, Label, Moved}
 
 -- ---- records
 
@@ -47,55 +47,55 @@ instruction_records w mnemonic mode (Label name) = held_records w (opcode_in mne
 instruction_records w mnemonic mode (Moved name adds n) = held_records w (opcode_in mnemonic mode) mnemonic mode (Moved name adds n)
 
 -- the records that a line stands for, at these widths
-abbrev pub records_said : Widths → Said → List Record
-records_said w (Spaces n) = Space n ∷ []
+abbrev pub records_said : Widths → ListedStatement → List Record
+records_said w (Ds n) = Space n ∷ []
 records_said w (Aligns n) = Align n ∷ []
-records_said w (Moves n) = Org n ∷ []
-records_said w (Uses name) = Using name ∷ []
-records_said w (Asks name) = Strong name ∷ []
+records_said w (OrgIs n) = Org n ∷ []
+records_said w (UsingIs name) = Using name ∷ []
+records_said w (StrongIs name) = Strong name ∷ []
 records_said w (Labels global name) = records.Label global name 0 0x4E 0 ∷ []
 records_said w (Equates global name n) = Equate global name 0 0x4E 0 (expression_text (Leaf (expression.Constant n))) ∷ []
 records_said w (Instructs mnemonic mode operand) = instruction_records w mnemonic mode operand
 records_said w (Bytes bytes) = Const bytes ∷ []
-records_said w (Weakly name) = Formula 0xEB 2 0 (expression_text (Leaf (expression.Named 0x82 name))) ∷ []
-records_said w (Sums count tree) = Formula 0xEB count 0 (expression_text tree) ∷ []
-records_said w Ends = End ∷ []
+records_said w (WeakIs name) = Formula 0xEB 2 0 (expression_text (Leaf (expression.Named 0x82 name))) ∷ []
+records_said w (FormulaIs count tree) = Formula 0xEB count 0 (expression_text tree) ∷ []
+records_said w EndIs = End ∷ []
 records_said _ _ = []
 
 -- ---- names, widths and the header
 
 -- the name that a line defines, which is a constant behind EQU and GEQU
-abbrev pub name_said : Said → List (List ℕ)
+abbrev pub name_said : ListedStatement → List (List ℕ)
 name_said (Labels global name) = name ∷ []
 name_said (Equates global name n) = name ∷ []
 name_said _ = []
 
 -- the names behind a line, of which an equate's has its value
-abbrev pub names_said : Said → Names → Names
+abbrev pub names_said : ListedStatement → Names → Names
 names_said (Labels global name) names = with_name name None names
 names_said (Equates global name n) names = with_name name (Some n) names
 names_said _ names = names
 
 -- LONGA and LONGI set a width
-abbrev pub switched : Switch → Bool → Widths → Widths
-switched LongA on w = record w { long_a = on }
-switched LongI on w = record w { long_i = on }
-switched Msb on w = w
+abbrev pub with_width_set : Switch → Bool → Widths → Widths
+with_width_set LongA on w = record w { long_a = on }
+with_width_set LongI on w = record w { long_i = on }
+with_width_set Msb on w = w
 
 -- the widths behind a line
-abbrev pub widths_said : Said → Widths → Widths
-widths_said (Turns switch on) w = switched switch on w
+abbrev pub widths_said : ListedStatement → Widths → Widths
+widths_said (SwitchIs switch on) w = with_width_set switch on w
 widths_said _ w = w
 
 -- KIND sets the header's
-abbrev pub header_said : Said → Fields → Fields
-header_said (Kinds n) header = record header { kind = n }
+abbrev pub header_said : ListedStatement → Fields → Fields
+header_said (KindIs n) header = record header { kind = n }
 header_said _ header = header
 
 -- ---- what a line inside a segment leaves
 
 -- the open segment has its records, its name and its header's field, and nothing else is changed but the widths
-pub record Leaves (said : Said) (state : State) (s : Segment) (next : State) : Type 0 where
+pub record Leaves (said : ListedStatement) (state : State) (s : Segment) (next : State) : Type 0 where
   pub after : Segment
   pub here : next.segment ≡ Some after
   pub begun : after.begun ≡ s.begun
@@ -134,9 +134,9 @@ pub record Closes (state next : State) : Type 0 where
   pub ended : next.ended ≡ state.ended ++ record { header = record s.header { length = place_behind 0 (s.body ++ End ∷ []) }; body = s.body ++ End ∷ [] } ∷ []
 
 -- what a line was written for: ALIGN and ORG before START wait for the next segment, and all lines behind it give to the open one
-abbrev pub IsLeft : Said → State → State → Type 0
-IsLeft (NextAlign n) state next = next ≡ record state { align = n }
+abbrev pub IsLeft : ListedStatement → State → State → Type 0
+IsLeft (NextAlignIs n) state next = next ≡ record state { align = n }
 IsLeft (NextOrg n) state next = next ≡ record state { org = n }
-IsLeft (Begins crosses name load_name) state next = Opens crosses name load_name state next
-IsLeft Ends state next = Closes state next
+IsLeft (StartIs crosses name load_name) state next = Opens crosses name load_name state next
+IsLeft EndIs state next = Closes state next
 IsLeft said state next = (s : Segment) × (state.segment ≡ Some s) × Leaves said state s next

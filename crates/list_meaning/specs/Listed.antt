@@ -25,40 +25,40 @@ pub data Wanted : Type 0 where
   Moved : (name : List ℕ) (adds : Bool) (n : ℕ) → Wanted
 
 -- what a line of a listing says
-pub data Said : Type 0 where
+pub data ListedStatement : Type 0 where
   -- ALIGN and ORG of the segment that follows
-  NextAlign : (n : ℕ) → Said
-  NextOrg : (n : ℕ) → Said
+  NextAlignIs : (n : ℕ) → ListedStatement
+  NextOrg : (n : ℕ) → ListedStatement
   -- START, or DATA where BANKSIZE is 0, with LOADNAME if there is one
-  Begins : (crosses : Bool) (name load_name : List ℕ) → Said
-  Kinds : (n : ℕ) → Said
-  Turns : (switch : Switch) (on : Bool) → Said
+  StartIs : (crosses : Bool) (name load_name : List ℕ) → ListedStatement
+  KindIs : (n : ℕ) → ListedStatement
+  SwitchIs : (switch : Switch) (on : Bool) → ListedStatement
   -- records
-  Spaces : (n : ℕ) → Said
-  Aligns : (n : ℕ) → Said
-  Moves : (n : ℕ) → Said
-  Uses : (name : List ℕ) → Said
-  Asks : (name : List ℕ) → Said
-  Labels : (global : Bool) (name : List ℕ) → Said
-  Equates : (global : Bool) (name : List ℕ) (n : ℕ) → Said
+  Ds : (n : ℕ) → ListedStatement
+  Aligns : (n : ℕ) → ListedStatement
+  OrgIs : (n : ℕ) → ListedStatement
+  UsingIs : (name : List ℕ) → ListedStatement
+  StrongIs : (name : List ℕ) → ListedStatement
+  Labels : (global : Bool) (name : List ℕ) → ListedStatement
+  Equates : (global : Bool) (name : List ℕ) (n : ℕ) → ListedStatement
   -- constant bytes and expression records
-  Instructs : (mnemonic : Mnemonic) (mode : Mode) (operand : Wanted) → Said
-  Bytes : (bytes : List ℕ) → Said
-  Weakly : (name : List ℕ) → Said
-  Sums : (count : ℕ) (tree : Tree) → Said
+  Instructs : (mnemonic : Mnemonic) (mode : Mode) (operand : Wanted) → ListedStatement
+  Bytes : (bytes : List ℕ) → ListedStatement
+  WeakIs : (name : List ℕ) → ListedStatement
+  FormulaIs : (count : ℕ) (tree : Tree) → ListedStatement
   -- END
-  Ends : Said
+  EndIs : ListedStatement
 
 -- ---- how it is written
 
 -- a blank before what stands there
-abbrev pub spaced : List ℕ → List ℕ
-spaced [] = []
-spaced (byte ∷ text) = ascii.space ∷ byte ∷ text
+abbrev pub with_leading_space : List ℕ → List ℕ
+with_leading_space [] = []
+with_leading_space (byte ∷ text) = ascii.space ∷ byte ∷ text
 
 -- a label or none, an operation and an operand or none
 abbrev pub statement_text : List ℕ → List ℕ → List ℕ → List ℕ
-statement_text label operation operand = label ++ (ascii.space ∷ (operation ++ spaced operand))
+statement_text label operation operand = label ++ (ascii.space ∷ (operation ++ with_leading_space operand))
 
 -- a number as it is written: `$`, and so many digits
 abbrev pub number_text : ℕ → ℕ → List ℕ
@@ -160,33 +160,33 @@ switch_text LongI = codes "LONGI"
 switch_text Msb = codes "MSB"
 
 -- a value in quotes behind the type of a DC
-abbrev pub quoted : List ℕ → List ℕ → List ℕ
-quoted form value = form ++ (codes "'" ++ (value ++ codes "'"))
+abbrev pub quoted_value : List ℕ → List ℕ → List ℕ
+quoted_value form value = form ++ (codes "'" ++ (value ++ codes "'"))
 
 -- the line without its end
-unfoldable pub said_text : Said → List ℕ
-said_text (NextAlign n) = statement_text [] (codes "ALIGN") (number_text 8 n)
+unfoldable pub said_text : ListedStatement → List ℕ
+said_text (NextAlignIs n) = statement_text [] (codes "ALIGN") (number_text 8 n)
 said_text (NextOrg n) = statement_text [] (codes "ORG") (number_text 8 n)
-said_text (Begins crosses name load_name) = statement_text name (if crosses then codes "DATA" else codes "START") load_name
-said_text (Kinds n) = statement_text [] (codes "KIND") (number_text 4 n)
-said_text (Turns switch on) = statement_text [] (switch_text switch) (on_text on)
-said_text (Spaces n) = statement_text [] (codes "DS") (number_text 8 n)
+said_text (StartIs crosses name load_name) = statement_text name (if crosses then codes "DATA" else codes "START") load_name
+said_text (KindIs n) = statement_text [] (codes "KIND") (number_text 4 n)
+said_text (SwitchIs switch on) = statement_text [] (switch_text switch) (on_text on)
+said_text (Ds n) = statement_text [] (codes "DS") (number_text 8 n)
 said_text (Aligns n) = statement_text [] (codes "ALIGN") (number_text 8 n)
-said_text (Moves n) = statement_text [] (codes "ORG") (codes "*+" ++ number_text 8 n)
-said_text (Uses name) = statement_text [] (codes "USING") name
-said_text (Asks name) = statement_text [] (codes "DC") (quoted (codes "R") name)
+said_text (OrgIs n) = statement_text [] (codes "ORG") (codes "*+" ++ number_text 8 n)
+said_text (UsingIs name) = statement_text [] (codes "USING") name
+said_text (StrongIs name) = statement_text [] (codes "DC") (quoted_value (codes "R") name)
 said_text (Labels global name) = statement_text name (if global then codes "ENTRY" else codes "ANOP") []
 said_text (Equates global name n) = statement_text name (if global then codes "GEQU" else codes "EQU") (number_text 8 n)
 said_text (Instructs mnemonic mode operand) = statement_text [] (spelling_of mnemonic) (operand_text mode operand)
-said_text (Bytes bytes) = statement_text [] (codes "DC") (quoted (codes "H") (flat_map (hexadecimal 2) bytes))
-said_text (Weakly name) = statement_text [] (codes "DC") (quoted (codes "S") name)
-said_text (Sums count tree) = statement_text [] (codes "DC") (quoted (codes "A" ++ hexadecimal 1 count) (formula_text tree))
-said_text Ends = statement_text [] (codes "END") []
+said_text (Bytes bytes) = statement_text [] (codes "DC") (quoted_value (codes "H") (flat_map (hexadecimal 2) bytes))
+said_text (WeakIs name) = statement_text [] (codes "DC") (quoted_value (codes "S") name)
+said_text (FormulaIs count tree) = statement_text [] (codes "DC") (quoted_value (codes "A" ++ hexadecimal 1 count) (formula_text tree))
+said_text EndIs = statement_text [] (codes "END") []
 
 -- the text: a line each, with LF
-abbrev pub line_text : Said → List ℕ
+abbrev pub line_text : ListedStatement → List ℕ
 line_text said = said_text said ++ ascii.line_feed ∷ []
 
 -- the lines one behind another
-unfoldable pub listing_text : List Said → List ℕ
+unfoldable pub listing_text : List ListedStatement → List ℕ
 listing_text all = flat_map line_text all

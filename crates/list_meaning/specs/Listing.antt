@@ -9,7 +9,7 @@ use Rattle.omf_format.specs.Expression.{Tree, Leaf, Binary, Term, Operator, Loca
 use Rattle.omf_format.specs.File.{Segment}
 use Rattle.omf_format.specs.Header.{Fields, form_of, alignment_of}
 use Rattle.omf_format.specs.Record.{Record, End, Const, LongConst, Align, Org, Space, Using, Strong, Label, Equate, Formula}
-use Rattle.link_meaning.specs.Sizes.{located, body_size}
+use Rattle.link_meaning.specs.Sizes.{records_with_offsets, body_size}
 use Rattle.link_meaning.specs.Terms.{tree_in}
 use Rattle.orca_meaning.specs.declared.mnemonics.Mnemonic.{Mnemonic}
 use Rattle.orca_meaning.specs.declared.mnemonics.Mnemonic.TheVariants.{Brk, Rep, Sep}
@@ -19,7 +19,7 @@ use Rattle.orca_meaning.specs.Characters.{is_name, folded}
 use Rattle.orca_meaning.specs.Matrix.{matrix, Instruction}
 use Rattle.asm_meaning.specs.declared.directives.Switch.TheVariants.{LongA, LongI}
 use Rattle.asm_meaning.specs.Instruction.{Widths, Kind, Missing, Value, Address, Distance, Banks, Sign, kind_of, operand_bytes, address_code}
-use Rattle.list_meaning.specs.Listed.{Said, NextAlign, NextOrg, Begins, Kinds, Turns, Spaces, Aligns, Moves, Uses, Asks, Labels, Equates, Instructs, Bytes, Weakly, Sums, Ends, Wanted, None', Number, Moved, said_text, listing_text}
+use Rattle.list_meaning.specs.Listed.{ListedStatement, NextAlignIs, NextOrg, StartIs, KindIs, SwitchIs, Ds, Aligns, OrgIs, UsingIs, StrongIs, Labels, Equates, Instructs, Bytes, WeakIs, FormulaIs, EndIs, Wanted, None', Number, Moved, said_text, listing_text}
 use Rattle.list_meaning.specs.Listed as listed
 
 -- ---- names
@@ -29,8 +29,8 @@ abbrev pub is_listable : List ℕ → Bool
 is_listable name = is_name name && bytes_eq (folded name) name
 
 -- LOADNAME without the spaces behind it
-abbrev pub unpadded : List ℕ → List ℕ
-unpadded text = take (position_or_len (λ byte. byte == ascii.space) text) text
+abbrev pub without_padding : List ℕ → List ℕ
+without_padding text = take (position_or_len (λ byte. byte == ascii.space) text) text
 
 -- behind the first space all are spaces
 abbrev pub is_padded : List ℕ → Bool
@@ -44,7 +44,7 @@ is_listed_form form = list_any (λ t. t == form) (0x00 ∷ 0x01 ∷ 0x10 ∷ 0x1
 
 -- LOADNAME is spaces, or a name that is written as it stands with spaces behind it
 abbrev pub is_listable_load_name : List ℕ → Bool
-is_listable_load_name text = is_padded text && (bytes_eq (unpadded text) [] || is_listable (unpadded text))
+is_listable_load_name text = is_padded text && (bytes_eq (without_padding text) [] || is_listable (without_padding text))
 
 -- the greatest LENGTH, where the segment may cross banks and where it may not
 abbrev pub greatest_length : ℕ → ℕ
@@ -57,7 +57,7 @@ is_lost at _ = false
 
 -- an ALIGN of 0 stands away from place 0
 abbrev pub has_lost_place : Segment → Bool
-has_lost_place s = list_any (λ l. is_lost l.location l.content) (located s)
+has_lost_place s = list_any (λ l. is_lost l.location l.content) (records_with_offsets s)
 
 -- the header can be listed: its type, its names, BANKSIZE, ALIGN and ENTRY, and LENGTH is the number of cells
 abbrev pub has_listable_header : Segment → Bool
@@ -68,14 +68,14 @@ has_listable_header s =
     && not (has_lost_place s) && s.fields.length == body_size s + s.fields.res_spc && nat_le s.fields.length (greatest_length s.fields.bank_size)
 
 -- a line with a number that isn't 0
-abbrev pub unless_zero : (ℕ → Said) → ℕ → List Said
+abbrev pub unless_zero : (ℕ → ListedStatement) → ℕ → List ListedStatement
 unless_zero said n = if n == 0 then [] else said n ∷ []
 
 -- the lines before those of the records
-unfoldable pub front_of : Fields → List Said
+unfoldable pub front_of : Fields → List ListedStatement
 front_of f =
-    unless_zero NextAlign f.align
-    ++ (unless_zero NextOrg f.org ++ Begins (f.bank_size == 0) f.name (unpadded f.load_name) ∷ Kinds f.kind ∷ Turns LongA true ∷ Turns LongI true ∷ [])
+    unless_zero NextAlignIs f.align
+    ++ (unless_zero NextOrg f.org ++ StartIs (f.bank_size == 0) f.name (without_padding f.load_name) ∷ KindIs f.kind ∷ SwitchIs LongA true ∷ SwitchIs LongI true ∷ [])
 
 -- ---- instructions in a run
 
@@ -85,12 +85,12 @@ or_brk None = (Brk, Signature)
 or_brk (Some i) = i
 
 -- the instruction of an opcode
-abbrev pub decoded : ℕ → Instruction
-decoded opcode = or_brk (slice_get matrix opcode)
+abbrev pub instruction_of_opcode : ℕ → Instruction
+instruction_of_opcode opcode = or_brk (slice_get matrix opcode)
 
 -- how many bytes stand behind an opcode
 abbrev pub behind_opcode : Widths → ℕ → ℕ
-behind_opcode w opcode = operand_bytes w (decoded opcode).0 (decoded opcode).1
+behind_opcode w opcode = operand_bytes w (instruction_of_opcode opcode).0 (instruction_of_opcode opcode).1
 
 -- a bit of the operand of REP or SEP sets a width
 abbrev pub width_by : Bool → ℕ → ℕ → Bool → Bool
@@ -111,10 +111,10 @@ abbrev pub same_bool : Bool → Bool → Bool
 same_bool a b = if a then b else not b
 
 -- LONGA and LONGI where a width changed
-abbrev pub turns_between : Widths → Widths → List Said
+abbrev pub turns_between : Widths → Widths → List ListedStatement
 turns_between w v =
-    (if same_bool w.long_a v.long_a then [] else Turns LongA v.long_a ∷ [])
-    ++ (if same_bool w.long_i v.long_i then [] else Turns LongI v.long_i ∷ [])
+    (if same_bool w.long_a v.long_a then [] else SwitchIs LongA v.long_a ∷ [])
+    ++ (if same_bool w.long_i v.long_i then [] else SwitchIs LongI v.long_i ∷ [])
 
 -- the operand of an instruction by its bytes; None for a branch
 abbrev pub operand_by : Kind → List ℕ → Option Wanted
@@ -126,24 +126,24 @@ operand_by Banks bytes = Some (listed.Banks (little_number 1 (drop 1 bytes)) (li
 operand_by Sign bytes = Some (Number (length bytes) (little_number (length bytes) bytes))
 
 -- an instruction with its operand, or its bytes where it has none that is written
-abbrev pub written_or : Mnemonic → Mode → List ℕ → Option Wanted → List Said
+abbrev pub written_or : Mnemonic → Mode → List ℕ → Option Wanted → List ListedStatement
 written_or mnemonic way bytes None = Bytes bytes ∷ []
 written_or mnemonic way bytes (Some wanted) = Instructs mnemonic way wanted ∷ []
 
 -- an instruction with the bytes behind its opcode, of which the rest may have fewer than it should
-unfoldable pub said_instruction : Widths → ℕ → List ℕ → List Said
+unfoldable pub said_instruction : Widths → ℕ → List ℕ → List ListedStatement
 said_instruction w opcode bytes =
-    let found = decoded opcode in
+    let found = instruction_of_opcode opcode in
     if length bytes == behind_opcode w opcode
     then written_or found.0 found.1 (opcode ∷ bytes) (operand_by (kind_of found.1) bytes) ++ turns_between w (widths_behind found.0 bytes w)
     else Bytes (opcode ∷ bytes) ∷ []
 
 -- the widths behind it
 abbrev pub widths_past : Widths → ℕ → List ℕ → Widths
-widths_past w opcode bytes = if length bytes == behind_opcode w opcode then widths_behind (decoded opcode).0 bytes w else w
+widths_past w opcode bytes = if length bytes == behind_opcode w opcode then widths_behind (instruction_of_opcode opcode).0 bytes w else w
 
 -- the rest of a run, of which the first so many bytes were taken already
-unfoldable pub said_rest : Widths → ℕ → List ℕ → List Said
+unfoldable pub said_rest : Widths → ℕ → List ℕ → List ListedStatement
 said_rest w taken [] = []
 said_rest w (suc taken) (byte ∷ behind) = said_rest w taken behind
 said_rest w zero (opcode ∷ behind) =
@@ -184,7 +184,7 @@ record_by mnemonic Sign bytes = Some (0xEB, bytes, 0)
 
 -- the record of an opcode's operand that is no constant
 abbrev pub record_of_opcode : Widths → ℕ → Option (ℕ × ℕ × ℕ)
-record_of_opcode w opcode = record_by (decoded opcode).0 (kind_of (decoded opcode).1) (behind_opcode w opcode)
+record_of_opcode w opcode = record_by (instruction_of_opcode opcode).0 (kind_of (instruction_of_opcode opcode).1) (behind_opcode w opcode)
 
 -- the record has this code, this count and this n
 abbrev pub is_record : ℕ → ℕ → ℕ → Option (ℕ × ℕ × ℕ) → Bool
@@ -194,21 +194,21 @@ is_record code count n (Some (a, b, c)) = a == code && b == count && c == n
 -- ---- what lines so far leave, and one more record
 
 -- the present widths, the constant bytes that stand directly before, and the names that were defined
-pub record Before : Type 0 where
+pub record PendingRun : Type 0 where
   pub widths : Widths
   pub run : List ℕ
   pub names : List (List ℕ)
 
 -- the lines of a record, and what it leaves
 abbrev pub Given : Type 0
-Given = List Said × Before
+Given = List ListedStatement × PendingRun
 
 -- the run is written
-abbrev pub flushed : Before → Given
-flushed b = (said_rest b.widths 0 b.run, record { widths = widths_rest b.widths 0 b.run; run = []; names = b.names })
+abbrev pub with_run_written : PendingRun → Given
+with_run_written b = (said_rest b.widths 0 b.run, record { widths = widths_rest b.widths 0 b.run; run = []; names = b.names })
 
 -- and then these lines
-abbrev pub then_said : List Said → Given → Given
+abbrev pub then_said : List ListedStatement → Given → Given
 then_said more given = (given.0 ++ more, given.1)
 
 -- one more name is defined
@@ -230,26 +230,26 @@ split_last [] = None
 split_last (byte ∷ behind) = behind_byte byte (split_last behind)
 
 -- the opcode is held back: the run without it, and one instruction
-abbrev pub held_back : Before → List ℕ → ℕ → Wanted → Given
+abbrev pub held_back : PendingRun → List ℕ → ℕ → Wanted → Given
 held_back b rest opcode wanted =
-    let given = flushed (record b { run = rest }) in
-    then_said (Instructs (decoded opcode).0 (decoded opcode).1 wanted ∷ []) given
+    let given = with_run_written (record b { run = rest }) in
+    then_said (Instructs (instruction_of_opcode opcode).0 (instruction_of_opcode opcode).1 wanted ∷ []) given
 
 -- a DC for an EXPR that isn't part of an instruction
-abbrev pub apart : ℕ → Tree → Option (List ℕ) → Said
-apart count tree None = Sums count tree
-apart count tree (Some name) = Weakly name
+abbrev pub dc_of_formula : ℕ → Tree → Option (List ℕ) → ListedStatement
+dc_of_formula count tree None = FormulaIs count tree
+dc_of_formula count tree (Some name) = WeakIs name
 
 -- the last byte is an opcode that has this record, at the widths behind the run without it
-abbrev pub is_held : Before → ℕ → ℕ → ℕ → List ℕ × ℕ → Bool
+abbrev pub is_held : PendingRun → ℕ → ℕ → ℕ → List ℕ × ℕ → Bool
 is_held b code count n found = is_record code count n (record_of_opcode (widths_rest b.widths 0 found.0) found.1)
 
 -- the lines of an expression record: an instruction with the byte that is held back, or a DC
-unfoldable pub formula_given : Before → ℕ → ℕ → ℕ → Tree → Option (List ℕ × ℕ) → Option Wanted → Given
+unfoldable pub formula_given : PendingRun → ℕ → ℕ → ℕ → Tree → Option (List ℕ × ℕ) → Option Wanted → Given
 formula_given b code count n tree (Some found) (Some wanted) =
-    if is_held b code count n found then held_back b found.0 found.1 wanted else then_said (apart count tree (weak_of tree) ∷ []) (flushed b)
-formula_given b code count n tree (Some found) None = then_said (apart count tree (weak_of tree) ∷ []) (flushed b)
-formula_given b code count n tree None wanted = then_said (apart count tree (weak_of tree) ∷ []) (flushed b)
+    if is_held b code count n found then held_back b found.0 found.1 wanted else then_said (dc_of_formula count tree (weak_of tree) ∷ []) (with_run_written b)
+formula_given b code count n tree (Some found) None = then_said (dc_of_formula count tree (weak_of tree) ∷ []) (with_run_written b)
+formula_given b code count n tree None wanted = then_said (dc_of_formula count tree (weak_of tree) ∷ []) (with_run_written b)
 
 -- ---- which records can be listed
 
@@ -303,13 +303,13 @@ follows_opcode code count n None = false
 follows_opcode code count n (Some found) = is_record code count n (record_of_opcode both_long found.1)
 
 -- an expression record can be listed
-unfoldable pub formula_listable : List (List ℕ) → Before → ℕ → ℕ → ℕ → Tree → Bool
+unfoldable pub formula_listable : List (List ℕ) → PendingRun → ℕ → ℕ → ℕ → Tree → Bool
 formula_listable equates b code count n tree =
     list_all (term_listable equates) (terms_of tree)
     && (if code == 0xEB then expr_listable count tree else is_some_wanted (simple_of tree) && follows_opcode code count n (split_last b.run))
 
 -- the line fits in 255 bytes
-abbrev pub is_short : Said → Bool
+abbrev pub is_short : ListedStatement → Bool
 is_short said = nat_le (length (said_text said)) 255
 
 -- all lines fit in 255 bytes
@@ -326,9 +326,9 @@ number_of (Leaf (Constant n)) = Some n
 number_of _ = None
 
 -- the lines of EQU or GEQU of a number
-abbrev pub equate_given : Before → Bool → List ℕ → Option ℕ → Option Given
+abbrev pub equate_given : PendingRun → Bool → List ℕ → Option ℕ → Option Given
 equate_given b global name None = None
-equate_given b global name (Some n) = if_short (is_listable name && not (is_among b.names name)) (with_name name (then_said (Equates global name n ∷ []) (flushed b)))
+equate_given b global name (Some n) = if_short (is_listable name && not (is_among b.names name)) (with_name name (then_said (Equates global name n ∷ []) (with_run_written b)))
 
 -- what is said of an expression's tree
 abbrev pub on_tree : {A : Type 0} → Option Tree → (Tree → Option A) → Option A
@@ -336,17 +336,17 @@ on_tree None f = None
 on_tree (Some tree) f = f tree
 
 -- the lines of a record where it can be listed, and what it leaves; what is before ALIGN is in the header
-unfoldable pub given_by : Fields → List (List ℕ) → Before → Record → Option Given
-given_by f equates b End = if_short true (then_said (unless_zero Spaces f.res_spc ++ Ends ∷ []) (flushed b))
+unfoldable pub given_by : Fields → List (List ℕ) → PendingRun → Record → Option Given
+given_by f equates b End = if_short true (then_said (unless_zero Ds f.res_spc ++ EndIs ∷ []) (with_run_written b))
 given_by f equates b (Const bytes) = Some ([], record b { run = b.run ++ bytes })
 given_by f equates b (LongConst bytes) = Some ([], record b { run = b.run ++ bytes })
-given_by f equates b (Align n) = if_short (is_power_of_two n && nat_le n 0x10000 && nat_le n (alignment_of f.align)) (then_said (Aligns n ∷ []) (flushed b))
-given_by f equates b (Org n) = if_short true (then_said (Moves n ∷ []) (flushed b))
-given_by f equates b (Space n) = if_short true (then_said (Spaces n ∷ []) (flushed b))
-given_by f equates b (Using name) = if_short (is_listable name) (then_said (Uses name ∷ []) (flushed b))
-given_by f equates b (Strong name) = if_short (is_listable name) (then_said (Asks name ∷ []) (flushed b))
+given_by f equates b (Align n) = if_short (is_power_of_two n && nat_le n 0x10000 && nat_le n (alignment_of f.align)) (then_said (Aligns n ∷ []) (with_run_written b))
+given_by f equates b (Org n) = if_short true (then_said (OrgIs n ∷ []) (with_run_written b))
+given_by f equates b (Space n) = if_short true (then_said (Ds n ∷ []) (with_run_written b))
+given_by f equates b (Using name) = if_short (is_listable name) (then_said (UsingIs name ∷ []) (with_run_written b))
+given_by f equates b (Strong name) = if_short (is_listable name) (then_said (StrongIs name ∷ []) (with_run_written b))
 given_by f equates b (Label global name size form private) =
-    if_short ((not global || private == 0) && is_listable name && not (is_among b.names name)) (with_name name (then_said (Labels global name ∷ []) (flushed b)))
+    if_short ((not global || private == 0) && is_listable name && not (is_among b.names name)) (with_name name (then_said (Labels global name ∷ []) (with_run_written b)))
 given_by f equates b (Equate global name size form private expr) =
     if not global || private == 0 then on_tree (tree_in f.lab_len expr) (λ tree. equate_given b global name (number_of tree)) else None
 given_by f equates b (Formula code count n expr) =
@@ -370,17 +370,17 @@ or_record at None = Err at
 or_record at (Some a) = Ok a
 
 -- the lines of records behind these lines, or the place of the first that can't be listed
-unfoldable pub said_from : Fields → List (List ℕ) → Before → List (ℕ × Record) → Result (List Said) ℕ
+unfoldable pub said_from : Fields → List (List ℕ) → PendingRun → List (ℕ × Record) → Result (List ListedStatement) ℕ
 said_from f equates b [] = Ok []
 said_from f equates b (found ∷ founds) =
     or_record found.0 (given_by f equates b found.1) >>= λ given. said_from f equates given.1 founds >>= λ more. Ok (given.0 ++ more)
 
 -- before the first record: both registers have 16 bits, and SEGNAME is defined
-abbrev pub at_front : Fields → Before
+abbrev pub at_front : Fields → PendingRun
 at_front f = record { widths = both_long; run = []; names = f.name ∷ [] }
 
 -- the lines of a segment, or the place where it can't be listed: its start, or a record
-unfoldable pub listing_of : Segment → Result (List Said) ℕ
+unfoldable pub listing_of : Segment → Result (List ListedStatement) ℕ
 listing_of s =
     if has_listable_header s && list_all is_short (front_of s.fields)
     then (said_from s.fields (equates_of s) (at_front s.fields) s.records >>= λ more. Ok (front_of s.fields ++ more))
@@ -394,11 +394,11 @@ in_segment number (Ok a) = Ok a
 in_segment number (Err at) = Err (number, at)
 
 -- the lines of segments, of which the first has this number, or the number and the place of the first that can't be listed
-unfoldable pub listing_from : ℕ → List Segment → Result (List Said) (ℕ × ℕ)
+unfoldable pub listing_from : ℕ → List Segment → Result (List ListedStatement) (ℕ × ℕ)
 listing_from number [] = Ok []
 listing_from number (s ∷ segments) =
     in_segment number (listing_of s) >>= λ first. listing_from (number + 1) segments >>= λ more. Ok (first ++ more)
 
 -- the text has at most 16,777,216 bytes and 65,536 lines
-abbrev pub is_small : List Said → Bool
+abbrev pub is_small : List ListedStatement → Bool
 is_small all = nat_le (length all) 65536 && nat_le (length (listing_text all)) 16777216

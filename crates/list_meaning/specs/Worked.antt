@@ -3,7 +3,7 @@ use Rattle.std.specs.Prelude.{◌≡◌, ℕ, List, [], ◌∷◌, codes, replic
 use Rattle.omf_format.specs.File.{Segment}
 use Rattle.omf_format.specs.Header.{Fields}
 use Rattle.omf_format.specs.Record.{Formula, End, Const, Space}
-use Rattle.list_meaning.specs.Listed.{Said, listing_text}
+use Rattle.list_meaning.specs.Listed.{ListedStatement, listing_text}
 use Rattle.list_meaning.specs.Listing.{listing_of}
 
 -- a header of a code segment `A` with this LENGTH
@@ -31,12 +31,12 @@ abbrev pub row_one : Segment
 row_one = record { start = 0; fields = fields 8; records = (0x38, Const (0xA9 ∷ 0x01 ∷ 0x60 ∷ [])) ∷ (0x3C, Space 5) ∷ (0x41, End) ∷ [] }
 
 -- the text of lines
-abbrev pub text_of : Result (List Said) ℕ → List ℕ
+abbrev pub text_of : Result (List ListedStatement) ℕ → List ℕ
 text_of (Ok all) = listing_text all
 text_of (Err at) = []
 
 -- the place that can't be listed
-abbrev pub place_of : Result (List Said) ℕ → ℕ
+abbrev pub place_of : Result (List ListedStatement) ℕ → ℕ
 place_of (Ok all) = 0
 place_of (Err at) = at
 

@@ -12,11 +12,11 @@ use Rattle.load_meaning.specs.Cells.{Cell, Patch, patches_in, patches_of}
 use Rattle.load_meaning.specs.Loadable.{Fault, in_segment, first_in, target_fault, patch_list, IsPatch}
 use Rattle.load_meaning.specs.laws.CellLaws.{patches-cons, sound_patches}
 use Rattle.omf_records.specs.declared.segment.SegmentView.{SegmentView}
-use Rattle.omf_records.specs.Segments.{shown}
-use Rattle.load_content.specs.declared.spots.Spot.{Spot}
-use Rattle.load_content.specs.declared.targets.Content.{Content}
+use Rattle.omf_records.specs.Segments.{segment_of_view}
+use Rattle.load_content.specs.declared.spots.PatchSpot.{PatchSpot}
+use Rattle.load_content.specs.declared.targets.SegmentContent.{SegmentContent}
 use Rattle.load_content.specs.Walk.{patches_from}
-use Rattle.load_content.specs.Content.{spread_from, spread, spread_all, last_at, shown_spots, AreBelow, AreRuns, AreSpots, IsContent, AreContents}
+use Rattle.load_content.specs.Content.{spread_from, cells_of_patch, spread_all, last_at, shown_spots, AreBelow, AreRuns, AreSpots, IsContent, AreContents}
 use Rattle.load_content.proofs.LoadViews.{found_from, found_from-next, Passed}
 
 -- ---- the patches of a segment
@@ -49,21 +49,21 @@ parts-below size (found ∷ xs) ys all = let rest = parts-below size xs ys all.1
 pub all-below : (segments : List Segment) (s : Segment) (patches : List Patch) → AllByRecursion (IsPatch segments s) patches → AreBelow s.fields.length (spread_all patches)
 all-below segments s [] sound = tt
 all-below segments s (p ∷ patches) sound =
-    both-below s.fields.length (spread p) (spread_all patches) (spread-below p s.fields.length p.count p.location 0 sound.0.inside) (all-below segments s patches sound.1)
+    both-below s.fields.length (cells_of_patch p) (spread_all patches) (spread-below p s.fields.length p.count p.location 0 sound.0.inside) (all-below segments s patches sound.1)
 
 more-below : (size more : ℕ) (founds : List (ℕ × Cell)) → size ≤ more → AreBelow size founds → AreBelow more founds
 more-below size more [] le all = tt
 more-below size more (found ∷ founds) le all = (omega (arith, le, all.0), more-below size more founds le all.1)
 
 -- what a segment's patches give lies below LENGTH
-pub patches-below : (segments : List Segment) (number most : ℕ) (s : Segment) (spots : List Spot) → target_fault segments number s ≡ None → s.fields.length ≤ most
+pub patches-below : (segments : List Segment) (number most : ℕ) (s : Segment) (spots : List PatchSpot) → target_fault segments number s ≡ None → s.fields.length ≤ most
     → shown_spots spots ≡ spread_all (patches_from s s.records) → AreBelow most (shown_spots spots)
 patches-below segments number most s spots none le is =
     let all : shown_spots spots ≡ spread_all (patch_list s) = is ∙ ap spread_all (sym (patch_list-from s)) in
     more-below s.fields.length most (shown_spots spots) le (subst (AreBelow s.fields.length) (sym all) (all-below segments s (patch_list s) (sound_patches segments number s none)))
 
 -- the spots of a segment's patches in runs
-pub ordered_spots : (s : Segment) (spots sorted : List Spot) (runs : List ℕ) → shown_spots spots ≡ spread_all (patches_from s s.records) → AreRuns runs sorted
+pub ordered_spots : (s : Segment) (spots sorted : List PatchSpot) (runs : List ℕ) → shown_spots spots ≡ spread_all (patches_from s s.records) → AreRuns runs sorted
     → ((k : ℕ) → last_at (shown_spots sorted) k ≡ last_at (shown_spots spots) k) → AreSpots (patch_list s) sorted runs
 ordered_spots s spots sorted runs is are last =
     let all : shown_spots spots ≡ spread_all (patch_list s) = is ∙ ap spread_all (sym (patch_list-from s)) in
@@ -101,14 +101,14 @@ below_by_last size (found ∷ founds) below =
       below_by_last size founds (λ k cell is. below k cell (ap (λ o. option_or o (if eqb found.0 k then Some found.1 else None)) is)),
     )
 
-pub spots-below : (segments : List Segment) (s : Segment) (patches : List Patch) (spots : List Spot) (runs : List ℕ) → AllByRecursion (IsPatch segments s) patches → AreSpots patches spots runs
+pub spots-below : (segments : List Segment) (s : Segment) (patches : List Patch) (spots : List PatchSpot) (runs : List ℕ) → AllByRecursion (IsPatch segments s) patches → AreSpots patches spots runs
     → AreBelow s.fields.length (shown_spots spots)
 spots-below segments s patches spots runs sound are =
     below_by_last s.fields.length (shown_spots spots) (λ k cell is. below_at s.fields.length (spread_all patches) k cell (all-below segments s patches sound) (sym (are.last k) ∙ is))
 
 -- ---- contents
 
-pub contents_push : (views : List SegmentView) (contents : List Content) (v : SegmentView) (content : Content) → AreContents views contents → IsContent v content → AreContents (views ++ v ∷ []) (contents ++ content ∷ [])
+pub contents_push : (views : List SegmentView) (contents : List SegmentContent) (v : SegmentView) (content : SegmentContent) → AreContents views contents → IsContent v content → AreContents (views ++ v ∷ []) (contents ++ content ∷ [])
 contents_push [] [] v content are is = (is, tt)
 contents_push [] (c ∷ contents) v content are is = absurd are
 contents_push (w ∷ views) [] v content are is = absurd are
@@ -121,7 +121,7 @@ take_more (w ∷ views) (suc i) v lt is =
     let step : suc i + 1 ≡ suc (i + 1) = omega arith in
     ap (λ (n : ℕ). take n (w ∷ views)) step ∙ ap (λ l. w ∷ l) (take_more views i v (omega arith) is)
 
-pub contents_at : (views : List SegmentView) (contents : List Content) → AreContents views contents → (k : ℕ) (v : SegmentView) (c : Content) → slice_get views k ≡ Some v → slice_get contents k ≡ Some c → IsContent v c
+pub contents_at : (views : List SegmentView) (contents : List SegmentContent) → AreContents views contents → (k : ℕ) (v : SegmentView) (c : SegmentContent) → slice_get views k ≡ Some v → slice_get contents k ≡ Some c → IsContent v c
 contents_at [] contents are k v c at at' = absurd cc
 contents_at (w ∷ views) [] are k v c at at' = absurd cc
 contents_at (w ∷ views) (d ∷ contents) are zero v c at at' =
@@ -132,11 +132,11 @@ contents_at (w ∷ views) (d ∷ contents) are zero v c at at' =
     view_same : (a b : SegmentView) → Some a ≡ Some b → a ≡ b
     view_same a b e = cc
 
-    content_same : (a b : Content) → Some a ≡ Some b → a ≡ b
+    content_same : (a b : SegmentContent) → Some a ≡ Some b → a ≡ b
     content_same a b e = cc
 contents_at (w ∷ views) (d ∷ contents) are (suc k) v c at at' = contents_at views contents are.1 k v c at at'
 
-pub contents_count : (views : List SegmentView) (contents : List Content) → AreContents views contents → length contents ≡ length views
+pub contents_count : (views : List SegmentView) (contents : List SegmentContent) → AreContents views contents → length contents ≡ length views
 contents_count [] [] are = refl
 contents_count [] (c ∷ contents) are = absurd are
 contents_count (v ∷ views) [] are = absurd are
@@ -153,8 +153,8 @@ no_fault number None e = refl
 no_fault number (Some fault) e = absurd cc
 
 -- where a phase finds nothing, it finds nothing in a view on the way
-pub none_here : (phase : ℕ → Segment → Option Fault) (views : List SegmentView) (i number : ℕ) (v : SegmentView) → Passed phase views i number → first_in phase 1 (map shown views) ≡ None → i < length views → v ≡ get_or views i v
-    → phase number (shown v) ≡ None
+pub none_here : (phase : ℕ → Segment → Option Fault) (views : List SegmentView) (i number : ℕ) (v : SegmentView) → Passed phase views i number → first_in phase 1 (map segment_of_view views) ≡ None → i < length views → v ≡ get_or views i v
+    → phase number (segment_of_view v) ≡ None
 none_here phase views i number v p none lt is =
-    none_first (phase number (shown v)) (found_from phase (number + 1) (drop (suc i) views)) number
-    (sym (found_from-next phase views i number v (option_map (in_segment number) (phase number (shown v))) lt is refl) ∙ sym p.so_far ∙ none)
+    none_first (phase number (segment_of_view v)) (found_from phase (number + 1) (drop (suc i) views)) number
+    (sym (found_from-next phase views i number v (option_map (in_segment number) (phase number (segment_of_view v))) lt is refl) ∙ sym p.so_far ∙ none)

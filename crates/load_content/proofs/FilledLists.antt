@@ -5,7 +5,7 @@ use Rattle.std.proofs.lemmas.Bool.{cases_lt}
 use Rattle.std.proofs.lemmas.List.{length-append, length-take, length-replicate}
 use Rattle.std.proofs.lemmas.Option.{slice_get_past}
 use Rattle.load_meaning.specs.laws.LayingLaws.{get-front, get-behind, get-take, same_list}
-use Rattle.load_content.specs.declared.pieces.Piece.{Piece}
+use Rattle.load_content.specs.declared.pieces.BytePiece.{BytePiece}
 use Rattle.load_content.specs.Content.{ArePieces, IsAt}
 use Rattle.load_content.proofs.Splits.{within}
 
@@ -41,21 +41,21 @@ more_zeros bytes at upto le fits each =
     (λ m lt. each (at + m) (omega arith) (omega (arith, lt)) ∙ sym (get-zeros (upto - at) m lt))
 
 -- how far the first pieces, so many, fill so many bytes
-pub record IsFilled (pieces : List Piece) (n size at : ℕ) : Type 0 where
+pub record IsFilled (pieces : List BytePiece) (n size at : ℕ) : Type 0 where
   pub inside : at ≤ size
-  pub passed : (i : ℕ) (p : Piece) → i < n → IsAt pieces i p → (p.start + length p.bytes.now ≤ at) ⊎ (at ≡ size)
-  pub left : (i : ℕ) (p : Piece) → n ≤ i → IsAt pieces i p → at ≤ p.start
+  pub passed : (i : ℕ) (p : BytePiece) → i < n → IsAt pieces i p → (p.start + length p.bytes.now ≤ at) ⊎ (at ≡ size)
+  pub left : (i : ℕ) (p : BytePiece) → n ≤ i → IsAt pieces i p → at ≤ p.start
 
-piece_is : (p q : Piece) → Some p ≡ Some q → p ≡ q
+piece_is : (p q : BytePiece) → Some p ≡ Some q → p ≡ q
 piece_is p q e = cc
 
-abbrev from_of : Piece → ℕ → ℕ
+abbrev from_of : BytePiece → ℕ → ℕ
 from_of p size = min p.start size
 
-abbrev pub next_of : Piece → ℕ → ℕ
+abbrev pub next_of : BytePiece → ℕ → ℕ
 next_of p size = from_of p size + min (length p.bytes.now) (size - from_of p size)
 
-pub filled_more : (pieces : List Piece) (bytes : List ℕ) (n size at next : ℕ) (p : Piece) → ArePieces pieces bytes → IsFilled pieces n size at → IsAt pieces n p → next ≡ next_of p size → IsFilled pieces (n + 1) size next
+pub filled_more : (pieces : List BytePiece) (bytes : List ℕ) (n size at next : ℕ) (p : BytePiece) → ArePieces pieces bytes → IsFilled pieces n size at → IsAt pieces n p → next ≡ next_of p size → IsFilled pieces (n + 1) size next
 filled_more pieces bytes n size at next p are is here to = record {
   inside = omega (arith, to);
   passed = λ i q lt there. elim (cases_lt i n) [
@@ -66,7 +66,7 @@ filled_more pieces bytes n size at next p are is here to = record {
     | inr last ↦
         let place : i ≡ n = omega (arith, lt, last) in
         let one : p ≡ q = piece_is p q (sym here ∙ ap (slice_get pieces) (sym place) ∙ there) in
-        subst (λ (x : Piece). (x.start + length x.bytes.now ≤ next) ⊎ (next ≡ size)) one by_size
+        subst (λ (x : BytePiece). (x.start + length x.bytes.now ≤ next) ⊎ (next ≡ size)) one by_size
   ];
   left = λ i q le there. omega (arith, are.apart n i p q (omega (arith, le)) here there, to);
 }
@@ -78,8 +78,8 @@ filled_more pieces bytes n size at next p are is here to = record {
     ]
 
 -- the zeros before a piece
-gap : (pieces : List Piece) (bytes : List ℕ) (n size at upto : ℕ) → ArePieces pieces bytes → IsFilled pieces n size at → size ≤ length bytes → upto ≤ size
-    → ((i : ℕ) (q : Piece) → n ≤ i → IsAt pieces i q → upto ≤ q.start) → (k : ℕ) → at ≤ k → k < upto → slice_get bytes k ≡ Some 0
+gap : (pieces : List BytePiece) (bytes : List ℕ) (n size at upto : ℕ) → ArePieces pieces bytes → IsFilled pieces n size at → size ≤ length bytes → upto ≤ size
+    → ((i : ℕ) (q : BytePiece) → n ≤ i → IsAt pieces i q → upto ≤ q.start) → (k : ℕ) → at ≤ k → k < upto → slice_get bytes k ≡ Some 0
 gap pieces bytes n size at upto are is fits le behind k from lt = are.zeros k (omega (arith, fits, le, lt)) (λ i q there. elim (cases_lt i n) [
   | inl before ↦ elim (is.passed i q before there) [
     | inl past ↦ inr (omega (arith, past, from))
@@ -88,7 +88,7 @@ gap pieces bytes n size at upto are is fits le behind k from lt = are.zeros k (o
   | inr after ↦ inl (omega (arith, behind i q after there, lt))
 ])
 
-pub piece_filled : (pieces : List Piece) (bytes so_far : List ℕ) (n size at next : ℕ) (p : Piece) → ArePieces pieces bytes → IsFilled pieces n size at → size ≤ length bytes → IsAt pieces n p → next ≡ next_of p size
+pub piece_filled : (pieces : List BytePiece) (bytes so_far : List ℕ) (n size at next : ℕ) (p : BytePiece) → ArePieces pieces bytes → IsFilled pieces n size at → size ≤ length bytes → IsAt pieces n p → next ≡ next_of p size
     → so_far ≡ take at bytes → so_far ++ (replicate (from_of p size - at) 0 ++ take (next - from_of p size) p.bytes.now) ≡ take next bytes
 piece_filled pieces bytes so_far n size at next p are is fits here to done =
     let start = from_of p size in
@@ -100,13 +100,13 @@ piece_filled pieces bytes so_far n size at next p are is fits here to done =
     ∙ ap (λ (l : List ℕ). l ++ take (next - start) p.bytes.now) zeros
     ∙ more_bytes bytes (take (next - start) p.bytes.now) start (next - start) next (omega (arith, to)) (omega (arith, to, fits)) (omega (arith, length-take (next - start) p.bytes.now, to)) (λ m lt. byte m lt)
   where
-    behind : (i : ℕ) (q : Piece) → n ≤ i → IsAt pieces i q → from_of p size ≤ q.start
+    behind : (i : ℕ) (q : BytePiece) → n ≤ i → IsAt pieces i q → from_of p size ≤ q.start
     behind i q le there = elim (cases_lt n i) [
       | inl after ↦ omega (arith, are.apart n i p q after here there)
       | inr same ↦
           let place : i ≡ n = omega (arith, le, same) in
           let one : p ≡ q = piece_is p q (sym here ∙ ap (slice_get pieces) (sym place) ∙ there) in
-          subst (λ (x : Piece). from_of p size ≤ x.start) one (omega arith)
+          subst (λ (x : BytePiece). from_of p size ≤ x.start) one (omega arith)
     ]
 
     byte : (m : ℕ) → m < next - from_of p size → slice_get bytes (from_of p size + m) ≡ slice_get (take (next - from_of p size) p.bytes.now) m
@@ -115,14 +115,14 @@ piece_filled pieces bytes so_far n size at next p are is fits here to done =
         ap (slice_get bytes) place ∙ are.inside n m p here (omega (arith, to, lt)) ∙ sym (get-take (next - from_of p size) p.bytes.now m lt)
 
 -- the zeros behind the last piece
-pub all_filled : (pieces : List Piece) (bytes so_far : List ℕ) (n size at : ℕ) → ArePieces pieces bytes → IsFilled pieces n size at → size ≤ length bytes → length pieces ≤ n → so_far ≡ take at bytes
+pub all_filled : (pieces : List BytePiece) (bytes so_far : List ℕ) (n size at : ℕ) → ArePieces pieces bytes → IsFilled pieces n size at → size ≤ length bytes → length pieces ≤ n → so_far ≡ take at bytes
     → so_far ++ replicate (size - at) 0 ≡ take size bytes
 all_filled pieces bytes so_far n size at are is fits all done =
     ap (λ (l : List ℕ). l ++ replicate (size - at) 0) done
     ∙ more_zeros bytes at size is.inside fits (gap pieces bytes n size at size are is fits (omega arith) (λ i q le there. absurd (omega (arith, within pieces i q there, all, le))))
 
 -- one piece, at the front
-pub lone_is : (p : Piece) (bytes : List ℕ) → ArePieces (p ∷ []) bytes → p.start ≡ 0 → bytes ≡ p.bytes.now ++ replicate (length bytes - length p.bytes.now) 0
+pub lone_is : (p : BytePiece) (bytes : List ℕ) → ArePieces (p ∷ []) bytes → p.start ≡ 0 → bytes ≡ p.bytes.now ++ replicate (length bytes - length p.bytes.now) 0
 lone_is p bytes are first = same_list bytes (p.bytes.now ++ replicate (length bytes - length p.bytes.now) 0) there
   where
     fits : p.start + length p.bytes.now ≤ length bytes
@@ -143,20 +143,20 @@ lone_is p bytes are first = same_list bytes (p.bytes.now ++ replicate (length by
       ]
     ]
       where
-        past : (k : ℕ) → length p.bytes.now ≤ k → (i : ℕ) (q : Piece) → IsAt (p ∷ []) i q → q.start + length q.bytes.now ≤ k
-        past k from zero q at = subst (λ (x : Piece). x.start + length x.bytes.now ≤ k) (piece_is p q at) (omega (arith, first, from))
+        past : (k : ℕ) → length p.bytes.now ≤ k → (i : ℕ) (q : BytePiece) → IsAt (p ∷ []) i q → q.start + length q.bytes.now ≤ k
+        past k from zero q at = subst (λ (x : BytePiece). x.start + length x.bytes.now ≤ k) (piece_is p q at) (omega (arith, first, from))
         past k from (suc i) q at = absurd cc
 
 -- ---- behind what stood there
 
-pub put_more : (pieces : List Piece) (old so_far new bytes : List ℕ) (n size at next : ℕ) (p : Piece) → ArePieces pieces bytes → IsFilled pieces n size at → size ≤ length bytes → IsAt pieces n p → next ≡ next_of p size
+pub put_more : (pieces : List BytePiece) (old so_far new bytes : List ℕ) (n size at next : ℕ) (p : BytePiece) → ArePieces pieces bytes → IsFilled pieces n size at → size ≤ length bytes → IsAt pieces n p → next ≡ next_of p size
     → so_far ≡ old ++ take at bytes → new ≡ so_far ++ (replicate (min p.start size - at) 0 ++ take (next - min p.start size) p.bytes.now) → new ≡ old ++ take next bytes
 put_more pieces old so_far new bytes n size at next p are is fits here to done put =
     put ∙ ap (λ (l : List ℕ). l ++ (replicate (min p.start size - at) 0 ++ take (next - min p.start size) p.bytes.now)) done
     ∙ append_assoc old (take at bytes) (replicate (min p.start size - at) 0 ++ take (next - min p.start size) p.bytes.now)
     ∙ ap (λ (l : List ℕ). old ++ l) (piece_filled pieces bytes (take at bytes) n size at next p are is fits here to refl)
 
-pub put_all : (pieces : List Piece) (old so_far new bytes : List ℕ) (n size at : ℕ) → ArePieces pieces bytes → IsFilled pieces n size at → size ≤ length bytes → length pieces ≤ n
+pub put_all : (pieces : List BytePiece) (old so_far new bytes : List ℕ) (n size at : ℕ) → ArePieces pieces bytes → IsFilled pieces n size at → size ≤ length bytes → length pieces ≤ n
     → so_far ≡ old ++ take at bytes → new ≡ so_far ++ replicate (size - at) 0 → new ≡ old ++ take size bytes
 put_all pieces old so_far new bytes n size at are is fits all done put =
     put ∙ ap (λ (l : List ℕ). l ++ replicate (size - at) 0) done ∙ append_assoc old (take at bytes) (replicate (size - at) 0)

@@ -11,29 +11,29 @@ use Rattle.omf_format.specs.File.{Segment, body_reader}
 use Rattle.omf_format.specs.Body.{body_bytes}
 use Rattle.load_meaning.specs.Loadable.{Fault, in_segment, first_in, shape_fault}
 use Rattle.omf_records.specs.declared.segment.SegmentView.{SegmentView}
-use Rattle.omf_records.specs.Segments.{placed, shown}
+use Rattle.omf_records.specs.Segments.{placed_view, segment_of_view}
 use Rattle.load_content.specs.Walk.{content}
 use Rattle.load_content.proofs.ShownBytes.{body_content}
 
 -- ---- phase 2
 
 -- what phase 2 finds in the segment that a view shows
-pub shape_fault-of : (number : ℕ) (v : SegmentView) (reader : Reader) → reader ≡ body_reader v.start (placed v).fields v.file.now
-    → shape_fault number (shown v) ≡ first_of ((not (v.header.seg_num == number), (Sequence, v.start)) ∷ (nat_lt v.header.length (length (content reader)), (DataTooLong, v.start)) ∷ [])
+pub shape_fault-of : (number : ℕ) (v : SegmentView) (reader : Reader) → reader ≡ body_reader v.start (placed_view v).fields v.file.now
+    → shape_fault number (segment_of_view v) ≡ first_of ((not (v.header.seg_num == number), (Sequence, v.start)) ∷ (nat_lt v.header.length (length (content reader)), (DataTooLong, v.start)) ∷ [])
 unfolding shape_fault
 shape_fault-of number v reader at =
-    let size : length (body_bytes (shown v)) ≡ length (content reader) = ap length (body_content (placed v) ∙ ap content (sym at)) in
+    let size : length (body_bytes (segment_of_view v)) ≡ length (content reader) = ap length (body_content (placed_view v) ∙ ap content (sym at)) in
     ap (λ (n : ℕ). first_of {F = Fault} ((not (v.header.seg_num == number), (Sequence, v.start)) ∷ (nat_lt v.header.length n, (DataTooLong, v.start)) ∷ [])) size
 
 -- ---- a phase
 
 -- the first fault of the views from one on
 abbrev pub found_from : (ℕ → Segment → Option Fault) → ℕ → List SegmentView → Option LoadFault
-found_from phase number views = first_in phase number (map shown views)
+found_from phase number views = first_in phase number (map segment_of_view views)
 
 -- one view, and then the others
 pub found_from-next : (phase : ℕ → Segment → Option Fault) (views : List SegmentView) (i number : ℕ) (v : SegmentView) (fault : Option LoadFault) → i < length views → v ≡ get_or views i v
-    → fault ≡ option_map (in_segment number) (phase number (shown v)) → found_from phase number (drop i views) ≡ option_or fault (found_from phase (number + 1) (drop (suc i) views))
+    → fault ≡ option_map (in_segment number) (phase number (segment_of_view v)) → found_from phase number (drop i views) ≡ option_or fault (found_from phase (number + 1) (drop (suc i) views))
 found_from-next phase views i number v fault lt is of =
     ap (found_from phase number) (drop-cons views i v lt)
     ∙ ap (λ (w : SegmentView). found_from phase number (w ∷ drop (suc i) views)) (sym is)
@@ -58,7 +58,7 @@ pub passed_none : (phase : ℕ → Segment → Option Fault) (views : List Segme
 passed_none phase views = record { place = refl; so_far = refl }
 
 pub passed_more : (phase : ℕ → Segment → Option Fault) (views : List SegmentView) (i number : ℕ) (v : SegmentView) (fault : Option LoadFault) → Passed phase views i number → i < length views → v ≡ get_or views i v
-    → fault ≡ option_map (in_segment number) (phase number (shown v)) → fault ≡ None → Passed phase views (i + 1) (number + 1)
+    → fault ≡ option_map (in_segment number) (phase number (segment_of_view v)) → fault ≡ None → Passed phase views (i + 1) (number + 1)
 passed_more phase views i number v fault p lt is of none =
     let next = found_from-next phase views i number v fault lt is of in
     let step : suc i ≡ i + 1 = omega arith in
@@ -70,10 +70,10 @@ passed_more phase views i number v fault p lt is of none =
     }
 
 pub passed_some : (phase : ℕ → Segment → Option Fault) (views : List SegmentView) (i number : ℕ) (v : SegmentView) (fault : Option LoadFault) (f : LoadFault) → Passed phase views i number → i < length views → v ≡ get_or views i v
-    → fault ≡ option_map (in_segment number) (phase number (shown v)) → fault ≡ Some f → Some f ≡ first_in phase 1 (map shown views)
+    → fault ≡ option_map (in_segment number) (phase number (segment_of_view v)) → fault ≡ Some f → Some f ≡ first_in phase 1 (map segment_of_view views)
 passed_some phase views i number v fault f p lt is of some =
     let next = found_from-next phase views i number v fault lt is of in
     sym (p.so_far ∙ next ∙ ap (λ (o : Option LoadFault). option_or o (found_from phase (number + 1) (drop (suc i) views))) some)
 
-pub passed_all : (phase : ℕ → Segment → Option Fault) (views : List SegmentView) (i number : ℕ) → Passed phase views i number → length views ≤ i → None ≡ first_in phase 1 (map shown views)
+pub passed_all : (phase : ℕ → Segment → Option Fault) (views : List SegmentView) (i number : ℕ) → Passed phase views i number → length views ≤ i → None ≡ first_in phase 1 (map segment_of_view views)
 passed_all phase views i number p past = sym (p.so_far ∙ found_from-past phase views i number past)

@@ -8,7 +8,7 @@ use Rattle.omf_format.specs.File.{Segment}
 use Rattle.omf_format.specs.laws.FileLaws.{gave, same_found, open_at_some}
 use Rattle.load_meaning.specs.Cells.{Cell, Patch, patches_in}
 use Rattle.load_content.specs.Walk.{patches_from}
-use Rattle.load_content.specs.Content.{spread, spread_all}
+use Rattle.load_content.specs.Content.{cells_of_patch, spread_all}
 
 -- what was added so far to the front, with what the records that are left give, is what all records give
 pub record Given (s : Segment) (start at : Reader) (front so_far : List (ℕ × Cell)) : Type 0 where
@@ -23,7 +23,7 @@ given_all s r front is = record { back = records_of r; last = is.last; run = is.
 
 pub spread_all-append : (xs ys : List Patch) → spread_all (xs ++ ys) ≡ spread_all xs ++ spread_all ys
 spread_all-append [] ys = refl
-spread_all-append (p ∷ xs) ys = ap (λ l. spread p ++ l) (spread_all-append xs ys) ∙ sym (append_assoc (spread p) (spread_all xs) (spread_all ys))
+spread_all-append (p ∷ xs) ys = ap (λ l. cells_of_patch p ++ l) (spread_all-append xs ys) ∙ sym (append_assoc (cells_of_patch p) (spread_all xs) (spread_all ys))
 
 pub given_more : (s : Segment) (start at : Reader) (found : ℕ × Record) (front so_far : List (ℕ × Cell)) → Given s start at front so_far → next_answer at ≡ Ok (Some found)
     → Given s start (after_next at) front (so_far ++ spread_all (patches_in s found.1))

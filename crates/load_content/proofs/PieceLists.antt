@@ -4,7 +4,7 @@ use Rattle.std.specs.Prelude.{◌⊎◌, slice_get, slice_index}
 use Rattle.std.specs.List.Sorted.{IsNonDecreasingBy}
 use Rattle.std.proofs.lemmas.Bool.{cases_lt, cases_order}
 use Rattle.std.proofs.lemmas.List.{length-append, length-drop, get_or-drop}
-use Rattle.load_content.specs.declared.pieces.Piece.{Piece}
+use Rattle.load_content.specs.declared.pieces.BytePiece.{BytePiece}
 use Rattle.load_content.specs.Content.{IsZeros, ArePieces, start_of}
 use Rattle.load_meaning.specs.laws.LayingLaws.{get-front, get-behind}
 use Rattle.load_content.proofs.Splits.{within, get_there}
@@ -23,7 +23,7 @@ get-zeros (suc n) zero lt = refl
 get-zeros (suc n) (suc k) lt = get-zeros n k (omega arith)
 
 -- bytes behind them that are 0
-pub zeros_more : (pieces : List Piece) (bytes more : List ℕ) → ArePieces pieces bytes → IsZeros more → ArePieces pieces (bytes ++ more)
+pub zeros_more : (pieces : List BytePiece) (bytes more : List ℕ) → ArePieces pieces bytes → IsZeros more → ArePieces pieces (bytes ++ more)
 zeros_more pieces bytes more are zeros = record {
   apart = are.apart;
   inside = λ i n p at lt. get-front bytes more (p.start + n) (omega (arith, are.fits i p at)) ∙ are.inside i n p at lt;
@@ -52,7 +52,7 @@ last_there [] y = refl
 last_there (z ∷ xs) y = last_there xs y
 
 -- one piece more
-pub pieces_more : (pieces : List Piece) (bytes : List ℕ) (new : Piece) → ArePieces pieces bytes → new.start ≡ length bytes → ArePieces (pieces ++ new ∷ []) (bytes ++ new.bytes.now)
+pub pieces_more : (pieces : List BytePiece) (bytes : List ℕ) (new : BytePiece) → ArePieces pieces bytes → new.start ≡ length bytes → ArePieces (pieces ++ new ∷ []) (bytes ++ new.bytes.now)
 pieces_more pieces bytes new are start = record {
   apart = λ i j p q lt at at'. elim (last_or pieces new j q at') [
     | inl found ↦ elim (last_or pieces new i p at) [
@@ -60,21 +60,21 @@ pieces_more pieces bytes new are start = record {
       | inr last ↦ absurd (omega (arith, lt, last.0, within pieces j q found))
     ]
     | inr last ↦ elim (last_or pieces new i p at) [
-      | inl first ↦ let s : q.start ≡ new.start = ap (λ (r : Piece). r.start) last.1 in omega (arith, are.fits i p first, start, s)
+      | inl first ↦ let s : q.start ≡ new.start = ap (λ (r : BytePiece). r.start) last.1 in omega (arith, are.fits i p first, start, s)
       | inr other ↦ absurd (omega (arith, lt, last.0, other.0))
     ]
   ];
   inside = λ i n p at lt. elim (last_or pieces new i p at) [
     | inl first ↦ get-front bytes new.bytes.now (p.start + n) (omega (arith, are.fits i p first, lt)) ∙ are.inside i n p first lt
     | inr last ↦
-        let s : p.start ≡ new.start = ap (λ (r : Piece). r.start) last.1 in
-        get-behind bytes new.bytes.now (p.start + n) n (omega (arith, s, start)) ∙ ap (λ (r : Piece). slice_get r.bytes.now n) (sym last.1)
+        let s : p.start ≡ new.start = ap (λ (r : BytePiece). r.start) last.1 in
+        get-behind bytes new.bytes.now (p.start + n) n (omega (arith, s, start)) ∙ ap (λ (r : BytePiece). slice_get r.bytes.now n) (sym last.1)
   ];
   fits = λ i p at. elim (last_or pieces new i p at) [
     | inl first ↦ omega (arith, are.fits i p first, length-append bytes new.bytes.now)
     | inr last ↦
-        let s : p.start ≡ new.start = ap (λ (r : Piece). r.start) last.1 in
-        let l : length p.bytes.now ≡ length new.bytes.now = ap (λ (r : Piece). length r.bytes.now) last.1 in
+        let s : p.start ≡ new.start = ap (λ (r : BytePiece). r.start) last.1 in
+        let l : length p.bytes.now ≡ length new.bytes.now = ap (λ (r : BytePiece). length r.bytes.now) last.1 in
         omega (arith, length-append bytes new.bytes.now, s, l, start)
   ];
   zeros = λ k lt none. elim (cases_lt k (length bytes)) [
@@ -91,17 +91,17 @@ pieces_more pieces bytes new are start = record {
 -- ---- searches
 
 -- before the first piece the bytes are 0
-pub none_begins : (pieces : List Piece) (bytes : List ℕ) (at : ℕ) → ArePieces pieces bytes → at < length bytes → ((i : ℕ) (p : Piece) → slice_get pieces i ≡ Some p → at < start_of p) → slice_get bytes at ≡ Some 0
+pub none_begins : (pieces : List BytePiece) (bytes : List ℕ) (at : ℕ) → ArePieces pieces bytes → at < length bytes → ((i : ℕ) (p : BytePiece) → slice_get pieces i ≡ Some p → at < start_of p) → slice_get bytes at ≡ Some 0
 none_begins pieces bytes at are lt none = are.zeros at lt (λ i p is. inl (none i p is))
 
 -- a byte of a piece
-pub covered : (pieces : List Piece) (bytes : List ℕ) (at i : ℕ) (p : Piece) (b : ℕ) → ArePieces pieces bytes → slice_get pieces i ≡ Some p → start_of p ≤ at → slice_get p.bytes.now (at - p.start) ≡ Some b → slice_get bytes at ≡ Some b
+pub covered : (pieces : List BytePiece) (bytes : List ℕ) (at i : ℕ) (p : BytePiece) (b : ℕ) → ArePieces pieces bytes → slice_get pieces i ≡ Some p → start_of p ≤ at → slice_get p.bytes.now (at - p.start) ≡ Some b → slice_get bytes at ≡ Some b
 covered pieces bytes at i p b are there low is =
     let place : p.start + (at - p.start) ≡ at = omega (arith, low) in
     ap (slice_get bytes) (sym place) ∙ are.inside i (at - p.start) p there (within p.bytes.now (at - p.start) b is) ∙ is
 
 -- the bytes of a piece from an offset on
-pub covered_from : (pieces : List Piece) (bytes : List ℕ) (at i n : ℕ) (p : Piece) → ArePieces pieces bytes → slice_get pieces i ≡ Some p → start_of p ≤ at → n < length (drop (at - p.start) p.bytes.now)
+pub covered_from : (pieces : List BytePiece) (bytes : List ℕ) (at i n : ℕ) (p : BytePiece) → ArePieces pieces bytes → slice_get pieces i ≡ Some p → start_of p ≤ at → n < length (drop (at - p.start) p.bytes.now)
     → slice_get bytes (at + n) ≡ Some (slice_index (drop (at - p.start) p.bytes.now) n)
 covered_from pieces bytes at i n p are there low lt =
     let from : at + n - p.start ≡ at - p.start + n = omega (arith, low) in
@@ -115,16 +115,16 @@ past [] k e = omega arith
 past (b ∷ bytes) zero e = absurd cc
 past (b ∷ bytes) (suc k) e = let rest = past bytes k e in omega arith
 
-piece_same : (p q : Piece) → Some p ≡ Some q → p ≡ q
+piece_same : (p q : BytePiece) → Some p ≡ Some q → p ≡ q
 piece_same p q e = cc
 
 -- behind a piece and before the next one the bytes are 0
-pub uncovered : (pieces : List Piece) (bytes : List ℕ) (at i : ℕ) (p : Piece) → ArePieces pieces bytes → at < length bytes → slice_get pieces i ≡ Some p → start_of p ≤ at → slice_get p.bytes.now (at - p.start) ≡ None
-    → ((j : ℕ) (q : Piece) → i < j → slice_get pieces j ≡ Some q → at < start_of q) → slice_get bytes at ≡ Some 0
+pub uncovered : (pieces : List BytePiece) (bytes : List ℕ) (at i : ℕ) (p : BytePiece) → ArePieces pieces bytes → at < length bytes → slice_get pieces i ≡ Some p → start_of p ≤ at → slice_get p.bytes.now (at - p.start) ≡ None
+    → ((j : ℕ) (q : BytePiece) → i < j → slice_get pieces j ≡ Some q → at < start_of q) → slice_get bytes at ≡ Some 0
 uncovered pieces bytes at i p are lt there low none after = are.zeros at lt (λ j q is. elim (cases_order j i) [
   | inl same ↦
       let one : q ≡ p = piece_same q p (sym is ∙ ap (slice_get pieces) same ∙ there) in
-      inr (subst (λ (r : Piece). r.start + length r.bytes.now ≤ at) (sym one) (omega (arith, past p.bytes.now (at - p.start) none, low)))
+      inr (subst (λ (r : BytePiece). r.start + length r.bytes.now ≤ at) (sym one) (omega (arith, past p.bytes.now (at - p.start) none, low)))
   | inr other ↦ elim other [
     | inl before ↦ inr (omega (arith, are.apart j i q p before is there, low))
     | inr behind ↦ inl (after j q behind is)
@@ -132,7 +132,7 @@ uncovered pieces bytes at i p are lt there low none after = are.zeros at lt (λ 
 ])
 
 -- the pieces stand in the order of their offsets
-pub rising : (pieces : List Piece) (bytes : List ℕ) → ArePieces pieces bytes → IsNonDecreasingBy start_of pieces
+pub rising : (pieces : List BytePiece) (bytes : List ℕ) → ArePieces pieces bytes → IsNonDecreasingBy start_of pieces
 rising pieces bytes are = λ i j d le lt. elim (cases_order i j) [
   | inl same ↦ let e : start_of (get_or pieces i d) ≡ start_of (get_or pieces j d) = ap (λ (n : ℕ). start_of (get_or pieces n d)) same in omega (arith, e)
   | inr other ↦ elim other [

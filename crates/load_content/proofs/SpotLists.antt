@@ -12,8 +12,8 @@ use Rattle.std.proofs.lemmas.List.Elements.{All-from_recursion, recursion_from_A
 use Rattle.std.proofs.lemmas.List.Sorted.{All-permutation, IsPermutation-sym}
 use Rattle.load_meaning.specs.Cells.{Cell, Part, Patch, parts_from, byte_of}
 use Rattle.load_meaning.specs.laws.LayingLaws.{last_over}
-use Rattle.load_content.specs.declared.spots.Spot.{Spot}
-use Rattle.load_content.specs.Content.{spread_from, spread, spread_all, last_at, offset_of, end_of, part_of, spot_patch, spread_spot, shown_spots, AreApart, AreRising, IsSingle, with_cells}
+use Rattle.load_content.specs.declared.spots.PatchSpot.{PatchSpot}
+use Rattle.load_content.specs.Content.{spread_from, cells_of_patch, spread_all, last_at, offset_of, end_of, part_of, spot_patch, spread_spot, shown_spots, AreApart, AreRising, IsSingle, with_cells}
 use Rattle.load_content.proofs.Splits.{get_there, in_order}
 
 -- ---- spreading
@@ -22,29 +22,29 @@ use Rattle.load_content.proofs.Splits.{get_there, in_order}
 pub spread_next : (p : Patch) (at index n m : ℕ) → n ≡ suc m → spread_from p at index n ≡ (at, Part p.file p.segment p.offset p.shift index) ∷ spread_from p (at + 1) (index + 1) m
 spread_next p at index n m e = ap (spread_from p at index) e
 
-pub shown-append : (xs ys : List Spot) → shown_spots (xs ++ ys) ≡ shown_spots xs ++ shown_spots ys
+pub shown-append : (xs ys : List PatchSpot) → shown_spots (xs ++ ys) ≡ shown_spots xs ++ shown_spots ys
 shown-append [] ys = refl
 shown-append (s ∷ xs) ys = ap (λ l. spread_spot s ++ l) (shown-append xs ys) ∙ sym (append_assoc (spread_spot s) (shown_spots xs) (shown_spots ys))
 
 -- one spot more
-pub shown-push : (spots : List Spot) (s : Spot) → shown_spots (spots ++ s ∷ []) ≡ shown_spots spots ++ spread_spot s
+pub shown-push : (spots : List PatchSpot) (s : PatchSpot) → shown_spots (spots ++ s ∷ []) ≡ shown_spots spots ++ spread_spot s
 shown-push spots s = shown-append spots (s ∷ []) ∙ ap (λ l. shown_spots spots ++ l) (append-nil (spread_spot s))
 
 -- a spot of one byte, with its offset
-abbrev pub shown_spot : Spot → ℕ × Cell
+abbrev pub shown_spot : PatchSpot → ℕ × Cell
 shown_spot s = (s.at, part_of s)
 
-one_byte : (s : Spot) → IsSingle s → s.end - s.first ≡ suc 0
+one_byte : (s : PatchSpot) → IsSingle s → s.end - s.first ≡ suc 0
 one_byte s is = omega (arith, is)
 
-pub shown-single : (s : Spot) → IsSingle s → spread_spot s ≡ shown_spot s ∷ []
+pub shown-single : (s : PatchSpot) → IsSingle s → spread_spot s ≡ shown_spot s ∷ []
 shown-single s is = ap (spread_from (spot_patch s) s.at s.first) (one_byte s is)
 
-pub singles-push : (spots : List Spot) (s : Spot) → AllByRecursion IsSingle spots → IsSingle s → AllByRecursion IsSingle (spots ++ s ∷ [])
+pub singles-push : (spots : List PatchSpot) (s : PatchSpot) → AllByRecursion IsSingle spots → IsSingle s → AllByRecursion IsSingle (spots ++ s ∷ [])
 singles-push [] s all is = (is, tt)
 singles-push (t ∷ spots) s all is = (all.0, singles-push spots s all.1 is)
 
-shown-singles : (spots : List Spot) → AllByRecursion IsSingle spots → shown_spots spots ≡ map shown_spot spots
+shown-singles : (spots : List PatchSpot) → AllByRecursion IsSingle spots → shown_spots spots ≡ map shown_spot spots
 shown-singles [] all = refl
 shown-singles (s ∷ spots) all = ap (λ l. l ++ shown_spots spots) (shown-single s all.0) ∙ ap (λ l. shown_spot s ∷ l) (shown-singles spots all.1)
 
@@ -67,13 +67,13 @@ last_at-append (x ∷ xs) ys k =
     ap (λ o. option_or o (here_at x k)) (last_at-append xs ys k)
     ∙ or_assoc (last_at ys k) (last_at xs k) (here_at x k)
 
-spot_same : (s t : Spot) → Some s ≡ Some t → s ≡ t
+spot_same : (s t : PatchSpot) → Some s ≡ Some t → s ≡ t
 spot_same s t e = cc
 
 -- ---- sorting
 
 -- spots elsewhere may be left out
-last_at-filter : (test : Spot → Bool) (spots : List Spot) (k : ℕ) → ((s : Spot) → s.at ≡ k → test s ≡ true) → last_at (map shown_spot (filter test spots)) k ≡ last_at (map shown_spot spots) k
+last_at-filter : (test : PatchSpot → Bool) (spots : List PatchSpot) (k : ℕ) → ((s : PatchSpot) → s.at ≡ k → test s ≡ true) → last_at (map shown_spot (filter test spots)) k ≡ last_at (map shown_spot spots) k
 last_at-filter test [] k passes = refl
 last_at-filter test (s ∷ spots) k passes = elim (cases_Bool (test s)) [
   | inl at_it ↦ rw at_it (ap (λ o. option_or o (here_at (shown_spot s) k)) (last_at-filter test spots k passes))
@@ -90,19 +90,19 @@ not_below : (k n : ℕ) → n ≡ k → is_lt (nat_cmp k n) ≡ false
 not_below k n e = rw (le-ltb k n (omega (arith, e)), eq-eqb k n (sym e)) refl
 
 -- a stable sort by the offset keeps the last at each offset
-pub last_at-stable : (xs ys : List Spot) (k : ℕ) → IsStableByKey offset_of nat_cmp xs ys → last_at (map shown_spot ys) k ≡ last_at (map shown_spot xs) k
+pub last_at-stable : (xs ys : List PatchSpot) (k : ℕ) → IsStableByKey offset_of nat_cmp xs ys → last_at (map shown_spot ys) k ≡ last_at (map shown_spot xs) k
 last_at-stable xs ys k stable =
     sym (last_at-filter (tied k) ys k (λ s e. tied_at k s e))
     ∙ ap (λ l. last_at (map shown_spot l) k) (stable (spot_of k))
     ∙ last_at-filter (tied k) xs k (λ s e. tied_at k s e)
   where
-    spot_of : ℕ → Spot
+    spot_of : ℕ → PatchSpot
     spot_of n = record { at = n; offset = 0; segment = 0; shift = pos 0; first = 0; end = 0 }
 
-    tied : ℕ → Spot → Bool
+    tied : ℕ → PatchSpot → Bool
     tied n = ties (λ x y. is_lt (nat_cmp (offset_of x) (offset_of y))) (spot_of n)
 
-    tied_at : (n : ℕ) (s : Spot) → s.at ≡ n → tied n s ≡ true
+    tied_at : (n : ℕ) (s : PatchSpot) → s.at ≡ n → tied n s ≡ true
     tied_at n s e = rw (not_below n s.at e, not_below s.at n (sym e)) refl
 
 -- ---- patches over cells
@@ -141,15 +141,15 @@ get-parts p index (suc n) (suc k) lt =
 
 -- what one patch gives at an offset, or else what stood there
 over_one : (p : Patch) (k : ℕ) (o : Option Cell)
-    → (if leb p.location k && ltb k (p.location + p.count) then slice_get (parts_from p 0 p.count) (k - p.location) else o) ≡ option_or (last_at (spread p) k) o
+    → (if leb p.location k && ltb k (p.location + p.count) then slice_get (parts_from p 0 p.count) (k - p.location) else o) ≡ option_or (last_at (cells_of_patch p) k) o
 over_one p k o = elim (cases_Bool (leb p.location k && ltb k (p.location + p.count))) [
   | inl inside ↦
       let both = and_parts (leb p.location k) (ltb k (p.location + p.count)) inside in
       let there = get-parts p 0 p.count (k - p.location) (omega (arith, leb-true p.location k both.0, ltb-true k (p.location + p.count) both.1)) in
-      let here : last_at (spread p) k ≡ Some (Part p.file p.segment p.offset p.shift (0 + (k - p.location))) = last_at-spread p p.count p.location 0 k ∙ rw inside there in
+      let here : last_at (cells_of_patch p) k ≡ Some (Part p.file p.segment p.offset p.shift (0 + (k - p.location))) = last_at-spread p p.count p.location 0 k ∙ rw inside there in
       rw (inside, there, here) refl
   | inr outside ↦
-      let here : last_at (spread p) k ≡ None = last_at-spread p p.count p.location 0 k ∙ rw outside refl in
+      let here : last_at (cells_of_patch p) k ≡ None = last_at-spread p p.count p.location 0 k ∙ rw outside refl in
       rw (outside, here) refl
 ]
 
@@ -160,31 +160,31 @@ last_over-spread (p ∷ patches) k o =
     let first : Option Cell = if leb p.location k && ltb k (p.location + p.count) then slice_get (parts_from p 0 p.count) (k - p.location) else o in
     last_over-spread patches k first
     ∙ ap (option_or (last_at (spread_all patches) k)) (over_one p k o)
-    ∙ sym (or_assoc (last_at (spread_all patches) k) (last_at (spread p) k) o)
-    ∙ ap (λ q. option_or q o) (sym (last_at-append (spread p) (spread_all patches) k))
+    ∙ sym (or_assoc (last_at (spread_all patches) k) (last_at (cells_of_patch p) k) o)
+    ∙ ap (λ q. option_or q o) (sym (last_at-append (cells_of_patch p) (spread_all patches) k))
 
 -- ---- spots over an offset
 
 -- a spot has a byte at an offset
-abbrev pub Covers : ℕ → Spot → Type 0
+abbrev pub Covers : ℕ → PatchSpot → Type 0
 Covers k s = (s.at ≤ k) × (k < end_of s)
 
 -- and the cell that it gives there
-abbrev pub cell_in : Spot → ℕ → Cell
+abbrev pub cell_in : PatchSpot → ℕ → Cell
 cell_in s k = Part 1 s.segment s.offset s.shift (s.first + (k - s.at))
 
-covers_or_not : (k : ℕ) (s : Spot) → Covers k s ⊎ (Covers k s → ⊥)
+covers_or_not : (k : ℕ) (s : PatchSpot) → Covers k s ⊎ (Covers k s → ⊥)
 covers_or_not k s = elim (cases_Bool (leb s.at k && ltb k (end_of s))) [
   | inl yes_is ↦ let both = and_parts (leb s.at k) (ltb k (end_of s)) yes_is in inl (leb-true s.at k both.0, ltb-true k (end_of s) both.1)
   | inr no_is ↦ inr (λ is. both_ways (leb s.at k && ltb k (end_of s)) no_is (rw (le-leb s.at k is.0, lt-ltb k (end_of s) is.1) refl))
 ]
 
-pub spot_here : (s : Spot) (k : ℕ) → Covers k s → last_at (spread_spot s) k ≡ Some (cell_in s k)
+pub spot_here : (s : PatchSpot) (k : ℕ) → Covers k s → last_at (spread_spot s) k ≡ Some (cell_in s k)
 spot_here s k is =
     last_at-spread (spot_patch s) (s.end - s.first) s.at s.first k
     ∙ rw (le-leb s.at k is.0, lt-ltb k (end_of s) is.1) (get-parts (spot_patch s) s.first (s.end - s.first) (k - s.at) (omega (arith, is.0, is.1)))
 
-pub spot_else : (s : Spot) (k : ℕ) → (Covers k s → ⊥) → last_at (spread_spot s) k ≡ None
+pub spot_else : (s : PatchSpot) (k : ℕ) → (Covers k s → ⊥) → last_at (spread_spot s) k ≡ None
 spot_else s k not = last_at-spread (spot_patch s) (s.end - s.first) s.at s.first k ∙ elsewhere (cases_Bool (leb s.at k && ltb k (end_of s)))
   where
     elsewhere : (leb s.at k && ltb k (end_of s) ≡ true) ⊎ (leb s.at k && ltb k (end_of s) ≡ false)
@@ -195,7 +195,7 @@ spot_else s k not = last_at-spread (spot_patch s) (s.end - s.first) s.at s.first
     ]
 
 -- where no spot is over an offset
-pub none_over : (spots : List Spot) (k : ℕ) → AllByRecursion (λ s. Covers k s → ⊥) spots → last_at (shown_spots spots) k ≡ None
+pub none_over : (spots : List PatchSpot) (k : ℕ) → AllByRecursion (λ s. Covers k s → ⊥) spots → last_at (shown_spots spots) k ≡ None
 none_over [] k all = refl
 none_over (s ∷ spots) k all =
     last_at-append (spread_spot s) (shown_spots spots) k
@@ -203,20 +203,20 @@ none_over (s ∷ spots) k all =
     ∙ spot_else s k all.0
 
 -- what holds at each place holds of all
-pub each_place : (P : Spot → Type 0) (spots : List Spot) → ((i : ℕ) (s : Spot) → slice_get spots i ≡ Some s → P s) → AllByRecursion P spots
+pub each_place : (P : PatchSpot → Type 0) (spots : List PatchSpot) → ((i : ℕ) (s : PatchSpot) → slice_get spots i ≡ Some s → P s) → AllByRecursion P spots
 each_place P [] at = tt
 each_place P (s ∷ spots) at = (at 0 s refl, each_place P spots (λ i t is. at (suc i) t is))
 
 -- the last one of those over an offset
-pub last_over_it : (spots : List Spot) (k i : ℕ) (s : Spot) → slice_get spots i ≡ Some s → Covers k s
-    → ((j : ℕ) (t : Spot) → i < j → slice_get spots j ≡ Some t → Covers k t → ⊥) → last_at (shown_spots spots) k ≡ Some (cell_in s k)
+pub last_over_it : (spots : List PatchSpot) (k i : ℕ) (s : PatchSpot) → slice_get spots i ≡ Some s → Covers k s
+    → ((j : ℕ) (t : PatchSpot) → i < j → slice_get spots j ≡ Some t → Covers k t → ⊥) → last_at (shown_spots spots) k ≡ Some (cell_in s k)
 last_over_it [] k i s is covers last = absurd cc
 last_over_it (s0 ∷ spots) k zero s is covers last =
     let rest = none_over spots k (each_place (λ t. Covers k t → ⊥) spots (λ j t there. last (suc j) t (omega arith) there)) in
     let same : s ≡ s0 = spot_same s s0 (sym is) in
     last_at-append (spread_spot s0) (shown_spots spots) k
     ∙ ap (λ o. option_or o (last_at (spread_spot s0) k)) rest
-    ∙ ap (λ (t : Spot). last_at (spread_spot t) k) (sym same)
+    ∙ ap (λ (t : PatchSpot). last_at (spread_spot t) k) (sym same)
     ∙ spot_here s k covers
 last_over_it (s0 ∷ spots) k (suc i) s is covers last =
     last_at-append (spread_spot s0) (shown_spots spots) k
@@ -225,7 +225,7 @@ last_over_it (s0 ∷ spots) k (suc i) s is covers last =
 -- ---- spots in another order
 
 -- where all spots over an offset are one, it gives the cell there
-one_value : (spots : List Spot) (k : ℕ) (s : Spot) → AllByRecursion (λ t. Covers k t → t ≡ s) spots
+one_value : (spots : List PatchSpot) (k : ℕ) (s : PatchSpot) → AllByRecursion (λ t. Covers k t → t ≡ s) spots
     → AllByRecursion (λ t. Covers k t → ⊥) spots ⊎ (last_at (shown_spots spots) k ≡ Some (cell_in s k))
 one_value [] k s all = inl tt
 one_value (t ∷ spots) k s all = elim (one_value spots k s all.1) [
@@ -235,14 +235,14 @@ one_value (t ∷ spots) k s all = elim (one_value spots k s all.1) [
         last_at-append (spread_spot t) (shown_spots spots) k
         ∙ ap (λ o. option_or o (last_at (spread_spot t) k)) (none_over spots k none)
         ∙ spot_here t k yes_is
-        ∙ ap (λ (u : Spot). Some (cell_in u k)) (all.0 yes_is))
+        ∙ ap (λ (u : PatchSpot). Some (cell_in u k)) (all.0 yes_is))
     | inr no_is ↦ inl (no_is, none)
   ]
 ]
 
 -- of spots that lie apart one at most is over an offset
-one_over : (spots : List Spot) (k : ℕ) → AreApart spots
-    → AllByRecursion (λ t. Covers k t → ⊥) spots ⊎ ((s : Spot) × (AllByRecursion (λ t. Covers k t → t ≡ s) spots × (AllByRecursion (λ t. Covers k t → ⊥) spots → ⊥)))
+one_over : (spots : List PatchSpot) (k : ℕ) → AreApart spots
+    → AllByRecursion (λ t. Covers k t → ⊥) spots ⊎ ((s : PatchSpot) × (AllByRecursion (λ t. Covers k t → t ≡ s) spots × (AllByRecursion (λ t. Covers k t → ⊥) spots → ⊥)))
 one_over [] k apart = inl tt
 one_over (t ∷ spots) k apart = elim (covers_or_not k t) [
   | inl yes_is ↦ inr (
@@ -255,11 +255,11 @@ one_over (t ∷ spots) k apart = elim (covers_or_not k t) [
   ]
 ]
 
-moved : (P : Spot → Type 0) (xs ys : List Spot) → IsPermutation xs ys → AllByRecursion P xs → AllByRecursion P ys
+moved : (P : PatchSpot → Type 0) (xs ys : List PatchSpot) → IsPermutation xs ys → AllByRecursion P xs → AllByRecursion P ys
 moved P xs ys permutation all = recursion_from_All P ys (All-permutation P xs ys permutation (All-from_recursion P xs all))
 
 -- spots that lie apart give the same cells in any order
-pub last_at-apart : (xs ys : List Spot) (k : ℕ) → IsPermutation xs ys → AreApart ys → last_at (shown_spots ys) k ≡ last_at (shown_spots xs) k
+pub last_at-apart : (xs ys : List PatchSpot) (k : ℕ) → IsPermutation xs ys → AreApart ys → last_at (shown_spots ys) k ≡ last_at (shown_spots xs) k
 last_at-apart xs ys k permutation apart = elim (one_over ys k apart) [
   | inl none ↦ none_over ys k none ∙ sym (none_over xs k (moved (λ t. Covers k t → ⊥) ys xs back none))
   | inr one ↦ let (s, found) = one in elim (one_value ys k s found.0) [
@@ -275,7 +275,7 @@ last_at-apart xs ys k permutation apart = elim (one_over ys k apart) [
     back = IsPermutation-sym xs ys permutation
 
 -- and so do spots of one byte, where those at one offset keep their order
-pub last_at-singles : (xs ys : List Spot) (k : ℕ) → AllByRecursion IsSingle xs → IsPermutation xs ys → IsStableByKey offset_of nat_cmp xs ys → last_at (shown_spots ys) k ≡ last_at (shown_spots xs) k
+pub last_at-singles : (xs ys : List PatchSpot) (k : ℕ) → AllByRecursion IsSingle xs → IsPermutation xs ys → IsStableByKey offset_of nat_cmp xs ys → last_at (shown_spots ys) k ≡ last_at (shown_spots xs) k
 last_at-singles xs ys k single permutation stable =
     ap (λ l. last_at l k) (shown-singles ys (moved IsSingle xs ys permutation single))
     ∙ last_at-stable xs ys k stable
@@ -283,7 +283,7 @@ last_at-singles xs ys k single permutation stable =
 
 -- ---- the order
 
-pub apart_rise : (spots : List Spot) → AreApart spots → AreRising spots
+pub apart_rise : (spots : List PatchSpot) → AreApart spots → AreRising spots
 apart_rise spots apart = record {
   starts = λ i j d le lt. elim (cases_lt i j) [
     | inl before ↦
@@ -296,15 +296,15 @@ apart_rise spots apart = record {
   ends = λ i j s t lt is there. let ends = apart i j s t lt is there in omega (arith, ends);
 }
   where
-    ap-le : (i j : ℕ) (d : Spot) → i ≡ j → offset_of (get_or spots i d) ≤ offset_of (get_or spots j d)
+    ap-le : (i j : ℕ) (d : PatchSpot) → i ≡ j → offset_of (get_or spots i d) ≤ offset_of (get_or spots j d)
     ap-le i j d eq = let same : offset_of (get_or spots i d) ≡ offset_of (get_or spots j d) = ap (λ (n : ℕ). offset_of (get_or spots n d)) eq in omega (arith, same)
 
-get_all : (P : Spot → Type 0) (spots : List Spot) (i : ℕ) (s : Spot) → AllByRecursion P spots → slice_get spots i ≡ Some s → P s
+get_all : (P : PatchSpot → Type 0) (spots : List PatchSpot) (i : ℕ) (s : PatchSpot) → AllByRecursion P spots → slice_get spots i ≡ Some s → P s
 get_all P [] i s all is = absurd cc
 get_all P (t ∷ spots) zero s all is = subst P (spot_same t s is) all.0
 get_all P (t ∷ spots) (suc i) s all is = get_all P spots i s all.1 is
 
-pub singles_rise : (xs ys : List Spot) → AllByRecursion IsSingle xs → IsPermutation xs ys → IsNonDecreasingBy offset_of ys → AreRising ys
+pub singles_rise : (xs ys : List PatchSpot) → AllByRecursion IsSingle xs → IsPermutation xs ys → IsNonDecreasingBy offset_of ys → AreRising ys
 singles_rise xs ys single permutation rise =
     let all = moved IsSingle xs ys permutation single in
     record {
@@ -333,7 +333,7 @@ with_cells-append places [] ys bytes = refl
 with_cells-append places (x ∷ xs) ys bytes = with_cells-append places xs ys (slice_set bytes x.0 (byte_of places x.1))
 
 -- the next spot, and then the others
-pub shown-next : (spots : List Spot) (i : ℕ) (d : Spot) → i < length spots → shown_spots (drop i spots) ≡ spread_spot (get_or spots i d) ++ shown_spots (drop (i + 1) spots)
+pub shown-next : (spots : List PatchSpot) (i : ℕ) (d : PatchSpot) → i < length spots → shown_spots (drop i spots) ≡ spread_spot (get_or spots i d) ++ shown_spots (drop (i + 1) spots)
 shown-next spots i d lt =
     let step : suc i ≡ i + 1 = omega arith in
     ap shown_spots (drop-cons spots i d lt) ∙ ap (λ (n : ℕ). spread_spot (get_or spots i d) ++ shown_spots (drop n spots)) step

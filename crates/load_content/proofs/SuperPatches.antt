@@ -8,8 +8,8 @@ use Rattle.load_meaning.specs.declared.load.LoadCause.TheVariants.{PatchOutside}
 use Rattle.omf_format.specs.File.{Segment}
 use Rattle.load_meaning.specs.Cells.{Cell, Patch, super_patch}
 use Rattle.load_meaning.specs.Loadable.{patch_refusal, first_refusal}
-use Rattle.omf_records.specs.View.{first, behind}
-use Rattle.load_content.specs.Content.{super_count, spread, spread_all}
+use Rattle.omf_records.specs.View.{first, bytes_after_first}
+use Rattle.load_content.specs.Content.{super_count, cells_of_patch, spread_all}
 
 -- where a patch of a SUPER stands, and how many bytes it has
 super_place : (s : Segment) (form at : ℕ) → ((super_patch s form at).location ≡ at) × ((super_patch s form at).count ≡ super_count form)
@@ -55,7 +55,7 @@ module _ (segments : List Segment) (s : Segment) (form : ℕ) where
   abbrev f : ℕ → Patch
   f = super_patch s form
 
-  pub refusal_next : (x : ℕ) (at next : List ℕ) → first at ≡ Some x → next ≡ behind at → first_refusal segments s (f x ∷ []) ≡ None
+  pub refusal_next : (x : ℕ) (at next : List ℕ) → first at ≡ Some x → next ≡ bytes_after_first at → first_refusal segments s (f x ∷ []) ≡ None
       → first_refusal segments s (map f at) ≡ first_refusal segments s (map f next)
   refusal_next x [] next is moved none = absurd cc
   refusal_next x (y ∷ at) next is moved none =
@@ -63,11 +63,11 @@ module _ (segments : List Segment) (s : Segment) (form : ℕ) where
       passed_one segments s (f y) (map f at) (ap (λ (z : ℕ). first_refusal segments s (f z ∷ [])) same ∙ none)
       ∙ ap (λ l. first_refusal segments s (map f l)) (sym moved)
 
-  pub spread_more : (x : ℕ) (at next : List ℕ) (old new : List (ℕ × Cell)) → first at ≡ Some x → next ≡ behind at → new ≡ old ++ spread_all (f x ∷ [])
+  pub spread_more : (x : ℕ) (at next : List ℕ) (old new : List (ℕ × Cell)) → first at ≡ Some x → next ≡ bytes_after_first at → new ≡ old ++ spread_all (f x ∷ [])
       → new ++ spread_all (map f next) ≡ old ++ spread_all (map f at)
   spread_more x [] next old new is moved added = absurd cc
   spread_more x (y ∷ at) next old new is moved added =
       let same : x ≡ y = sym (some_number y x is) in
       ap (λ l. new ++ spread_all (map f l)) moved
-      ∙ ap (λ l. l ++ spread_all (map f at)) (added ∙ ap (λ l. old ++ l) (append-nil (spread (f x))) ∙ ap (λ (z : ℕ). old ++ spread (f z)) same)
-      ∙ append_assoc old (spread (f y)) (spread_all (map f at))
+      ∙ ap (λ l. l ++ spread_all (map f at)) (added ∙ ap (λ l. old ++ l) (append-nil (cells_of_patch (f x))) ∙ ap (λ (z : ℕ). old ++ cells_of_patch (f z)) same)
+      ∙ append_assoc old (cells_of_patch (f y)) (spread_all (map f at))

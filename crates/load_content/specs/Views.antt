@@ -6,7 +6,7 @@ use Rattle.load_meaning.specs.declared.load.LoadFault.{LoadFault}
 use Rattle.omf_format.specs.File.{IsSegment}
 use Rattle.load_meaning.specs.Loadable.{IsLoadSegment}
 use Rattle.omf_records.specs.declared.segment.SegmentView.{SegmentView}
-use Rattle.omf_records.specs.Segments.{shown}
+use Rattle.omf_records.specs.Segments.{segment_of_view}
 
 -- a fault of want of memory has no place, and every other one is this
 abbrev pub UnlessMemory : LoadCause → LoadFault → Type 0 → Type 0
@@ -20,8 +20,8 @@ IsLaterRefused fault first = UnlessMemory fault.cause fault (first ≡ Some faul
 -- the view shows a segment of the file that phase 1 lets pass
 pub record IsLoadView (file : List ℕ) (v : SegmentView) : Type 0 where
   pub file' : v.file.now ≡ file
-  pub segment : IsSegment (shown v) file
-  pub pass : IsLoadSegment (shown v)
+  pub segment : IsSegment (segment_of_view v) file
+  pub pass : IsLoadSegment (segment_of_view v)
 
 -- the views show segments of one file, fewer than 2 ^ 32 - 1
 pub record AreShown (views : List SegmentView) : Type 0 where

@@ -3,17 +3,17 @@
 ghost use Rattle.std.specs.Prelude.{◌≡◌, ◌+◌, ◌≤◌};
 ghost use Rattle.omf_format.specs.Number.{number_at};
 ghost use Rattle.load_meaning.specs.Cells.{segment_bytes};
-ghost use Rattle.omf_records.specs.Segments.{shown};
+ghost use Rattle.omf_records.specs.Segments.{segment_of_view};
 ghost use Rattle.load_content.specs.Content.{HasPieces, IsNear};
 
-use crate::pieces::{Piece, byte_at, bytes_from};
+use crate::pieces::{BytePiece, byte_at, bytes_from};
 use omf_records::SegmentView;
 
 /// The byte of the data there.
-pub fn data_u8(view: &SegmentView, pieces: &[Piece], at: u32) -> u8
+pub fn data_u8(view: &SegmentView, pieces: &[BytePiece], at: u32) -> u8
     requires pieces { HasPieces view.now pieces.now }
     requires inside { at + 1 ≤ view.now.header.length }
-    ensures { number_at 1 at (segment_bytes (shown view.now)) ≡ result }
+    ensures { number_at 1 at (segment_bytes (segment_of_view view.now)) ≡ result }
 {
     byte_at(pieces, at)
 }
@@ -23,7 +23,7 @@ pub fn data_u8(view: &SegmentView, pieces: &[Piece], at: u32) -> u8
 #[inline(always)]
 pub fn data_from<'a>(
     view: &SegmentView<'a>,
-    pieces: &[Piece<'a>],
+    pieces: &[BytePiece<'a>],
     last: usize,
     at: u32,
 ) -> (&'a [u8], usize)
@@ -35,11 +35,11 @@ pub fn data_from<'a>(
 
 /// The byte of the data there, where these bytes are those from an offset on that stand together.
 #[inline(always)]
-pub fn near_u8(near: &[u8], place: u32, view: &SegmentView, pieces: &[Piece], at: u32) -> u8
+pub fn near_u8(near: &[u8], place: u32, view: &SegmentView, pieces: &[BytePiece], at: u32) -> u8
     requires near { IsNear view.now at near.now }
     requires pieces { HasPieces view.now pieces.now }
     requires inside { at + place + 1 ≤ view.now.header.length }
-    ensures { number_at 1 (at + place) (segment_bytes (shown view.now)) ≡ result }
+    ensures { number_at 1 (at + place) (segment_bytes (segment_of_view view.now)) ≡ result }
 {
     if (place as usize) < near.len() {
         near[place as usize]
@@ -50,11 +50,11 @@ pub fn near_u8(near: &[u8], place: u32, view: &SegmentView, pieces: &[Piece], at
 
 /// The number in the two bytes of the data there, where these bytes are those that stand together.
 #[inline(always)]
-pub fn near_u16(near: &[u8], view: &SegmentView, pieces: &[Piece], at: u32) -> u16
+pub fn near_u16(near: &[u8], view: &SegmentView, pieces: &[BytePiece], at: u32) -> u16
     requires near { IsNear view.now at near.now }
     requires pieces { HasPieces view.now pieces.now }
     requires inside { at + 2 ≤ view.now.header.length }
-    ensures { number_at 2 at (segment_bytes (shown view.now)) ≡ result }
+    ensures { number_at 2 at (segment_bytes (segment_of_view view.now)) ≡ result }
 {
     let low = u16::from(near_u8(near, 0, view, pieces, at));
     let high = u16::from(near_u8(near, 1, view, pieces, at));

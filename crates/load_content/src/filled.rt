@@ -3,8 +3,8 @@
 ghost use Rattle.std.specs.Prelude.{◌≡◌, ◌+◌, ◌-◌, ◌≤◌, ◌++◌, ℕ, List, length, take, replicate, min, IfOk, IfSome, OnOk};
 ghost use Rattle.load_content.specs.Content.{ArePieces};
 
-use crate::pieces::Piece;
-use omf_base::front;
+use crate::pieces::BytePiece;
+use omf_base::first_items;
 use std::alloc::AllocError;
 
 /// Appends so many zeros.
@@ -21,13 +21,13 @@ fn put_front(out: &mut Vec<u8>, bytes: &[u8], most: u32) -> Result<u32, AllocErr
     ensures count { IfOk result (λ count. count ≡ min (length bytes.now) most) }
 {
     let count = bytes.len().min(most as usize);
-    out.extend_from_slice(front(bytes, count))?;
+    out.extend_from_slice(first_items(bytes, count))?;
     Ok(count as u32)
 }
 
 /// Appends zeros up to the start of a piece, and then the piece, where so many bytes stand before them and there are to be no
 /// more than `size`. The answer is how many there are then.
-fn put_piece(piece: &Piece, at: u32, size: u32, out: &mut Vec<u8>) -> Result<u32, AllocError>
+fn put_piece(piece: &BytePiece, at: u32, size: u32, out: &mut Vec<u8>) -> Result<u32, AllocError>
     ensures put { IfOk result (λ next. out.new.items ≡ out.old.items ++ (replicate (min (piece.now).start size - at) 0 ++ take (next - min (piece.now).start size) (piece.now).bytes.now)) }
     ensures next { IfOk result (λ next. next ≡ min (piece.now).start size + min (length (piece.now).bytes.now) (size - min (piece.now).start size)) }
 {
@@ -38,7 +38,7 @@ fn put_piece(piece: &Piece, at: u32, size: u32, out: &mut Vec<u8>) -> Result<u32
 }
 
 /// Appends the first bytes, so many, of those that have these pieces and are 0 elsewhere.
-pub fn put_bytes(pieces: &[Piece], size: u32, out: &mut Vec<u8>) -> Result<(), AllocError>
+pub fn put_bytes(pieces: &[BytePiece], size: u32, out: &mut Vec<u8>) -> Result<(), AllocError>
     ensures { OnOk result ((bytes : List ℕ) → ArePieces pieces.now bytes → size ≤ length bytes → out.new.items ≡ out.old.items ++ take size bytes) }
 {
     let mut at = 0;
@@ -49,8 +49,8 @@ pub fn put_bytes(pieces: &[Piece], size: u32, out: &mut Vec<u8>) -> Result<(), A
 }
 
 /// The bytes of the only piece, where it begins them.
-pub fn lone_piece<'a>(pieces: &[Piece<'a>]) -> Option<&'a [u8]>
-    ensures { IfSome result (λ front. (bytes : List ℕ) → ArePieces pieces.now bytes → bytes ≡ front.now ++ replicate (length bytes - length front.now) 0) }
+pub fn lone_piece<'a>(pieces: &[BytePiece<'a>]) -> Option<&'a [u8]>
+    ensures { IfSome result (λ first_items. (bytes : List ℕ) → ArePieces pieces.now bytes → bytes ≡ first_items.now ++ replicate (length bytes - length first_items.now) 0) }
 {
     if pieces.len() != 1 || pieces[0].start != 0 {
         return None;

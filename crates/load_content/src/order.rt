@@ -5,14 +5,14 @@ ghost use Rattle.std.specs.List.Sorted.{IsPermutation, IsNonDecreasingBy, IsStab
 ghost use Rattle.std.specs.Ordering.{nat_cmp};
 ghost use Rattle.load_content.specs.Content.{offset_of, spread_spot, shown_spots, last_at, AreBelow, AreApart, AreRising, AreRuns, IsCut};
 
-use crate::spots::{Spot, size_of};
+use crate::spots::{PatchSpot, size_of};
 use std::alloc::{AllocError, Global};
 
 /// How many runs are kept side by side. A byte is searched for in each of them.
 const MOST_RUNS: usize = 32;
 
 /// Whether each spot ends where the next one begins, or before it.
-fn are_apart(spots: &[Spot]) -> bool
+fn are_apart(spots: &[PatchSpot]) -> bool
     ensures { IsTrue result → AreApart spots.now }
 {
     let mut end = 0u64;
@@ -26,10 +26,10 @@ fn are_apart(spots: &[Spot]) -> bool
 }
 
 /// The spots in the order of their offsets, and those at one offset as they stood.
-fn sorted(alloc: Global, spots: &[Spot]) -> Result<Vec<Spot>, AllocError>
-    ensures rise { IfOk result (λ sorted. IsNonDecreasingBy offset_of sorted.items) }
-    ensures stable { IfOk result (λ sorted. IsStableByKey offset_of nat_cmp spots.now sorted.items) }
-    ensures permutation { IfOk result (λ sorted. IsPermutation spots.now sorted.items) }
+fn sort_by_offset(alloc: Global, spots: &[PatchSpot]) -> Result<Vec<PatchSpot>, AllocError>
+    ensures rise { IfOk result (λ sort_by_offset. IsNonDecreasingBy offset_of sort_by_offset.items) }
+    ensures stable { IfOk result (λ sort_by_offset. IsStableByKey offset_of nat_cmp spots.now sort_by_offset.items) }
+    ensures permutation { IfOk result (λ sort_by_offset. IsPermutation spots.now sort_by_offset.items) }
 {
     let mut sorted = Vec::from_slice(alloc, spots)?;
     sorted.sort_by_key(|spot| spot.at)?;
@@ -37,14 +37,14 @@ fn sorted(alloc: Global, spots: &[Spot]) -> Result<Vec<Spot>, AllocError>
 }
 
 /// Adds the bytes of a spot one by one.
-fn add_bytes(bytes: &mut Vec<Spot>, spot: &Spot) -> Result<(), AllocError>
+fn add_bytes(bytes: &mut Vec<PatchSpot>, spot: &PatchSpot) -> Result<(), AllocError>
     requires { AreBelow (2 ^ 32) (spread_spot spot.now) }
     ensures { OnOk result (IsCut bytes.old.items (spread_spot spot.now) bytes.new.items) }
 {
     let mut at = spot.at;
     let mut index = spot.first;
     'bytes: while index < spot.end {
-        bytes.push(Spot {
+        bytes.push(PatchSpot {
             at,
             first: index,
             end: index + 1,
@@ -57,7 +57,7 @@ fn add_bytes(bytes: &mut Vec<Spot>, spot: &Spot) -> Result<(), AllocError>
 }
 
 /// The bytes of the spots, one by one.
-fn bytes_of(alloc: Global, spots: &[Spot]) -> Result<Vec<Spot>, AllocError>
+fn bytes_of(alloc: Global, spots: &[PatchSpot]) -> Result<Vec<PatchSpot>, AllocError>
     requires { AreBelow (2 ^ 32) (shown_spots spots.now) }
     ensures { IfOk result (λ bytes. IsCut [] (shown_spots spots.now) bytes.items) }
 {
@@ -70,22 +70,22 @@ fn bytes_of(alloc: Global, spots: &[Spot]) -> Result<Vec<Spot>, AllocError>
 
 /// The same bytes in the order of their offsets. Only where two spots share a byte, byte by byte, so that the last one of an
 /// offset stays the last.
-fn in_one_run(alloc: Global, spots: &[Spot]) -> Result<Vec<Spot>, AllocError>
+fn in_one_run(alloc: Global, spots: &[PatchSpot]) -> Result<Vec<PatchSpot>, AllocError>
     requires { AreBelow (2 ^ 32) (shown_spots spots.now) }
-    ensures rise { IfOk result (λ sorted. AreRising sorted.items) }
-    ensures last { IfOk result (λ sorted. (k : ℕ) → last_at (shown_spots sorted.items) k ≡ last_at (shown_spots spots.now) k) }
+    ensures rise { IfOk result (λ sort_by_offset. AreRising sort_by_offset.items) }
+    ensures last { IfOk result (λ sort_by_offset. (k : ℕ) → last_at (shown_spots sort_by_offset.items) k ≡ last_at (shown_spots spots.now) k) }
 {
-    let whole = sorted(alloc, spots)?;
+    let whole = sort_by_offset(alloc, spots)?;
     if are_apart(&whole) {
         return Ok(whole);
     }
     let bytes = bytes_of(alloc, spots)?;
-    let bytes = sorted(alloc, &bytes)?;
+    let bytes = sort_by_offset(alloc, &bytes)?;
     Ok(bytes)
 }
 
 /// How many spots at the front lie apart, in order.
-fn apart_count(spots: &[Spot]) -> usize
+fn apart_count(spots: &[PatchSpot]) -> usize
     ensures bound { result ≤ length spots.now }
     ensures some { 0 < length spots.now → 0 < result }
     ensures rise { AreRising (take result spots.now) }
@@ -103,7 +103,7 @@ fn apart_count(spots: &[Spot]) -> usize
 }
 
 /// How many spots each run of them has, where these runs are few.
-fn runs_of(alloc: Global, spots: &[Spot]) -> Result<Option<Vec<usize>>, AllocError>
+fn runs_of(alloc: Global, spots: &[PatchSpot]) -> Result<Option<Vec<usize>>, AllocError>
     ensures { IfOk result (λ found. IfSome found (λ runs. AreRuns runs.items spots.now)) }
 {
     let mut runs = Vec::new(alloc);
@@ -130,7 +130,7 @@ fn one_run(alloc: Global, count: usize) -> Result<Vec<usize>, AllocError>
 }
 
 /// The same spots, in no more memory than they need.
-fn fitted(spots: Vec<Spot>) -> Vec<Spot>
+fn trim_capacity(spots: Vec<PatchSpot>) -> Vec<PatchSpot>
     ensures { result.items ≡ spots.items }
 {
     let mut spots = spots;
@@ -140,13 +140,16 @@ fn fitted(spots: Vec<Spot>) -> Vec<Spot>
 
 /// The same bytes in runs, and how many spots each run has. They stand as they were where these runs are few, and else in the
 /// order of their offsets.
-pub fn in_order(alloc: Global, spots: Vec<Spot>) -> Result<(Vec<Spot>, Vec<usize>), AllocError>
+pub fn in_order(
+    alloc: Global,
+    spots: Vec<PatchSpot>,
+) -> Result<(Vec<PatchSpot>, Vec<usize>), AllocError>
     requires { AreBelow (2 ^ 32) (shown_spots spots.items) }
     ensures runs { IfOk result (λ kept. AreRuns kept.1.items kept.0.items) }
     ensures last { IfOk result (λ kept. (k : ℕ) → last_at (shown_spots kept.0.items) k ≡ last_at (shown_spots spots.items) k) }
 {
     // Before the runs take memory, so that they take what this gives back.
-    let spots = fitted(spots);
+    let spots = trim_capacity(spots);
     match runs_of(alloc, &spots)? {
         Some(runs) => return Ok((spots, runs)),
         None => {}

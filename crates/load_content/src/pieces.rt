@@ -9,13 +9,13 @@ ghost use Rattle.load_content.specs.Walk.{content};
 ghost use Rattle.load_content.specs.Content.{IsSplit, IsZeros, ArePieces, start_of};
 
 use crate::content::content_size;
-use omf_base::behind;
+use omf_base::items_after;
 use omf_records::{Rec, Records};
 use std::alloc::{AllocError, Global};
 
 /// The bytes of one record.
 #[derive(Clone, Copy)]
-pub struct Piece<'a> {
+pub struct BytePiece<'a> {
     /// Their offset in the segment.
     pub start: u32,
     pub bytes: &'a [u8],
@@ -46,13 +46,17 @@ fn bytes_of<'a>(rec: &Rec<'a>) -> Option<&'a [u8]>
 }
 
 /// Adds the piece of a record whose bytes begin at this offset, if it has one.
-fn add_piece<'a>(pieces: &mut Vec<Piece<'a>>, start: u32, rec: &Rec<'a>) -> Result<(), AllocError>
+fn add_piece<'a>(
+    pieces: &mut Vec<BytePiece<'a>>,
+    start: u32,
+    rec: &Rec<'a>,
+) -> Result<(), AllocError>
     ensures { OnOk result ((so_far : List ℕ) → ArePieces pieces.old.items so_far → start ≡ length so_far
         → ArePieces pieces.new.items (so_far ++ content_of (view rec.now))) }
 {
     match bytes_of(rec) {
         Some(bytes) => {
-            pieces.push(Piece { start, bytes })?;
+            pieces.push(BytePiece { start, bytes })?;
             Ok(())
         }
         None => Ok(()),
@@ -65,7 +69,7 @@ pub fn pieces_of<'a>(
     alloc: Global,
     records: Records<'a>,
     length: u32,
-) -> Result<Vec<Piece<'a>>, AllocError>
+) -> Result<Vec<BytePiece<'a>>, AllocError>
     requires body { IsBody records }
     requires fits { size_of (content records) ≤ length }
     ensures are { IfOk result (λ pieces. ArePieces pieces.items (content records.entry)) }
@@ -92,7 +96,7 @@ pub fn pieces_of<'a>(
 }
 
 /// How many pieces begin at most at this offset.
-fn count_up_to(pieces: &[Piece], at: u32) -> usize
+fn count_up_to(pieces: &[BytePiece], at: u32) -> usize
     requires { IsNonDecreasingBy start_of pieces.now }
     ensures split { IsSplit start_of pieces.now at result }
     ensures bound { result ≤ length pieces.now }
@@ -101,7 +105,7 @@ fn count_up_to(pieces: &[Piece], at: u32) -> usize
 }
 
 /// The byte at an offset: that of the piece which covers it, or 0.
-pub fn byte_at(pieces: &[Piece], at: u32) -> u8
+pub fn byte_at(pieces: &[BytePiece], at: u32) -> u8
     requires { IsNonDecreasingBy start_of pieces.now }
     ensures { (bytes : List ℕ) → ArePieces pieces.now bytes → at < length bytes → slice_get bytes at ≡ Some result }
 {
@@ -118,7 +122,7 @@ pub fn byte_at(pieces: &[Piece], at: u32) -> u8
 
 /// The bytes from an offset on that the piece at a place has; none where it doesn't cover the offset, or isn't there.
 #[inline(always)]
-fn bytes_at<'a>(pieces: &[Piece<'a>], place: usize, at: u32) -> &'a [u8]
+fn bytes_at<'a>(pieces: &[BytePiece<'a>], place: usize, at: u32) -> &'a [u8]
     ensures { (bytes : List ℕ) (n : ℕ) → ArePieces pieces.now bytes → n < length result.now → slice_get bytes (at + n) ≡ Some (slice_index result.now n) }
 {
     let piece = match pieces.get(place) {
@@ -130,7 +134,7 @@ fn bytes_at<'a>(pieces: &[Piece<'a>], place: usize, at: u32) -> &'a [u8]
     }
     let from = (at - piece.start) as usize;
     if from < piece.bytes.len() {
-        behind(piece.bytes, from)
+        items_after(piece.bytes, from)
     } else {
         &[]
     }
@@ -139,7 +143,7 @@ fn bytes_at<'a>(pieces: &[Piece<'a>], place: usize, at: u32) -> &'a [u8]
 /// The bytes from an offset on that the piece has which covers it, none where no piece does; and the place at which it was
 /// found. It is tried at the place `last` before it is searched for.
 #[inline(always)]
-pub fn bytes_from<'a>(pieces: &[Piece<'a>], last: usize, at: u32) -> (&'a [u8], usize)
+pub fn bytes_from<'a>(pieces: &[BytePiece<'a>], last: usize, at: u32) -> (&'a [u8], usize)
     requires { IsNonDecreasingBy start_of pieces.now }
     ensures { (bytes : List ℕ) (n : ℕ) → ArePieces pieces.now bytes → n < length result.0.now → slice_get bytes (at + n) ≡ Some (slice_index result.0.now n) }
 {

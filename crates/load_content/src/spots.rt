@@ -2,8 +2,8 @@
 
 ghost use Rattle.std.specs.Prelude.{◌≡◌, ◌+◌, ◌-◌, ◌<◌, ◌≤◌, ◌/◌, ◌^◌, ◌++◌, length, nat_lt, OnOk, option_map};
 ghost use Rattle.std.specs.List.Sorted.{IsNonDecreasingBy};
-ghost use Rattle.omf_format.specs.Value.{wrapped, shifted};
-ghost use Rattle.load_content.specs.Content.{IsSplit, patch_of, spread, offset_of, part_of, spread_spot, shown_spots, last_at, AreBelow, AreRising, AreRuns, with_cells};
+ghost use Rattle.omf_format.specs.Value.{wrapped_to_32_bits, shifted_bits};
+ghost use Rattle.load_content.specs.Content.{IsSplit, patch_of, cells_of_patch, offset_of, part_of, spread_spot, shown_spots, last_at, AreBelow, AreRising, AreRuns, with_cells};
 ghost use Rattle.load_content.specs.Places.{address_in};
 
 use crate::places::Places;
@@ -22,7 +22,7 @@ pub struct Relocation {
 
 /// Bytes of a segment that a patch gives: some, one after another, of the place in a segment of the same file.
 #[derive(Clone, Copy)]
-pub struct Spot {
+pub struct PatchSpot {
     /// The offset of the first one in the segment.
     pub at: u32,
     pub offset: u32,
@@ -45,12 +45,12 @@ pub fn is_outside(location: u64, count: u8, length: u32) -> bool
 
 /// Adds the bytes that a patch gives.
 #[inline(always)]
-pub fn add_spot(spots: &mut Vec<Spot>, patch: &Relocation) -> Result<(), AllocError>
+pub fn add_spot(spots: &mut Vec<PatchSpot>, patch: &Relocation) -> Result<(), AllocError>
     requires file { patch.now.file ≡ 1 }
     requires short { patch.now.location < 2 ^ 32 }
-    ensures { OnOk result (shown_spots spots.new.items ≡ shown_spots spots.old.items ++ spread (patch_of patch.now)) }
+    ensures { OnOk result (shown_spots spots.new.items ≡ shown_spots spots.old.items ++ cells_of_patch (patch_of patch.now)) }
 {
-    spots.push(Spot {
+    spots.push(PatchSpot {
         at: patch.location as u32,
         offset: patch.offset,
         segment: patch.segment,
@@ -63,7 +63,7 @@ pub fn add_spot(spots: &mut Vec<Spot>, patch: &Relocation) -> Result<(), AllocEr
 
 /// How many bytes a spot has.
 #[inline(always)]
-pub fn size_of(spot: &Spot) -> u8
+pub fn size_of(spot: &PatchSpot) -> u8
     ensures value { result ≡ spot.now.end - spot.now.first }
     ensures small { spot.now.first + result < 2 ^ 8 }
 {
@@ -71,7 +71,7 @@ pub fn size_of(spot: &Spot) -> u8
 }
 
 /// How many spots begin at most at this offset.
-fn count_up_to(spots: &[Spot], at: u32) -> usize
+fn count_up_to(spots: &[PatchSpot], at: u32) -> usize
     requires { IsNonDecreasingBy offset_of spots.now }
     ensures split { IsSplit offset_of spots.now at result }
     ensures bound { result ≤ length spots.now }
@@ -80,7 +80,7 @@ fn count_up_to(spots: &[Spot], at: u32) -> usize
 }
 
 /// The byte at an offset that a spot of a run gives, and that of the last where several do.
-fn spot_in(spots: &[Spot], at: u32) -> Option<Spot>
+fn spot_in(spots: &[PatchSpot], at: u32) -> Option<PatchSpot>
     requires { AreRising spots.now }
     ensures { option_map part_of result ≡ last_at (shown_spots spots.now) at }
 {
@@ -91,7 +91,7 @@ fn spot_in(spots: &[Spot], at: u32) -> Option<Spot>
     let spot = spots[count - 1];
     let passed = at - spot.at;
     if passed < u32::from(size_of(&spot)) {
-        Some(Spot {
+        Some(PatchSpot {
             at,
             first: spot.first + passed as u8,
             ..spot
@@ -102,7 +102,7 @@ fn spot_in(spots: &[Spot], at: u32) -> Option<Spot>
 }
 
 /// The byte at an offset that a spot gives, and that of the last where several do, where the spots come in runs of so many.
-pub fn spot_at(spots: &[Spot], runs: &[usize], at: u32) -> Option<Spot>
+pub fn spot_at(spots: &[PatchSpot], runs: &[usize], at: u32) -> Option<PatchSpot>
     requires { AreRuns runs.now spots.now }
     ensures { option_map part_of result ≡ last_at (shown_spots spots.now) at }
 {
@@ -118,8 +118,8 @@ pub fn spot_at(spots: &[Spot], runs: &[usize], at: u32) -> Option<Spot>
 
 /// The bits shifted left by so many, or right where the count is negative, with zeros coming in.
 #[inline(always)]
-fn shifted(bits: u32, count: i8) -> u32
-    ensures { result ≡ shifted bits count }
+fn shift_bits(bits: u32, count: i8) -> u32
+    ensures { result ≡ shifted_bits bits count }
 {
     let count = i32::from(count);
     if count < 0 {
@@ -145,19 +145,19 @@ fn without_bytes(number: u32, count: u8) -> u32
 
 /// The number that a spot has bytes of, where the segments lie at these addresses.
 #[inline(always)]
-fn number_of(spot: &Spot, places: &Places) -> u32
-    ensures { result ≡ shifted (wrapped (address_in places.now spot.now.segment + spot.now.offset)) spot.now.shift }
+fn number_of(spot: &PatchSpot, places: &Places) -> u32
+    ensures { result ≡ shifted_bits (wrapped_to_32_bits (address_in places.now spot.now.segment + spot.now.offset)) spot.now.shift }
 {
     let address = match places.get(u32::from(spot.segment)) {
         Some(address) => address,
         None => 0,
     };
-    shifted(address.wrapping_add(spot.offset), spot.shift)
+    shift_bits(address.wrapping_add(spot.offset), spot.shift)
 }
 
 /// Writes the bytes that a spot stands for.
 #[inline(always)]
-fn write_spot(spot: &Spot, places: &Places, out: &mut [u8])
+fn write_spot(spot: &PatchSpot, places: &Places, out: &mut [u8])
     requires { AreBelow (length out.old) (spread_spot spot.now) }
     ensures { out.new ≡ with_cells (address_in places.now) (spread_spot spot.now) out.old }
 {
@@ -173,7 +173,7 @@ fn write_spot(spot: &Spot, places: &Places, out: &mut [u8])
 }
 
 /// Writes the bytes that the spots stand for, in order.
-pub fn write_spots(spots: &[Spot], places: &Places, out: &mut [u8])
+pub fn write_spots(spots: &[PatchSpot], places: &Places, out: &mut [u8])
     requires { AreBelow (length out.old) (shown_spots spots.now) }
     ensures { out.new ≡ with_cells (address_in places.now) (shown_spots spots.now) out.old }
 {

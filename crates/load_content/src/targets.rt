@@ -7,31 +7,31 @@ ghost use Rattle.load_meaning.specs.Cells.{super_patch, patches_in};
 ghost use Rattle.load_meaning.specs.LoadTable.{is_place};
 ghost use Rattle.load_meaning.specs.Loadable.{is_kept, is_dynamic_at, patch_refusal, first_refusal, target_refusal, first_target_fault, target_fault, shape_fault, in_segment, first_in};
 ghost use Rattle.omf_records.specs.View as records;
-ghost use Rattle.omf_records.specs.Segments.{shown};
+ghost use Rattle.omf_records.specs.Segments.{segment_of_view};
 ghost use Rattle.load_content.specs.Walk.{HasSpelling, patches_from};
 ghost use Rattle.load_content.specs.Views.{IsLoadView, AreShown, IsLaterRefused};
 ghost use Rattle.load_content.specs.Content.{HasPieces, IsNear, IsContent, AreContents, patch_of, spread_all, shown_spots, super_count, super_segment};
 
 use crate::data::{data_from, near_u8, near_u16};
 use crate::order::in_order;
-use crate::pieces::{Piece, pieces_of};
-use crate::spots::{Relocation, Spot, add_spot, is_outside};
+use crate::pieces::{BytePiece, pieces_of};
+use crate::spots::{PatchSpot, Relocation, add_spot, is_outside};
 use load_meaning::{LoadCause, LoadFault};
 use omf_records::{Locations, Rec, Records, SegmentView};
 use std::alloc::{AllocError, Global};
 
 /// What is kept of a segment beside its header: its data, and the bytes that patches give, in runs.
 #[derive(Drop)]
-pub struct Content<'a> {
-    pub pieces: Vec<Piece<'a>>,
-    pub spots: Vec<Spot>,
+pub struct SegmentContent<'a> {
+    pub pieces: Vec<BytePiece<'a>>,
+    pub spots: Vec<PatchSpot>,
     /// How many spots each run has, in which none begins or ends before an earlier one.
     pub runs: Vec<usize>,
 }
 
 /// Whether an offset is below LENGTH of the segment with a number, from 1, and the segment isn't skipped.
 pub fn is_place(views: &Vec<SegmentView>, number: u16, offset: u32) -> bool
-    ensures { result ≡ is_place (map shown views.now.items) number offset }
+    ensures { result ≡ is_place (map segment_of_view views.now.items) number offset }
 {
     if number == 0 {
         return false;
@@ -45,7 +45,7 @@ pub fn is_place(views: &Vec<SegmentView>, number: u16, offset: u32) -> bool
 /// Whether the segment with a number, from 1, is there and isn't skipped.
 #[inline(always)]
 fn is_kept(views: &Vec<SegmentView>, number: u16) -> bool
-    ensures { result ≡ is_kept (map shown views.now.items) number }
+    ensures { result ≡ is_kept (map segment_of_view views.now.items) number }
 {
     if number == 0 {
         return false;
@@ -59,7 +59,7 @@ fn is_kept(views: &Vec<SegmentView>, number: u16) -> bool
 /// Whether the segment with a number, from 1, is there and dynamic.
 #[inline(always)]
 fn is_dynamic(views: &Vec<SegmentView>, number: u16) -> bool
-    ensures { result ≡ is_dynamic_at (map shown views.now.items) number }
+    ensures { result ≡ is_dynamic_at (map segment_of_view views.now.items) number }
 {
     if number == 0 {
         return false;
@@ -75,7 +75,7 @@ fn is_dynamic(views: &Vec<SegmentView>, number: u16) -> bool
 #[inline(always)]
 fn refusal(patch: &Relocation, views: &Vec<SegmentView>, view: &SegmentView) -> Option<LoadCause>
     requires inside { patch.now.location + patch.now.count ≤ view.now.header.length }
-    ensures value { result ≡ patch_refusal (map shown views.now.items) (shown view.now) (patch_of patch.now) }
+    ensures value { result ≡ patch_refusal (map segment_of_view views.now.items) (segment_of_view view.now) (patch_of patch.now) }
 
     // The patch that may stand there is of this file.
     ensures file { result ≡ None → patch.now.file ≡ 1 }
@@ -95,11 +95,11 @@ fn take_inside(
     patch: &Relocation,
     views: &Vec<SegmentView>,
     view: &SegmentView,
-    spots: &mut Vec<Spot>,
+    spots: &mut Vec<PatchSpot>,
 ) -> Result<Option<LoadCause>, AllocError>
     requires inside { patch.now.location + patch.now.count ≤ view.now.header.length }
     requires short { patch.now.location < 2 ^ 32 }
-    ensures value { IfOk result (λ cause. cause ≡ first_refusal (map shown views.now.items) (shown view.now) (patch_of patch.now ∷ [])) }
+    ensures value { IfOk result (λ cause. cause ≡ first_refusal (map segment_of_view views.now.items) (segment_of_view view.now) (patch_of patch.now ∷ [])) }
     ensures spots { result ≡ Ok None → shown_spots spots.new.items ≡ shown_spots spots.old.items ++ spread_all (patch_of patch.now ∷ []) }
 {
     match refusal(patch, views, view) {
@@ -116,9 +116,9 @@ fn take(
     patch: &Relocation,
     views: &Vec<SegmentView>,
     view: &SegmentView,
-    spots: &mut Vec<Spot>,
+    spots: &mut Vec<PatchSpot>,
 ) -> Result<Option<LoadCause>, AllocError>
-    ensures value { IfOk result (λ cause. cause ≡ first_refusal (map shown views.now.items) (shown view.now) (patch_of patch.now ∷ [])) }
+    ensures value { IfOk result (λ cause. cause ≡ first_refusal (map segment_of_view views.now.items) (segment_of_view view.now) (patch_of patch.now ∷ [])) }
     ensures spots { result ≡ Ok None → shown_spots spots.new.items ≡ shown_spots spots.old.items ++ spread_all (patch_of patch.now ∷ []) }
 {
     if is_outside(patch.location, patch.count, view.header.length) {
@@ -138,11 +138,11 @@ fn super_count(form: u8) -> u8
 /// The segment that the patch of a SUPER at a location names: the segment itself, or in type 2 the byte of the data behind
 /// the offset, and else the one that the type names. The bytes near the location are those of the data from there on.
 #[inline(always)]
-fn super_segment(form: u8, at: u32, near: &[u8], view: &SegmentView, pieces: &[Piece]) -> u16
+fn super_segment(form: u8, at: u32, near: &[u8], view: &SegmentView, pieces: &[BytePiece]) -> u16
     requires near { IsNear view.now at near.now }
     requires pieces { HasPieces view.now pieces.now }
     requires inside { at + super_count form ≤ view.now.header.length }
-    ensures { result ≡ super_segment (shown view.now) form at }
+    ensures { result ≡ super_segment (segment_of_view view.now) form at }
 {
     if form == 0 || form == 1 {
         return view.header.seg_num;
@@ -160,11 +160,17 @@ fn super_segment(form: u8, at: u32, near: &[u8], view: &SegmentView, pieces: &[P
 
 /// The patch of a SUPER at a location. The bytes near it are those of the data from there on.
 #[inline(always)]
-fn super_patch(form: u8, at: u32, near: &[u8], view: &SegmentView, pieces: &[Piece]) -> Relocation
+fn super_patch(
+    form: u8,
+    at: u32,
+    near: &[u8],
+    view: &SegmentView,
+    pieces: &[BytePiece],
+) -> Relocation
     requires near { IsNear view.now at near.now }
     requires pieces { HasPieces view.now pieces.now }
     requires inside { at + super_count form ≤ view.now.header.length }
-    ensures is { patch_of result ≡ super_patch (shown view.now) form at }
+    ensures is { patch_of result ≡ super_patch (segment_of_view view.now) form at }
     ensures location { result.location ≡ at }
     ensures count { result.count ≡ super_count form }
 {
@@ -186,13 +192,13 @@ fn take_at(
     location: u64,
     views: &Vec<SegmentView>,
     view: &SegmentView,
-    pieces: &[Piece],
+    pieces: &[BytePiece],
     last: &mut usize,
-    spots: &mut Vec<Spot>,
+    spots: &mut Vec<PatchSpot>,
 ) -> Result<Option<LoadCause>, AllocError>
     requires { HasPieces view.now pieces.now }
-    ensures value { IfOk result (λ cause. cause ≡ first_refusal (map shown views.now.items) (shown view.now) (super_patch (shown view.now) form location ∷ [])) }
-    ensures spots { result ≡ Ok None → shown_spots spots.new.items ≡ shown_spots spots.old.items ++ spread_all (super_patch (shown view.now) form location ∷ []) }
+    ensures value { IfOk result (λ cause. cause ≡ first_refusal (map segment_of_view views.now.items) (segment_of_view view.now) (super_patch (segment_of_view view.now) form location ∷ [])) }
+    ensures spots { result ≡ Ok None → shown_spots spots.new.items ≡ shown_spots spots.old.items ++ spread_all (super_patch (segment_of_view view.now) form location ∷ []) }
 {
     if is_outside(location, super_count(form), view.header.length) {
         return Ok(Some(LoadCause::PatchOutside));
@@ -214,13 +220,13 @@ fn take_super(
     bytes: &[u8],
     views: &Vec<SegmentView>,
     view: &SegmentView,
-    pieces: &[Piece],
-    spots: &mut Vec<Spot>,
+    pieces: &[BytePiece],
+    spots: &mut Vec<PatchSpot>,
 ) -> Result<Option<LoadCause>, AllocError>
     requires pieces { HasPieces view.now pieces.now }
     requires short { length bytes.now < 2 ^ 32 }
-    ensures value { IfOk result (λ cause. cause ≡ first_refusal (map shown views.now.items) (shown view.now) (map (super_patch (shown view.now) form) (locations_left 0 0 bytes.now))) }
-    ensures spots { result ≡ Ok None → shown_spots spots.new.items ≡ shown_spots spots.old.items ++ spread_all (map (super_patch (shown view.now) form) (locations_left 0 0 bytes.now)) }
+    ensures value { IfOk result (λ cause. cause ≡ first_refusal (map segment_of_view views.now.items) (segment_of_view view.now) (map (super_patch (segment_of_view view.now) form) (locations_left 0 0 bytes.now))) }
+    ensures spots { result ≡ Ok None → shown_spots spots.new.items ≡ shown_spots spots.old.items ++ spread_all (map (super_patch (segment_of_view view.now) form) (locations_left 0 0 bytes.now)) }
 {
     // Room for all of them. Where there isn't so much, it is asked for one by one.
     let _ = spots.reserve(bytes.len());
@@ -244,13 +250,13 @@ fn take_record(
     rec: &Rec,
     views: &Vec<SegmentView>,
     view: &SegmentView,
-    pieces: &[Piece],
-    spots: &mut Vec<Spot>,
+    pieces: &[BytePiece],
+    spots: &mut Vec<PatchSpot>,
 ) -> Result<Option<LoadCause>, AllocError>
     requires pieces { HasPieces view.now pieces.now }
     requires spelled { HasSpelling (records.view rec.now) }
-    ensures value { IfOk result (λ cause. cause ≡ target_refusal (map shown views.now.items) (shown view.now) (records.view rec.now)) }
-    ensures spots { result ≡ Ok None → shown_spots spots.new.items ≡ shown_spots spots.old.items ++ spread_all (patches_in (shown view.now) (records.view rec.now)) }
+    ensures value { IfOk result (λ cause. cause ≡ target_refusal (map segment_of_view views.now.items) (segment_of_view view.now) (records.view rec.now)) }
+    ensures spots { result ≡ Ok None → shown_spots spots.new.items ≡ shown_spots spots.old.items ++ spread_all (patches_in (segment_of_view view.now) (records.view rec.now)) }
 {
     match rec {
         Rec::Entry {
@@ -352,13 +358,13 @@ fn take_records(
     number: u32,
     views: &Vec<SegmentView>,
     view: &SegmentView,
-    pieces: &[Piece],
-    spots: &mut Vec<Spot>,
+    pieces: &[BytePiece],
+    spots: &mut Vec<PatchSpot>,
 ) -> Result<Option<LoadFault>, AllocError>
     requires body { IsBody records }
     requires pieces { HasPieces view.now pieces.now }
-    ensures value { IfOk result (λ fault. fault ≡ option_map (in_segment number) (first_target_fault (map shown views.now.items) (shown view.now) (records_of records.entry))) }
-    ensures spots { result ≡ Ok None → shown_spots spots.new.items ≡ shown_spots spots.old.items ++ spread_all (patches_from (shown view.now) (records_of records.entry)) }
+    ensures value { IfOk result (λ fault. fault ≡ option_map (in_segment number) (first_target_fault (map segment_of_view views.now.items) (segment_of_view view.now) (records_of records.entry))) }
+    ensures spots { result ≡ Ok None → shown_spots spots.new.items ≡ shown_spots spots.old.items ++ spread_all (patches_from (segment_of_view view.now) (records_of records.entry)) }
 {
     let mut records = records;
     'records: loop {
@@ -385,12 +391,12 @@ fn content_of<'a>(
     number: u32,
     views: &Vec<SegmentView<'a>>,
     view: &SegmentView<'a>,
-) -> Result<Content<'a>, LoadFault>
+) -> Result<SegmentContent<'a>, LoadFault>
     requires short { length view.now.file.now < 2 ^ 32 }
-    requires shown { IsLoadView view.now.file.now view.now }
-    requires sized { shape_fault number (shown view.now) ≡ None }
-    ensures ok { IfOk result (λ content. (target_fault (map shown views.now.items) number (shown view.now) ≡ None) × IsContent view.now content) }
-    ensures refused { IfErr result (λ fault. IsLaterRefused fault (option_map (in_segment number) (target_fault (map shown views.now.items) number (shown view.now)))) }
+    requires segment_of_view { IsLoadView view.now.file.now view.now }
+    requires sized { shape_fault number (segment_of_view view.now) ≡ None }
+    ensures ok { IfOk result (λ content. (target_fault (map segment_of_view views.now.items) number (segment_of_view view.now) ≡ None) × IsContent view.now content) }
+    ensures refused { IfErr result (λ fault. IsLaterRefused fault (option_map (in_segment number) (target_fault (map segment_of_view views.now.items) number (segment_of_view view.now)))) }
 {
     let pieces = pieces_of(alloc, view.records(), view.header.length)?;
     let mut spots = Vec::new(alloc);
@@ -399,7 +405,7 @@ fn content_of<'a>(
         None => {}
     }
     let (spots, runs) = in_order(alloc, spots)?;
-    Ok(Content {
+    Ok(SegmentContent {
         pieces,
         spots,
         runs,
@@ -410,11 +416,11 @@ fn content_of<'a>(
 pub fn contents_of<'a>(
     alloc: Global,
     views: &Vec<SegmentView<'a>>,
-) -> Result<Vec<Content<'a>>, LoadFault>
-    requires shown { AreShown views.now.items }
-    requires sized { first_in shape_fault 1 (map shown views.now.items) ≡ None }
-    ensures ok { IfOk result (λ contents. (first_in (target_fault (map shown views.now.items)) 1 (map shown views.now.items) ≡ None) × AreContents views.now.items contents.items) }
-    ensures refused { IfErr result (λ fault. IsLaterRefused fault (first_in (target_fault (map shown views.now.items)) 1 (map shown views.now.items))) }
+) -> Result<Vec<SegmentContent<'a>>, LoadFault>
+    requires segment_of_view { AreShown views.now.items }
+    requires sized { first_in shape_fault 1 (map segment_of_view views.now.items) ≡ None }
+    ensures ok { IfOk result (λ contents. (first_in (target_fault (map segment_of_view views.now.items)) 1 (map segment_of_view views.now.items) ≡ None) × AreContents views.now.items contents.items) }
+    ensures refused { IfErr result (λ fault. IsLaterRefused fault (first_in (target_fault (map segment_of_view views.now.items)) 1 (map segment_of_view views.now.items))) }
 {
     let mut contents = Vec::new(alloc);
     let mut number = 1;

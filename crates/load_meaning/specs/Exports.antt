@@ -12,14 +12,14 @@ pub record Export : Type 0 where
   pub holder : ℕ
 
 -- what a record of the segment with this number exports
-abbrev pub exported : ℕ → Record → List Export
-exported holder (Entry number offset name) = record { name = name; segment = number; offset = offset; holder = holder } ∷ []
-exported holder _ = []
+abbrev pub exports_of_record : ℕ → Record → List Export
+exports_of_record holder (Entry number offset name) = record { name = name; segment = number; offset = offset; holder = holder } ∷ []
+exports_of_record holder _ = []
 
 -- what these segments export, the first of which has this number, in segment and record order
 abbrev pub exports_from : ℕ → List Segment → List Export
 exports_from number [] = []
-exports_from number (s ∷ segments) = flat_map (λ found. exported number found.1) s.records ++ exports_from (number + 1) segments
+exports_from number (s ∷ segments) = flat_map (λ found. exports_of_record number found.1) s.records ++ exports_from (number + 1) segments
 
 -- what a load file exports
 unfoldable pub exports_of : List Segment → List Export

@@ -14,7 +14,7 @@ use Rattle.load_meaning.specs.declared.table.Target.{Target}
 use Rattle.omf_format.specs.Header.{Fields, fields_of, version_of, header_fault, form_of, is_dynamic, is_skipped, first_of}
 use Rattle.omf_format.specs.Record.{Record, Align, Org, Using, Strong, Label, Equate, Formula, Entry}
 use Rattle.omf_format.specs.Reading.{Reader, next_answer, HandsOut}
-use Rattle.omf_format.specs.File.{Segment, body_reader, IsHeader, AreSegments, IsFile, segment_at, Told, told_header, told_record}
+use Rattle.omf_format.specs.File.{Segment, body_reader, IsHeader, AreSegments, IsFile, segment_at, FaultAt, to_file_header_fault, to_file_record_fault}
 use Rattle.omf_format.specs.Body.{body_bytes}
 use Rattle.load_meaning.specs.Cells.{Patch, segment_bytes, patches_in, patches_of}
 use Rattle.load_meaning.specs.Table.{IsTableOf, file_entry}
@@ -62,18 +62,18 @@ load_cause causes.BadRecord = BadRecord
 load_cause causes.Memory = Memory
 
 -- a fault that any file may have
-abbrev pub as_load : Told → Fault
+abbrev pub as_load : FaultAt → Fault
 as_load told = (load_cause told.0, told.1)
 
 -- what is wrong with the header there, or else with its name or type, for which it is the segment's start
 unfoldable pub front_fault : ℕ → List ℕ → Option Fault
 front_fault start file = option_or
-    (option_map (λ of. as_load (told_header start (version_of (drop start file)) of)) (header_fault (drop start file)))
+    (option_map (λ of. as_load (to_file_header_fault start (version_of (drop start file)) of)) (header_fault (drop start file)))
     (option_map (λ cause. (cause, start)) (segment_refusal (fields_of (drop start file))))
 
 -- what is wrong with the next record: its fault, or that no load segment has it
 abbrev pub answer_fault : Result (Option (ℕ × Record)) RecordFault → Option Fault
-answer_fault (Err fault) = Some (as_load (told_record fault))
+answer_fault (Err fault) = Some (as_load (to_file_record_fault fault))
 answer_fault (Ok None) = None
 answer_fault (Ok (Some found)) = option_map (λ cause. (cause, found.0)) (record_refusal found.1)
 

@@ -7,36 +7,36 @@ use Rattle.omf_format.specs.Number.{number_at}
 use Rattle.load_meaning.specs.Cells.{segment_bytes}
 use Rattle.load_meaning.specs.LoadTable.{is_call}
 use Rattle.omf_records.specs.declared.segment.SegmentView.{SegmentView}
-use Rattle.omf_records.specs.Segments.{shown}
+use Rattle.omf_records.specs.Segments.{segment_of_view}
 use Rattle.load_content.specs.Content.{IsNear}
 use Rattle.load_content.proofs.Numbers.{byte_of_slice, two_there, four_there}
 
 -- a byte
-one_near : (v : SegmentView) (at : ℕ) (near : List ℕ) (i : ℕ) → IsNear v at near → i < length near → number_at 1 i near ≡ number_at 1 (at + i) (segment_bytes (shown v))
+one_near : (v : SegmentView) (at : ℕ) (near : List ℕ) (i : ℕ) → IsNear v at near → i < length near → number_at 1 i near ≡ number_at 1 (at + i) (segment_bytes (segment_of_view v))
 one_near v at near i is lt = byte_of_slice i near ∙ sym (is i lt)
 
 -- a number of two bytes
-pub two_same : (v : SegmentView) (at : ℕ) (near : List ℕ) (i : ℕ) → IsNear v at near → i + 2 ≤ length near → number_at 2 i near ≡ number_at 2 (at + i) (segment_bytes (shown v))
+pub two_same : (v : SegmentView) (at : ℕ) (near : List ℕ) (i : ℕ) → IsNear v at near → i + 2 ≤ length near → number_at 2 i near ≡ number_at 2 (at + i) (segment_bytes (segment_of_view v))
 two_same v at near i is le =
-    let bytes = segment_bytes (shown v) in
+    let bytes = segment_bytes (segment_of_view v) in
     let low = one_near v at near i is (omega (arith, le)) in
     let high = one_near v at near (i + 1) is (omega (arith, le)) in
     let next : at + (i + 1) ≡ at + i + 1 = omega arith in
     omega (arith, two_there i near, two_there (at + i) bytes, low, high, ap (λ (k : ℕ). number_at 1 k bytes) next)
 
 -- one of four
-pub four_same : (v : SegmentView) (at : ℕ) (near : List ℕ) (i : ℕ) → IsNear v at near → i + 4 ≤ length near → number_at 4 i near ≡ number_at 4 (at + i) (segment_bytes (shown v))
+pub four_same : (v : SegmentView) (at : ℕ) (near : List ℕ) (i : ℕ) → IsNear v at near → i + 4 ≤ length near → number_at 4 i near ≡ number_at 4 (at + i) (segment_bytes (segment_of_view v))
 four_same v at near i is le =
-    let bytes = segment_bytes (shown v) in
+    let bytes = segment_bytes (segment_of_view v) in
     let low = two_same v at near i is (omega (arith, le)) in
     let high = two_same v at near (i + 2) is (omega (arith, le)) in
     let next : at + (i + 2) ≡ at + i + 2 = omega arith in
     omega (arith, four_there i near, four_there (at + i) bytes, low, high, ap (λ (k : ℕ). number_at 2 k bytes) next)
 
 -- and the code
-pub call_same : (v : SegmentView) (at : ℕ) (near : List ℕ) (i : ℕ) → IsNear v at near → i + 4 ≤ length near → is_call near i ≡ is_call (segment_bytes (shown v)) (at + i)
+pub call_same : (v : SegmentView) (at : ℕ) (near : List ℕ) (i : ℕ) → IsNear v at near → i + 4 ≤ length near → is_call near i ≡ is_call (segment_bytes (segment_of_view v)) (at + i)
 call_same v at near i is le =
-    let bytes = segment_bytes (shown v) in
+    let bytes = segment_bytes (segment_of_view v) in
     let one : at + (i + 1) ≡ at + i + 1 = omega arith in
     let two : at + (i + 2) ≡ at + i + 2 = omega arith in
     let three : at + (i + 3) ≡ at + i + 3 = omega arith in

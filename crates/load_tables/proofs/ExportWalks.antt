@@ -10,7 +10,7 @@ use Rattle.omf_format.specs.Reading.{Reader, next_answer, after_next, HandsOut, 
 use Rattle.omf_format.specs.File.{Segment, body_reader}
 use Rattle.omf_format.specs.laws.FileLaws.{Answer, gave, same_found, open_at_some, open_at_fault}
 use Rattle.load_meaning.specs.declared.load.LoadFault.{LoadFault}
-use Rattle.load_meaning.specs.Exports.{Export, exported, exports_from, exports_of}
+use Rattle.load_meaning.specs.Exports.{Export, exports_of_record, exports_from, exports_of}
 use Rattle.load_meaning.specs.Loadable.{Fault, in_segment, first_in, shape_fault, later_fault}
 use Rattle.load_meaning.specs.laws.CellLaws.{shaped, later_none}
 use Rattle.std.specs.Option.{option_or}
@@ -21,7 +21,7 @@ failed fault = Err fault
 
 -- what records of the segment with this number export
 abbrev pub exported_all : ℕ → List (ℕ × Record) → List Export
-exported_all holder founds = flat_map (λ found. exported holder found.1) founds
+exported_all holder founds = flat_map (λ found. exports_of_record holder found.1) founds
 
 -- what was added so far to the front, with what the records that are left export, is what all records export
 pub record Exported (holder : ℕ) (start at : Reader) (front so_far : List Export) : Type 0 where
@@ -35,11 +35,11 @@ pub exported_none : (holder : ℕ) (r : Reader) (front : List Export) → IsBody
 exported_none holder r front is = record { back = records_of r; last = is.last; run = is.run; ended = is.ended; whole = refl }
 
 pub exported_more : (holder : ℕ) (start at : Reader) (found : ℕ × Record) (front so_far : List Export) → Exported holder start at front so_far → next_answer at ≡ Ok (Some found)
-    → Exported holder start (after_next at) front (so_far ++ exported holder found.1)
+    → Exported holder start (after_next at) front (so_far ++ exports_of_record holder found.1)
 exported_more holder start at found front so_far g e = by_back g.back g.run g.whole
   where
     by_back : (back : List (ℕ × Record)) → HandsOut at back g.last → so_far ++ exported_all holder back ≡ front ++ exported_all holder (records_of start)
-        → Exported holder start (after_next at) front (so_far ++ exported holder found.1)
+        → Exported holder start (after_next at) front (so_far ++ exports_of_record holder found.1)
     by_back [] run whole = absurd (open_at_some at found e (ap (λ (r : Reader). r.ended) run ∙ g.ended))
     by_back (other ∷ back) run whole =
         let is : other ≡ found = same_found other found (sym run.0 ∙ e) in
@@ -49,9 +49,9 @@ exported_more holder start at found front so_far g e = by_back g.back g.run g.wh
           run = run.1;
           ended = g.ended;
           whole =
-              append_assoc so_far (exported holder found.1) (exported_all holder back)
-              ∙ ap (λ (f : ℕ × Record). so_far ++ (exported holder f.1 ++ exported_all holder back)) (sym is)
-              ∙ ap (λ (l : List Export). so_far ++ l) (sym (flat_map-cons (λ (f : ℕ × Record). exported holder f.1) other back))
+              append_assoc so_far (exports_of_record holder found.1) (exported_all holder back)
+              ∙ ap (λ (f : ℕ × Record). so_far ++ (exports_of_record holder f.1 ++ exported_all holder back)) (sym is)
+              ∙ ap (λ (l : List Export). so_far ++ l) (sym (flat_map-cons (λ (f : ℕ × Record). exports_of_record holder f.1) other back))
               ∙ whole;
         }
 

@@ -4,17 +4,17 @@ use Rattle.std.specs.Prelude.{if◌then◌else◌}
 use Rattle.std.proofs.Math.Seq.{drop-cons}
 use Rattle.load_meaning.specs.Pathnames.{has_pathnames, pathnames_from}
 use Rattle.omf_records.specs.declared.segment.SegmentView.{SegmentView}
-use Rattle.omf_records.specs.Segments.{shown}
+use Rattle.omf_records.specs.Segments.{segment_of_view}
 
 -- one view, and then the others
 pub path-next : (views : List SegmentView) (i number : ℕ) (v : SegmentView) → i < length views → v ≡ get_or views i v
-    → pathnames_from number (map shown (drop i views)) ≡ (if has_pathnames (shown v) then Some number else pathnames_from (number + 1) (map shown (drop (suc i) views)))
+    → pathnames_from number (map segment_of_view (drop i views)) ≡ (if has_pathnames (segment_of_view v) then Some number else pathnames_from (number + 1) (map segment_of_view (drop (suc i) views)))
 path-next views i number v lt is =
-    ap (λ l. pathnames_from number (map shown l)) (drop-cons views i v lt)
-    ∙ ap (λ (w : SegmentView). pathnames_from number (map shown (w ∷ drop (suc i) views))) (sym is)
+    ap (λ l. pathnames_from number (map segment_of_view l)) (drop-cons views i v lt)
+    ∙ ap (λ (w : SegmentView). pathnames_from number (map segment_of_view (w ∷ drop (suc i) views))) (sym is)
 
-pub path-past : (views : List SegmentView) (i number : ℕ) → length views ≤ i → pathnames_from number (map shown (drop i views)) ≡ None
-path-past views i number past = ap (λ l. pathnames_from number (map shown l)) (drop-past i views past)
+pub path-past : (views : List SegmentView) (i number : ℕ) → length views ≤ i → pathnames_from number (map segment_of_view (drop i views)) ≡ None
+path-past views i number past = ap (λ l. pathnames_from number (map segment_of_view l)) (drop-past i views past)
   where
     drop-past : (k : ℕ) (xs : List SegmentView) → length xs ≤ k → drop k xs ≡ []
     drop-past zero [] h = refl

@@ -9,7 +9,7 @@ use Rattle.omf_format.specs.Record.{Record, End, Const, LongConst, Align, Org, S
 use Rattle.omf_format.specs.Reading.{Reader, next_answer, after_next, HandsOut, records_of}
 use Rattle.omf_format.specs.File.{Segment, body_reader}
 use Rattle.omf_records.specs.declared.segment.SegmentView.{SegmentView}
-use Rattle.omf_records.specs.Segments.{placed, shown}
+use Rattle.omf_records.specs.Segments.{placed_view, segment_of_view}
 use Rattle.omf_format.specs.Body.{body_bytes}
 use Rattle.omf_format.specs.laws.FileLaws.{gave, same_found, open_at_some}
 use Rattle.omf_format.specs.laws.BodyLaws.{none_at_end}
@@ -47,7 +47,7 @@ lone_more r new last (a ∷ b ∷ []) run ended after more =
 lone_more r new last (a ∷ b ∷ c ∷ rest) run ended after more = refl
 
 -- what was told of the records that a view shows
-pub shown_lone : (v : SegmentView) (reader : Reader) (answer : Option (List ℕ)) → reader ≡ body_reader v.start (placed v).fields v.file.now → answer ≡ lone_bytes (records_of reader) → lone_bytes (shown v).records ≡ answer
+pub shown_lone : (v : SegmentView) (reader : Reader) (answer : Option (List ℕ)) → reader ≡ body_reader v.start (placed_view v).fields v.file.now → answer ≡ lone_bytes (records_of reader) → lone_bytes (segment_of_view v).records ≡ answer
 shown_lone v reader answer at is = ap (λ (r : Reader). lone_bytes (records_of r)) (sym at) ∙ sym is
 
 -- ---- the segment's bytes

@@ -3,7 +3,7 @@
 ghost use Rattle.std.specs.Prelude.{◌≡◌, ◌+◌, ◌≤◌, ◌++◌, length, map, OnOk};
 ghost use Rattle.std.specs.List.{flat_map};
 ghost use Rattle.omf_format.specs.Reading.{records_of, IsBody};
-ghost use Rattle.load_meaning.specs.Exports.{exported};
+ghost use Rattle.load_meaning.specs.Exports.{exports_of_record};
 ghost use Rattle.omf_records.specs.View as records;
 ghost use Rattle.load_tables.specs.View.{seen_export};
 
@@ -26,7 +26,7 @@ fn add_export<'a>(
     holder: u16,
     exports: &mut Vec<Export<'a>>,
 ) -> Result<(), AllocError>
-    ensures value { OnOk result (map seen_export exports.new.items ≡ map seen_export exports.old.items ++ exported holder (records.view rec.now)) }
+    ensures value { OnOk result (map seen_export exports.new.items ≡ map seen_export exports.old.items ++ exports_of_record holder (records.view rec.now)) }
     ensures one { OnOk result (length exports.new.items ≤ length exports.old.items + 1) }
 {
     match *rec {
@@ -70,7 +70,7 @@ pub fn add_exports<'a>(
 ) -> Result<(), AllocError>
     requires { IsBody records }
     ensures value { OnOk result (map seen_export exports.new.items
-        ≡ map seen_export exports.old.items ++ flat_map (λ found. exported holder found.1) (records_of records.entry)) }
+        ≡ map seen_export exports.old.items ++ flat_map (λ found. exports_of_record holder found.1) (records_of records.entry)) }
     ensures few { OnOk result (length exports.new.items ≤ length exports.old.items + length records.entry.left) }
 {
     let mut records = records;

@@ -3,14 +3,14 @@
 ghost use Rattle.std.specs.Prelude.{◌≡◌, ◌+◌, ◌<◌, ◌^◌, length, map, option_map, IfSome};
 ghost use Rattle.load_meaning.specs.Loadable.{in_segment, first_in};
 ghost use Rattle.load_meaning.specs.Runtime.{kind_fault};
-ghost use Rattle.omf_records.specs.Segments.{shown};
+ghost use Rattle.omf_records.specs.Segments.{segment_of_view};
 
 use load_meaning::{LoadCause, LoadFault};
 use omf_records::SegmentView;
 
 /// Why the segment with this number may not stand in a run-time library file.
 fn fault_of(view: &SegmentView, number: u32) -> Option<LoadFault>
-    ensures value { result ≡ option_map (in_segment number) (kind_fault number (shown view.now)) }
+    ensures value { result ≡ option_map (in_segment number) (kind_fault number (segment_of_view view.now)) }
     ensures named { IfSome result (λ fault. fault.cause ≡ LoadCause.Memory → ⊥) }
 {
     if view.header.kind.is_dynamic() && !view.header.kind.is_skip() {
@@ -26,7 +26,7 @@ fn fault_of(view: &SegmentView, number: u32) -> Option<LoadFault>
 /// The first segment that may not stand there.
 pub fn check_kinds(views: &Vec<SegmentView>) -> Option<LoadFault>
     requires { length views.now.items + 1 < 2 ^ 32 }
-    ensures value { result ≡ first_in kind_fault 1 (map shown views.now.items) }
+    ensures value { result ≡ first_in kind_fault 1 (map segment_of_view views.now.items) }
     ensures named { IfSome result (λ fault. fault.cause ≡ LoadCause.Memory → ⊥) }
 {
     let mut number = 1;

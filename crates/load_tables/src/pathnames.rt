@@ -7,13 +7,13 @@ ghost use Rattle.load_meaning.specs.Cells.{segment_bytes};
 ghost use Rattle.load_meaning.specs.Pathnames.{has_pathnames, most_paths, is_path_byte, path_start, path_size, row_flaw, long_bytes, paths_of, pathnames_of};
 ghost use Rattle.load_meaning.specs.Loadable.{shape_fault, pathnames_fault, in_segment, first_in};
 ghost use Rattle.omf_records.specs.View as records;
-ghost use Rattle.omf_records.specs.Segments.{shown};
+ghost use Rattle.omf_records.specs.Segments.{segment_of_view};
 ghost use Rattle.load_content.specs.Views.{IsLoadView, AreShown, IsLaterRefused};
 ghost use Rattle.load_tables.specs.View.{seen_paths};
 ghost use Rattle.load_tables.specs.Paths.{lone_bytes, TakesLast, flaw_in, rows_in, IsFlaw, flaw_behind, fault_behind, paths_then};
 
 use load_meaning::{LoadCause, LoadFault};
-use omf_base::{behind, front, number};
+use omf_base::{first_items, items_after, number};
 use omf_records::{Rec, Records, SegmentView};
 use std::alloc::{AllocFailed, Global};
 
@@ -49,7 +49,7 @@ impl<T: Drop> From<AllocFailed<T>> for RowsFault {
 
 /// Whether the segment is a pathname segment.
 fn has_pathnames(view: &SegmentView) -> bool
-    ensures { result ≡ has_pathnames (shown view.now) }
+    ensures { result ≡ has_pathnames (segment_of_view view.now) }
 {
     view.header.kind.form() == PATHNAMES
 }
@@ -57,7 +57,7 @@ fn has_pathnames(view: &SegmentView) -> bool
 /// The number of the first segment, from 1, that is a pathname segment.
 pub fn pathnames_of(views: &Vec<SegmentView>) -> Option<u32>
     requires { length views.now.items + 1 < 2 ^ 32 }
-    ensures { result ≡ pathnames_of (map shown views.now.items) }
+    ensures { result ≡ pathnames_of (map segment_of_view views.now.items) }
 {
     let mut number = 1;
     'views: for view in views {
@@ -90,14 +90,16 @@ fn row_flaw(bytes: &[u8], at: u32) -> Option<u32>
     ensures value { result ≡ row_flaw at bytes.now }
     ensures inside { IfNone result (path_start + path_size bytes.now ≤ length bytes.now) }
 {
-    if bytes.len() < 10 || !are_zeros(front(behind(bytes, 2), 8)) {
+    if bytes.len() < 10 || !are_zeros(first_items(items_after(bytes, 2), 8)) {
         return Some(at + 2);
     }
     if bytes.len() < PATH_START || number(bytes, 10, 1) == 0 {
         return Some(at + 10);
     }
     let size = number(bytes, 10, 1) as usize;
-    if bytes.len() < PATH_START + size || !are_path_bytes(front(behind(bytes, PATH_START), size)) {
+    if bytes.len() < PATH_START + size
+        || !are_path_bytes(first_items(items_after(bytes, PATH_START), size))
+    {
         return Some(at + PATH_START as u32);
     }
     None
@@ -147,8 +149,8 @@ fn paths_in<'a>(alloc: Global, bytes: &'a [u8], most: u16) -> Result<Vec<&'a [u8
             None => {}
         }
         let size = number(rest, 10, 1);
-        paths.push(front(behind(rest, PATH_START), size as usize))?;
-        rest = behind(rest, PATH_START + size as usize);
+        paths.push(first_items(items_after(rest, PATH_START), size as usize))?;
+        rest = items_after(rest, PATH_START + size as usize);
         at += PATH_START as u32 + size;
         rows += 1;
     }
@@ -221,11 +223,11 @@ fn segment_paths<'a>(
     second: bool,
 ) -> Result<Vec<&'a [u8]>, RowsFault>
     requires short { length view.now.file.now < 2 ^ 32 }
-    requires shown { IsLoadView view.now.file.now view.now }
-    requires sized { length (segment_bytes (shown view.now)) ≡ view.now.header.length }
-    ensures sound { OnOk result (flaw_behind second (shown view.now) ≡ None) }
-    ensures paths { IfOk result (λ paths. seen_paths paths.items ≡ rows_in most_paths (segment_bytes (shown view.now))) }
-    ensures flaw { IfErr result (λ fault. IsFlaw fault (flaw_behind second (shown view.now))) }
+    requires segment_of_view { IsLoadView view.now.file.now view.now }
+    requires sized { length (segment_bytes (segment_of_view view.now)) ≡ view.now.header.length }
+    ensures sound { OnOk result (flaw_behind second (segment_of_view view.now) ≡ None) }
+    ensures paths { IfOk result (λ paths. seen_paths paths.items ≡ rows_in most_paths (segment_bytes (segment_of_view view.now))) }
+    ensures flaw { IfErr result (λ fault. IsFlaw fault (flaw_behind second (segment_of_view view.now))) }
 {
     if second || view.header.kind.is_dynamic() || view.header.kind.is_skip() {
         return Err(RowsFault::Flaw(0));
@@ -242,7 +244,7 @@ fn segment_paths<'a>(
 }
 
 /// A fault of rows as one of the segment with this number.
-fn told(fault: RowsFault, segment: u32) -> LoadFault
+fn to_load_fault(fault: RowsFault, segment: u32) -> LoadFault
     ensures flaw { (at : ℕ) → fault ≡ RowsFault.Flaw at → result ≡ in_segment segment (LoadCause.BadTable, at) }
     ensures memory { fault ≡ RowsFault.Memory → result ≡ record { cause = LoadCause.Memory; segment = 0; at = 0 } }
 {
@@ -270,11 +272,11 @@ fn take_paths<'a>(
     paths: &mut Vec<&'a [u8]>,
 ) -> Result<(), LoadFault>
     requires short { length view.now.file.now < 2 ^ 32 }
-    requires shown { IsLoadView view.now.file.now view.now }
-    requires sized { length (segment_bytes (shown view.now)) ≡ view.now.header.length }
-    ensures sound { OnOk result (fault_behind second number (shown view.now) ≡ None) }
-    ensures paths { OnOk result (seen_paths paths.new.items ≡ paths_then (shown view.now) (seen_paths paths.old.items)) }
-    ensures refused { IfErr result (λ fault. IsLaterRefused fault (fault_behind second number (shown view.now))) }
+    requires segment_of_view { IsLoadView view.now.file.now view.now }
+    requires sized { length (segment_bytes (segment_of_view view.now)) ≡ view.now.header.length }
+    ensures sound { OnOk result (fault_behind second number (segment_of_view view.now) ≡ None) }
+    ensures paths { OnOk result (seen_paths paths.new.items ≡ paths_then (segment_of_view view.now) (seen_paths paths.old.items)) }
+    ensures refused { IfErr result (λ fault. IsLaterRefused fault (fault_behind second number (segment_of_view view.now))) }
 {
     if !has_pathnames(view) {
         return Ok(());
@@ -284,7 +286,7 @@ fn take_paths<'a>(
             *paths = found;
             Ok(())
         }
-        Err(fault) => Err(told(fault, number)),
+        Err(fault) => Err(to_load_fault(fault, number)),
     }
 }
 
@@ -293,11 +295,11 @@ pub fn check_pathnames<'a>(
     alloc: Global,
     views: &Vec<SegmentView<'a>>,
 ) -> Result<Vec<&'a [u8]>, LoadFault>
-    requires shown { AreShown views.now.items }
-    requires sized { first_in shape_fault 1 (map shown views.now.items) ≡ None }
-    ensures sound { OnOk result (first_in (pathnames_fault (map shown views.now.items)) 1 (map shown views.now.items) ≡ None) }
-    ensures paths { IfOk result (λ paths. seen_paths paths.items ≡ paths_of (map shown views.now.items)) }
-    ensures refused { IfErr result (λ fault. IsLaterRefused fault (first_in (pathnames_fault (map shown views.now.items)) 1 (map shown views.now.items))) }
+    requires segment_of_view { AreShown views.now.items }
+    requires sized { first_in shape_fault 1 (map segment_of_view views.now.items) ≡ None }
+    ensures sound { OnOk result (first_in (pathnames_fault (map segment_of_view views.now.items)) 1 (map segment_of_view views.now.items) ≡ None) }
+    ensures paths { IfOk result (λ paths. seen_paths paths.items ≡ paths_of (map segment_of_view views.now.items)) }
+    ensures refused { IfErr result (λ fault. IsLaterRefused fault (first_in (pathnames_fault (map segment_of_view views.now.items)) 1 (map segment_of_view views.now.items))) }
 {
     let mut paths = Vec::new(alloc);
     let mut number = 1;

@@ -9,12 +9,14 @@ ghost use Rattle.load_meaning.specs.Table.{entry_start};
 ghost use Rattle.load_meaning.specs.Pathnames.{paths_of};
 ghost use Rattle.load_meaning.specs.LoadTable.{is_table, table_of, is_called, is_call, target_at, zero_checks, entry_checks, entries_checks, table_checks};
 ghost use Rattle.load_meaning.specs.Loadable.{table_flaw, table_fault, in_segment, first_in};
-ghost use Rattle.omf_records.specs.Segments.{shown};
+ghost use Rattle.omf_records.specs.Segments.{segment_of_view};
 ghost use Rattle.load_content.specs.Views.{IsLoadView, AreShown};
 ghost use Rattle.load_content.specs.Content.{HasPieces, IsNear, AreContents};
 
 use jump_table::{entry_count, is_unloaded, target_in, user_in};
-use load_content::{Content, Piece, data_from, data_u8, gives_patches, is_place, near_u8};
+use load_content::{
+    BytePiece, SegmentContent, data_from, data_u8, gives_patches, is_place, near_u8,
+};
 use load_meaning::{LoadCause, LoadFault, Target};
 use omf_records::SegmentView;
 
@@ -32,7 +34,7 @@ const ENTRY: u32 = 14;
 
 /// Whether the segment is a jump table.
 fn is_table(view: &SegmentView) -> bool
-    ensures { result ≡ is_table (shown view.now) }
+    ensures { result ≡ is_table (segment_of_view view.now) }
 {
     view.header.kind.form() == TABLE
 }
@@ -40,7 +42,7 @@ fn is_table(view: &SegmentView) -> bool
 /// The number of the first segment, from 1, that is a jump table.
 pub fn table_of(views: &Vec<SegmentView>) -> Option<u32>
     requires { length views.now.items + 1 < 2 ^ 32 }
-    ensures { result ≡ table_of (map shown views.now.items) }
+    ensures { result ≡ table_of (map segment_of_view views.now.items) }
 {
     let mut number = 1;
     'views: for view in views {
@@ -53,7 +55,7 @@ pub fn table_of(views: &Vec<SegmentView>) -> Option<u32>
 }
 
 /// The bytes of the entry that begins there.
-fn entry_from<'a>(view: &SegmentView<'a>, pieces: &[Piece<'a>], at: u32) -> [u8; 14]
+fn entry_from<'a>(view: &SegmentView<'a>, pieces: &[BytePiece<'a>], at: u32) -> [u8; 14]
     requires pieces { HasPieces view.now pieces.now }
     requires inside { at + 14 ≤ view.now.header.length }
     ensures near { IsNear view.now at result }
@@ -71,24 +73,24 @@ fn entry_from<'a>(view: &SegmentView<'a>, pieces: &[Piece<'a>], at: u32) -> [u8;
 
 /// What an entry has: its user ID, where it leads, and whether it calls the loader.
 #[derive(Clone, Copy)]
-struct Fields {
+struct EntryFields {
     user: u16,
     target: Target,
     unloaded: bool,
 }
 
 /// The fields of the entry that begins there.
-fn fields_from(view: &SegmentView, pieces: &[Piece], at: u32) -> Fields
+fn fields_from(view: &SegmentView, pieces: &[BytePiece], at: u32) -> EntryFields
     requires pieces { HasPieces view.now pieces.now }
     requires inside { at + 14 ≤ view.now.header.length }
-    ensures user { result.user ≡ number_at 2 at (segment_bytes (shown view.now)) }
-    ensures file { result.target.file ≡ number_at 2 (at + 2) (segment_bytes (shown view.now)) }
-    ensures segment { result.target.segment ≡ number_at 2 (at + 4) (segment_bytes (shown view.now)) }
-    ensures offset { result.target.offset ≡ number_at 4 (at + 6) (segment_bytes (shown view.now)) }
-    ensures unloaded { result.unloaded ≡ is_call (segment_bytes (shown view.now)) (at + 10) }
+    ensures user { result.user ≡ number_at 2 at (segment_bytes (segment_of_view view.now)) }
+    ensures file { result.target.file ≡ number_at 2 (at + 2) (segment_bytes (segment_of_view view.now)) }
+    ensures segment { result.target.segment ≡ number_at 2 (at + 4) (segment_bytes (segment_of_view view.now)) }
+    ensures offset { result.target.offset ≡ number_at 4 (at + 6) (segment_bytes (segment_of_view view.now)) }
+    ensures unloaded { result.unloaded ≡ is_call (segment_bytes (segment_of_view view.now)) (at + 10) }
 {
     let entry = entry_from(view, pieces, at);
-    Fields {
+    EntryFields {
         user: user_in(&entry, 0),
         target: target_in(&entry, 0),
         unloaded: is_unloaded(&entry, 0),
@@ -97,19 +99,19 @@ fn fields_from(view: &SegmentView, pieces: &[Piece], at: u32) -> Fields
 
 /// Where the entry at a place among the entries, from 0, leads.
 #[tactic(auto, unfolding(load_meaning::specs::LoadTable::target_at))]
-pub fn target_from(view: &SegmentView, pieces: &[Piece], place: u32) -> Target
+pub fn target_from(view: &SegmentView, pieces: &[BytePiece], place: u32) -> Target
     requires pieces { HasPieces view.now pieces.now }
     requires inside { entry_start place + 14 ≤ view.now.header.length }
-    ensures { result ≡ target_at (segment_bytes (shown view.now)) place }
+    ensures { result ≡ target_at (segment_bytes (segment_of_view view.now)) place }
 {
     fields_from(view, pieces, FRONT + ENTRY * place).target
 }
 
 /// The first of so many bytes of the data, from there on, that isn't 0.
-fn nonzero_from(view: &SegmentView, pieces: &[Piece], at: u32, count: u32) -> Option<u32>
+fn nonzero_from(view: &SegmentView, pieces: &[BytePiece], at: u32, count: u32) -> Option<u32>
     requires pieces { HasPieces view.now pieces.now }
     requires inside { at + count ≤ view.now.header.length }
-    ensures { result ≡ first_of (zero_checks (segment_bytes (shown view.now)) at count) }
+    ensures { result ≡ first_of (zero_checks (segment_bytes (segment_of_view view.now)) at count) }
 {
     let mut passed = 0;
     'zeros: while passed < count {
@@ -123,7 +125,7 @@ fn nonzero_from(view: &SegmentView, pieces: &[Piece], at: u32, count: u32) -> Op
 
 /// Whether an entry can lead to the segment with a number, from 1: it is there and dynamic, and isn't skipped.
 fn is_called(views: &Vec<SegmentView>, number: u16) -> bool
-    ensures { result ≡ is_called (map shown views.now.items) number }
+    ensures { result ≡ is_called (map segment_of_view views.now.items) number }
 {
     if number == 0 {
         return false;
@@ -147,14 +149,14 @@ fn entry_flaw(
     views: &Vec<SegmentView>,
     paths: u32,
     view: &SegmentView,
-    pieces: &[Piece],
+    pieces: &[BytePiece],
     at: u32,
 ) -> Option<u32>
-    requires paths { paths ≡ length (paths_of (map shown views.now.items)) }
+    requires paths { paths ≡ length (paths_of (map segment_of_view views.now.items)) }
     requires few { paths + 1 < 2 ^ 32 }
     requires pieces { HasPieces view.now pieces.now }
     requires inside { at + 14 ≤ view.now.header.length }
-    ensures { result ≡ first_of (entry_checks (map shown views.now.items) (segment_bytes (shown view.now)) at) }
+    ensures { result ≡ first_of (entry_checks (map segment_of_view views.now.items) (segment_bytes (segment_of_view view.now)) at) }
 {
     let entry = fields_from(view, pieces, at);
     if entry.user != 0 {
@@ -182,14 +184,14 @@ fn entries_flaw(
     views: &Vec<SegmentView>,
     paths: u32,
     view: &SegmentView,
-    pieces: &[Piece],
+    pieces: &[BytePiece],
     count: u32,
 ) -> Option<u32>
-    requires paths { paths ≡ length (paths_of (map shown views.now.items)) }
+    requires paths { paths ≡ length (paths_of (map segment_of_view views.now.items)) }
     requires few { paths + 1 < 2 ^ 32 }
     requires pieces { HasPieces view.now pieces.now }
     requires inside { entry_start count ≤ view.now.header.length }
-    ensures { result ≡ first_of (entries_checks (map shown views.now.items) (segment_bytes (shown view.now)) 0 count) }
+    ensures { result ≡ first_of (entries_checks (map segment_of_view views.now.items) (segment_bytes (segment_of_view view.now)) 0 count) }
 {
     let mut place = 0;
     'entries: while place < count {
@@ -207,14 +209,14 @@ fn layout_flaw(
     views: &Vec<SegmentView>,
     paths: u32,
     view: &SegmentView,
-    pieces: &[Piece],
+    pieces: &[BytePiece],
     count: u32,
 ) -> Option<u32>
-    requires paths { paths ≡ length (paths_of (map shown views.now.items)) }
+    requires paths { paths ≡ length (paths_of (map segment_of_view views.now.items)) }
     requires few { paths + 1 < 2 ^ 32 }
     requires pieces { HasPieces view.now pieces.now }
     requires inside { entry_start count + 4 ≡ view.now.header.length }
-    ensures { result ≡ first_of (table_checks (map shown views.now.items) (segment_bytes (shown view.now)) count) }
+    ensures { result ≡ first_of (table_checks (map segment_of_view views.now.items) (segment_bytes (segment_of_view view.now)) count) }
 {
     match nonzero_from(view, pieces, 0, FRONT) {
         Some(at) => return Some(at),
@@ -233,17 +235,17 @@ fn table_flaw(
     views: &Vec<SegmentView>,
     paths: u32,
     view: &SegmentView,
-    pieces: &[Piece],
+    pieces: &[BytePiece],
     number: u32,
     second: bool,
 ) -> Option<u32>
-    requires paths { paths ≡ length (paths_of (map shown views.now.items)) }
+    requires paths { paths ≡ length (paths_of (map segment_of_view views.now.items)) }
     requires few { paths + 1 < 2 ^ 32 }
     requires short { length view.now.file.now < 2 ^ 32 }
-    requires shown { IsLoadView view.now.file.now view.now }
+    requires segment_of_view { IsLoadView view.now.file.now view.now }
     requires pieces { HasPieces view.now pieces.now }
-    requires second { second ≡ list_any is_table (take (number - 1) (map shown views.now.items)) }
-    ensures { result ≡ table_flaw (map shown views.now.items) number (shown view.now) }
+    requires second { second ≡ list_any is_table (take (number - 1) (map segment_of_view views.now.items)) }
+    ensures { result ≡ table_flaw (map segment_of_view views.now.items) number (segment_of_view view.now) }
 {
     if second || view.header.kind.is_dynamic() || view.header.kind.is_skip() {
         return Some(0);
@@ -264,17 +266,17 @@ fn fault_of(
     views: &Vec<SegmentView>,
     paths: u32,
     view: &SegmentView,
-    pieces: &[Piece],
+    pieces: &[BytePiece],
     number: u32,
     second: bool,
 ) -> Option<LoadFault>
-    requires paths { paths ≡ length (paths_of (map shown views.now.items)) }
+    requires paths { paths ≡ length (paths_of (map segment_of_view views.now.items)) }
     requires few { paths + 1 < 2 ^ 32 }
     requires short { length view.now.file.now < 2 ^ 32 }
-    requires shown { IsLoadView view.now.file.now view.now }
+    requires segment_of_view { IsLoadView view.now.file.now view.now }
     requires pieces { HasPieces view.now pieces.now }
-    requires second { second ≡ list_any is_table (take (number - 1) (map shown views.now.items)) }
-    ensures value { result ≡ option_map (in_segment number) (table_fault (map shown views.now.items) number (shown view.now)) }
+    requires second { second ≡ list_any is_table (take (number - 1) (map segment_of_view views.now.items)) }
+    ensures value { result ≡ option_map (in_segment number) (table_fault (map segment_of_view views.now.items) number (segment_of_view view.now)) }
     ensures named { IfSome result (λ fault. fault.cause ≡ LoadCause.Memory → ⊥) }
 {
     if !is_table(view) {
@@ -291,7 +293,7 @@ fn fault_of(
 }
 
 /// The data of the segment at a place, from 0.
-fn pieces_at<'c, 'a>(contents: &'c Vec<Content<'a>>, place: usize) -> &'c [Piece<'a>]
+fn pieces_at<'c, 'a>(contents: &'c Vec<SegmentContent<'a>>, place: usize) -> &'c [BytePiece<'a>]
     requires { place < length contents.now.items }
     ensures { IsSomeAnd (slice_get contents.now.items place) (λ content. content.pieces.items ≡ result.now) }
 {
@@ -301,14 +303,14 @@ fn pieces_at<'c, 'a>(contents: &'c Vec<Content<'a>>, place: usize) -> &'c [Piece
 /// The first fault of phase 5, segment by segment, of a file with so many paths.
 pub fn check_tables(
     views: &Vec<SegmentView>,
-    contents: &Vec<Content>,
+    contents: &Vec<SegmentContent>,
     paths: u32,
 ) -> Option<LoadFault>
-    requires shown { AreShown views.now.items }
-    requires paths { paths ≡ length (paths_of (map shown views.now.items)) }
+    requires segment_of_view { AreShown views.now.items }
+    requires paths { paths ≡ length (paths_of (map segment_of_view views.now.items)) }
     requires few { paths + 1 < 2 ^ 32 }
     requires contents { AreContents views.now.items contents.now.items }
-    ensures value { result ≡ first_in (table_fault (map shown views.now.items)) 1 (map shown views.now.items) }
+    ensures value { result ≡ first_in (table_fault (map segment_of_view views.now.items)) 1 (map segment_of_view views.now.items) }
     ensures named { IfSome result (λ fault. fault.cause ≡ LoadCause.Memory → ⊥) }
 {
     let mut number = 1;

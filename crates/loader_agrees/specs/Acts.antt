@@ -7,7 +7,7 @@ use Rattle.iigs_meaning.specs.declared.handles.Handle.{Handle}
 use Rattle.iigs_meaning.specs.Slots.{get}
 use Rattle.loader_machine.specs.Rule.{RoomRule}
 use Rattle.iigs_meaning.specs.Memory.{Memory, AreAllPlaced, bytes_at}
-use Rattle.loader_machine.specs.declared.seen.Head.{Head}
+use Rattle.loader_machine.specs.declared.seen.SegmentHead.{SegmentHead}
 use Rattle.loader_machine.specs.declared.seen.Life.TheVariants.{Running}
 use Rattle.loader_machine.specs.Heads.{head_of, at_number, wants_of}
 use Rattle.loader_machine.specs.State.{no_pokes, max_users, first_id, user_of, handles_of, ids_from}
@@ -17,16 +17,16 @@ use Rattle.loader_machine.specs.Presences.{handle_at, presence, presence_at}
 use Rattle.loader_machine.specs.Refusals.{bytes_refusal, info_refusal}
 use Rattle.loader_machine.specs.Stands.{setting, stands}
 use Rattle.loader_machine.specs.Steps.{started_user, entry_of}
-use Rattle.loader_agrees.specs.Agrees.{Kept, Loaded, seen_by}
+use Rattle.loader_agrees.specs.Agrees.{LoadedUser, Loaded, seen_by}
 
 -- ---- active segments
 
 -- the block of an active segment of a user that runs
 pub record IsActive (loader : Loaded) (id number : ℕ) (h : Handle) : Type 0 where
-  pub kept : Kept
+  pub kept : LoadedUser
   pub made : user_of loader.users id ≡ Some kept
   pub runs : kept.life ≡ Running
-  pub head : Head
+  pub head : SegmentHead
   pub head' : at_number kept.heads number ≡ Some head
   pub handle : handle_at kept.handles number ≡ Some h
   pub address : ℕ
@@ -47,9 +47,9 @@ pub record HasLent (loader : Loaded) (id number at count : ℕ) (bytes : List �
 -- what is told of a segment
 pub record HasTold (loader : Loaded) (id number : ℕ) (presence : Presence) (length' kind : ℕ) : Type 0 where
   pub passes : info_refusal (seen_by loader id) number ≡ None
-  pub kept : Kept
+  pub kept : LoadedUser
   pub made : user_of loader.users id ≡ Some kept
-  pub head : Head
+  pub head : SegmentHead
   pub head' : at_number kept.heads number ≡ Some head
   pub presence_is : presence ≡ presence_at loader.memory.slots kept.handles number
   pub length_is : length' ≡ head.length
@@ -65,7 +65,7 @@ pub record LiesIn (loader : Loaded) (address id number offset : ℕ) : Type 0 wh
 -- ---- load
 
 -- a user as it is kept where its static segments have these handles
-abbrev pub started_kept : List ℕ → List Head → List Handle → Kept
+abbrev pub started_kept : List ℕ → List SegmentHead → List Handle → LoadedUser
 started_kept path heads handles = record {
   path = path;
   life = Running;
@@ -91,22 +91,22 @@ pub record HasPlaced (old : Memory) (path : List ℕ) (segments : List Segment) 
   pub sizes : (slot : ℕ) → length (bytes_at new slot) ≡ length (bytes_at middle slot)
 
 -- a user is added at a place that has none, and all others stay
-pub record IsAdded (old : List (Option Kept)) (place : ℕ) (kept : Kept) (new : List (Option Kept)) : Type 0 where
+pub record IsAdded (old : List (Option LoadedUser)) (place : ℕ) (kept : LoadedUser) (new : List (Option LoadedUser)) : Type 0 where
   pub few : length new ≤ max_users
   pub here : slice_get new place ≡ Some (Some kept)
-  pub which : (p : ℕ) (k : Kept) → slice_get new p ≡ Some (Some k) → ((p ≢ place) × (slice_get old p ≡ Some (Some k))) ⊎ ((p ≡ place) × (k ≡ kept))
-  pub stay : (p : ℕ) (k : Kept) → slice_get old p ≡ Some (Some k) → slice_get new p ≡ Some (Some k)
+  pub which : (p : ℕ) (k : LoadedUser) → slice_get new p ≡ Some (Some k) → ((p ≢ place) × (slice_get old p ≡ Some (Some k))) ⊎ ((p ≡ place) × (k ≡ kept))
+  pub stay : (p : ℕ) (k : LoadedUser) → slice_get old p ≡ Some (Some k) → slice_get new p ≡ Some (Some k)
 
 -- no segment has a handle
-abbrev pub no_handle_of : Head → Option Handle
+abbrev pub no_handle_of : SegmentHead → Option Handle
 no_handle_of head = None
 
 -- an attached user as it is kept: none of its segments is there
-abbrev pub joined_kept : List ℕ → List Head → Kept
+abbrev pub joined_kept : List ℕ → List SegmentHead → LoadedUser
 joined_kept path heads = record { path = path; life = Running; handles = map no_handle_of heads; heads = heads; attached = [] }
 
 -- the same for each row
-abbrev pub joined_kepts : List (List ℕ) → List (List Segment) → List (Option Kept)
+abbrev pub joined_kepts : List (List ℕ) → List (List Segment) → List (Option LoadedUser)
 joined_kepts [] all = []
 joined_kepts (path ∷ paths) [] = []
 joined_kepts (path ∷ paths) (segments ∷ all) = Some (joined_kept path (map head_of segments)) ∷ joined_kepts paths all

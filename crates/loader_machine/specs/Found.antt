@@ -26,12 +26,12 @@ pub record HoldsFault (held : FileMap) (path : List ℕ) (fault : LoadFault) : T
   pub first : IsFirstLoadFault file fault
 
 -- what a read of a path finds: no file that can be read, one that isn't loaded and why, or a load file of these segments
-pub data Found : Type 0 where
-  Unread : Found
-  Bad : (fault : LoadFault) → Found
-  Good : (segments : List Segment) → Found
+pub data FileFound : Type 0 where
+  Unread : FileFound
+  Bad : (fault : LoadFault) → FileFound
+  Good : (segments : List Segment) → FileFound
 
-abbrev pub IsFound : FileMap → List ℕ → Found → Type 0
+abbrev pub IsFound : FileMap → List ℕ → FileFound → Type 0
 IsFound held path Unread = (file : List ℕ) → ¬ HoldsFile held path file
 IsFound held path (Bad fault) = HoldsFault held path fault
 IsFound held path (Good segments) = HoldsLoad held path segments
@@ -51,7 +51,7 @@ pub record HoldsRuntimeFault (held : FileMap) (path : List ℕ) (fault : LoadFau
   pub first : IsFirstRuntimeFault file fault
 
 -- what a read of a row's path finds
-abbrev pub IsRowFound : FileMap → List ℕ → Found → Type 0
+abbrev pub IsRowFound : FileMap → List ℕ → FileFound → Type 0
 IsRowFound held path Unread = (file : List ℕ) → ¬ HoldsFile held path file
 IsRowFound held path (Bad fault) = HoldsRuntimeFault held path fault
 IsRowFound held path (Good segments) = HoldsRuntime held path segments
@@ -68,14 +68,14 @@ joined_behind segments (Stops reads why) = Stops (reads + 1) why
 joined_behind segments (Joins all) = Joins (segments ∷ all)
 
 -- by what the read of the first row finds, where this is what comes of the others
-abbrev pub JoinsFound : Found → (Joined → Type 0) → Joined → Type 0
+abbrev pub JoinsFound : FileFound → (Joined → Type 0) → Joined → Type 0
 JoinsFound Unread Rest joined = joined ≡ Stops 1 CannotRead
 JoinsFound (Bad fault) Rest joined = joined ≡ Stops 1 (BadFile fault)
 JoinsFound (Good segments) Rest joined = (rest : Joined) × Rest rest × (joined ≡ joined_behind segments rest)
 
 abbrev pub AreJoined : FileMap → List (List ℕ) → Joined → Type 0
 AreJoined held [] joined = joined ≡ Joins []
-AreJoined held (path ∷ paths) joined = (found : Found) × IsRowFound held path found × JoinsFound found (AreJoined held paths) joined
+AreJoined held (path ∷ paths) joined = (found : FileFound) × IsRowFound held path found × JoinsFound found (AreJoined held paths) joined
 
 -- how many files were read
 abbrev pub reads_of : Joined → ℕ

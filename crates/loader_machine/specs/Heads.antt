@@ -4,10 +4,10 @@ use Rattle.std.specs.Prelude.{ℕ, zero, suc, Bool, ◌+◌, ◌/◌, ◌%◌, �
 use Rattle.omf_format.specs.Header.{form_of, is_dynamic, is_skipped, is_absolute_bank, is_bank_relative, avoids_special, stays_in_bank, alignment_of}
 use Rattle.omf_format.specs.File.{Segment}
 use Rattle.iigs_meaning.specs.declared.wants.Want.{Want}
-pub use Rattle.loader_machine.specs.declared.seen.Head.{Head}
+pub use Rattle.loader_machine.specs.declared.seen.SegmentHead.{SegmentHead}
 pub use Rattle.loader_machine.specs.declared.seen.Facts.{Facts}
 
-abbrev pub head_of : Segment → Head
+abbrev pub head_of : Segment → SegmentHead
 head_of s = record {
   length = s.fields.length;
   kind = s.fields.kind;
@@ -23,29 +23,29 @@ at_number xs zero = None
 at_number xs (suc k) = slice_get xs k
 
 -- loaded with its file: neither dynamic nor skipped
-abbrev pub is_static : Head → Bool
+abbrev pub is_static : SegmentHead → Bool
 is_static head = not (is_dynamic head.kind) && not (is_skipped head.kind)
 
 -- a jump table
-abbrev pub is_table : Head → Bool
+abbrev pub is_table : SegmentHead → Bool
 is_table head = form_of head.kind == 0x02
 
 -- direct page and stack
-abbrev pub is_stack : Head → Bool
+abbrev pub is_stack : SegmentHead → Bool
 is_stack head = form_of head.kind == 0x12
 
 -- ---- ORG
 
 -- ORG fixes the bank, where it asks for one and doesn't ask for a place in a bank
-abbrev pub fixes_bank : Head → Bool
+abbrev pub fixes_bank : SegmentHead → Bool
 fixes_bank head = not (head.org == 0) && (is_absolute_bank head.kind && not (is_bank_relative head.kind))
 
 -- ORG fixes the place in a bank, where it asks for one and doesn't ask for a bank
-abbrev pub fixes_low : Head → Bool
+abbrev pub fixes_low : SegmentHead → Bool
 fixes_low head = not (head.org == 0) && (is_bank_relative head.kind && not (is_absolute_bank head.kind))
 
 -- ORG fixes the address, where it asks for both or for neither; ORG 0 fixes nothing
-abbrev pub fixes_address : Head → Bool
+abbrev pub fixes_address : SegmentHead → Bool
 fixes_address head = not (head.org == 0) && (not (fixes_bank head) && not (fixes_low head))
 
 abbrev pub some_if : Bool → ℕ → Option ℕ
@@ -54,7 +54,7 @@ some_if asked n = if asked then Some n else None
 -- ---- wants
 
 -- a stack lies in bank 0, on a page at least, and has no other wish
-unfoldable pub stack_want : Head → Want
+unfoldable pub stack_want : SegmentHead → Want
 stack_want head = record {
   size = max 1 head.length;
   align = max 0x100 (alignment_of head.align);
@@ -66,7 +66,7 @@ stack_want head = record {
 }
 
 -- every other segment asks for what its header says
-unfoldable pub plain_want : Head → Want
+unfoldable pub plain_want : SegmentHead → Want
 plain_want head = record {
   size = max 1 head.length;
   align = alignment_of head.align;
@@ -78,16 +78,16 @@ plain_want head = record {
 }
 
 -- what is asked of a segment's place: room for LENGTH bytes and one at least, and the rest by its type
-unfoldable pub want_of : Head → Want
+unfoldable pub want_of : SegmentHead → Want
 want_of head = if is_stack head then stack_want head else plain_want head
 
 -- the wants of the static segments, in order
-abbrev pub wants_of : List Head → List Want
+abbrev pub wants_of : List SegmentHead → List Want
 wants_of [] = []
 wants_of (head ∷ heads) = if is_static head then want_of head ∷ wants_of heads else wants_of heads
 
 -- the number of the static segment at a place among the static ones, from 0, where the list begins with this number
-abbrev pub number_of : ℕ → List Head → ℕ → ℕ
+abbrev pub number_of : ℕ → List SegmentHead → ℕ → ℕ
 number_of number [] place = number
 number_of number (head ∷ heads) zero = if is_static head then number else number_of (number + 1) heads zero
 number_of number (head ∷ heads) (suc place) =
@@ -95,7 +95,7 @@ number_of number (head ∷ heads) (suc place) =
 
 -- where a program begins: the place of its first static segment of code plus that one's ENTRY, modulo 2^24. The list begins with
 -- this number.
-abbrev pub entry_in : List Head → (ℕ → ℕ) → ℕ → Option ℕ
+abbrev pub entry_in : List SegmentHead → (ℕ → ℕ) → ℕ → Option ℕ
 entry_in [] place number = None
 entry_in (head ∷ heads) place number =
     if is_static head && form_of head.kind == 0x00 then Some ((place number + head.entry) % 0x1000000) else entry_in heads place (number + 1)

@@ -4,9 +4,9 @@ use Rattle.omf_io.specs.Files.{FileMap}
 use Rattle.load_meaning.specs.declared.table.Target.{Target}
 use Rattle.load_meaning.specs.Pathnames.{paths_of}
 use Rattle.load_meaning.specs.LoadTable.{targets_of}
-use Rattle.loader_machine.specs.Heads.{Head, head_of, is_table}
-use Rattle.loader_machine.specs.State.{User, Machine, Seen, user_of, handles_of, outlines, named_by, is_attached}
-use Rattle.loader_machine.specs.Found.{Found, Unread, Bad, Good, IsFound, Joined, AreJoined, reads_of}
+use Rattle.loader_machine.specs.Heads.{SegmentHead, head_of, is_table}
+use Rattle.loader_machine.specs.State.{User, Machine, UserSeen, user_of, handles_of, outlines, named_by, is_attached}
+use Rattle.loader_machine.specs.Found.{FileFound, Unread, Bad, Good, IsFound, Joined, AreJoined, reads_of}
 use Rattle.loader_machine.specs.Presences.{Presence, Absent, Purged, Idle, Active, presence_at}
 use Rattle.loader_machine.specs.Commands.{Command, Load, LoadSegment, Jsl, Restart}
 use Rattle.loader_machine.specs.Refusals.{Refuse, load_refusal, rows_refusal, bytes_refusal, load_segment_refusal, restart_refusal}
@@ -26,14 +26,14 @@ path_if None true path = path ∷ []
 path_if None false path = []
 
 -- a command on a user: none where the ID has no user, and else these
-abbrev pub NeedsOf : FileMap → Machine → ℕ → (Seen → User → List (List ℕ)) → List (List ℕ) → Type 0
+abbrev pub NeedsOf : FileMap → Machine → ℕ → (UserSeen → User → List (List ℕ)) → List (List ℕ) → Type 0
 NeedsOf held state id of paths = ((user_of state.users id ≡ None) × (paths ≡ []))
     ⊎ ((sees : Sees held state id) × (paths ≡ of (seen_of sees.user sees.segments) sees.user))
 
 -- a JSL that passes the checks before a read, and leads to an entry for this target, in a segment of this user
 pub record Reaches (held : FileMap) (state : Machine) (id number at : ℕ) (other : ℕ) (t : Target) : Type 0 where
   pub owner : ℕ
-  pub seen : Option Seen
+  pub seen : Option UserSeen
   pub is_seen : IsSeen held state id seen
   pub passes : bytes_refusal state.slots seen number at 4 ≡ None
   pub bytes : List ℕ
@@ -47,12 +47,12 @@ pub record Reaches (held : FileMap) (state : Machine) (id number at : ℕ) (othe
   pub named : named_by (outlines state.users) owner t.file ≡ Some other
 
 -- a static segment that is read again at each restart
-abbrev pub some_read_again : List Head → Bool
+abbrev pub some_read_again : List SegmentHead → Bool
 some_read_again [] = false
 some_read_again (head ∷ heads) = is_read_again head || some_read_again heads
 
 -- a restart reads where a static segment isn't there, or one is read again
-abbrev pub restart_reads : Machine → Seen → Bool
+abbrev pub restart_reads : Machine → UserSeen → Bool
 restart_reads state seen = not (are_there state.slots seen.heads seen.handles 1) || some_read_again seen.heads
 
 abbrev pub Needs : FileMap → Machine → Command → List (List ℕ) → Type 0
@@ -72,7 +72,7 @@ abbrev pub rows_if : Refuse → List (List ℕ) → List (List ℕ)
 rows_if (Some fault) rows = []
 rows_if None rows = rows
 
-abbrev pub rows_of : Machine → Found → List (List ℕ)
+abbrev pub rows_of : Machine → FileFound → List (List ℕ)
 rows_of state Unread = []
 rows_of state (Bad fault) = []
 rows_of state (Good segments) = rows_if (rows_refusal (length state.users) (length (paths_of segments))) (paths_of segments)
@@ -80,7 +80,7 @@ rows_of state (Good segments) = rows_if (rows_refusal (length state.users) (leng
 -- The paths that a command needs behind the first, in order, and how many of them are read, where no read fails: a load those of the
 -- rows, up to the first at which it is refused, and any other command none.
 abbrev pub NeedsBehind : FileMap → Machine → Command → List (List ℕ) → ℕ → Type 0
-NeedsBehind held state (Load path) rows reads = ((load_refusal (length state.users) ≡ None) × (found : Found) × IsFound held path found × (rows ≡ rows_of state found)
+NeedsBehind held state (Load path) rows reads = ((load_refusal (length state.users) ≡ None) × (found : FileFound) × IsFound held path found × (rows ≡ rows_of state found)
     × (joined : Joined) × AreJoined held rows joined × (reads ≡ reads_of joined))
     ⊎ (((load_refusal (length state.users) ≡ None) → ⊥) × (rows ≡ []) × (reads ≡ 0))
 NeedsBehind held state _ rows reads = (rows ≡ []) × (reads ≡ 0)

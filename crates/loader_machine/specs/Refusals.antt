@@ -8,8 +8,8 @@ use Rattle.iigs_meaning.specs.Slots.{get}
 use Rattle.iigs_meaning.specs.Fits.{Slots}
 use Rattle.loader_machine.specs.declared.faults.LoaderFault.{LoaderFault}
 use Rattle.loader_machine.specs.declared.faults.LoaderFault.TheVariants.{NoUser, NotRunning, Running, NoSegment, Static, NotActive, TableByte, OutOfSegment, TooManyUsers, Stale, LoaderOwned, Empty}
-use Rattle.loader_machine.specs.Heads.{Head, at_number, is_table}
-use Rattle.loader_machine.specs.State.{Seen, is_running, max_users}
+use Rattle.loader_machine.specs.Heads.{SegmentHead, at_number, is_table}
+use Rattle.loader_machine.specs.State.{UserSeen, is_running, max_users}
 use Rattle.loader_machine.specs.Presences.{presence_at, is_active}
 
 -- why a call is refused, if it is
@@ -19,36 +19,36 @@ Refuse = Option LoaderFault
 -- ---- users and segments
 
 -- the user was made and isn't gone
-abbrev pub of_user : Option Seen → (Seen → Refuse) → Refuse
+abbrev pub of_user : Option UserSeen → (UserSeen → Refuse) → Refuse
 of_user None rest = Some NoUser
 of_user (Some seen) rest = rest seen
 
 -- it runs
-abbrev pub of_running : Seen → Refuse → Refuse
+abbrev pub of_running : UserSeen → Refuse → Refuse
 of_running seen rest = if is_running seen.life then rest else Some NotRunning
 
 -- the segment is there, and isn't skipped
-abbrev pub of_head : Option Head → (Head → Refuse) → Refuse
+abbrev pub of_head : Option SegmentHead → (SegmentHead → Refuse) → Refuse
 of_head None rest = Some NoSegment
 of_head (Some head) rest = if is_skipped head.kind then Some NoSegment else rest head
 
-abbrev pub of_segment : Seen → ℕ → (Head → Refuse) → Refuse
+abbrev pub of_segment : UserSeen → ℕ → (SegmentHead → Refuse) → Refuse
 of_segment seen number rest = of_head (at_number seen.heads number) rest
 
 -- it is dynamic
-abbrev pub of_dynamic : Head → Refuse → Refuse
+abbrev pub of_dynamic : SegmentHead → Refuse → Refuse
 of_dynamic head rest = if is_dynamic head.kind then rest else Some Static
 
 -- it is active
-abbrev pub of_active : Slots → Seen → ℕ → Refuse → Refuse
+abbrev pub of_active : Slots → UserSeen → ℕ → Refuse → Refuse
 of_active slots seen number rest = if is_active (presence_at slots seen.handles number) then rest else Some NotActive
 
 -- so many bytes from an offset on are within LENGTH
-abbrev pub of_inside : ℕ → ℕ → Head → Refuse → Refuse
+abbrev pub of_inside : ℕ → ℕ → SegmentHead → Refuse → Refuse
 of_inside at count head rest = if nat_le (at + count) head.length then rest else Some OutOfSegment
 
 -- it is no jump table
-abbrev pub of_plain : Head → Refuse → Refuse
+abbrev pub of_plain : SegmentHead → Refuse → Refuse
 of_plain head rest = if is_table head then Some TableByte else rest
 
 -- a load: 255 users were made, gone ones included
@@ -59,21 +59,21 @@ load_refusal made = if nat_lt made max_users then None else Some TooManyUsers
 unfoldable pub rows_refusal : ℕ → ℕ → Refuse
 rows_refusal made rows = if nat_le (made + 1 + rows) max_users then None else Some TooManyUsers
 
-unfoldable pub bytes_refusal : Slots → Option Seen → ℕ → ℕ → ℕ → Refuse
+unfoldable pub bytes_refusal : Slots → Option UserSeen → ℕ → ℕ → ℕ → Refuse
 bytes_refusal slots user number at count = of_user user (λ seen. of_running seen (of_segment seen number (λ head.
     of_active slots seen number (of_inside at count head None))))
 
-unfoldable pub info_refusal : Option Seen → ℕ → Refuse
+unfoldable pub info_refusal : Option UserSeen → ℕ → Refuse
 info_refusal user number = of_user user (λ seen. of_segment seen number (λ head. None))
 
-unfoldable pub load_segment_refusal : Option Seen → ℕ → Refuse
+unfoldable pub load_segment_refusal : Option UserSeen → ℕ → Refuse
 load_segment_refusal user number = of_user user (λ seen. of_running seen (of_segment seen number (λ head. of_dynamic head None)))
 
-unfoldable pub unload_refusal : Slots → Option Seen → ℕ → Refuse
+unfoldable pub unload_refusal : Slots → Option UserSeen → ℕ → Refuse
 unload_refusal slots user number = of_user user (λ seen. of_running seen (of_segment seen number (λ head.
     of_dynamic head (of_active slots seen number None))))
 
-unfoldable pub poke_refusal : Slots → Option Seen → ℕ → ℕ → Refuse
+unfoldable pub poke_refusal : Slots → Option UserSeen → ℕ → ℕ → Refuse
 poke_refusal slots user number at = of_user user (λ seen. of_running seen (of_segment seen number (λ head.
     of_active slots seen number (of_plain head (of_inside at 1 head None)))))
 
@@ -82,14 +82,14 @@ abbrev pub of_own : Bool → Refuse → Refuse
 of_own attached rest = if attached then Some NoUser else rest
 
 -- a shutdown: only a user that runs can be kept
-unfoldable pub shut_down_refusal : Bool → Option Seen → Bool → Refuse
+unfoldable pub shut_down_refusal : Bool → Option UserSeen → Bool → Refuse
 shut_down_refusal attached user keep = of_user user (λ seen. of_own attached (if keep then of_running seen None else None))
 
-unfoldable pub restart_refusal : Bool → Option Seen → Refuse
+unfoldable pub restart_refusal : Bool → Option UserSeen → Refuse
 restart_refusal attached user = of_user user (λ seen. of_own attached (if is_running seen.life then Some Running else None))
 
 -- user 0 is the script
-unfoldable pub purge_refusal : Option Seen → ℕ → Refuse
+unfoldable pub purge_refusal : Option UserSeen → ℕ → Refuse
 purge_refusal user id = if id == 0 then None else of_user user (λ seen. None)
 
 -- ---- the script's own blocks

@@ -61,8 +61,8 @@ is_number least most word = nat_le 1 (length word) && nat_le (length word) 8 && 
 -- ---- commands
 
 -- the command that a word names
-unfoldable pub named : List ℕ → Option CommandName
-named word =
+unfoldable pub command_named : List ℕ → Option CommandName
+command_named word =
     if bytes_eq word (codes "banks") then Some name.Banks
     else if bytes_eq word (codes "load") then Some name.Load
     else if bytes_eq word (codes "loadseg") then Some name.LoadSegment
@@ -233,7 +233,7 @@ named_command is_first (Some name) words = if is_in_turn name is_first then word
 -- the command that the words give by the first of them, or the first cause against them
 unfoldable pub command_of : Bool → List (List ℕ) → Result Command ScriptCause
 command_of is_first [] = Err UnknownCommand
-command_of is_first (name ∷ words) = named_command is_first (named name) words
+command_of is_first (name ∷ words) = named_command is_first (command_named name) words
 
 -- a handle that six digits write
 abbrev pub IsHandle : Handle → Type 0

@@ -16,13 +16,13 @@ use Rattle.loader_machine.specs.Presences.{presence_at, there_at, active_at}
 
 -- where the segments of a user are: its ID; the address of each of its segments; and the address of the segment that a table's
 -- entry names by file and number, where that segment is active
-pub record Setting : Type 0 where
+pub record AddressSetting : Type 0 where
   pub id : ℕ
   pub place : ℕ → ℕ
   pub target : ℕ → ℕ → Option ℕ
 
 -- the entry in memory of a table's target: it has the user's ID, and jumps to the target where that is active
-abbrev pub entry_for : Setting → Target → Entry
+abbrev pub entry_for : AddressSetting → Target → Entry
 entry_for at t = record {
   user = at.id;
   file = t.file;
@@ -32,11 +32,11 @@ entry_for at t = record {
 }
 
 -- the bytes of a table in memory
-unfoldable pub entries_bytes : Setting → List Target → List ℕ
+unfoldable pub entries_bytes : AddressSetting → List Target → List ℕ
 entries_bytes at targets = table_bytes (map (entry_for at) targets)
 
 -- the bytes of a segment as it is read
-unfoldable pub read_bytes : Setting → Segment → List ℕ
+unfoldable pub read_bytes : AddressSetting → Segment → List ℕ
 read_bytes at s = if is_table s then entries_bytes at (targets_of s) else map (byte_of at.place) (cells s)
 
 -- the bytes, of which the first has this place, with the pokes over them
@@ -44,12 +44,12 @@ abbrev pub over_from : ℕ → Pokes → List ℕ → List ℕ
 over_from at pokes [] = []
 over_from at pokes (b ∷ bytes) = unwrap_or (get pokes at) b ∷ over_from (at + 1) pokes bytes
 
-unfoldable pub over : Pokes → List ℕ → List ℕ
-over pokes bytes = over_from 0 pokes bytes
+unfoldable pub with_pokes : Pokes → List ℕ → List ℕ
+with_pokes pokes bytes = over_from 0 pokes bytes
 
 -- what stands in a segment
-unfoldable pub stands : Setting → Pokes → Segment → List ℕ
-stands at pokes s = over pokes (read_bytes at s)
+unfoldable pub stands : AddressSetting → Pokes → Segment → List ℕ
+stands at pokes s = with_pokes pokes (read_bytes at s)
 
 -- ---- the setting of a user
 
@@ -62,20 +62,20 @@ abbrev pub Far : Type 0
 Far = ℕ → ℕ → Option ℕ
 
 -- no such segment is active
-abbrev pub nowhere : Far
-nowhere file number = None
+abbrev pub no_far_segment : Far
+no_far_segment file number = None
 
 -- the address of an active segment; file 1 is the user's own
 abbrev pub target_with : Far → Slots → List (Option Handle) → ℕ → ℕ → Option ℕ
 target_with far slots handles file number = if file == 1 then active_at (presence_at slots handles number) else far file number
 
 -- the setting of the user with an ID, from the slots, the handles of its segments, and where those of attached users are active
-abbrev pub setting_with : Far → ℕ → Slots → List (Option Handle) → Setting
+abbrev pub setting_with : Far → ℕ → Slots → List (Option Handle) → AddressSetting
 setting_with far id slots handles = record { id = id; place = place_in slots handles; target = target_with far slots handles }
 
 -- the same where no segment of an attached user is active
-abbrev pub setting : ℕ → Slots → List (Option Handle) → Setting
-setting id slots handles = setting_with nowhere id slots handles
+abbrev pub setting : ℕ → Slots → List (Option Handle) → AddressSetting
+setting id slots handles = setting_with no_far_segment id slots handles
 
 -- where the segments of a user's attached users are active
 abbrev pub far_of : Slots → List (Option Outline) → ℕ → Far

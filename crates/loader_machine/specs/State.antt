@@ -7,7 +7,7 @@ use Rattle.std.specs.Ordering.{nat_cmp}
 use Rattle.iigs_meaning.specs.declared.handles.Handle.{Handle}
 use Rattle.iigs_meaning.specs.Fits.{Slots}
 use Rattle.iigs_meaning.specs.Blocks.{new_slots}
-use Rattle.loader_machine.specs.Heads.{Head, at_number}
+use Rattle.loader_machine.specs.Heads.{SegmentHead, at_number}
 pub use Rattle.loader_machine.specs.declared.seen.Life.{Life}
 pub use Rattle.loader_machine.specs.declared.seen.Life.TheVariants.{Running, Dormant}
 
@@ -24,16 +24,16 @@ no_pokes = empty
 
 -- what is held of a segment: its handle, if it has one, and its pokes. No other byte of memory is held: what stands in a block
 -- follows from the user's file.
-pub record Held : Type 0 where
+pub record HeldSegment : Type 0 where
   pub handle : Option Handle
   pub pokes : Pokes
 
 -- a segment without a handle
-abbrev pub absent : Held
+abbrev pub absent : HeldSegment
 absent = record { handle = None; pokes = no_pokes }
 
 -- a segment under this handle, as it was read
-abbrev pub fresh : Option Handle → Held
+abbrev pub fresh : Option Handle → HeldSegment
 fresh handle = record { handle = handle; pokes = no_pokes }
 
 -- a program, or a run-time library file that is attached to one: the path of its file, whether it runs, for each segment of the
@@ -41,7 +41,7 @@ fresh handle = record { handle = handle; pokes = no_pokes }
 pub record User : Type 0 where
   pub path : List ℕ
   pub life : Life
-  pub segments : List Held
+  pub segments : List HeldSegment
   pub attached : List ℕ
 
 -- the configured banks, the slots with their blocks, and the users in the order in which they were made; None is gone
@@ -144,8 +144,8 @@ without_all users (id ∷ ids) = without_all (with_user users id None) ids
 abbrev pub runs_again : User → User
 runs_again user = record user { life = Running }
 
-abbrev pub rests : User → User
-rests user = record user { life = Dormant }
+abbrev pub dormant_user : User → User
+dormant_user user = record user { life = Dormant }
 
 -- so many IDs from one on
 abbrev pub ids_from : ℕ → ℕ → List ℕ
@@ -153,11 +153,11 @@ ids_from id zero = []
 ids_from id (suc more) = id ∷ ids_from (id + 1) more
 
 -- what is held of the segment with a number
-abbrev pub held_at : User → ℕ → Held
+abbrev pub held_at : User → ℕ → HeldSegment
 held_at user number = option_map_or (λ held. held) (at_number user.segments number) absent
 
 -- what a loader and the machine both know of a user
-pub record Seen : Type 0 where
+pub record UserSeen : Type 0 where
   pub life : Life
   pub handles : List (Option Handle)
-  pub heads : List Head
+  pub heads : List SegmentHead

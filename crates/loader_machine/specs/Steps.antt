@@ -25,18 +25,18 @@ use Rattle.iigs_meaning.specs.Slide.{Slides, count_moved}
 use Rattle.load_meaning.specs.declared.load.LoadFault.{LoadFault}
 use Rattle.load_meaning.specs.declared.load.LoadCause.TheVariants as cause
 use Rattle.loader_machine.specs.declared.faults.LoaderFault.TheVariants.{NotJsl, NoTarget, NotEntry, CannotRead, BadFile, NoHandle, NoRoom}
-use Rattle.loader_machine.specs.Heads.{Head, head_of, at_number, is_static, is_table, want_of, wants_of, number_of, entry_in}
-use Rattle.loader_machine.specs.State.{Running, Held, User, Machine, absent, fresh, Seen, empty_of, first_id, user_of, with_user, handles_of, held_at, outlines, named_by, is_attached, family, handles_of_all, with_all, without_all, runs_again, rests, ids_from}
+use Rattle.loader_machine.specs.Heads.{SegmentHead, head_of, at_number, is_static, is_table, want_of, wants_of, number_of, entry_in}
+use Rattle.loader_machine.specs.State.{Running, HeldSegment, User, Machine, absent, fresh, UserSeen, empty_of, first_id, user_of, with_user, handles_of, held_at, outlines, named_by, is_attached, family, handles_of_all, with_all, without_all, runs_again, dormant_user, ids_from}
 use Rattle.loader_machine.specs.Presences.{Presence, Absent, Purged, Idle, Active, presence_at, handle_at, is_there}
-use Rattle.loader_machine.specs.Stands.{Setting, stands, setting, setting_with, far_of}
-use Rattle.loader_machine.specs.Found.{HoldsLoad, Found, Unread, Bad, Good, IsFound, Joined, Stops, Joins, AreJoined}
+use Rattle.loader_machine.specs.Stands.{AddressSetting, stands, setting, setting_with, far_of}
+use Rattle.loader_machine.specs.Found.{HoldsLoad, FileFound, Unread, Bad, Good, IsFound, Joined, Stops, Joins, AreJoined}
 use Rattle.loader_machine.specs.Alloc.{alloc_want, is_locked, level_in, is_movable}
 use Rattle.loader_machine.specs.Commands.{Command, Banks, Load, LoadSegment, UnloadSegment, Jsl, ShutDown, Restart, Purge, Poke, Bytes, Where, Info, Alloc, Free, Lock, Unlock, Level, StateOf, Room, Compact, Reply, Okay, Started, MadeActive, Entered, Counted, Shown, Lies, Nothing, SegmentIs, Placed, BlockIs, RoomIs, Moved, Refused}
 use Rattle.loader_machine.specs.Refusals.{Refuse, load_refusal, rows_refusal, bytes_refusal, info_refusal, load_segment_refusal, unload_refusal, poke_refusal, shut_down_refusal, restart_refusal, purge_refusal, state_refusal, free_refusal, change_refusal}
 
 -- ---- what is seen of users
 
-abbrev pub seen_of : User → List Segment → Seen
+abbrev pub seen_of : User → List Segment → UserSeen
 seen_of user segments = record { life = user.life; handles = handles_of user; heads = map head_of segments }
 
 -- a user that was made and isn't gone, and the segments of its file
@@ -47,7 +47,7 @@ pub record Sees (held : FileMap) (state : Machine) (id : ℕ) : Type 0 where
   pub holds : HoldsLoad held user.path segments
 
 -- what is seen of an ID: nothing where it has no user
-abbrev pub IsSeen : FileMap → Machine → ℕ → Option Seen → Type 0
+abbrev pub IsSeen : FileMap → Machine → ℕ → Option UserSeen → Type 0
 IsSeen held state id None = user_of state.users id ≡ None
 IsSeen held state id (Some seen) = (sees : Sees held state id) × (seen ≡ seen_of sees.user sees.segments)
 
@@ -57,8 +57,8 @@ Decides None state reply next done = done
 Decides (Some fault) state reply next done = (reply ≡ Refused fault) × (next ≡ state)
 
 -- a command on a user: it is refused by what is seen of the user, and else does this with it
-pub record Does (held : FileMap) (state : Machine) (id : ℕ) (refusal : Option Seen → Refuse) (reply : Reply) (next : Machine) (Done : User → Type 0) : Type 0 where
-  pub seen : Option Seen
+pub record Does (held : FileMap) (state : Machine) (id : ℕ) (refusal : Option UserSeen → Refuse) (reply : Reply) (next : Machine) (Done : User → Type 0) : Type 0 where
+  pub seen : Option UserSeen
   pub is_seen : IsSeen held state id seen
   pub is : Decides (refusal seen) state reply next ((user : User) × (user_of state.users id ≡ Some user) × Done user)
 
@@ -73,7 +73,7 @@ abbrev pub with_slots : Machine → Slots → Machine
 with_slots state slots = record state { slots = slots }
 
 -- the user with this held of the segment with a number
-abbrev pub with_segment : User → ℕ → Held → User
+abbrev pub with_segment : User → ℕ → HeldSegment → User
 with_segment user number held = record user { segments = slice_set user.segments (number - 1) held }
 
 -- the state with these slots and this user under an ID
@@ -92,19 +92,19 @@ abbrev pub let_go : Block → Block
 let_go block = if is_some block.at && block.locked then idle_block block else block
 
 -- the slots with a handle's block changed, where it is live
-abbrev pub changed : (Block → Block) → Slots → Handle → Slots
-changed change slots h = option_map_or (λ block. with_value slots h (change block)) (get slots h) slots
+abbrev pub with_block_changed : (Block → Block) → Slots → Handle → Slots
+with_block_changed change slots h = option_map_or (λ block. with_value slots h (change block)) (get slots h) slots
 
 -- the same of all that have a handle
 abbrev pub changed_all : (Block → Block) → Slots → List (Option Handle) → Slots
 changed_all change slots [] = slots
 changed_all change slots (None ∷ handles) = changed_all change slots handles
-changed_all change slots (Some h ∷ handles) = changed_all change (changed change slots h) handles
+changed_all change slots (Some h ∷ handles) = changed_all change (with_block_changed change slots h) handles
 
 -- the segment with a number becomes idle, if it has a handle
-abbrev pub idled : Slots → Option Handle → Slots
-idled slots None = slots
-idled slots (Some h) = changed idle_block slots h
+abbrev pub with_segment_idle : Slots → Option Handle → Slots
+with_segment_idle slots None = slots
+with_segment_idle slots (Some h) = with_block_changed idle_block slots h
 
 -- ---- placement of all static segments
 
@@ -120,21 +120,21 @@ IsPut Makes banks user slots wants (Lacks i) = IsPlaceAllRefusal Makes banks use
 IsPut Makes banks user slots wants (PutIn handles last) = (length wants ≤ count_by is_free slots) × PutsAll Makes banks user slots wants handles last
 
 -- what is held of segments whose static ones have these handles, in order
-abbrev pub spread : List Head → List Handle → List Held
-spread [] hs = []
-spread (head ∷ heads) [] = absent ∷ spread heads []
-spread (head ∷ heads) (h ∷ hs) = if is_static head then fresh (Some h) ∷ spread heads hs else absent ∷ spread heads (h ∷ hs)
+abbrev pub held_of_heads : List SegmentHead → List Handle → List HeldSegment
+held_of_heads [] hs = []
+held_of_heads (head ∷ heads) [] = absent ∷ held_of_heads heads []
+held_of_heads (head ∷ heads) (h ∷ hs) = if is_static head then fresh (Some h) ∷ held_of_heads heads hs else absent ∷ held_of_heads heads (h ∷ hs)
 
 -- where a user begins
-abbrev pub entry_of : ℕ → Slots → List Head → List (Option Handle) → Option ℕ
+abbrev pub entry_of : ℕ → Slots → List SegmentHead → List (Option Handle) → Option ℕ
 entry_of id slots heads handles = entry_in heads ((setting id slots handles).place) 1
 
 -- a running user whose static segments have these handles
-abbrev pub started_user : List ℕ → List Head → List Handle → User
-started_user path heads handles = record { path = path; life = Running; segments = spread heads handles; attached = [] }
+abbrev pub started_user : List ℕ → List SegmentHead → List Handle → User
+started_user path heads handles = record { path = path; life = Running; segments = held_of_heads heads handles; attached = [] }
 
 -- the static segments of a program are placed, and the users are these then
-abbrev pub Lands : Machine → List ℕ → ℕ → List Head → (User → List (Option User)) → Put → Reply → Machine → Type 0
+abbrev pub Lands : Machine → List ℕ → ℕ → List SegmentHead → (User → List (Option User)) → Put → Reply → Machine → Type 0
 Lands state path id heads users NoSlots reply next = (reply ≡ Refused NoHandle) × (next ≡ state)
 Lands state path id heads users (Lacks i) reply next = (reply ≡ Refused (NoRoom (number_of 1 heads i))) × (next ≡ state)
 Lands state path id heads users (PutIn handles slots) reply next =
@@ -151,7 +151,7 @@ pub record Begins (Makes : MakesRoom) (state : Machine) (slots : Slots) (path : 
 -- ---- load
 
 -- a running user that is attached to another: none of its segments is there
-abbrev pub joined_user : List ℕ → List Head → User
+abbrev pub joined_user : List ℕ → List SegmentHead → User
 joined_user path heads = record { path = path; life = Running; segments = map (λ head. absent) heads; attached = [] }
 
 -- the same for each row
@@ -162,21 +162,21 @@ joined_users (path ∷ paths) (segments ∷ all) = Some (joined_user path (map h
 
 -- an entry for file 1 leads into the user's own file; one for another leads to a segment of that attached user, of which these are
 -- the headers, and to an offset below its LENGTH
-abbrev pub is_reached : List (List Head) → Target → Bool
+abbrev pub is_reached : List (List SegmentHead) → Target → Bool
 is_reached attached t = nat_le t.file 1 || option_map_or (λ heads. option_map_or (λ head. nat_lt t.offset head.length) (at_number heads t.segment) false)
     (slice_get attached (t.file - 2)) false
 
 -- the first entry that leads nowhere, where the first has this place
-abbrev pub lost_from : List (List Head) → ℕ → List Target → Option ℕ
+abbrev pub lost_from : List (List SegmentHead) → ℕ → List Target → Option ℕ
 lost_from attached k [] = None
 lost_from attached k (t ∷ targets) = if is_reached attached t then lost_from attached (k + 1) targets else Some k
 
 -- and the fault that it is: in the table, at the entry
-abbrev pub lost_in : List (List Head) → List Segment → ℕ → Option LoadFault
+abbrev pub lost_in : List (List SegmentHead) → List Segment → ℕ → Option LoadFault
 lost_in attached segments number = option_and_then (λ s. option_map (λ k. record { cause = cause.NoSuchTarget; segment = number; at = entry_start k })
     (lost_from attached 0 (targets_of s))) (segment_at segments number)
 
-unfoldable pub lost_refusal : List (List Head) → List Segment → Refuse
+unfoldable pub lost_refusal : List (List SegmentHead) → List Segment → Refuse
 lost_refusal attached segments = option_map BadFile (option_and_then (lost_in attached segments) (table_of segments))
 
 -- the users where one more begins, and one for each row behind it, attached to it
@@ -191,7 +191,7 @@ LoadsJoined Makes state path segments (Joins all) reply next = Decides (lost_ref
     (Begins Makes state state.slots path (first_id + length state.users) segments (begun_users state (paths_of segments) all) reply next)
 
 -- by what the read of the path finds
-abbrev pub LoadsFound : MakesRoom → FileMap → Machine → List ℕ → Found → Reply → Machine → Type 0
+abbrev pub LoadsFound : MakesRoom → FileMap → Machine → List ℕ → FileFound → Reply → Machine → Type 0
 LoadsFound Makes held state path Unread reply next = (reply ≡ Refused CannotRead) × (next ≡ state)
 LoadsFound Makes held state path (Bad fault) reply next = (reply ≡ Refused (BadFile fault)) × (next ≡ state)
 LoadsFound Makes held state path (Good segments) reply next =
@@ -200,33 +200,33 @@ LoadsFound Makes held state path (Good segments) reply next =
 
 abbrev pub StepsLoad : MakesRoom → FileMap → Machine → List ℕ → Reply → Machine → Type 0
 StepsLoad Makes held state path reply next = Decides (load_refusal (length state.users)) state reply next
-    ((found : Found) × IsFound held path found × LoadsFound Makes held state path found reply next)
+    ((found : FileFound) × IsFound held path found × LoadsFound Makes held state path found reply next)
 
 -- ---- activation
 
 -- what comes of making a dynamic segment active: no slot, no room, or its address and the next state
-pub data Outcome : Type 0 where
-  OutOfSlots : Outcome
-  OutOfRoom : Outcome
-  Made : (address : ℕ) (next : Machine) → Outcome
+pub data Activation : Type 0 where
+  OutOfSlots : Activation
+  OutOfRoom : Activation
+  Made : (address : ℕ) (next : Machine) → Activation
 
 -- an active segment stays
-abbrev pub StaysActive : Machine → ℕ → Outcome → Type 0
+abbrev pub StaysActive : Machine → ℕ → Activation → Type 0
 StaysActive state address outcome = outcome ≡ Made address state
 
 -- an idle one is locked with level 0, and keeps its pokes
-abbrev pub Wakes : Machine → Handle → ℕ → Outcome → Type 0
-Wakes state h address outcome = outcome ≡ Made address (with_slots state (changed active_block state.slots h))
+abbrev pub Wakes : Machine → Handle → ℕ → Activation → Type 0
+Wakes state h address outcome = outcome ≡ Made address (with_slots state (with_block_changed active_block state.slots h))
 
 -- a purged one is read again and placed under its old handle
-abbrev pub ComesAnew : MakesRoom → Machine → ℕ → User → ℕ → Want → Handle → Outcome → Type 0
+abbrev pub ComesAnew : MakesRoom → Machine → ℕ → User → ℕ → Want → Handle → Activation → Type 0
 ComesAnew Makes state id user number want h OutOfSlots = ⊥
 ComesAnew Makes state id user number want h OutOfRoom = LacksRoom Makes state.banks state.slots want
 ComesAnew Makes state id user number want h (Made address next) = (slots : Slots) × (puts : PutsAnew Makes state.banks state.slots h want slots)
-    × (puts.address ≡ address) × (next ≡ with_both state id (changed active_block slots h) (Some (with_segment user number (fresh (Some h)))))
+    × (puts.address ≡ address) × (next ≡ with_both state id (with_block_changed active_block slots h) (Some (with_segment user number (fresh (Some h)))))
 
 -- an absent one is read and placed under a new handle
-abbrev pub ComesFirst : MakesRoom → Machine → ℕ → User → ℕ → Want → Outcome → Type 0
+abbrev pub ComesFirst : MakesRoom → Machine → ℕ → User → ℕ → Want → Activation → Type 0
 ComesFirst Makes state id user number want OutOfSlots = new_handle state.slots ≡ None
 ComesFirst Makes state id user number want OutOfRoom = IsSome (new_handle state.slots) × LacksRoom Makes state.banks state.slots want
 ComesFirst Makes state id user number want (Made address next) = (h : Handle) × (slots : Slots)
@@ -234,14 +234,14 @@ ComesFirst Makes state id user number want (Made address next) = (h : Handle) ×
     × (puts.address ≡ address) × (next ≡ with_both state id slots (Some (with_segment user number (fresh (Some h)))))
 
 -- a segment of a user is made active
-abbrev pub Activates : MakesRoom → Machine → ℕ → User → ℕ → Want → Presence → Outcome → Type 0
+abbrev pub Activates : MakesRoom → Machine → ℕ → User → ℕ → Want → Presence → Activation → Type 0
 Activates Makes state id user number want (Active h address) outcome = StaysActive state address outcome
 Activates Makes state id user number want (Idle h address) outcome = Wakes state h address outcome
 Activates Makes state id user number want (Purged h) outcome = ComesAnew Makes state id user number want h outcome
 Activates Makes state id user number want Absent outcome = ComesFirst Makes state id user number want outcome
 
 -- the reply of an outcome, where that of a segment at an address is this
-abbrev pub Answers : Machine → ℕ → Outcome → (ℕ → Reply) → Reply → Machine → Type 0
+abbrev pub Answers : Machine → ℕ → Activation → (ℕ → Reply) → Reply → Machine → Type 0
 Answers state number OutOfSlots of reply next = (reply ≡ Refused NoHandle) × (next ≡ state)
 Answers state number OutOfRoom of reply next = (reply ≡ Refused (NoRoom number)) × (next ≡ state)
 Answers state number (Made address last) of reply next = (reply ≡ of address) × (next ≡ last)
@@ -251,14 +251,14 @@ pub record MakesActive (Makes : MakesRoom) (held : FileMap) (state : Machine) (i
   pub sees : Sees held state id
   pub s : Segment
   pub is : segment_at sees.segments number ≡ Some s
-  pub outcome : Outcome
+  pub outcome : Activation
   pub activates : Activates Makes state id sees.user number (want_of (head_of s)) (presence_at state.slots (handles_of sees.user) number) outcome
   pub answers : Answers state number outcome of reply next
 
 -- ---- what stands in a user's segment
 
 -- where the segments of the user of an ID are, and where those that its table names
-abbrev pub setting_in : Machine → ℕ → User → Setting
+abbrev pub setting_in : Machine → ℕ → User → AddressSetting
 setting_in state id user = setting_with (far_of state.slots (outlines state.users) id) id state.slots (handles_of user)
 
 pub record StandsIn (held : FileMap) (state : Machine) (id number : ℕ) (bytes : List ℕ) : Type 0 where
@@ -281,15 +281,15 @@ pub record IsAt (held : FileMap) (state : Machine) (address id number offset : �
   pub sum : first + offset ≡ address
   pub inside : offset < s.fields.length
 
-pub data Place : Type 0 where
-  Nowhere : Place
-  In : (id number offset : ℕ) → Place
+pub data AddressPlace : Type 0 where
+  Nowhere : AddressPlace
+  In : (id number offset : ℕ) → AddressPlace
 
-abbrev pub IsLocated : FileMap → Machine → ℕ → Place → Type 0
+abbrev pub IsLocated : FileMap → Machine → ℕ → AddressPlace → Type 0
 IsLocated held state address Nowhere = (id number offset : ℕ) → ¬ IsAt held state address id number offset
 IsLocated held state address (In id number offset) = IsAt held state address id number offset
 
-abbrev pub place_reply : Place → Reply
+abbrev pub place_reply : AddressPlace → Reply
 place_reply Nowhere = Nothing
 place_reply (In id number offset) = Lies id number offset
 
@@ -312,7 +312,7 @@ EntersSegment Makes held state address id number offset s reply next = Either (i
     (EntersEntry Makes held state id (target_at_code (targets_of s) 0 offset) reply next)
     ((reply ≡ Entered id number offset address) × (next ≡ state))
 
-abbrev pub Enters : MakesRoom → FileMap → Machine → ℕ → Place → Reply → Machine → Type 0
+abbrev pub Enters : MakesRoom → FileMap → Machine → ℕ → AddressPlace → Reply → Machine → Type 0
 Enters Makes held state address Nowhere reply next = (reply ≡ Refused NoTarget) × (next ≡ state)
 Enters Makes held state address (In id number offset) reply next = (sees : Sees held state id) × (s : Segment)
     × (segment_at sees.segments number ≡ Some s) × EntersSegment Makes held state address id number offset s reply next
@@ -330,7 +330,7 @@ pub record StepsJsl (Makes : MakesRoom) (held : FileMap) (state : Machine) (id n
   pub bytes : List ℕ
   pub stands : StandsIn held state id number bytes
   pub is : let four = take 4 (drop at bytes) in Decides (no_jsl four) state reply next
-      ((place : Place) × IsLocated held state (address_of four) place × Enters Makes held state (address_of four) place reply next)
+      ((place : AddressPlace) × IsLocated held state (address_of four) place × Enters Makes held state (address_of four) place reply next)
 
 -- ---- shutdown and restart
 
@@ -339,7 +339,7 @@ abbrev pub kept_state : Machine → ℕ → User → Machine
 kept_state state id user = record {
   banks = state.banks;
   slots = changed_all let_go state.slots (handles_of_all (outlines state.users) (family id user.attached));
-  users = with_all rests state.users (family id user.attached);
+  users = with_all dormant_user state.users (family id user.attached);
 }
 
 -- the slots once all handles of these users were released
@@ -360,29 +360,29 @@ StepsShutDown state id true user next = next ≡ kept_state state id user
 StepsShutDown state id false user next = next ≡ dropped_state state id user
 
 -- every static segment is there
-abbrev pub are_there : Slots → List Head → List (Option Handle) → ℕ → Bool
+abbrev pub are_there : Slots → List SegmentHead → List (Option Handle) → ℕ → Bool
 are_there slots [] handles number = true
 are_there slots (head ∷ heads) handles number =
     (if is_static head then is_there (presence_at slots handles number) else true) && are_there slots heads handles (number + 1)
 
 -- the handles of the static segments, where the first segment has this number
-abbrev pub static_handles : List Head → List (Option Handle) → ℕ → List (Option Handle)
+abbrev pub static_handles : List SegmentHead → List (Option Handle) → ℕ → List (Option Handle)
 static_handles [] handles number = []
 static_handles (head ∷ heads) handles number =
     if is_static head then handle_at handles number ∷ static_handles heads handles (number + 1) else static_handles heads handles (number + 1)
 
 -- a static segment that is read again at each restart
-abbrev pub is_read_again : Head → Bool
+abbrev pub is_read_again : SegmentHead → Bool
 is_read_again head = is_static head && is_reload head.kind
 
 -- what is held of segments once those that are read again have no pokes
-abbrev pub read_again : List Head → List Held → List Held
+abbrev pub read_again : List SegmentHead → List HeldSegment → List HeldSegment
 read_again [] held = held
 read_again (head ∷ heads) [] = []
 read_again (head ∷ heads) (one ∷ held) = (if is_read_again head then fresh one.handle else one) ∷ read_again heads held
 
 -- in place: the static segments become active, and those with the reload attribute lose their pokes
-abbrev pub RestartsInPlace : Machine → ℕ → User → List Head → Reply → Machine → Type 0
+abbrev pub RestartsInPlace : Machine → ℕ → User → List SegmentHead → Reply → Machine → Type 0
 RestartsInPlace state id user heads reply next =
     let slots = changed_all active_block state.slots (static_handles heads (handles_of user) 1) in
     (reply ≡ Started id (entry_of id slots heads (handles_of user)))
@@ -416,7 +416,7 @@ pub data StepsAlloc (Makes : MakesRoom) (state : Machine) (want : Want) (locked 
 -- the handle's block is changed
 abbrev pub StepsChange : Machine → Handle → (Block → Block) → Reply → Machine → Type 0
 StepsChange state h change reply next = Decides (change_refusal state.slots h) state reply next
-    ((reply ≡ Okay) × (next ≡ with_slots state (changed change state.slots h)))
+    ((reply ≡ Okay) × (next ≡ with_slots state (with_block_changed change state.slots h)))
 
 -- ---- all commands
 
@@ -427,14 +427,14 @@ Steps Makes held state (Load path) reply next = StepsLoad Makes held state path 
 Steps Makes held state (LoadSegment id number) reply next = Does held state id (λ seen. load_segment_refusal seen number) reply next
     (λ user. MakesActive Makes held state id number (MadeActive number) reply next)
 Steps Makes held state (UnloadSegment id number) reply next = Does held state id (λ seen. unload_refusal state.slots seen number) reply next
-    (λ user. (reply ≡ Okay) × (next ≡ with_slots state (idled state.slots (handle_at (handles_of user) number))))
+    (λ user. (reply ≡ Okay) × (next ≡ with_slots state (with_segment_idle state.slots (handle_at (handles_of user) number))))
 Steps Makes held state (Jsl id number at) reply next = Does held state id (λ seen. bytes_refusal state.slots seen number at 4) reply next
     (λ user. StepsJsl Makes held state id number at reply next)
 Steps Makes held state (ShutDown id keep) reply next = Does held state id (λ seen. shut_down_refusal (is_attached (outlines state.users) id) seen keep) reply next
     (λ user. (reply ≡ Okay) × StepsShutDown state id keep user next)
 Steps Makes held state (Restart id) reply next = Does held state id (λ seen. restart_refusal (is_attached (outlines state.users) id) seen) reply next
     (λ user. StepsRestart Makes held state id reply next)
-Steps Makes held state (Purge id) reply next = (seen : Option Seen) × IsSeen held state id seen × Decides (purge_refusal seen id) state reply next
+Steps Makes held state (Purge id) reply next = (seen : Option UserSeen) × IsSeen held state id seen × Decides (purge_refusal seen id) state reply next
     ((reply ≡ Counted (count_by (λ slot. option_map_or (can_purge_of id) (block_in slot) false) state.slots))
     × (next ≡ with_slots state (map (emptied_where (can_purge_of id)) state.slots)))
 Steps Makes held state (Poke id number at byte) reply next = Does held state id (λ seen. poke_refusal state.slots seen number at) reply next
@@ -442,7 +442,7 @@ Steps Makes held state (Poke id number at byte) reply next = Does held state id 
     (reply ≡ Okay) × (next ≡ with_both state id state.slots (Some (with_segment user number (record was { pokes = insert was.pokes at byte })))))
 Steps Makes held state (Bytes id number at count) reply next = Does held state id (λ seen. bytes_refusal state.slots seen number at count) reply next
     (λ user. (bytes : List ℕ) × StandsIn held state id number bytes × (reply ≡ Shown (take count (drop at bytes))) × (next ≡ state))
-Steps Makes held state (Where address) reply next = (place : Place) × IsLocated held state address place × (reply ≡ place_reply place) × (next ≡ state)
+Steps Makes held state (Where address) reply next = (place : AddressPlace) × IsLocated held state address place × (reply ≡ place_reply place) × (next ≡ state)
 Steps Makes held state (Info id number) reply next = Does held state id (λ seen. info_refusal seen number) reply next
     (λ user. (sees : Sees held state id) × (s : Segment) × (segment_at sees.segments number ≡ Some s)
     × (reply ≡ SegmentIs (presence_at state.slots (handles_of user) number) s.fields.length s.fields.kind) × (next ≡ state))

@@ -8,4 +8,4 @@ mod seen;
 
 pub use faults::LoaderFault;
 pub use script::{CommandName, ScriptCause, ScriptFault};
-pub use seen::{Facts, Head, Life, Presence};
+pub use seen::{Facts, Life, Presence, SegmentHead};

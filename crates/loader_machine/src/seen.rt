@@ -4,7 +4,7 @@ use iigs_meaning::Handle;
 
 /// What is kept of a segment's header.
 #[derive(Clone, Copy, PartialEq, Eq, Debug)]
-pub struct Head {
+pub struct SegmentHead {
     pub length: u32,
     /// KIND as it stands in the file.
     pub kind: u16,

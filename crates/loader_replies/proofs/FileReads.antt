@@ -1,7 +1,7 @@
 -- A command that may read files: what it reads, its answer and its line.
 use Rattle.std.proofs.Common.{◌≡◌, ◌≢◌, inl, inr, ℕ, true, false, ◌≤◌, List, [], ◌∷◌, length, Bool, Option, Some, None, Result, Ok, Err, refl, sym, ap, subst, arith}
 use Rattle.std.specs.Prelude.{IfOk}
-use Rattle.omf_io.specs.Counts.{one_more, risen}
+use Rattle.omf_io.specs.Counts.{one_more, saturating_sum}
 use Rattle.omf_io.specs.Files.{FileMap, StoreSeen, IsUnread}
 use Rattle.omf_base.specs.declared.line.LineFault.{LineFault}
 use Rattle.loader_machine.specs.Rule.{RoomRule}
@@ -40,7 +40,7 @@ unread_once (Some files) path before now (inr (inr rose)) = inr rose
 
 -- a count stays, or is one more
 abbrev Counted : Reply → ℕ → ℕ → Type 0
-Counted reply before now = now ≡ risen (unread (reply ∷ [])) before
+Counted reply before now = now ≡ saturating_sum (unread (reply ∷ [])) before
 
 -- ---- reads that fail
 
@@ -91,7 +91,7 @@ module _ (command : Command) (most : ℕ) (old new : Loaded) (before now : Store
   -- over files that are told: the machine's reply, or `cannot read`
   told_answer : (files : FileMap) (state : Machine) (reply : Reply) → reply ≢ commands.Refused faults.Memory → MeetsReads RoomRule files state command reply new before now
       → (others : ℕ) × (reads : ℕ) × (next : Machine) × IsAnswered files state command reply others next × IsReadFor files state command others reads × Agrees files new next
-      × (now.faults ≡ risen others before.faults) × (now.asked ≡ risen reads before.asked)
+      × (now.faults ≡ saturating_sum others before.faults) × (now.asked ≡ saturating_sum reads before.asked)
   told_answer files state reply other (inl (met, same, reads)) = (0, reads.0, met.0, inl (met.1, refl), reads.1, met.2, same, reads.2)
   told_answer files state reply other (inr (inl (is, paths, needs, some, agrees, rose, reads))) = (1, reads.0, state, inr (is, paths, needs, some, refl, refl), reads.1, agrees, rose, reads.2)
   told_answer files state reply other (inr (inr short)) = absurd (other short.0)
@@ -100,7 +100,7 @@ module _ (command : Command) (most : ℕ) (old new : Loaded) (before now : Store
   abbrev Meets' : Reply → Type 0
   Meets' reply = (files : FileMap) (state : Machine) → before.held ≡ Some files → Agrees files old state → MeetsReads RoomRule files state command reply new before now
 
-  pub read_answer : (reply : Reply) (n : ℕ) → n ≤ most → MayRead command reply n → now.asked ≡ risen n before.asked → OnceAtMost before.faults now.faults → reply ≢ commands.Refused faults.Memory
+  pub read_answer : (reply : Reply) (n : ℕ) → n ≤ most → MayRead command reply n → now.asked ≡ saturating_sum n before.asked → OnceAtMost before.faults now.faults → reply ≢ commands.Refused faults.Memory
       → (before.held ≡ None → Counted reply before.faults now.faults) → Meets' reply → IsAnswer command old reply new before now
   read_answer reply n few may is faults_once other untold meets = record {
     told = go before.held refl;
@@ -114,7 +114,7 @@ module _ (command : Command) (most : ℕ) (old new : Loaded) (before now : Store
 
   -- its line, or none
   pub read_line : (line : Result (List ℕ) LineFault) (reply : Reply) (n : ℕ) → n ≤ most → IfOk line (λ text. (reply ≢ commands.Refused faults.Memory) × (text ≡ reply_line reply))
-      → MayRead command reply n → now.asked ≡ risen n before.asked → OnceAtMost before.faults now.faults
+      → MayRead command reply n → now.asked ≡ saturating_sum n before.asked → OnceAtMost before.faults now.faults
       → (before.held ≡ None → Counted reply before.faults now.faults) → Meets' reply → HasLine line command old new before now
   read_line (Ok text) reply n few is may asked faults_once untold meets = (reply, read_answer reply n few may asked faults_once is.0 untold meets, is.1)
   read_line (Err short) reply n few is may asked faults_once untold meets = as_unanswered (n, few, asked, faults_once, store_is)

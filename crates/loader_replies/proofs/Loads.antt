@@ -2,7 +2,7 @@
 use Rattle.std.proofs.Common.{◌≡◌, ◌≢◌, inl, inr, ℕ, suc, Bool, false, ◌+◌, ◌≤◌, List, [], ◌∷◌, length, map, Option, Some, Result, Ok, Err, refl, sym, ap, subst, arith}
 use Rattle.std.specs.Prelude.{IfOk}
 use Rattle.omf_format.specs.File.{Segment}
-use Rattle.omf_io.specs.Counts.{risen}
+use Rattle.omf_io.specs.Counts.{saturating_sum}
 use Rattle.omf_io.specs.Files.{FileMap, StoreSeen}
 use Rattle.omf_base.specs.declared.line.LineFault.{LineFault}
 use Rattle.load_meaning.specs.Pathnames.{paths_of}
@@ -104,7 +104,7 @@ module _ (old new : Loaded) (path : List ℕ) (before now : StoreSeen) (held : n
   Meets' reply = (files : FileMap) (state : Machine) → before.held ≡ Some files → Agrees files old state → MeetsReads RoomRule files state (Load path) reply new before now
 
   abbrev Loads : Result Started LoaderFault → Type 0
-  Loads result = (reads : ℕ) × HasLoaded before.held old path result new before.faults now.faults reads × (now.asked ≡ risen reads before.asked)
+  Loads result = (reads : ℕ) × HasLoaded before.held old path result new before.faults now.faults reads × (now.asked ≡ saturating_sum reads before.asked)
 
   -- a load that gave a program
   pub load_started : (line : Result (List ℕ) LineFault) (started : Started) → IfOk line (λ text. text ≡ reply_line (load_reply (Ok started))) → Loads (Ok started) → Meets' (load_reply (Ok started))

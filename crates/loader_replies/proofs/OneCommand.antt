@@ -2,7 +2,7 @@
 use Rattle.std.proofs.Common.{◌≡◌, ◌≢◌, inl, ℕ, true, false, List, [], ◌∷◌, Bool, Option, Some, None, Result, Ok, Err, refl, sym, subst, ◌∙◌}
 use Rattle.std.specs.Prelude.{IsSome, IsSomeAnd, IfOk, OnErr}
 use Rattle.std.proofs.lemmas.Option.{same_Some}
-use Rattle.omf_io.specs.Counts.{risen, ToldOr}
+use Rattle.omf_io.specs.Counts.{saturating_sum, ToldOr}
 use Rattle.omf_io.specs.Files.{FileMap, StoreSeen}
 use Rattle.omf_io.specs.Outside.{Outside}
 use Rattle.omf_base.specs.declared.line.LineFault.{LineFault}
@@ -23,31 +23,31 @@ use Rattle.loader_machine.specs.Transcript.{IsAnswered}
 use Rattle.loader_machine.specs.Replies.{reply_line}
 use Rattle.loader_agrees.specs.laws.Begun.{puts_here}
 use Rattle.loader_agrees.specs.Agrees.{Loaded, Agrees, Met, MetAlloc}
-use Rattle.loader_replies.specs.declared.command.Stop.{Stop}
-use Rattle.loader_replies.specs.declared.command.Stop.TheVariants as stop
+use Rattle.loader_replies.specs.declared.command.ReplyStop.{ReplyStop}
+use Rattle.loader_replies.specs.declared.command.ReplyStop.TheVariants as stop
 use Rattle.loader_replies.specs.Replied.{is_unread, unread, MayRead, IsUnanswered}
 use Rattle.loader_replies.specs.Answered.{HasPrinted, IsLineOf, HasLine, IsAnswer, HasAnswered}
 
 -- ---- one command
 
 -- a line was printed, or there was none
-pub answered : (result : Result (Unit {0}) Stop) (command : Command) (old new : Loaded) (reply : Reply) (o : Outside) → IsAnswer command old reply new o.store o.new_store
+pub answered : (result : Result (Unit {0}) ReplyStop) (command : Command) (old new : Loaded) (reply : Reply) (o : Outside) → IsAnswer command old reply new o.store o.new_store
     → HasPrinted result (reply_line reply) o.sink o.new_sink → HasAnswered result command old new o
 answered (Ok done) command old new reply o answer printed = (reply, answer, printed)
 answered (Err stop.CannotPrint) command old new reply o answer printed = (reply, answer, printed)
 answered (Err stop.Memory) command old new reply o answer printed = (answer.unanswered, printed)
 
-pub line_answered : (line : Result (List ℕ) LineFault) (result : Result (Unit {0}) Stop) (command : Command) (old new : Loaded) (o : Outside) → HasLine line command old new o.store o.new_store
+pub line_answered : (line : Result (List ℕ) LineFault) (result : Result (Unit {0}) ReplyStop) (command : Command) (old new : Loaded) (o : Outside) → HasLine line command old new o.store o.new_store
     → ((text : List ℕ) → IfOk line (λ made. made ≡ text) → HasPrinted result text o.sink o.new_sink) → OnErr line ((result ≡ Err stop.Memory) × (o.new_sink ≡ o.sink)) → HasAnswered result command old new o
 line_answered (Ok text) result command old new o has printed short = answered result command old new has.0 o has.1 (printed (reply_line has.0) has.2)
-line_answered (Err fault) result command old new o has printed short = subst (λ (r : Result (Unit {0}) Stop). HasAnswered r command old new o) (sym short.0) (has, short.1)
+line_answered (Err fault) result command old new o has printed short = subst (λ (r : Result (Unit {0}) ReplyStop). HasAnswered r command old new o) (sym short.0) (has, short.1)
 
 -- what is told of an answer, where the files are
 abbrev pub OneTold : Command → Reply → Loaded → Loaded → StoreSeen → StoreSeen → Option FileMap → Type 0
 OneTold command reply old new before now held = ToldOr held
-    ((reads : ℕ) × MayRead command reply reads × (now.faults ≡ risen (unread (reply ∷ [])) before.faults) × (now.asked ≡ risen reads before.asked))
+    ((reads : ℕ) × MayRead command reply reads × (now.faults ≡ saturating_sum (unread (reply ∷ [])) before.faults) × (now.asked ≡ saturating_sum reads before.asked))
     (λ files. (state : Machine) → Agrees files old state → (others : ℕ) × (reads : ℕ) × (next : Machine) × IsAnswered files state command reply others next
-    × IsReadFor files state command others reads × Agrees files new next × (now.faults ≡ risen others before.faults) × (now.asked ≡ risen reads before.asked))
+    × IsReadFor files state command others reads × Agrees files new next × (now.faults ≡ saturating_sum others before.faults) × (now.asked ≡ saturating_sum reads before.asked))
 
 -- ---- commands that read no file
 

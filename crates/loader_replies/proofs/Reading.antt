@@ -3,7 +3,7 @@ use Rattle.std.proofs.Common.{◌≡◌, ◌≢◌, inl, inr, ℕ, Bool, true, f
 use Rattle.std.specs.Prelude.{◌==◌, slice_index, IfOk}
 use Rattle.std.specs.Option.{option_map, option_and_then}
 use Rattle.std.proofs.lemmas.Option.{same_Some}
-use Rattle.omf_io.specs.Counts.{one_more, risen}
+use Rattle.omf_io.specs.Counts.{one_more, saturating_sum}
 use Rattle.omf_io.specs.Files.{FileMap, StoreSeen, IsUnread}
 use Rattle.omf_base.specs.declared.line.LineFault.{LineFault}
 use Rattle.omf_format.specs.File.{Segment}
@@ -14,7 +14,7 @@ use Rattle.loader_machine.specs.Rule.{RoomRule}
 use Rattle.iigs_meaning.specs.Memory.{Memory}
 use Rattle.loader_machine.specs.declared.faults.LoaderFault.{LoaderFault}
 use Rattle.loader_machine.specs.declared.faults.LoaderFault.TheVariants as faults
-use Rattle.loader_machine.specs.declared.seen.Head.{Head}
+use Rattle.loader_machine.specs.declared.seen.SegmentHead.{SegmentHead}
 use Rattle.loader_machine.specs.declared.seen.Presence.{Presence}
 use Rattle.loader_machine.specs.declared.seen.Presence.TheVariants.{Absent, Purged, Idle, Active}
 use Rattle.loader_machine.specs.Heads.{head_of}
@@ -26,7 +26,7 @@ use Rattle.loader_machine.specs.Refusals.{Refuse, load_segment_refusal, restart_
 use Rattle.loader_machine.specs.Steps.{lost_in, lost_refusal}
 use Rattle.loader_machine.specs.Needs.{NeedsBehind}
 use Rattle.loader_machine.specs.Replies.{reply_line}
-use Rattle.loader_agrees.specs.Agrees.{Kept, Loaded, kept_outlines, seen_by, Agrees, Meets, MeetsReads, ReadsNeeded}
+use Rattle.loader_agrees.specs.Agrees.{LoadedUser, Loaded, kept_outlines, seen_by, Agrees, Meets, MeetsReads, ReadsNeeded}
 use Rattle.sys_loader.specs.declared.answers.Started.{Started}
 use Rattle.sys_loader.specs.declared.answers.Entered.{Entered}
 use Rattle.loader_users.specs.Taken.{IsBadFile}
@@ -52,7 +52,7 @@ unread_of why = unread (commands.Refused why ∷ [])
 -- a call that succeeds leaves it, and one that is refused raises it once at most: over files that aren't told where they couldn't be read
 abbrev pub IsFaulted : {A : Type 0} → Option FileMap → Result A LoaderFault → ℕ → ℕ → Type 0
 IsFaulted held (Ok it) before now = now ≡ before
-IsFaulted held (Err why) before now = OnceAtMost before now × (held ≡ None → now ≡ risen (unread_of why) before)
+IsFaulted held (Err why) before now = OnceAtMost before now × (held ≡ None → now ≡ saturating_sum (unread_of why) before)
 
 -- another refusal leaves it
 pub other_fault : (A : Type 0) (held : Option FileMap) (why : LoaderFault) (before now : ℕ) → is_unread_fault why ≡ false → now ≡ before → IsFaulted {A = A} held (Err why) before now
@@ -60,7 +60,7 @@ other_fault A held why before now safe same = (inl same, λ none. rw safe same)
 
 pub unread_fault : (A : Type 0) (held : Option FileMap) (path : List ℕ) (why : LoaderFault) (before now : ℕ) → why ≡ faults.CannotRead → IsUnread held path before now → IsFaulted {A = A} held (Err why) before now
 unread_fault A held path why before now is cause =
-    (unread_once held path before now cause, λ none. unread_untold held path before now none cause ∙ ap (λ (f : LoaderFault). risen (unread_of f) before) (sym is))
+    (unread_once held path before now cause, λ none. unread_untold held path before now none cause ∙ ap (λ (f : LoaderFault). saturating_sum (unread_of f) before) (sym is))
 
 bad_safe : (attached : Bool) (file : List ℕ) (why : LoaderFault) → IsBadFile attached file why → is_unread_fault why ≡ false
 bad_safe attached file why (inl short) = ap is_unread_fault short
@@ -71,7 +71,7 @@ abbrev pub IsOther : LoaderFault → Type 0
 IsOther why = (is_unread_fault why ≡ false) × (is_full_fault why ≡ false)
 
 -- an entry that leads nowhere
-pub lost_safe : (attached : List (List Head)) (segments : List Segment) (why : LoaderFault) → lost_refusal attached segments ≡ Some why → IsOther why
+pub lost_safe : (attached : List (List SegmentHead)) (segments : List Segment) (why : LoaderFault) → lost_refusal attached segments ≡ Some why → IsOther why
 unfolding lost_refusal
 lost_safe attached segments why is = go (option_and_then (lost_in attached segments) (table_of segments)) is
   where
@@ -79,20 +79,20 @@ lost_safe attached segments why is = go (option_and_then (lost_in attached segme
     go None e = absurd cc
     go (Some bad) e = subst IsOther (same_Some (faults.BadFile bad) why e) (refl, refl)
 
-pub begin_safe : (memory : Memory) (id : ℕ) (heads : List Head) (why : LoaderFault) → IsBeginRefusal memory id heads why → IsOther why
+pub begin_safe : (memory : Memory) (id : ℕ) (heads : List SegmentHead) (why : LoaderFault) → IsBeginRefusal memory id heads why → IsOther why
 begin_safe memory id heads why (inl full) = subst IsOther (sym full.0) (refl, refl)
 begin_safe memory id heads why (inr room) = subst IsOther (sym room.1) (refl, refl)
 
-changed_safe : (kept found : List Head) (why : LoaderFault) → IsChanged kept found why → is_unread_fault why ≡ false
+changed_safe : (kept found : List SegmentHead) (why : LoaderFault) → IsChanged kept found why → is_unread_fault why ≡ false
 changed_safe kept found why (inl differs) = ap is_unread_fault differs.4
 changed_safe kept found why (inr count) = ap is_unread_fault count.2
 
-bring_safe : (memory : Memory) (head : Head) (handle : Option Handle) (number : ℕ) (why : LoaderFault) → IsBringRefusal memory head handle number why → is_unread_fault why ≡ false
+bring_safe : (memory : Memory) (head : SegmentHead) (handle : Option Handle) (number : ℕ) (why : LoaderFault) → IsBringRefusal memory head handle number why → is_unread_fault why ≡ false
 bring_safe memory head None number why (inl full) = ap is_unread_fault full.0
 bring_safe memory head None number why (inr room) = ap is_unread_fault room.0
 bring_safe memory head (Some h) number why room = ap is_unread_fault room.0
 
-come_safe : (file : List ℕ) (old : Loaded) (id number : ℕ) (kept : Kept) (head : Head) (handle : Option Handle) (why : LoaderFault) → IsComeRefusal file old id number kept head handle why → is_unread_fault why ≡ false
+come_safe : (file : List ℕ) (old : Loaded) (id number : ℕ) (kept : LoadedUser) (head : SegmentHead) (handle : Option Handle) (why : LoaderFault) → IsComeRefusal file old id number kept head handle why → is_unread_fault why ≡ false
 come_safe file old id number kept head handle why (inl bad) = bad_safe (is_attached (kept_outlines old.users) id) file why bad
 come_safe file old id number kept head handle why (inr (segments, loadable, inl changes)) = changed_safe kept.heads (map head_of segments) why changes
 come_safe file old id number kept head handle why (inr (segments, loadable, inr none)) = bring_safe old.memory head handle number why none.1
@@ -100,16 +100,16 @@ come_safe file old id number kept head handle why (inr (segments, loadable, inr 
 -- ---- a segment that is made active
 
 module _ (held : Option FileMap) (old : Loaded) (id number : ℕ) (new : Loaded) (before now : ℕ) where
-  read_faults : (kept : Kept) (head : Head) (handle : Option Handle) (why : LoaderFault) → IsReadRefusal held old id number kept head handle before now why → IsFaulted {A = ℕ} held (Err why) before now
+  read_faults : (kept : LoadedUser) (head : SegmentHead) (handle : Option Handle) (why : LoaderFault) → IsReadRefusal held old id number kept head handle before now why → IsFaulted {A = ℕ} held (Err why) before now
   read_faults kept head handle why (CantRead cause is) = unread_fault ℕ held kept.path why before now is cause
   read_faults kept head handle why (LacksMemory is same) = other_fault ℕ held why before now (ap is_unread_fault is) same
   read_faults kept head handle why (CantCome file is_read none same) = other_fault ℕ held why before now (come_safe file old id number kept head handle why none) same
 
-  come_faults : (kept : Kept) (head : Head) (handle : Option Handle) (result : Result ℕ LoaderFault) → DidCome held old id number kept head handle result new before now → IsFaulted held result before now
+  come_faults : (kept : LoadedUser) (head : SegmentHead) (handle : Option Handle) (result : Result ℕ LoaderFault) → DidCome held old id number kept head handle result new before now → IsFaulted held result before now
   come_faults kept head handle (Ok address) did = did.1
   come_faults kept head handle (Err why) did = read_faults kept head handle why did.0
 
-  made_faults : (kept : Kept) (head : Head) (handle : Option Handle) (p : Presence) (result : Result ℕ LoaderFault) → HasActivated held old id number kept head handle p result new before now → IsFaulted held result before now
+  made_faults : (kept : LoadedUser) (head : SegmentHead) (handle : Option Handle) (p : Presence) (result : Result ℕ LoaderFault) → HasActivated held old id number kept head handle p result new before now → IsFaulted held result before now
   made_faults kept head handle (Active h at) result did = subst (λ (r : Result ℕ LoaderFault). IsFaulted held r before now) (sym did.0) did.2
   made_faults kept head handle (Idle h at) result did = subst (λ (r : Result ℕ LoaderFault). IsFaulted held r before now) (sym did.0) did.2
   made_faults kept head handle (Purged h) result did = come_faults kept head handle result did
@@ -148,7 +148,7 @@ jsl_faults held old id number at result new before now (following.Calls owner se
 
 -- ---- a restart
 
-again_safe : (file : List ℕ) (old : Loaded) (id : ℕ) (kept : Kept) (why : LoaderFault) → IsAgainRefusal file old id kept why → is_unread_fault why ≡ false
+again_safe : (file : List ℕ) (old : Loaded) (id : ℕ) (kept : LoadedUser) (why : LoaderFault) → IsAgainRefusal file old id kept why → is_unread_fault why ≡ false
 again_safe file old id kept why (inl bad) = bad_safe false file why bad
 again_safe file old id kept why (inr (segments, loadable, inl (inl lost))) = (lost_safe (kept_heads old.users kept.attached) segments why lost).0
 again_safe file old id kept why (inr (segments, loadable, inl (inr changes))) = changed_safe kept.heads (map head_of segments) why changes.1
@@ -187,7 +187,7 @@ module _ (command : Command) (old new : Loaded) (before now : StoreSeen) (held :
     (needed : (files : FileMap) (state : Machine) → before.held ≡ Some files → Agrees files old state → ReadsNeeded files state command 0 before.asked now.asked)
     (may : (reply : Reply) (n : ℕ) → n ≤ 1 → MayRead command reply n) (asked : OnceAtMost before.asked now.asked) where
   once_line : (line : Result (List ℕ) LineFault) (reply : Reply) → IfOk line (λ text. (reply ≢ commands.Refused faults.Memory) × (text ≡ reply_line reply)) → OnceAtMost before.faults now.faults
-      → (before.held ≡ None → now.faults ≡ risen (unread (reply ∷ [])) before.faults) → Meets' command old new before now reply → HasLine line command old new before now
+      → (before.held ≡ None → now.faults ≡ saturating_sum (unread (reply ∷ [])) before.faults) → Meets' command old new before now reply → HasLine line command old new before now
   once_line line reply is faults_once untold meets = go asked
     where
       reads : (files : FileMap) (state : Machine) → before.held ≡ Some files → Agrees files old state → MeetsReads RoomRule files state command reply new before now

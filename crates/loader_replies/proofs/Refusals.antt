@@ -9,11 +9,11 @@ use Rattle.iigs_meaning.specs.declared.wants.Block.{Block}
 use Rattle.iigs_meaning.specs.Slots.{get}
 use Rattle.iigs_meaning.specs.Fits.{Slots}
 use Rattle.iigs_meaning.specs.Memory.{Memory}
-use Rattle.loader_machine.specs.declared.seen.Head.{Head}
+use Rattle.loader_machine.specs.declared.seen.SegmentHead.{SegmentHead}
 use Rattle.loader_machine.specs.declared.faults.LoaderFault.{LoaderFault}
 use Rattle.loader_machine.specs.declared.faults.LoaderFault.TheVariants as faults
 use Rattle.loader_machine.specs.Heads.{at_number, is_table}
-use Rattle.loader_machine.specs.State.{Seen, is_running, is_attached}
+use Rattle.loader_machine.specs.State.{UserSeen, is_running, is_attached}
 use Rattle.loader_machine.specs.Presences.{presence_at, is_active}
 use Rattle.loader_machine.specs.Refusals.{Refuse, of_user, of_running, of_head, of_own, of_live, of_there, bytes_refusal, info_refusal, poke_refusal, unload_refusal, load_segment_refusal, restart_refusal, shut_down_refusal, purge_refusal, free_refusal, change_refusal, state_refusal}
 use Rattle.sys_loader.specs.declared.answers.Entered.{Entered}
@@ -41,11 +41,11 @@ safe_if : (b : Bool) (x y : Refuse) → Safe x → Safe y → Safe (cond b x y)
 safe_if true x y p q = p
 safe_if false x y p q = q
 
-safe_user : (o : Option Seen) (rest : Seen → Refuse) → ((seen : Seen) → Safe (rest seen)) → Safe (of_user o rest)
+safe_user : (o : Option UserSeen) (rest : UserSeen → Refuse) → ((seen : UserSeen) → Safe (rest seen)) → Safe (of_user o rest)
 safe_user None rest p = safe_some faults.NoUser refl
 safe_user (Some seen) rest p = p seen
 
-safe_head : (o : Option Head) (rest : Head → Refuse) → ((head : Head) → Safe (rest head)) → Safe (of_head o rest)
+safe_head : (o : Option SegmentHead) (rest : SegmentHead → Refuse) → ((head : SegmentHead) → Safe (rest head)) → Safe (of_head o rest)
 safe_head None rest p = safe_some faults.NoSegment refl
 safe_head (Some head) rest p = safe_if (is_skipped head.kind) (Some faults.NoSegment) (rest head) (safe_some faults.NoSegment refl) (p head)
 
@@ -57,18 +57,18 @@ safe_there : (o : Option ℕ) (rest : Refuse) → Safe rest → Safe (of_there o
 safe_there None rest p = safe_some faults.Empty refl
 safe_there (Some address) rest p = p
 
-pub bytes_safe : (slots : Slots) (user : Option Seen) (number at count : ℕ) → Safe (bytes_refusal slots user number at count)
+pub bytes_safe : (slots : Slots) (user : Option UserSeen) (number at count : ℕ) → Safe (bytes_refusal slots user number at count)
 unfolding bytes_refusal
 bytes_safe slots user number at count = safe_user user _ (λ seen.
     safe_if (is_running seen.life) _ (Some faults.NotRunning) (safe_head (at_number seen.heads number) _ (λ head.
     safe_if (is_active (presence_at slots seen.handles number)) _ (Some faults.NotActive)
     (safe_if (nat_le (at + count) head.length) None (Some faults.OutOfSegment) safe_none (safe_some faults.OutOfSegment refl)) (safe_some faults.NotActive refl))) (safe_some faults.NotRunning refl))
 
-pub info_safe : (user : Option Seen) (number : ℕ) → Safe (info_refusal user number)
+pub info_safe : (user : Option UserSeen) (number : ℕ) → Safe (info_refusal user number)
 unfolding info_refusal
 info_safe user number = safe_user user _ (λ seen. safe_head (at_number seen.heads number) _ (λ head. safe_none))
 
-pub poke_safe : (slots : Slots) (user : Option Seen) (number at : ℕ) → Safe (poke_refusal slots user number at)
+pub poke_safe : (slots : Slots) (user : Option UserSeen) (number at : ℕ) → Safe (poke_refusal slots user number at)
 unfolding poke_refusal
 poke_safe slots user number at = safe_user user _ (λ seen.
     safe_if (is_running seen.life) _ (Some faults.NotRunning) (safe_head (at_number seen.heads number) _ (λ head.
@@ -77,7 +77,7 @@ poke_safe slots user number at = safe_user user _ (λ seen.
     (safe_if (nat_le (at + 1) head.length) None (Some faults.OutOfSegment) safe_none (safe_some faults.OutOfSegment refl))) (safe_some faults.NotActive refl)))
     (safe_some faults.NotRunning refl))
 
-pub unload_safe : (slots : Slots) (user : Option Seen) (number : ℕ) → Safe (unload_refusal slots user number)
+pub unload_safe : (slots : Slots) (user : Option UserSeen) (number : ℕ) → Safe (unload_refusal slots user number)
 unfolding unload_refusal
 unload_safe slots user number = safe_user user _ (λ seen.
     safe_if (is_running seen.life) _ (Some faults.NotRunning) (safe_head (at_number seen.heads number) _ (λ head.
@@ -85,7 +85,7 @@ unload_safe slots user number = safe_user user _ (λ seen.
     (safe_if (is_active (presence_at slots seen.handles number)) None (Some faults.NotActive) safe_none (safe_some faults.NotActive refl)) (safe_some faults.Static refl)))
     (safe_some faults.NotRunning refl))
 
-pub segment_safe : (user : Option Seen) (number : ℕ) → Safe (load_segment_refusal user number)
+pub segment_safe : (user : Option UserSeen) (number : ℕ) → Safe (load_segment_refusal user number)
 unfolding load_segment_refusal
 segment_safe user number = safe_user user _ (λ seen.
     safe_if (is_running seen.life) _ (Some faults.NotRunning) (safe_head (at_number seen.heads number) _ (λ head.
@@ -95,17 +95,17 @@ segment_safe user number = safe_user user _ (λ seen.
 safe_own : (attached : Bool) (rest : Refuse) → Safe rest → Safe (of_own attached rest)
 safe_own attached rest p = safe_if attached (Some faults.NoUser) rest (safe_some faults.NoUser refl) p
 
-pub restart_safe : (attached : Bool) (user : Option Seen) → Safe (restart_refusal attached user)
+pub restart_safe : (attached : Bool) (user : Option UserSeen) → Safe (restart_refusal attached user)
 unfolding restart_refusal
 restart_safe attached user = safe_user user _ (λ seen.
     safe_own attached _ (safe_if (is_running seen.life) (Some faults.Running) None (safe_some faults.Running refl) safe_none))
 
-pub shut_down_safe : (attached : Bool) (user : Option Seen) (keep : Bool) → Safe (shut_down_refusal attached user keep)
+pub shut_down_safe : (attached : Bool) (user : Option UserSeen) (keep : Bool) → Safe (shut_down_refusal attached user keep)
 unfolding shut_down_refusal
 shut_down_safe attached user keep = safe_user user _ (λ seen.
     safe_own attached _ (safe_if keep (of_running seen None) None (safe_if (is_running seen.life) None (Some faults.NotRunning) safe_none (safe_some faults.NotRunning refl)) safe_none))
 
-pub purge_safe : (user : Option Seen) (id : ℕ) → Safe (purge_refusal user id)
+pub purge_safe : (user : Option UserSeen) (id : ℕ) → Safe (purge_refusal user id)
 unfolding purge_refusal
 purge_safe user id = safe_if (id == 0) None _ safe_none (safe_user user _ (λ seen. safe_none))
 

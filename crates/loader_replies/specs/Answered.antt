@@ -1,6 +1,6 @@
 -- What one command does: how the loader answers it, its line, and how that is printed.
 use Rattle.std.specs.Prelude.{◌≡◌, ◌≢◌, ℕ, List, [], ◌∷◌, Result, Ok, Err}
-use Rattle.omf_io.specs.Counts.{risen, ToldOr}
+use Rattle.omf_io.specs.Counts.{saturating_sum, ToldOr}
 use Rattle.omf_io.specs.Files.{FileMap, StoreSeen}
 use Rattle.omf_io.specs.Sinks.{SinkSeen, with_text, FailsToPrint}
 use Rattle.omf_io.specs.Outside.{Outside}
@@ -13,12 +13,12 @@ use Rattle.loader_machine.specs.Needs.{IsReadFor}
 use Rattle.loader_machine.specs.Transcript.{IsAnswered}
 use Rattle.loader_machine.specs.Replies.{reply_line}
 use Rattle.loader_agrees.specs.Agrees.{Loaded, Agrees}
-use Rattle.loader_replies.specs.declared.command.Stop.{Stop}
-use Rattle.loader_replies.specs.declared.command.Stop.TheVariants.{CannotPrint, Memory}
+use Rattle.loader_replies.specs.declared.command.ReplyStop.{ReplyStop}
+use Rattle.loader_replies.specs.declared.command.ReplyStop.TheVariants.{CannotPrint, Memory}
 use Rattle.loader_replies.specs.Replied.{unread, MayRead, IsUnanswered}
 
 -- what became of a line: it was printed whole, a front of it, or nothing
-abbrev pub HasPrinted : Result (Unit {0}) Stop → List ℕ → SinkSeen → SinkSeen → Type 0
+abbrev pub HasPrinted : Result (Unit {0}) ReplyStop → List ℕ → SinkSeen → SinkSeen → Type 0
 HasPrinted (Ok done) text before now = now ≡ with_text text before
 HasPrinted (Err CannotPrint) text before now = FailsToPrint text before now
 HasPrinted (Err Memory) text before now = now ≡ before
@@ -27,9 +27,9 @@ HasPrinted (Err Memory) text before now = now ≡ before
 -- it reads what the command needs, up to a read that fails
 pub record IsAnswer (command : Command) (old : Loaded) (reply : Reply) (new : Loaded) (before now : StoreSeen) : Type 0 where
   pub told : ToldOr before.held
-      ((reads : ℕ) × MayRead command reply reads × (now.faults ≡ risen (unread (reply ∷ [])) before.faults) × (now.asked ≡ risen reads before.asked))
+      ((reads : ℕ) × MayRead command reply reads × (now.faults ≡ saturating_sum (unread (reply ∷ [])) before.faults) × (now.asked ≡ saturating_sum reads before.asked))
       (λ files. (state : Machine) → Agrees files old state → (others : ℕ) × (reads : ℕ) × (next : Machine) × IsAnswered files state command reply others next
-      × IsReadFor files state command others reads × Agrees files new next × (now.faults ≡ risen others before.faults) × (now.asked ≡ risen reads before.asked))
+      × IsReadFor files state command others reads × Agrees files new next × (now.faults ≡ saturating_sum others before.faults) × (now.asked ≡ saturating_sum reads before.asked))
   pub store : now ≡ record before { faults = now.faults; asked = now.asked }
   pub unanswered : IsUnanswered command before now
 
@@ -49,7 +49,7 @@ IsFirstLoader (Banks banks) loader = (held : FileMap) → Agrees held loader (em
 IsFirstLoader _ loader = ⊥
 
 -- how one command ends: its reply was printed, or not whole; or memory ran out, and nothing was printed
-abbrev pub HasAnswered : Result (Unit {0}) Stop → Command → Loaded → Loaded → Outside → Type 0
+abbrev pub HasAnswered : Result (Unit {0}) ReplyStop → Command → Loaded → Loaded → Outside → Type 0
 HasAnswered (Ok done) command old new o =
     (reply : Reply) × IsAnswer command old reply new o.store o.new_store × (o.new_sink ≡ with_text (reply_line reply) o.sink)
 HasAnswered (Err CannotPrint) command old new o =

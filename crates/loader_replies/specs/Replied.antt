@@ -1,6 +1,6 @@
 -- The replies to a script's commands, and how they go with what is seen of the store.
 use Rattle.std.specs.Prelude.{◌≡◌, ◌⊎◌, ℕ, Bool, true, false, ◌+◌, ◌≤◌, List, [], ◌∷◌, length, count_by}
-use Rattle.omf_io.specs.Counts.{one_more, risen, ToldOr}
+use Rattle.omf_io.specs.Counts.{one_more, saturating_sum, ToldOr}
 use Rattle.omf_io.specs.Files.{FileMap, StoreSeen}
 use Rattle.load_meaning.specs.Pathnames.{most_paths}
 use Rattle.loader_machine.specs.declared.faults.LoaderFault.{LoaderFault}
@@ -65,9 +65,9 @@ MayReadAll (command ∷ commands) (reply ∷ replies) reads =
 pub record AreReplies (P : FileMap → Machine → Type 0) (commands : List Command) (replies : List Reply) (before now : StoreSeen) : Type 0 where
   pub one_each : length replies ≡ length commands
   pub told : ToldOr before.held
-      ((reads : ℕ) × MayReadAll commands replies reads × (now.faults ≡ risen (unread replies) before.faults) × (now.asked ≡ risen reads before.asked))
+      ((reads : ℕ) × MayReadAll commands replies reads × (now.faults ≡ saturating_sum (unread replies) before.faults) × (now.asked ≡ saturating_sum reads before.asked))
       (λ files. (others : ℕ) × (reads : ℕ) × (last : Machine) × AreAnswered files (empty_of []) commands replies others reads last × P files last
-      × (now.faults ≡ risen others before.faults) × (now.asked ≡ risen reads before.asked))
+      × (now.faults ≡ saturating_sum others before.faults) × (now.asked ≡ saturating_sum reads before.asked))
   pub store : now ≡ record before { faults = now.faults; asked = now.asked }
 
 -- a count is as before or one more
@@ -76,7 +76,7 @@ OnceAtMost before now = (now ≡ before) ⊎ (now ≡ one_more before)
 
 -- so many files were read at most, one read of them failed at most, and nothing else was done to the store
 abbrev pub ReadsAtMost : ℕ → StoreSeen → StoreSeen → Type 0
-ReadsAtMost most before now = (reads : ℕ) × (reads ≤ most) × (now.asked ≡ risen reads before.asked)
+ReadsAtMost most before now = (reads : ℕ) × (reads ≤ most) × (now.asked ≡ saturating_sum reads before.asked)
     × OnceAtMost before.faults now.faults × (now ≡ record before { faults = now.faults; asked = now.asked })
 
 -- a command has no reply, since memory ran out in it: a load may have read its file and those of its rows, a segment that is made

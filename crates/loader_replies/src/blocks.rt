@@ -53,7 +53,7 @@ fn address_of(loader: &Loader, handle: Handle) -> u32
 }
 
 /// Whether a bit of ATTR is set.
-fn has(attr: u16, bit: u16) -> bool
+fn has_attribute_bit(attr: u16, bit: u16) -> bool
     ensures { result ≡ has_attribute bit attr }
 {
     attr & bit != 0
@@ -70,7 +70,9 @@ fn level_in(attr: u16) -> u8
 fn is_movable(attr: u16) -> bool
     ensures { result ≡ is_movable attr }
 {
-    !has(attr, 0x4000) && !has(attr, 0x0002) && !has(attr, 0x0001)
+    !has_attribute_bit(attr, 0x4000)
+        && !has_attribute_bit(attr, 0x0002)
+        && !has_attribute_bit(attr, 0x0001)
 }
 
 /// Places a block for the script.
@@ -85,7 +87,12 @@ pub fn alloc_block(
     ensures { (store : StoreSeen) → HasLine result (machine.Alloc size attr address) loader.old loader.new store store }
 {
     let want = alloc_want(size, attr, address);
-    match loader.alloc(&want, has(attr, 0x8000), level_in(attr), is_movable(attr)) {
+    match loader.alloc(
+        &want,
+        has_attribute_bit(attr, 0x8000),
+        level_in(attr),
+        is_movable(attr),
+    ) {
         Ok(handle) => placed_line(alloc, handle, address_of(loader, handle)),
         Err(fault) => refusal_line(alloc, fault),
     }

@@ -20,25 +20,25 @@ use sys_loader::Loader;
 
 /// Why a run stops.
 #[derive(Clone, Copy, Debug, PartialEq, Eq)]
-pub enum Stop {
+pub enum ReplyStop {
     /// The sink failed.
     CannotPrint,
     Memory,
 }
 
 /// Prints a line for which memory may have been missing.
-pub fn print<S: Sink>(line: Result<Line, LineFault>, out: &mut S) -> Result<(), Stop>
+pub fn print<S: Sink>(line: Result<Line, LineFault>, out: &mut S) -> Result<(), ReplyStop>
     ensures printed { (text : List ℕ) → IfOk line (λ made. made ≡ text) → HasPrinted result text (S.seen out.old) (S.seen out.new) }
-    ensures short { OnErr line ((result ≡ Err Stop.Memory) × (S.seen out.new ≡ S.seen out.old)) }
+    ensures short { OnErr line ((result ≡ Err ReplyStop.Memory) × (S.seen out.new ≡ S.seen out.old)) }
 {
     let line = match line {
         Ok(line) => line,
-        Err(LineFault::Memory) => return Err(Stop::Memory),
+        Err(LineFault::Memory) => return Err(ReplyStop::Memory),
     };
     match out.put(line.bytes()) {
         Ok(()) => Ok(()),
-        Err(SinkFault::Failed) => Err(Stop::CannotPrint),
-        Err(SinkFault::Memory) => Err(Stop::Memory),
+        Err(SinkFault::Failed) => Err(ReplyStop::CannotPrint),
+        Err(SinkFault::Memory) => Err(ReplyStop::Memory),
     }
 }
 
@@ -101,7 +101,7 @@ pub fn run_command<F: Files, S: Sink>(
     loader: &mut Loader,
     files: &mut F,
     out: &mut S,
-) -> Result<(), Stop>
+) -> Result<(), ReplyStop>
     requires { IsCommand false (view.command command.now) }
     ensures { HasAnswered result (view.command command.now) loader.old loader.new
         (outside (F.seen files.old) (F.seen files.new) (S.seen out.old) (S.seen out.new)) }

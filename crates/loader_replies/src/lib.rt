@@ -6,5 +6,5 @@ mod calls;
 mod command;
 mod replies;
 
-pub use command::{Stop, first_loader, print, run_command};
+pub use command::{ReplyStop, first_loader, print, run_command};
 pub use replies::okay_line;

@@ -4,7 +4,7 @@ use Rattle.std.specs.Option.{option_map}
 use Rattle.std.proofs.lemmas.Grind.{flat_map-append}
 use Rattle.std.proofs.lemmas.List.Sums.{sum_by-append}
 use Rattle.std.proofs.lemmas.List.{append-nil}
-use Rattle.omf_io.specs.Counts.{one_more, risen, ToldOr}
+use Rattle.omf_io.specs.Counts.{one_more, saturating_sum, ToldOr}
 use Rattle.omf_io.specs.Files.{FileMap, StoreSeen}
 use Rattle.omf_io.specs.Sinks.{SinkSeen, with_text}
 use Rattle.loader_machine.specs.State.{Machine, empty_of}
@@ -19,11 +19,11 @@ use Rattle.loader_replies.proofs.OneCommand.{OneTold}
 
 -- ---- counts
 
-risen-more : (m n count : ℕ) → risen n (risen m count) ≡ risen (m + n) count
-risen-more m zero count = let none : m ≡ m + 0 = omega arith in ap (λ (k : ℕ). risen k count) none
+risen-more : (m n count : ℕ) → saturating_sum n (saturating_sum m count) ≡ saturating_sum (m + n) count
+risen-more m zero count = let none : m ≡ m + 0 = omega arith in ap (λ (k : ℕ). saturating_sum k count) none
 risen-more m (suc n) count =
     let more : suc (m + n) ≡ m + suc n = omega arith in
-    ap one_more (risen-more m n count) ∙ ap (λ (k : ℕ). risen k count) more
+    ap one_more (risen-more m n count) ∙ ap (λ (k : ℕ). saturating_sum k count) more
 
 unread-push : (replies : List Reply) (reply : Reply) → unread (replies ++ reply ∷ []) ≡ unread replies + unread (reply ∷ [])
 unread-push replies reply = sum_by-append (λ r. cond (is_unread r) 1 0) replies (reply ∷ [])
@@ -87,9 +87,9 @@ printed_more replies reply before mid now so_far one =
 -- what is told of all answers, where the files are
 abbrev pub AllTold : (FileMap → Machine → Type 0) → List Command → List Reply → StoreSeen → StoreSeen → Option FileMap → Type 0
 AllTold P commands replies before now held = ToldOr held
-    ((reads : ℕ) × MayReadAll commands replies reads × (now.faults ≡ risen (unread replies) before.faults) × (now.asked ≡ risen reads before.asked))
+    ((reads : ℕ) × MayReadAll commands replies reads × (now.faults ≡ saturating_sum (unread replies) before.faults) × (now.asked ≡ saturating_sum reads before.asked))
     (λ files. (others : ℕ) × (reads : ℕ) × (last : Machine) × AreAnswered files (empty_of []) commands replies others reads last × P files last
-    × (now.faults ≡ risen others before.faults) × (now.asked ≡ risen reads before.asked))
+    × (now.faults ≡ saturating_sum others before.faults) × (now.asked ≡ saturating_sum reads before.asked))
 
 -- one command more
 module _ (commands : List Command) (replies : List Reply) (command : Command) (reply : Reply) (old new : Loaded) (before mid now : StoreSeen)
@@ -102,9 +102,9 @@ module _ (commands : List Command) (replies : List Reply) (command : Command) (r
   more_told None p q = (
     p.0 + q.0,
     may_read-push commands replies command reply p.0 q.0 so_far.one_each p.1 q.1,
-    q.2 ∙ ap (risen (unread (reply ∷ []))) p.2 ∙ risen-more (unread replies) (unread (reply ∷ [])) before.faults
-        ∙ ap (λ (n : ℕ). risen n before.faults) (sym (unread-push replies reply)),
-    q.3 ∙ ap (risen q.0) p.3 ∙ risen-more p.0 q.0 before.asked,
+    q.2 ∙ ap (saturating_sum (unread (reply ∷ []))) p.2 ∙ risen-more (unread replies) (unread (reply ∷ [])) before.faults
+        ∙ ap (λ (n : ℕ). saturating_sum n before.faults) (sym (unread-push replies reply)),
+    q.3 ∙ ap (saturating_sum q.0) p.3 ∙ risen-more p.0 q.0 before.asked,
   )
   more_told (Some files) p q =
       let next = q p.2 p.4 in (
@@ -113,8 +113,8 @@ module _ (commands : List Command) (replies : List Reply) (command : Command) (r
         next.2,
         answered-push files (empty_of []) commands replies p.0 p.1 p.2 command reply next.0 next.1 next.2 p.3 next.3 next.4,
         next.5,
-        next.6 ∙ ap (risen next.0) p.5 ∙ risen-more p.0 next.0 before.faults,
-        next.7 ∙ ap (risen next.1) p.6 ∙ risen-more p.1 next.1 before.asked,
+        next.6 ∙ ap (saturating_sum next.0) p.5 ∙ risen-more p.0 next.0 before.faults,
+        next.7 ∙ ap (saturating_sum next.1) p.6 ∙ risen-more p.1 next.1 before.asked,
       )
 
   pub more_replied : AreReplies (λ files last. Agrees files new last) (commands ++ command ∷ []) (replies ++ reply ∷ []) before now

@@ -11,8 +11,8 @@ use Rattle.iigs_meaning.specs.Blocks.{new_slots}
 use Rattle.loader_machine.specs.Replies.{reply_line}
 use Rattle.loader_machine.specs.Script.{IsCommand, AreCommands}
 use Rattle.loader_agrees.specs.Agrees.{Loaded, Agrees}
-use Rattle.loader_replies.specs.declared.command.Stop.{Stop}
-use Rattle.loader_replies.specs.declared.command.Stop.TheVariants as stop
+use Rattle.loader_replies.specs.declared.command.ReplyStop.{ReplyStop}
+use Rattle.loader_replies.specs.declared.command.ReplyStop.TheVariants as stop
 use Rattle.loader_replies.specs.Replied.{AreReplies, IsUnanswered}
 use Rattle.loader_script.specs.Run.{HandsOut, HasRunAll, StopsShort}
 use Rattle.loader_replies.specs.Answered.{HasPrinted, IsAnswer, IsFirstLoader, HasAnswered}
@@ -56,7 +56,7 @@ first_answer store (Banks banks) loader is = record { told = go store.held; stor
     go (Some files) = λ state agrees. (0, 0, empty_of banks, inl ((refl, refl), refl), idle_reads files state (Banks banks) refl, is files, refl, refl)
 first_answer store _ loader is = absurd is
 
-pub first_answered : (store : StoreSeen) (sink new_sink : SinkSeen) (command : Command) (loader : Loaded) (result : Result (Unit {0}) Stop) → IsFirstLoader command loader
+pub first_answered : (store : StoreSeen) (sink new_sink : SinkSeen) (command : Command) (loader : Loaded) (result : Result (Unit {0}) ReplyStop) → IsFirstLoader command loader
     → HasPrinted result (reply_line step.Okay) sink new_sink → HasAnswered result command no_loader loader (outside store store sink new_sink)
 first_answered store sink new_sink command loader result is printed =
     answered result command no_loader loader step.Okay (outside store store sink new_sink) (first_answer store command loader is) printed
@@ -74,7 +74,7 @@ module _ (s s₁ s₂ : StoreSeen) (k k₁ k₂ : SinkSeen) (commands : List Com
   }
 
   -- or it stops
-  stops : (rest : List Command) (why : Stop) → HasAnswered (Err why) command old new (outside s₁ s₂ k₁ k₂) → HasFinished (Err why) (commands ++ command ∷ rest) (outside s s₂ k k₂)
+  stops : (rest : List Command) (why : ReplyStop) → HasAnswered (Err why) command old new (outside s₁ s₂ k₁ k₂) → HasFinished (Err why) (commands ++ command ∷ rest) (outside s s₂ k k₂)
   stops rest stop.CannotPrint done = record {
     front = commands;
     next = command;
@@ -123,7 +123,7 @@ module _ (s s₁ s₂ : StoreSeen) (k k₁ k₂ : SinkSeen) (commands : List Com
       subst (λ (cs : List Command). IsUnderWay cs new (outside s s₂ k k₂)) front (goes_on s s₁ s₂ k k₁ k₂ (take i commands) command old new so_far done)
 
   -- or not
-  pub stops_at : (why : Stop) → HasAnswered (Err why) command old new (outside s₁ s₂ k₁ k₂) → HasFinished (Err why) commands (outside s s₂ k k₂)
+  pub stops_at : (why : ReplyStop) → HasAnswered (Err why) command old new (outside s₁ s₂ k₁ k₂) → HasFinished (Err why) commands (outside s s₂ k k₂)
   stops_at why done =
       let parts = split_at commands i command here in
       subst (λ (cs : List Command). HasFinished (Err why) cs (outside s s₂ k k₂)) (sym parts.1)

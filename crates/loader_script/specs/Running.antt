@@ -8,8 +8,8 @@ use Rattle.loader_machine.specs.Replies.{replies_text}
 use Rattle.loader_agrees.specs.Agrees.{Loaded, Agrees}
 use Rattle.loader_script.specs.declared.run.ScriptEnd.{ScriptEnd}
 use Rattle.loader_script.specs.declared.run.ScriptEnd.TheVariants as end
-use Rattle.loader_replies.specs.declared.command.Stop.{Stop}
-use Rattle.loader_replies.specs.declared.command.Stop.TheVariants.{CannotPrint, Memory}
+use Rattle.loader_replies.specs.declared.command.ReplyStop.{ReplyStop}
+use Rattle.loader_replies.specs.declared.command.ReplyStop.TheVariants.{CannotPrint, Memory}
 use Rattle.loader_replies.specs.Replied.{AreReplies}
 use Rattle.loader_script.specs.Run.{HasRunAll, StopsPrinting, StopsShort}
 
@@ -20,7 +20,7 @@ pub record IsUnderWay (commands : List Command) (loader : Loaded) (o : Outside) 
   pub printed : o.new_sink ≡ with_text (replies_text replies) o.sink
 
 -- how all commands end
-abbrev pub HasFinished : Result (Option Loaded) Stop → List Command → Outside → Type 0
+abbrev pub HasFinished : Result (Option Loaded) ReplyStop → List Command → Outside → Type 0
 HasFinished (Ok loader) commands o = HasRunAll loader commands o
 HasFinished (Err CannotPrint) commands o = StopsPrinting commands o
 HasFinished (Err Memory) commands o = StopsShort commands o

@@ -8,7 +8,7 @@ ghost use Rattle.loader_script.specs.Run.{HasRunScript};
 ghost use Rattle.loader_script.specs.Running.{HasFinished, IsNotRun};
 
 use loader_machine::{ScriptCause, ScriptFault};
-use loader_replies::{Stop, first_loader, okay_line, print, run_command};
+use loader_replies::{ReplyStop, first_loader, okay_line, print, run_command};
 use omf_io::{Files, Sink};
 use script_text::{Script, read_script};
 use std::alloc::{AllocError, Global};
@@ -33,7 +33,7 @@ fn run_commands<F: Files, S: Sink>(
     script: &Script,
     files: &mut F,
     out: &mut S,
-) -> Result<Option<Loader>, Stop>
+) -> Result<Option<Loader>, ReplyStop>
     requires { AreCommands true script.now }
     ensures { HasFinished result script.now (outside (F.seen files.old) (F.seen files.new) (S.seen out.old) (S.seen out.new)) }
 {
@@ -43,7 +43,7 @@ fn run_commands<F: Files, S: Sink>(
     };
     let mut loader = match first_loader(alloc, first) {
         Ok(loader) => loader,
-        Err(AllocError) => return Err(Stop::Memory),
+        Err(AllocError) => return Err(ReplyStop::Memory),
     };
     print(okay_line(alloc), out)?;
     'commands: for place in 1..script.count() {
@@ -72,8 +72,8 @@ pub fn run_script<F: Files, S: Sink>(
     };
     match run_commands(alloc, &script, files, out) {
         Ok(loader) => ScriptEnd::Done(loader),
-        Err(Stop::CannotPrint) => ScriptEnd::CannotPrint,
-        Err(Stop::Memory) => ScriptEnd::Memory,
+        Err(ReplyStop::CannotPrint) => ScriptEnd::CannotPrint,
+        Err(ReplyStop::Memory) => ScriptEnd::Memory,
     }
 }
 

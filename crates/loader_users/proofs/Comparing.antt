@@ -7,7 +7,7 @@ use Rattle.omf_format.specs.Header.{Fields}
 use Rattle.omf_format.specs.File.{Segment}
 use Rattle.load_meaning.specs.laws.LayingLaws.{get-take}
 use Rattle.omf_cells.specs.Load.{HasFields}
-use Rattle.loader_machine.specs.declared.seen.Head.{Head}
+use Rattle.loader_machine.specs.declared.seen.SegmentHead.{SegmentHead}
 use Rattle.loader_machine.specs.Heads.{head_of, at_number}
 use Rattle.loader_users.specs.declared.user.Segment as users
 use Rattle.loader_users.specs.Filling.{head_in}
@@ -29,29 +29,29 @@ fields_get load k f has = let more : k + 1 ≡ suc k = omega arith in slice_get-
 
 -- ---- the first so many are the same
 
-take_next : (xs : List Head) (k : ℕ) (x : Head) → slice_get xs k ≡ Some x → take (k + 1) xs ≡ take k xs ++ x ∷ []
+take_next : (xs : List SegmentHead) (k : ℕ) (x : SegmentHead) → slice_get xs k ≡ Some x → take (k + 1) xs ≡ take k xs ++ x ∷ []
 take_next xs k x is = let more : k + 1 ≡ suc k = omega arith in ap (λ (n : ℕ). take n xs) more ∙ go xs k is
   where
-    go : (ys : List Head) (i : ℕ) → slice_get ys i ≡ Some x → take (suc i) ys ≡ take i ys ++ x ∷ []
+    go : (ys : List SegmentHead) (i : ℕ) → slice_get ys i ≡ Some x → take (suc i) ys ≡ take i ys ++ x ∷ []
     go [] i e = absurd cc
-    go (y ∷ ys) zero e = ap (λ (z : Head). z ∷ []) (same_Some y x e)
-    go (y ∷ ys) (suc i) e = ap (λ (zs : List Head). y ∷ zs) (go ys i e)
+    go (y ∷ ys) zero e = ap (λ (z : SegmentHead). z ∷ []) (same_Some y x e)
+    go (y ∷ ys) (suc i) e = ap (λ (zs : List SegmentHead). y ∷ zs) (go ys i e)
 
-module _ (kept found : List Head) (k : ℕ) (so_far : take k kept ≡ take k found) where
+module _ (kept found : List SegmentHead) (k : ℕ) (so_far : take k kept ≡ take k found) where
   same_at : (m : ℕ) → m < k → slice_get kept m ≡ slice_get found m
-  same_at m lt = sym (get-take k kept m lt) ∙ ap (λ (l : List Head). slice_get l m) so_far ∙ get-take k found m lt
+  same_at m lt = sym (get-take k kept m lt) ∙ ap (λ (l : List SegmentHead). slice_get l m) so_far ∙ get-take k found m lt
 
   same_below : AreSameBelow kept found (k + 1)
   same_below zero a b lt is is' = absurd cc
   same_below (suc m) a b lt is is' = same_Some a b (sym is ∙ same_at m (omega (arith, lt)) ∙ is')
 
-  pub differs : (was is : Head) → slice_get kept k ≡ Some was → slice_get found k ≡ Some is → was ≢ is → DiffersAt kept found (k + 1) was is
+  pub differs : (was is : SegmentHead) → slice_get kept k ≡ Some was → slice_get found k ≡ Some is → was ≢ is → DiffersAt kept found (k + 1) was is
   differs was is here here' other =
       let more : k + 1 ≡ suc k = omega arith in
       record { was' = ap (at_number kept) more ∙ here; is' = ap (at_number found) more ∙ here'; other = other; before = same_below }
 
-  pub same_more : (x y : Head) → slice_get kept k ≡ Some x → slice_get found k ≡ Some y → x ≡ y → take (k + 1) kept ≡ take (k + 1) found
-  same_more x y here here' same = take_next kept k x here ∙ ap (λ (l : List Head). l ++ x ∷ []) so_far ∙ ap (λ (z : Head). take k found ++ z ∷ []) same ∙ sym (take_next found k y here')
+  pub same_more : (x y : SegmentHead) → slice_get kept k ≡ Some x → slice_get found k ≡ Some y → x ≡ y → take (k + 1) kept ≡ take (k + 1) found
+  same_more x y here here' same = take_next kept k x here ∙ ap (λ (l : List SegmentHead). l ++ x ∷ []) so_far ∙ ap (λ (z : SegmentHead). take k found ++ z ∷ []) same ∙ sym (take_next found k y here')
 
   pub same_all : length kept ≡ length found → length kept ≤ k → found ≡ kept
   same_all counts past = sym (take_all k found (omega (arith, counts, past))) ∙ sym so_far ∙ take_all k kept past

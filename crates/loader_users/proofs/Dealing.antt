@@ -9,12 +9,12 @@ use Rattle.std.proofs.lemmas.List.{length-map, map-append}
 use Rattle.omf_format.specs.Header.{form_of}
 use Rattle.iigs_meaning.specs.declared.handles.Handle.{Handle}
 use Rattle.iigs_meaning.specs.Fits.{Slots}
-use Rattle.loader_machine.specs.declared.seen.Head.{Head}
+use Rattle.loader_machine.specs.declared.seen.SegmentHead.{SegmentHead}
 use Rattle.loader_machine.specs.Heads.{at_number, is_static, wants_of, entry_in}
-use Rattle.loader_machine.specs.State.{Held}
+use Rattle.loader_machine.specs.State.{HeldSegment}
 use Rattle.loader_machine.specs.Presences.{presence, there_at, handle_at}
 use Rattle.loader_machine.specs.Stands.{place_in}
-use Rattle.loader_machine.specs.Steps.{spread}
+use Rattle.loader_machine.specs.Steps.{held_of_heads}
 use Rattle.loader_agrees.specs.laws.Lists.{number_map}
 use Rattle.loader_users.specs.declared.user.Segment.{Segment}
 use Rattle.loader_users.proofs.Wants.{heads}
@@ -61,34 +61,34 @@ and_true false b p q = p
 abbrev pub handles_of : List Segment → List (Option Handle)
 handles_of segments = map (λ s. s.handle) segments
 
-abbrev pub held_handles : List Held → List (Option Handle)
+abbrev pub held_handles : List HeldSegment → List (Option Handle)
 held_handles held = map (λ one. one.handle) held
 
 -- the first segments have their handles, and the rest of the handles are for the rest of the segments
 pub record Dealt (before : List Segment) (hs : List Handle) (place next count : ℕ) (now : List Segment) : Type 0 where
   pub same : heads now ≡ heads before
-  pub front : handles_of (take place now) ++ held_handles (spread (heads (drop place before)) (drop next hs)) ≡ held_handles (spread (heads before) hs)
+  pub front : handles_of (take place now) ++ held_handles (held_of_heads (heads (drop place before)) (drop next hs)) ≡ held_handles (held_of_heads (heads before) hs)
   pub left : next + length (wants_of (heads (drop place before))) ≡ length hs
   pub long : count ≡ length now
 
-spread_static : (g : Head) (gs : List Head) (h : Handle) (ks : List Handle) → is_static g ≡ true → held_handles (spread (g ∷ gs) (h ∷ ks)) ≡ Some h ∷ held_handles (spread gs ks)
+spread_static : (g : SegmentHead) (gs : List SegmentHead) (h : Handle) (ks : List Handle) → is_static g ≡ true → held_handles (held_of_heads (g ∷ gs) (h ∷ ks)) ≡ Some h ∷ held_handles (held_of_heads gs ks)
 spread_static g gs h ks static = rw static refl
 
-spread_other : (g : Head) (gs : List Head) (ks : List Handle) → is_static g ≡ false → held_handles (spread (g ∷ gs) ks) ≡ None ∷ held_handles (spread gs ks)
+spread_other : (g : SegmentHead) (gs : List SegmentHead) (ks : List Handle) → is_static g ≡ false → held_handles (held_of_heads (g ∷ gs) ks) ≡ None ∷ held_handles (held_of_heads gs ks)
 spread_other g gs [] other = refl
 spread_other g gs (k ∷ ks) other = rw other refl
 
-wants_static : (g : Head) (gs : List Head) → is_static g ≡ true → length (wants_of (g ∷ gs)) ≡ suc (length (wants_of gs))
+wants_static : (g : SegmentHead) (gs : List SegmentHead) → is_static g ≡ true → length (wants_of (g ∷ gs)) ≡ suc (length (wants_of gs))
 wants_static g gs static = rw static refl
 
-wants_other : (g : Head) (gs : List Head) → is_static g ≡ false → length (wants_of (g ∷ gs)) ≡ length (wants_of gs)
+wants_other : (g : SegmentHead) (gs : List SegmentHead) → is_static g ≡ false → length (wants_of (g ∷ gs)) ≡ length (wants_of gs)
 wants_other g gs other = rw other refl
 
 head_same : (now before : List Segment) (place : ℕ) (d : Segment) → heads now ≡ heads before → place < length now → place < length before → (get_or now place d).head ≡ (get_or before place d).head
 head_same now before place d same inside inside' =
     let one : slice_get (heads now) place ≡ Some (get_or now place d).head = slice_get-map (λ (s : Segment). s.head) now place ∙ ap (option_map (λ (s : Segment). s.head)) (slice_get-get_or now place d inside) in
     let two : slice_get (heads before) place ≡ Some (get_or before place d).head = slice_get-map (λ (s : Segment). s.head) before place ∙ ap (option_map (λ (s : Segment). s.head)) (slice_get-get_or before place d inside') in
-    same_Some (get_or now place d).head (get_or before place d).head (sym one ∙ ap (λ (l : List Head). slice_get l place) same ∙ two)
+    same_Some (get_or now place d).head (get_or before place d).head (sym one ∙ ap (λ (l : List SegmentHead). slice_get l place) same ∙ two)
 
 module _ (before now later : List Segment) (hs : List Handle) (place next count : ℕ) (d x : Segment) (dealt : Dealt before hs place next count now) (inside : place < length now)
     (taken : take (place + 1) later ≡ take place now ++ x ∷ []) (kept : heads later ≡ heads now) (size : length later ≡ length now) where
@@ -99,7 +99,7 @@ module _ (before now later : List Segment) (hs : List Handle) (place next count 
   rest_is =
       let inside' : place < length before = omega (arith, inside, same_length) in
       let more : place + 1 ≡ suc place = omega arith in
-      ap heads (drop-cons before place d inside') ∙ ap (λ (g : Head). g ∷ heads (drop (suc place) before)) (sym (head_same now before place d dealt.same inside inside'))
+      ap heads (drop-cons before place d inside') ∙ ap (λ (g : SegmentHead). g ∷ heads (drop (suc place) before)) (sym (head_same now before place d dealt.same inside inside'))
       ∙ ap (λ (n : ℕ). (get_or now place d).head ∷ heads (drop n before)) (sym more)
 
   front_is : (rest : List (Option Handle)) → handles_of (take (place + 1) later) ++ rest ≡ handles_of (take place now) ++ (x.handle ∷ rest)
@@ -107,35 +107,35 @@ module _ (before now later : List Segment) (hs : List Handle) (place next count 
       ∙ append_assoc (handles_of (take place now)) (x.handle ∷ []) rest
 
   pub room_left : is_static (get_or now place d).head ≡ true → next < length hs
-  room_left static = omega (arith, dealt.left, ap (λ (l : List Head). length (wants_of l)) rest_is, wants_static (get_or now place d).head (heads (drop (place + 1) before)) static)
+  room_left static = omega (arith, dealt.left, ap (λ (l : List SegmentHead). length (wants_of l)) rest_is, wants_static (get_or now place d).head (heads (drop (place + 1) before)) static)
 
   pub deal_static : (h : Handle) → is_static (get_or now place d).head ≡ true → x.handle ≡ Some (get_or hs next h) → Dealt before hs (place + 1) (next + 1) count later
   deal_static h static has =
       let more : next + 1 ≡ suc next = omega arith in
       let cut : drop next hs ≡ get_or hs next h ∷ drop (next + 1) hs = drop-cons hs next h (room_left static) ∙ ap (λ (n : ℕ). get_or hs next h ∷ drop n hs) (sym more) in
-      let step : held_handles (spread (heads (drop place before)) (drop next hs)) ≡ Some (get_or hs next h) ∷ held_handles (spread (heads (drop (place + 1) before)) (drop (next + 1) hs)) =
-      ap (λ (l : List Head). held_handles (spread l (drop next hs))) rest_is ∙ ap (λ (ks : List Handle). held_handles (spread ((get_or now place d).head ∷ heads (drop (place + 1) before)) ks)) cut
+      let step : held_handles (held_of_heads (heads (drop place before)) (drop next hs)) ≡ Some (get_or hs next h) ∷ held_handles (held_of_heads (heads (drop (place + 1) before)) (drop (next + 1) hs)) =
+      ap (λ (l : List SegmentHead). held_handles (held_of_heads l (drop next hs))) rest_is ∙ ap (λ (ks : List Handle). held_handles (held_of_heads ((get_or now place d).head ∷ heads (drop (place + 1) before)) ks)) cut
       ∙ spread_static (get_or now place d).head (heads (drop (place + 1) before)) (get_or hs next h) (drop (next + 1) hs) static in
       record {
         same = kept ∙ dealt.same;
-        front = front_is (held_handles (spread (heads (drop (place + 1) before)) (drop (next + 1) hs)))
-            ∙ ap (λ (o : Option Handle). handles_of (take place now) ++ (o ∷ held_handles (spread (heads (drop (place + 1) before)) (drop (next + 1) hs)))) has
+        front = front_is (held_handles (held_of_heads (heads (drop (place + 1) before)) (drop (next + 1) hs)))
+            ∙ ap (λ (o : Option Handle). handles_of (take place now) ++ (o ∷ held_handles (held_of_heads (heads (drop (place + 1) before)) (drop (next + 1) hs)))) has
             ∙ ap (λ (l : List (Option Handle)). handles_of (take place now) ++ l) (sym step) ∙ dealt.front;
-        left = omega (arith, dealt.left, ap (λ (l : List Head). length (wants_of l)) rest_is, wants_static (get_or now place d).head (heads (drop (place + 1) before)) static);
+        left = omega (arith, dealt.left, ap (λ (l : List SegmentHead). length (wants_of l)) rest_is, wants_static (get_or now place d).head (heads (drop (place + 1) before)) static);
         long = dealt.long ∙ sym size;
       }
 
   pub deal_other : is_static (get_or now place d).head ≡ false → x.handle ≡ None → Dealt before hs (place + 1) next count later
   deal_other other has =
-      let step : held_handles (spread (heads (drop place before)) (drop next hs)) ≡ None ∷ held_handles (spread (heads (drop (place + 1) before)) (drop next hs)) =
-      ap (λ (l : List Head). held_handles (spread l (drop next hs))) rest_is
+      let step : held_handles (held_of_heads (heads (drop place before)) (drop next hs)) ≡ None ∷ held_handles (held_of_heads (heads (drop (place + 1) before)) (drop next hs)) =
+      ap (λ (l : List SegmentHead). held_handles (held_of_heads l (drop next hs))) rest_is
       ∙ spread_other (get_or now place d).head (heads (drop (place + 1) before)) (drop next hs) other in
       record {
         same = kept ∙ dealt.same;
-        front = front_is (held_handles (spread (heads (drop (place + 1) before)) (drop next hs)))
-            ∙ ap (λ (o : Option Handle). handles_of (take place now) ++ (o ∷ held_handles (spread (heads (drop (place + 1) before)) (drop next hs)))) has
+        front = front_is (held_handles (held_of_heads (heads (drop (place + 1) before)) (drop next hs)))
+            ∙ ap (λ (o : Option Handle). handles_of (take place now) ++ (o ∷ held_handles (held_of_heads (heads (drop (place + 1) before)) (drop next hs)))) has
             ∙ ap (λ (l : List (Option Handle)). handles_of (take place now) ++ l) (sym step) ∙ dealt.front;
-        left = omega (arith, dealt.left, ap (λ (l : List Head). length (wants_of l)) rest_is, wants_other (get_or now place d).head (heads (drop (place + 1) before)) other);
+        left = omega (arith, dealt.left, ap (λ (l : List SegmentHead). length (wants_of l)) rest_is, wants_other (get_or now place d).head (heads (drop (place + 1) before)) other);
         long = dealt.long ∙ sym size;
       }
 
@@ -150,8 +150,8 @@ set_taken (y ∷ xs) (suc k) x inside =
 
 set_heads : (xs : List Segment) (k : ℕ) (x d : Segment) → k < length xs → x.head ≡ (get_or xs k d).head → heads (set xs k x) ≡ heads xs
 set_heads [] k x d inside same = refl
-set_heads (y ∷ xs) zero x d inside same = ap (λ (g : Head). g ∷ heads xs) same
-set_heads (y ∷ xs) (suc k) x d inside same = ap (λ (l : List Head). y.head ∷ l) (set_heads xs k x d (omega (arith, inside)) same)
+set_heads (y ∷ xs) zero x d inside same = ap (λ (g : SegmentHead). g ∷ heads xs) same
+set_heads (y ∷ xs) (suc k) x d inside same = ap (λ (l : List SegmentHead). y.head ∷ l) (set_heads xs k x d (omega (arith, inside)) same)
 
 -- the segment at a place is one with this header, and is static: it gets the next handle
 pub set_static : (before now : List Segment) (hs : List Handle) (place next count : ℕ) (s : Segment) (h : Handle) → Dealt before hs place next count now → place < count → s ≡ get_or now place s

@@ -6,7 +6,7 @@ use Rattle.std.proofs.lemmas.Bool.{cases_eq}
 use Rattle.std.proofs.lemmas.Bool.Decides.{nat_tests}
 use Rattle.std.proofs.lemmas.Option.{same_Some, slice_get_within, slice_get-map}
 use Rattle.loader_machine.specs.State.{Outline, first_id, user_of, with_user, with_all, file_in, holder_from, ids_from}
-use Rattle.loader_agrees.specs.Agrees.{Kept, outline, kept_outlines}
+use Rattle.loader_agrees.specs.Agrees.{LoadedUser, outline, kept_outlines}
 use Rattle.loader_agrees.specs.laws.Lists.{set_at, set_apart}
 use Rattle.loader_agrees.specs.laws.Seeing.{made_at}
 
@@ -58,16 +58,16 @@ module _ (ids : List ℕ) (id : ℕ) where
   pub file_past : (k : ℕ) → length ids ≤ k → file_in (2 + k) (drop k ids) id ≡ None
   file_past k le = ap (λ (l : List ℕ). file_in (2 + k) l id) (drop_past ids k le)
 
-module _ (users : List (Option Kept)) (id : ℕ) where
-  outline_at : (k : ℕ) (o : Option Kept) → slice_get users k ≡ Some o → slice_get (kept_outlines users) k ≡ Some (option_map outline o)
+module _ (users : List (Option LoadedUser)) (id : ℕ) where
+  outline_at : (k : ℕ) (o : Option LoadedUser) → slice_get users k ≡ Some o → slice_get (kept_outlines users) k ≡ Some (option_map outline o)
   outline_at k o is = slice_get-map (option_map outline) users k ∙ ap (option_map (option_map outline)) is
 
-  pub holder_here : (k file : ℕ) (o : Option Kept) → slice_get users k ≡ Some o → option_and_then (λ (u : Kept). file_in 2 u.attached id) o ≡ Some file
+  pub holder_here : (k file : ℕ) (o : Option LoadedUser) → slice_get users k ≡ Some o → option_and_then (λ (u : LoadedUser). file_in 2 u.attached id) o ≡ Some file
       → holder_from (first_id + k) (drop k (kept_outlines users)) id ≡ Some (first_id + k, file)
   holder_here k file None is found = absurd cc
   holder_here k file (Some u) is found = ap (λ (l : List (Option Outline)). holder_from (first_id + k) l id) (drop_at (kept_outlines users) k (Some (outline u)) (outline_at k (Some u) is)) ∙ rw found refl
 
-  pub holder_next : (k : ℕ) (o : Option Kept) → slice_get users k ≡ Some o → option_and_then (λ (u : Kept). file_in 2 u.attached id) o ≡ None
+  pub holder_next : (k : ℕ) (o : Option LoadedUser) → slice_get users k ≡ Some o → option_and_then (λ (u : LoadedUser). file_in 2 u.attached id) o ≡ None
       → holder_from (first_id + k) (drop k (kept_outlines users)) id ≡ holder_from (first_id + (k + 1)) (drop (k + 1) (kept_outlines users)) id
   holder_next k None is none = ap (λ (l : List (Option Outline)). holder_from (first_id + k) l id) (drop_at (kept_outlines users) k None (outline_at k None is))
       ∙ ap (λ (n : ℕ). holder_from n (drop (k + 1) (kept_outlines users)) id) (omega arith)
@@ -114,30 +114,30 @@ module _ {U : Type 0} (change : U → U) where
       all_more users ids id ∙ ap (λ (o : Option U). option_map_or (λ (u : U). with_user (with_all change users ids) id (Some (change u))) o (with_all change users ids)) made
 
 -- what a change of users keeps of each
-module _ (change : Kept → Kept) (same : (k : Kept) → (change k).attached ≡ k.attached) where
+module _ (change : LoadedUser → LoadedUser) (same : (k : LoadedUser) → (change k).attached ≡ k.attached) where
   -- the user that one was, with what is attached to it
-  abbrev pub Stays : List (Option Kept) → ℕ → Kept → Type 0
-  Stays users id k = (now : Kept) × (user_of users id ≡ Some now) × (now.attached ≡ k.attached)
+  abbrev pub Stays : List (Option LoadedUser) → ℕ → LoadedUser → Type 0
+  Stays users id k = (now : LoadedUser) × (user_of users id ≡ Some now) × (now.attached ≡ k.attached)
 
-  stays_one : (users : List (Option Kept)) (id n : ℕ) (o : Option Kept) → user_of users n ≡ o → (k : Kept) → user_of users id ≡ Some k → Stays (option_map_or (λ (u : Kept). with_user users n (Some (change u))) o users) id k
+  stays_one : (users : List (Option LoadedUser)) (id n : ℕ) (o : Option LoadedUser) → user_of users n ≡ o → (k : LoadedUser) → user_of users id ≡ Some k → Stays (option_map_or (λ (u : LoadedUser). with_user users n (Some (change u))) o users) id k
   stays_one users id n None e k made = (k, made, refl)
   stays_one users id n (Some u) e k made = elim (cases_eq id n) [
     | inl eq ↦
         let it : u ≡ k = same_Some u k (sym e ∙ ap (user_of users) (sym eq) ∙ made) in
-        (change u, ap (user_of (with_user users n (Some (change u)))) eq ∙ user_set users n u e (Some (change u)), same u ∙ ap (λ (x : Kept). x.attached) it)
+        (change u, ap (user_of (with_user users n (Some (change u)))) eq ∙ user_set users n u e (Some (change u)), same u ∙ ap (λ (x : LoadedUser). x.attached) it)
     | inr ne ↦ (k, user_apart users n u e (Some (change u)) id ne ∙ made, refl)
   ]
 
-  pub stays_all : (users : List (Option Kept)) (ids : List ℕ) (id : ℕ) (k : Kept) → user_of users id ≡ Some k → Stays (with_all change users ids) id k
+  pub stays_all : (users : List (Option LoadedUser)) (ids : List ℕ) (id : ℕ) (k : LoadedUser) → user_of users id ≡ Some k → Stays (with_all change users ids) id k
   stays_all users [] id k made = (k, made, refl)
   stays_all users (n ∷ ids) id k made =
       let one = stays_one users id n (user_of users n) refl k made in
-      let rest = stays_all (option_map_or (λ (u : Kept). with_user users n (Some (change u))) (user_of users n) users) ids id one.0 one.1 in
+      let rest = stays_all (option_map_or (λ (u : LoadedUser). with_user users n (Some (change u))) (user_of users n) users) ids id one.0 one.1 in
       (rest.0, rest.1, rest.2 ∙ one.2)
 
   -- one more, which is there
-  pub all_step : (users : List (Option Kept)) (ids : List ℕ) (k id : ℕ) (now : Kept) → slice_get ids k ≡ Some id → user_of (with_all change users (take k ids)) id ≡ Some now
+  pub all_step : (users : List (Option LoadedUser)) (ids : List ℕ) (k id : ℕ) (now : LoadedUser) → slice_get ids k ≡ Some id → user_of (with_all change users (take k ids)) id ≡ Some now
       → with_all change users (take (k + 1) ids) ≡ with_user (with_all change users (take k ids)) id (Some (change now))
   all_step users ids k id now is made =
       ap (with_all change users) (take_more ids k id is) ∙ all_more change users (take k ids) id
-      ∙ ap (λ (o : Option Kept). option_map_or (λ (u : Kept). with_user (with_all change users (take k ids)) id (Some (change u))) o (with_all change users (take k ids))) made
+      ∙ ap (λ (o : Option LoadedUser). option_map_or (λ (u : LoadedUser). with_user (with_all change users (take k ids)) id (Some (change u))) o (with_all change users (take k ids))) made

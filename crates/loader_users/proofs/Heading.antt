@@ -9,7 +9,7 @@ use Rattle.load_meaning.specs.laws.CellLaws.{loadable_has}
 use Rattle.load_meaning.specs.Loadable.{IsLoadable}
 use Rattle.omf_cells.specs.Load.{HasFields}
 use Rattle.iigs_meaning.specs.declared.handles.Handle.{Handle}
-use Rattle.loader_machine.specs.declared.seen.Head.{Head}
+use Rattle.loader_machine.specs.declared.seen.SegmentHead.{SegmentHead}
 use Rattle.loader_machine.specs.Heads.{head_of}
 use Rattle.loader_agrees.specs.Acts.{no_handle_of}
 use Rattle.loader_users.specs.declared.user.Segment as users
@@ -32,14 +32,14 @@ head_more load kept place f so_far has = go (slice_get load place) refl (subst (
     go None e is = absurd is
     go (Some s) e is =
         map-append (λ (x : users.Segment). x.head) kept ((record { handle = None; head = head_in f }) ∷ [])
-        ∙ ap (λ (hs : List Head). hs ++ head_in f ∷ []) so_far
+        ∙ ap (λ (hs : List SegmentHead). hs ++ head_in f ∷ []) so_far
         ∙ ap (λ (g : Fields). map head_of (take place load) ++ head_in g ∷ []) (sym is)
         ∙ sym (map-append head_of (take place load) (s ∷ []))
         ∙ ap (map head_of) (sym (take_next load place s e))
         ∙ ap (λ (n : ℕ). map head_of (take n load)) (sym more)
 
 -- one more without a handle
-pub none_more : (kept : List users.Segment) (g : Head) → handles_of kept ≡ map no_handle_of (heads_of kept)
+pub none_more : (kept : List users.Segment) (g : SegmentHead) → handles_of kept ≡ map no_handle_of (heads_of kept)
     → handles_of (kept ++ (record { handle = None; head = g }) ∷ []) ≡ map no_handle_of (heads_of (kept ++ (record { handle = None; head = g }) ∷ []))
 none_more kept g is =
     let one : users.Segment = record { handle = None; head = g } in

@@ -5,7 +5,7 @@ use Rattle.omf_format.specs.Number.{number_at}
 use Rattle.load_meaning.specs.Table.{entry_start, written_at}
 use Rattle.load_meaning.specs.laws.TableLaws.{length-written_at, written-before, written-behind, length-code_bytes}
 use Rattle.load_meaning.specs.LoadTable.{target_at}
-use Rattle.loader_users.specs.Renewing.{Choice, is_chosen, code_for, renewed_at, renewed}
+use Rattle.loader_users.specs.Renewing.{Choice, is_chosen, code_for, renewed_at, relinked_entries}
 
 module _ (only : Choice) (address : Option ℕ) where
   -- one entry follows: numbers outside its code stay
@@ -43,19 +43,19 @@ module _ (only : Choice) (address : Option ℕ) where
     | inr above ↦ one_same w (entry_start j + n) (entry_start k) bytes inside (omega (arith, above, within))
   ]
 
-  renewed_length : (count : ℕ) (bytes : List ℕ) → entry_start count ≤ length bytes → length (renewed only address count bytes) ≡ length bytes
+  renewed_length : (count : ℕ) (bytes : List ℕ) → entry_start count ≤ length bytes → length (relinked_entries only address count bytes) ≡ length bytes
   renewed_length zero bytes inside = refl
   renewed_length (suc k) bytes inside =
       let rest = renewed_length k bytes (omega (arith, inside)) in
-      one_length (entry_start k) (renewed only address k bytes) (omega (arith, inside, rest)) ∙ rest
+      one_length (entry_start k) (relinked_entries only address k bytes) (omega (arith, inside, rest)) ∙ rest
 
-  number_stays : (w n j count : ℕ) (bytes : List ℕ) → entry_start count ≤ length bytes → n + w ≤ 10 → number_at w (entry_start j + n) (renewed only address count bytes) ≡ number_at w (entry_start j + n) bytes
+  number_stays : (w n j count : ℕ) (bytes : List ℕ) → entry_start count ≤ length bytes → n + w ≤ 10 → number_at w (entry_start j + n) (relinked_entries only address count bytes) ≡ number_at w (entry_start j + n) bytes
   number_stays w n j zero bytes inside within = refl
   number_stays w n j (suc k) bytes inside within =
       let rest = renewed_length k bytes (omega (arith, inside)) in
-      in_entry w n k j (renewed only address k bytes) (omega (arith, inside, rest)) within ∙ number_stays w n j k bytes (omega (arith, inside)) within
+      in_entry w n k j (relinked_entries only address k bytes) (omega (arith, inside, rest)) within ∙ number_stays w n j k bytes (omega (arith, inside)) within
 
   -- an entry leads where it led
-  pub target_stays : (j count : ℕ) (bytes : List ℕ) → entry_start count ≤ length bytes → target_at (renewed only address count bytes) j ≡ target_at bytes j
+  pub target_stays : (j count : ℕ) (bytes : List ℕ) → entry_start count ≤ length bytes → target_at (relinked_entries only address count bytes) j ≡ target_at bytes j
   unfolding target_at
   target_stays j count bytes inside = cc (number_stays 2 2 j count bytes inside (omega arith), number_stays 2 4 j count bytes inside (omega arith), number_stays 4 6 j count bytes inside (omega arith))

@@ -9,11 +9,11 @@ use Rattle.load_meaning.specs.declared.table.Target.{Target}
 use Rattle.load_meaning.specs.laws.CellLaws.{loadable_has}
 use Rattle.load_meaning.specs.LoadTable.{is_table, targets_of}
 use Rattle.load_meaning.specs.Loadable.{IsOwnTarget, IsTarget}
-use Rattle.loader_machine.specs.declared.seen.Head.{Head}
+use Rattle.loader_machine.specs.declared.seen.SegmentHead.{SegmentHead}
 use Rattle.loader_machine.specs.Heads.{at_number}
 use Rattle.loader_machine.specs.State.{Machine, first_id, user_of}
 use Rattle.loader_machine.specs.Found.{HoldsLoad}
-use Rattle.loader_agrees.specs.Agrees.{Kept, Loaded, LeadsFar, Agrees, IsSound}
+use Rattle.loader_agrees.specs.Agrees.{LoadedUser, Loaded, LeadsFar, Agrees, IsSound}
 use Rattle.loader_agrees.specs.laws.Leading.{row_of}
 use Rattle.loader_agrees.specs.laws.Seeing.{made_at}
 use Rattle.loader_users.specs.Renewing.{Choice, is_chosen}
@@ -23,7 +23,7 @@ pub data Leads (only : Choice) (address : Option ℕ) (segments : List Segment) 
   Own : IsOwnTarget segments t → Leads only address segments t
   Other : 2 ≤ t.file → t.file < 2 ^ 16 → t.segment < 2 ^ 16 → (is_chosen only t.file t.segment ≡ true → IsSome address → t.offset < 2 ^ 32) → Leads only address segments t
 
-pub at_most : (heads : List Head) (n : ℕ) (g : Head) → at_number heads n ≡ Some g → n ≤ length heads
+pub at_most : (heads : List SegmentHead) (n : ℕ) (g : SegmentHead) → at_number heads n ≡ Some g → n ≤ length heads
 at_most heads zero g e = omega arith
 at_most heads (suc m) g e = let inside = slice_get_within heads m g e in omega (arith, inside)
 
@@ -41,7 +41,7 @@ module _ (held : FileMap) (loader : Loaded) (state : Machine) (agrees : Agrees h
       let there = made_at loader.users leads.other leads.kept leads.made in
       omega (arith, at_most leads.kept.heads t.segment leads.head leads.head', sound.short (leads.other - first_id) leads.kept there.0)
 
-module _ (held : FileMap) (loader : Loaded) (state : Machine) (agrees : Agrees held loader state) (sound : IsSound loader.memory loader.users) (id : ℕ) (kept : Kept) (made : user_of loader.users id ≡ Some kept)
+module _ (held : FileMap) (loader : Loaded) (state : Machine) (agrees : Agrees held loader state) (sound : IsSound loader.memory loader.users) (id : ℕ) (kept : LoadedUser) (made : user_of loader.users id ≡ Some kept)
     (only : Choice) (address : Option ℕ) (fits : (t : Target) → 2 ≤ t.file → LeadsFar loader.users id t → is_chosen only t.file t.segment ≡ true → IsSome address → t.offset < 2 ^ 32) where
   one_leads : (segments : List Segment) (t : Target) → (2 ≤ t.file → LeadsFar loader.users id t) → IsTarget segments t → Leads only address segments t
   one_leads segments t far (inl own) = Own own

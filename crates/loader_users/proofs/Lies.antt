@@ -10,12 +10,12 @@ use Rattle.iigs_meaning.specs.declared.wants.Block.{Block}
 use Rattle.iigs_meaning.specs.Slots.{get}
 use Rattle.iigs_meaning.specs.Fits.{Slots}
 use Rattle.iigs_meaning.specs.Memory.{Memory}
-use Rattle.loader_machine.specs.declared.seen.Head.{Head}
+use Rattle.loader_machine.specs.declared.seen.SegmentHead.{SegmentHead}
 use Rattle.loader_machine.specs.declared.seen.Presence.TheVariants.{Active}
 use Rattle.loader_machine.specs.Heads.{at_number}
 use Rattle.loader_machine.specs.State.{first_id, user_of}
 use Rattle.loader_machine.specs.Presences.{handle_at, presence, lies_in, lies_at}
-use Rattle.loader_agrees.specs.Agrees.{Kept, Loaded, IsSound}
+use Rattle.loader_agrees.specs.Agrees.{LoadedUser, Loaded, IsSound}
 use Rattle.loader_agrees.specs.Acts.{LiesIn}
 use Rattle.loader_agrees.specs.laws.Lists.{number_map}
 use Rattle.loader_agrees.specs.laws.Seeing.{made_at, its_block}
@@ -85,7 +85,7 @@ module _ (memory : Memory) (items : List (Option User)) where
   user_at k user is =
       let above : nat_lt (first_id + k) first_id ≡ false = grind arith in
       let place : first_id + k - first_id ≡ k = omega arith in
-      rw (above, place) (ap (option_and_then (λ (u : Option Kept). u)) (slice_get-map (option_map kept) items k ∙ ap (option_map (option_map kept)) is))
+      rw (above, place) (ap (option_and_then (λ (u : Option LoadedUser). u)) (slice_get-map (option_map kept) items k ∙ ap (option_map (option_map kept)) is))
 
   pub lies_there : (h : Handle) (k id address number offset : ℕ) (user : Option User) → slice_get items k ≡ Some user → id ≡ first_id + k → IsSomewhereOf memory.slots user h address number offset
       → LiesIn (loaded memory items) address id number offset
@@ -110,7 +110,7 @@ module _ (memory : Memory) (items : List (Option User)) where
         inside = at.inside;
       }
 
-  item_of : (k : ℕ) (one : Kept) → slice_get (map (option_map kept) items) k ≡ Some (Some one) → (user : User) × (slice_get items k ≡ Some (Some user)) × (kept user ≡ one)
+  item_of : (k : ℕ) (one : LoadedUser) → slice_get (map (option_map kept) items) k ≡ Some (Some one) → (user : User) × (slice_get items k ≡ Some (Some user)) × (kept user ≡ one)
   item_of k one is = go (slice_get items k) refl (sym (slice_get-map (option_map kept) items k) ∙ is)
     where
       go : (o : Option (Option User)) → slice_get items k ≡ o → option_map (option_map kept) o ≡ Some (Some one) → (user : User) × (slice_get items k ≡ Some (Some user)) × (kept user ≡ one)
@@ -118,7 +118,7 @@ module _ (memory : Memory) (items : List (Option User)) where
       go (Some None) e f = absurd cc
       go (Some (Some user)) e f = (user, e, same_Some (kept user) one (same_Some (Some (kept user)) (Some one) f))
 
-  numbered : (segments : List Segment) (number : ℕ) (head : Head) → at_number (map (λ (x : Segment). x.head) segments) number ≡ Some head → (s : Segment) × (at_number segments number ≡ Some s) × (s.head ≡ head)
+  numbered : (segments : List Segment) (number : ℕ) (head : SegmentHead) → at_number (map (λ (x : Segment). x.head) segments) number ≡ Some head → (s : Segment) × (at_number segments number ≡ Some s) × (s.head ≡ head)
   numbered segments number head is = go (at_number segments number) refl (sym (number_map (λ (x : Segment). x.head) segments number) ∙ is)
     where
       go : (o : Option Segment) → at_number segments number ≡ o → option_map (λ (x : Segment). x.head) o ≡ Some head → (s : Segment) × (at_number segments number ≡ Some s) × (s.head ≡ head)
@@ -136,12 +136,12 @@ module _ (memory : Memory) (items : List (Option User)) where
       let both = made_at (map (option_map kept) items) id is.kept is.made in
       let item = item_of (id - first_id) is.kept both.0 in
       let user = item.0 in
-      let found = numbered user.segments.items number is.head (ap (λ (x : Kept). at_number x.heads number) item.2 ∙ is.head') in
+      let found = numbered user.segments.items number is.head (ap (λ (x : LoadedUser). at_number x.heads number) item.2 ∙ is.head') in
       let s = found.0 in
       let place = at_place user.segments.items number s found.1 in
-      let handle : s.handle ≡ Some h = sym (handle_is user.segments.items number s found.1) ∙ ap (λ (x : Kept). handle_at x.handles number) item.2 ∙ is.handle ∙ ap (λ (k : Handle). Some k) same in
-      let inside : offset < s.head.length = omega (arith, lies.inside, ap (λ (x : Head). x.length) found.2) in
-      nowhere (Some user) (omega (arith, both.1)) item.1 (ap (λ (x : Kept). x.life) item.2 ∙ is.runs)
+      let handle : s.handle ≡ Some h = sym (handle_is user.segments.items number s found.1) ∙ ap (λ (x : LoadedUser). handle_at x.handles number) item.2 ∙ is.handle ∙ ap (λ (k : Handle). Some k) same in
+      let inside : offset < s.head.length = omega (arith, lies.inside, ap (λ (x : SegmentHead). x.length) found.2) in
+      nowhere (Some user) (omega (arith, both.1)) item.1 (ap (λ (x : LoadedUser). x.life) item.2 ∙ is.runs)
       place.0 s offset place.2 place.1 (record { first = is.address; active = subst (λ (k : Handle). presence memory.slots s.handle ≡ Active k is.address) same (ap (presence memory.slots) (handle ∙ ap (λ (k : Handle). Some k) (sym same)) ∙ is.active); sum = lies.sum; inside = inside })
 
   module _ (sound : IsSound memory (map (option_map kept) items)) (address : ℕ) where

@@ -11,13 +11,13 @@ use Rattle.load_meaning.specs.declared.load.LoadFault.{LoadFault}
 use Rattle.load_meaning.specs.declared.table.Target.{Target}
 use Rattle.load_meaning.specs.LoadTable.{entry_count, is_table, targets_of, table_of, table_from}
 use Rattle.omf_cells.specs.Load.{IsOutside, HasFields, HasLength, table_targets}
-use Rattle.loader_machine.specs.declared.seen.Head.{Head}
+use Rattle.loader_machine.specs.declared.seen.SegmentHead.{SegmentHead}
 use Rattle.loader_machine.specs.Heads.{at_number}
 use Rattle.loader_machine.specs.declared.faults.LoaderFault.TheVariants.{BadFile}
 use Rattle.loader_machine.specs.Found.{HoldsLoad}
 use Rattle.loader_machine.specs.State.{first_id}
 use Rattle.loader_machine.specs.Steps.{is_reached, lost_from, lost_in, lost_refusal}
-use Rattle.loader_agrees.specs.Agrees.{Kept, outline, AreAttached, LeadsFar, EntriesLead}
+use Rattle.loader_agrees.specs.Agrees.{LoadedUser, outline, AreAttached, LeadsFar, EntriesLead}
 use Rattle.loader_agrees.specs.laws.RowUsers.{user_there}
 use Rattle.loader_agrees.specs.laws.Seeing.{user_is}
 use Rattle.loader_agrees.specs.laws.EntryReads.{targets_count, number_within}
@@ -30,7 +30,7 @@ pub head_number : (items : List users.Segment) (n : ℕ) → at_number (map (λ 
 head_number items zero = refl
 head_number items (suc k) = slice_get-map (λ (s : users.Segment). s.head) items k
 
-module _ (heads : List (List Head)) (ts : List Target) where
+module _ (heads : List (List SegmentHead)) (ts : List Target) where
   pub lost_here : (k : ℕ) (t : Target) → slice_get ts k ≡ Some t → is_reached heads t ≡ false → lost_from heads k (drop k ts) ≡ Some k
   lost_here k t is out = ap (lost_from heads k) (drop_at ts k t is) ∙ rw out refl
 
@@ -40,7 +40,7 @@ module _ (heads : List (List Head)) (ts : List Target) where
   pub lost_past : (k : ℕ) → length ts ≤ k → lost_from heads k (drop k ts) ≡ None
   lost_past k le = ap (lost_from heads k) (drop_past ts k le)
 
-module _ (heads : List (List Head)) (load : List Segment) where
+module _ (heads : List (List SegmentHead)) (load : List Segment) where
   -- in the table of a file
   lost_is : (number : ℕ) → table_of load ≡ Some number → (o : Option ℕ) → lost_from heads 0 (table_targets load) ≡ o → option_map (lost_entry number) o ≡ option_and_then (lost_in heads load) (table_of load)
   lost_is number is o from = rw is (go (segment_at load number) refl)
@@ -57,7 +57,7 @@ module _ (heads : List (List Head)) (load : List Segment) where
   lost_none number is from = lost_is number is None from
 
 -- the refusal, by what is lost
-pub refusal_of : (heads : List (List Head)) (load : List Segment) (o : Option LoadFault) → o ≡ option_and_then (lost_in heads load) (table_of load) → lost_refusal heads load ≡ option_map BadFile o
+pub refusal_of : (heads : List (List SegmentHead)) (load : List Segment) (o : Option LoadFault) → o ≡ option_and_then (lost_in heads load) (table_of load) → lost_refusal heads load ≡ option_map BadFile o
 unfolding lost_refusal
 refusal_of heads load o is = ap (option_map BadFile) (sym is)
 
@@ -114,28 +114,28 @@ table_there segments zero s is found = absurd cc
 table_there segments (suc k) s is found = from_table 1 k segments s (is ∙ ap (λ (n : ℕ). Some n) (omega arith)) found
 
 -- where each entry for another file leads somewhere, none is lost
-none_from : (heads : List (List Head)) (k : ℕ) (ts : List Target) → ((i : ℕ) (t : Target) → slice_get ts i ≡ Some t → is_reached heads t ≡ true) → lost_from heads k ts ≡ None
+none_from : (heads : List (List SegmentHead)) (k : ℕ) (ts : List Target) → ((i : ℕ) (t : Target) → slice_get ts i ≡ Some t → is_reached heads t ≡ true) → lost_from heads k ts ≡ None
 none_from heads k [] all = refl
 none_from heads k (t ∷ ts) all = rw (all 0 t refl) (none_from heads (k + 1) ts (λ i u is. all (suc i) u is))
 
 -- a target that leads to an attached user is reached
-far_reached : (users : List (Option Kept)) (place : ℕ) (kept : Kept) (t : Target) → slice_get users place ≡ Some (Some kept) → 2 ≤ t.file → LeadsFar users (first_id + place) t → is_reached (kept_heads users kept.attached) t ≡ true
+far_reached : (users : List (Option LoadedUser)) (place : ℕ) (kept : LoadedUser) (t : Target) → slice_get users place ≡ Some (Some kept) → 2 ≤ t.file → LeadsFar users (first_id + place) t → is_reached (kept_heads users kept.attached) t ≡ true
 far_reached users place kept t made above far =
     let own : nat_le t.file 1 ≡ false = grind (arith, nat_tests, above) in
     let row : slice_get kept.attached (t.file - 2) ≡ Some far.other =
     sym (rw (user_is outline users (first_id + place), user_there users place kept made) refl) ∙ far.named in
     let heads : slice_get (kept_heads users kept.attached) (t.file - 2) ≡ Some far.kept.heads =
-    slice_get-map (heads_in users) kept.attached (t.file - 2) ∙ ap (option_map (heads_in users)) row ∙ ap (λ (o : Option Kept). Some (option_map_or (λ (k : Kept). k.heads) o [])) far.made in
+    slice_get-map (heads_in users) kept.attached (t.file - 2) ∙ ap (option_map (heads_in users)) row ∙ ap (λ (o : Option LoadedUser). Some (option_map_or (λ (k : LoadedUser). k.heads) o [])) far.made in
     let inside : nat_lt t.offset far.head.length ≡ true = grind (arith, nat_tests, far.inside) in
     rw (own, heads, far.head') inside
 
 -- so it is in a file of a user that agrees
-pub entries_none : (users : List (Option Kept)) (place : ℕ) (kept : Kept) (held : FileMap) (segments : List Segment) → HoldsLoad held kept.path segments → AreAttached users → EntriesLead held users
+pub entries_none : (users : List (Option LoadedUser)) (place : ℕ) (kept : LoadedUser) (held : FileMap) (segments : List Segment) → HoldsLoad held kept.path segments → AreAttached users → EntriesLead held users
     → slice_get users place ≡ Some (Some kept) → lost_refusal (kept_heads users kept.attached) segments ≡ None
 unfolding lost_refusal
 entries_none users place kept held segments holds attached entries made = go (table_of segments) refl
   where
-    heads : List (List Head)
+    heads : List (List SegmentHead)
     heads = kept_heads users kept.attached
 
     low : (t : Target) → nat_lt 1 t.file ≡ false → is_reached heads t ≡ true

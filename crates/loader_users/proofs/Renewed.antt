@@ -8,21 +8,21 @@ use Rattle.omf_io.specs.Counts.{IsFront}
 use Rattle.load_meaning.specs.declared.table.Target.{Target}
 use Rattle.load_meaning.specs.declared.table.Entry.{Entry}
 use Rattle.load_meaning.specs.Table.{entry_start, table_bytes, written_at}
-use Rattle.loader_machine.specs.Stands.{Setting, entry_for}
+use Rattle.loader_machine.specs.Stands.{AddressSetting, entry_for}
 use Rattle.loader_agrees.specs.laws.EntryBytes.{file_is, segment_is, offset_is, code_set}
-use Rattle.loader_users.specs.Renewing.{Choice, is_chosen, code_for, renewed_at, renewed}
+use Rattle.loader_users.specs.Renewing.{Choice, is_chosen, code_for, renewed_at, relinked_entries}
 
 -- ---- a target
 
 -- an entry whose code is right by one setting, once it follows
-pub record Follows (only : Choice) (address : Option ℕ) (a b : Setting) (t : Target) : Type 0 where
+pub record Follows (only : Choice) (address : Option ℕ) (a b : AddressSetting) (t : Target) : Type 0 where
   pub file : t.file < 256 ^ 2
   pub segment : t.segment < 256 ^ 2
   pub offset : is_chosen only t.file t.segment ≡ true → IsSome address → t.offset < 256 ^ 4
   pub chosen : is_chosen only t.file t.segment ≡ true → b.target t.file t.segment ≡ address
   pub others : is_chosen only t.file t.segment ≡ false → b.target t.file t.segment ≡ a.target t.file t.segment
 
-module _ (only : Choice) (address : Option ℕ) (a b : Setting) (id : a.id ≡ b.id) where
+module _ (only : Choice) (address : Option ℕ) (a b : AddressSetting) (id : a.id ≡ b.id) where
   -- the table with these entries by the new setting, and the others by the old one
   abbrev half : List Target → List Target → List Entry
   half done left = map (entry_for b) done ++ map (entry_for a) left
@@ -80,26 +80,26 @@ module _ (only : Choice) (address : Option ℕ) (a b : Setting) (id : a.id ≡ b
           ap (λ (x : Bool). cond x (written_at (entry_start (length done) + 10) (code_for address (number_at 4 (entry_start (length done) + 6) bytes)) bytes) bytes) test
           ∙ is.1 ∙ moved (entry_for a t) (ap (λ (n : ℕ). one t n (a.target t.file t.segment)) id ∙ ap (one t b.id) (sym (follows.others others)))
 
-  renewed_from : (done left : List Target) (bytes : List ℕ) → AllByRecursion (Follows only address a b) left → IsFront (table_bytes (half done left)) (renewed only address (length done) bytes)
-      → IsFront (table_bytes (half (done ++ left) [])) (renewed only address (length done + length left) bytes)
+  renewed_from : (done left : List Target) (bytes : List ℕ) → AllByRecursion (Follows only address a b) left → IsFront (table_bytes (half done left)) (relinked_entries only address (length done) bytes)
+      → IsFront (table_bytes (half (done ++ left) [])) (relinked_entries only address (length done + length left) bytes)
   renewed_from done [] bytes all is =
       let more : length done ≡ length done + 0 = omega arith in
-      subst (λ (n : ℕ). IsFront (table_bytes (half (done ++ []) [])) (renewed only address n bytes)) more
-      (subst (λ (l : List Target). IsFront (table_bytes (half l [])) (renewed only address (length done) bytes)) (sym (append-nil done)) is)
+      subst (λ (n : ℕ). IsFront (table_bytes (half (done ++ []) [])) (relinked_entries only address n bytes)) more
+      (subst (λ (l : List Target). IsFront (table_bytes (half l [])) (relinked_entries only address (length done) bytes)) (sym (append-nil done)) is)
   renewed_from done (t ∷ left) bytes all is =
-      let one' = renewed_one done left t (renewed only address (length done) bytes) all.0 is in
+      let one' = renewed_one done left t (relinked_entries only address (length done) bytes) all.0 is in
       let long : length (done ++ t ∷ []) ≡ suc (length done) = omega (arith, length-append done (t ∷ [])) in
-      let here : IsFront (table_bytes (half (done ++ t ∷ []) left)) (renewed only address (length (done ++ t ∷ [])) bytes) =
-      subst (λ (n : ℕ). IsFront (table_bytes (half (done ++ t ∷ []) left)) (renewed only address n bytes)) (sym long) one' in
+      let here : IsFront (table_bytes (half (done ++ t ∷ []) left)) (relinked_entries only address (length (done ++ t ∷ [])) bytes) =
+      subst (λ (n : ℕ). IsFront (table_bytes (half (done ++ t ∷ []) left)) (relinked_entries only address n bytes)) (sym long) one' in
       let all' = renewed_from (done ++ t ∷ []) left bytes all.1 here in
       let sum : length (done ++ t ∷ []) + length left ≡ length done + length (t ∷ left) = omega (arith, long) in
-      subst (λ (n : ℕ). IsFront (table_bytes (half (done ++ t ∷ left) [])) (renewed only address n bytes)) sum
-      (subst (λ (l : List Target). IsFront (table_bytes (half l [])) (renewed only address (length (done ++ t ∷ []) + length left) bytes)) (append_assoc done (t ∷ []) left) all')
+      subst (λ (n : ℕ). IsFront (table_bytes (half (done ++ t ∷ left) [])) (relinked_entries only address n bytes)) sum
+      (subst (λ (l : List Target). IsFront (table_bytes (half l [])) (relinked_entries only address (length (done ++ t ∷ []) + length left) bytes)) (append_assoc done (t ∷ []) left) all')
 
   -- a table whose entries follow stands for the new setting
   pub renewed_stands : (ts : List Target) (bytes : List ℕ) → AllByRecursion (Follows only address a b) ts → IsFront (table_bytes (map (entry_for a) ts)) bytes
-      → IsFront (table_bytes (map (entry_for b) ts)) (renewed only address (length ts) bytes)
+      → IsFront (table_bytes (map (entry_for b) ts)) (relinked_entries only address (length ts) bytes)
   renewed_stands ts bytes all is =
       let none : 0 + length ts ≡ length ts = omega arith in
-      subst (λ (l : List Entry). IsFront (table_bytes l) (renewed only address (length ts) bytes)) (append-nil (map (entry_for b) ts))
-      (subst (λ (n : ℕ). IsFront (table_bytes (map (entry_for b) ts ++ [])) (renewed only address n bytes)) none (renewed_from [] ts bytes all is))
+      subst (λ (l : List Entry). IsFront (table_bytes l) (relinked_entries only address (length ts) bytes)) (append-nil (map (entry_for b) ts))
+      (subst (λ (n : ℕ). IsFront (table_bytes (map (entry_for b) ts ++ [])) (relinked_entries only address n bytes)) none (renewed_from [] ts bytes all is))

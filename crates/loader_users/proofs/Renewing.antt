@@ -11,12 +11,12 @@ use Rattle.iigs_meaning.specs.declared.wants.Block.{Block}
 use Rattle.iigs_meaning.specs.Slots.{get}
 use Rattle.iigs_meaning.specs.Fits.{Slots}
 use Rattle.iigs_meaning.specs.Memory.{Memory, bytes_at}
-use Rattle.loader_machine.specs.declared.seen.Head.{Head}
+use Rattle.loader_machine.specs.declared.seen.SegmentHead.{SegmentHead}
 use Rattle.loader_machine.specs.declared.seen.Presence.TheVariants.{Idle, Active}
 use Rattle.loader_machine.specs.Heads.{at_number, is_table}
 use Rattle.loader_machine.specs.Presences.{presence, lies_in, lies_at, there_at, handle_at}
 use Rattle.loader_users.specs.Bytes.{with_bytes}
-use Rattle.loader_users.specs.Renewing.{Choice, renewed, IsRenewed, AreRoomy, AreRenewed}
+use Rattle.loader_users.specs.Renewing.{Choice, relinked_entries, IsRenewed, AreRoomy, AreRenewed}
 
 -- ---- one table
 
@@ -59,14 +59,14 @@ its_room memory o size h there is room = room h is (subst (λ (x : Option Handle
 
 -- its block is written
 pub renewed_here : (only : Choice) (address : Option ℕ) (o : Option Handle) (size : ℕ) (old new : Memory) (h : Handle) → o ≡ Some h → size ≤ length (bytes_at old h.slot)
-    → length (renewed only address (entry_count size) (bytes_at old h.slot)) ≡ length (bytes_at old h.slot)
-    → new ≡ with_bytes old h.slot (renewed only address (entry_count size) (bytes_at old h.slot)) → IsRenewed only address o size old new
+    → length (relinked_entries only address (entry_count size) (bytes_at old h.slot)) ≡ length (bytes_at old h.slot)
+    → new ≡ with_bytes old h.slot (relinked_entries only address (entry_count size) (bytes_at old h.slot)) → IsRenewed only address o size old new
 renewed_here only address o size old new h is room same new_is = record {
   banks = ap (λ (m : Memory). m.banks) new_is;
   slots = ap (λ (m : Memory). m.slots) new_is;
   follows = λ k found there.
       let one : k ≡ h = same_Some k h (sym found ∙ is) in
-      ap (λ (x : Handle). bytes_at new x.slot) one ∙ written ∙ ap (λ (x : Handle). renewed only address (entry_count size) (bytes_at old x.slot)) (sym one);
+      ap (λ (x : Handle). bytes_at new x.slot) one ∙ written ∙ ap (λ (x : Handle). relinked_entries only address (entry_count size) (bytes_at old x.slot)) (sym one);
   stay = λ slot apart. ap (λ (m : Memory). bytes_at m slot) new_is ∙ get_or-set_other old.bytes h.slot slot content [] (λ e. apart h is (sym e));
   sizes = λ slot. elim (cases_eq slot h.slot) [
     | inl eq ↦ ap (λ (n : ℕ). length (bytes_at new n)) eq ∙ ap length written ∙ same ∙ ap (λ (n : ℕ). length (bytes_at old n)) (sym eq)
@@ -75,20 +75,20 @@ renewed_here only address o size old new h is room same new_is = record {
 }
   where
     content : List ℕ
-    content = renewed only address (entry_count size) (bytes_at old h.slot)
+    content = relinked_entries only address (entry_count size) (bytes_at old h.slot)
 
-    written : bytes_at new h.slot ≡ renewed only address (entry_count size) (bytes_at old h.slot)
+    written : bytes_at new h.slot ≡ relinked_entries only address (entry_count size) (bytes_at old h.slot)
     written = ap (λ (m : Memory). bytes_at m h.slot) new_is ∙ elim (cases_lt h.slot (length old.bytes)) [
-      | inl lt ↦ get_or-set_same old.bytes h.slot (renewed only address (entry_count size) (bytes_at old h.slot)) [] lt
+      | inl lt ↦ get_or-set_same old.bytes h.slot (relinked_entries only address (entry_count size) (bytes_at old h.slot)) [] lt
       | inr le ↦ past le
     ]
       where
-        past : length old.bytes ≤ h.slot → bytes_at (with_bytes old h.slot (renewed only address (entry_count size) (bytes_at old h.slot))) h.slot ≡ renewed only address (entry_count size) (bytes_at old h.slot)
+        past : length old.bytes ≤ h.slot → bytes_at (with_bytes old h.slot (relinked_entries only address (entry_count size) (bytes_at old h.slot))) h.slot ≡ relinked_entries only address (entry_count size) (bytes_at old h.slot)
         past le =
             let none : bytes_at old h.slot ≡ [] = get_or-eq_default old.bytes [] le in
-            let zero' : length (renewed only address (entry_count size) (bytes_at old h.slot)) ≡ 0 = same ∙ ap length none in
-            no_bytes (slice_set old.bytes h.slot (renewed only address (entry_count size) (bytes_at old h.slot))) (renewed only address (entry_count size) (bytes_at old h.slot)) zero'
-            (Rattle.std.proofs.lemmas.List.length-set old.bytes h.slot (renewed only address (entry_count size) (bytes_at old h.slot))) le
+            let zero' : length (relinked_entries only address (entry_count size) (bytes_at old h.slot)) ≡ 0 = same ∙ ap length none in
+            no_bytes (slice_set old.bytes h.slot (relinked_entries only address (entry_count size) (bytes_at old h.slot))) (relinked_entries only address (entry_count size) (bytes_at old h.slot)) zero'
+            (Rattle.std.proofs.lemmas.List.length-set old.bytes h.slot (relinked_entries only address (entry_count size) (bytes_at old h.slot))) le
           where
             no_bytes : (bs : List (List ℕ)) (w : List ℕ) → length w ≡ 0 → length bs ≡ length old.bytes → length old.bytes ≤ h.slot → get_or bs h.slot [] ≡ w
             no_bytes bs [] e same' le' = get_or-eq_default bs [] (omega (arith, same', le'))
@@ -96,7 +96,7 @@ renewed_here only address o size old new h is room same new_is = record {
 
 -- ---- one more
 
-module _ (heads : List Head) (handles : List (Option Handle)) (only : Choice) (address : Option ℕ) (old now : Memory) (k : ℕ) (head : Head) (so_far : AreRenewed heads handles only address old now k)
+module _ (heads : List SegmentHead) (handles : List (Option Handle)) (only : Choice) (address : Option ℕ) (old now : Memory) (k : ℕ) (head : SegmentHead) (so_far : AreRenewed heads handles only address old now k)
     (has : at_number heads (k + 1) ≡ Some head) where
   pub tables_skip : is_table head ≡ false → AreRenewed heads handles only address old now (k + 1)
   tables_skip plain = record {
@@ -129,8 +129,8 @@ module _ (heads : List Head) (handles : List (Option Handle)) (only : Choice) (a
               let it : o ≡ Some h = sym is_handle ∙ ap (handle_at handles) (sym last) ∙ is in
               let there' : IsSome (there_at (presence now.slots (Some h))) = subst (λ (t : Slots). IsSome (there_at (presence t (Some h)))) (sym so_far.slots) there in
               let before : bytes_at now h.slot ≡ bytes_at old h.slot = so_far.stay h.slot (λ m f j le' found' is' table'' slot. absurd (earlier m j h le' is' it slot)) in
-              one.follows h it there' ∙ ap (λ (bs : List ℕ). renewed only address (entry_count head.length) bs) before
-              ∙ ap (λ (x : Head). renewed only address (entry_count x.length) (bytes_at old h.slot)) (sym same))
+              one.follows h it there' ∙ ap (λ (bs : List ℕ). relinked_entries only address (entry_count head.length) bs) before
+              ∙ ap (λ (x : SegmentHead). relinked_entries only address (entry_count x.length) (bytes_at old h.slot)) (sym same))
           | inr before ↦ (
               let n_le : n ≤ k = omega (arith, le, before) in
               one.stay h.slot (λ j it slot. absurd (earlier n h j n_le is it (sym slot))) ∙ so_far.follow n g h n_le found is table there)

@@ -20,14 +20,14 @@ use Rattle.load_content.specs.Places.{address_in}
 use Rattle.omf_cells.specs.Load.{table_targets}
 use Rattle.iigs_meaning.specs.declared.handles.Handle.{Handle}
 use Rattle.iigs_meaning.specs.Fits.{Slots}
-use Rattle.loader_machine.specs.declared.seen.Head.{Head}
+use Rattle.loader_machine.specs.declared.seen.SegmentHead.{SegmentHead}
 use Rattle.loader_machine.specs.Heads.{head_of, is_static}
-use Rattle.loader_machine.specs.State.{Held, no_pokes}
+use Rattle.loader_machine.specs.State.{HeldSegment, no_pokes}
 use Rattle.loader_machine.specs.Presences.{handle_at, presence, presence_at, there_at, active_at}
 use Rattle.loader_machine.specs.Stands as machine
-use Rattle.loader_machine.specs.Stands.{Setting, setting, entry_for, entries_bytes, read_bytes, stands, nowhere, target_with}
+use Rattle.loader_machine.specs.Stands.{AddressSetting, setting, entry_for, entries_bytes, read_bytes, stands, no_far_segment, target_with}
 use Rattle.loader_machine.specs.laws.PokeLaws.{over_none}
-use Rattle.loader_machine.specs.Steps.{spread}
+use Rattle.loader_machine.specs.Steps.{held_of_heads}
 use Rattle.loader_agrees.specs.laws.Begun.{decide}
 use Rattle.loader_agrees.specs.laws.Filled.{plain_stands}
 use Rattle.loader_agrees.specs.laws.Lists.{number_map}
@@ -50,10 +50,10 @@ pub front_of : (o : Option Segment) (bytes : Segment → List ℕ) (front rest :
 front_of None bytes front rest is = absurd is
 front_of (Some s) bytes front rest is = (rest, ap (λ (l : List ℕ). l ++ rest) is)
 
-module _ (segments : List Segment) (number : ℕ) (head : Head) (s : Segment) (there : segment_at segments number ≡ Some s) (is_head : head ≡ head_of s) where
+module _ (segments : List Segment) (number : ℕ) (head : SegmentHead) (s : Segment) (there : segment_at segments number ≡ Some s) (is_head : head ≡ head_of s) where
   module _ (sound : AreSound segments) (is : (form_of head.kind == 0x02) ≡ true) where
     its_table : is_table s ≡ true
-    its_table = ap (λ (x : Head). form_of x.kind == 0x02) (sym is_head) ∙ is
+    its_table = ap (λ (x : SegmentHead). form_of x.kind == 0x02) (sym is_head) ∙ is
 
     sound_one : IsSoundSegment segments number s
     sound_one = sound number s there
@@ -65,18 +65,18 @@ module _ (segments : List Segment) (number : ℕ) (head : Head) (s : Segment) (t
     room_is size fits =
         let laid = (sound_one.table its_table).laid_out.size in
         let long : length (segment_bytes s) ≡ s.fields.length = length-segment_bytes s sound_one.fits in
-        let same : head.length ≡ s.fields.length = ap (λ (x : Head). x.length) is_head in
+        let same : head.length ≡ s.fields.length = ap (λ (x : SegmentHead). x.length) is_head in
         let count : length (map file_entry (targets_of s)) ≡ length (targets_of s) = length-map (targets_of s) file_entry in
         omega (arith, fits, laid, long, same, count, ap length targets_are)
 
-    entries_same : (user : ℕ) (at : Setting) (ts : List Target) → at.id ≡ user → AllByRecursion (λ t. at.target t.file t.segment ≡ None) ts → map (entry_for at) ts ≡ map (own_entry user) ts
+    entries_same : (user : ℕ) (at : AddressSetting) (ts : List Target) → at.id ≡ user → AllByRecursion (λ t. at.target t.file t.segment ≡ None) ts → map (entry_for at) ts ≡ map (own_entry user) ts
     entries_same user at [] id none = refl
     entries_same user at (t ∷ ts) id none =
         let entry : Option ℕ → ℕ → Entry = λ target own. record { user = own; file = t.file; segment = t.segment; offset = t.offset; loaded = option_map (λ place. place + t.offset) target } in
         let one : entry_for at t ≡ own_entry user t = ap (λ (target : Option ℕ). entry target at.id) none.0 ∙ ap (entry None) id in
         ap (λ (e : Entry). e ∷ map (entry_for at) ts) one ∙ ap (λ (es : List Entry). own_entry user t ∷ es) (entries_same user at ts id none.1)
 
-    table_is : (user : ℕ) (places : List (Option ℕ)) (out : List ℕ) → IsFront (table_bytes (map (own_entry user) (table_targets segments))) out → (at : Setting) → IsSetting segments user places at
+    table_is : (user : ℕ) (places : List (Option ℕ)) (out : List ℕ) → IsFront (table_bytes (map (own_entry user) (table_targets segments))) out → (at : AddressSetting) → IsSetting segments user places at
         → IsFront (stands at no_pokes s) out
     unfolding stands read_bytes entries_bytes
     table_is user places out front at set =
@@ -86,13 +86,13 @@ module _ (segments : List Segment) (number : ℕ) (head : Head) (s : Segment) (t
         ∙ ap table_bytes entries ∙ ap (λ (ts : List Target). table_bytes (map (own_entry user) ts)) (sym targets_are) in
         subst (λ (content : List ℕ). IsFront content out) (sym bytes) front
 
-  plain_is : (form_of head.kind == 0x02) ≡ false → (user : ℕ) (places : List (Option ℕ)) (out : List ℕ) → IsFront (load.stands (address_in places) s) out → (at : Setting) → IsSetting segments user places at
+  plain_is : (form_of head.kind == 0x02) ≡ false → (user : ℕ) (places : List (Option ℕ)) (out : List ℕ) → IsFront (load.stands (address_in places) s) out → (at : AddressSetting) → IsSetting segments user places at
       → IsFront (stands at no_pokes s) out
   plain_is is user places out front at set =
-      let plain : is_table s ≡ false = ap (λ (x : Head). form_of x.kind == 0x02) (sym is_head) ∙ is in
+      let plain : is_table s ≡ false = ap (λ (x : SegmentHead). form_of x.kind == 0x02) (sym is_head) ∙ is in
       subst (λ (content : List ℕ). IsFront content out) (sym (plain_stands at s (address_in places) plain set.place)) front
 
-module _ (segments : List Segment) (number : ℕ) (head : Head) (has : HasHead segments number head) where
+module _ (segments : List Segment) (number : ℕ) (head : SegmentHead) (has : HasHead segments number head) where
   found : (s : Segment) × (segment_at segments number ≡ Some s) × (head ≡ head_of s)
   found = some_and (segment_at segments number) (λ s. head ≡ head_of s) has
 
@@ -132,7 +132,7 @@ address_is slots segments (suc k) = go segments k
     go (x ∷ xs) (suc i) = go xs i
 
 -- a segment that isn't static gets no handle
-spread_other : (heads : List Head) (hs : List Handle) (k : ℕ) (head : Head) → slice_get heads k ≡ Some head → is_static head ≡ false → slice_get (map (λ (held : Held). held.handle) (spread heads hs)) k ≡ Some None
+spread_other : (heads : List SegmentHead) (hs : List Handle) (k : ℕ) (head : SegmentHead) → slice_get heads k ≡ Some head → is_static head ≡ false → slice_get (map (λ (held : HeldSegment). held.handle) (held_of_heads heads hs)) k ≡ Some None
 spread_other [] hs k head is other = absurd cc
 spread_other (g ∷ heads) [] zero head is other = refl
 spread_other (g ∷ heads) [] (suc k) head is other = spread_other heads [] k head is other
@@ -142,7 +142,7 @@ spread_other (g ∷ heads) (h ∷ hs) (suc k) head is other = elim (decide (is_s
   | inr its ↦ rw its (spread_other heads (h ∷ hs) k head is other)
 ]
 
-dynamic_other : (head : Head) → is_dynamic head.kind ≡ true → is_static head ≡ false
+dynamic_other : (head : SegmentHead) → is_dynamic head.kind ≡ true → is_static head ≡ false
 dynamic_other head dynamic = rw dynamic refl
 
 module _ (file : List ℕ) (segments : List Segment) (taken : IsLoadable file segments) (hs : List Handle) (slots : Slots) (user : ℕ) where
@@ -152,7 +152,7 @@ module _ (file : List ℕ) (segments : List Segment) (taken : IsLoadable file se
       let head : slice_get (map head_of segments) k ≡ Some (head_of s) = number_map head_of segments (suc k) ∙ ap (option_map head_of) is in
       ap (option_and_then (λ (o : Option Handle). o)) (spread_other (map head_of segments) hs k (head_of s) head (dynamic_other (head_of s) dynamic))
 
-  none_active : (t : Target) → IsTarget segments t → target_with nowhere slots (spread_handles segments hs) t.file t.segment ≡ None
+  none_active : (t : Target) → IsTarget segments t → target_with no_far_segment slots (spread_handles segments hs) t.file t.segment ≡ None
   none_active t (inl is) =
       let none : presence_at slots (spread_handles segments hs) t.segment ≡ presence slots None = ap (presence slots) (not_there t.segment is.segment' is.is is.dynamic) in
       go (t.file == 1) (ap active_at none)
@@ -162,7 +162,7 @@ module _ (file : List ℕ) (segments : List Segment) (taken : IsLoadable file se
       go false e = refl
   none_active t (inr is) = let above : 2 ≤ t.file = is.beyond in let other : (t.file == 1) ≡ false = grind arith in rw other refl
 
-  all_none : (ts : List Target) → AllByRecursion (IsTarget segments) ts → AllByRecursion (λ t. target_with nowhere slots (spread_handles segments hs) t.file t.segment ≡ None) ts
+  all_none : (ts : List Target) → AllByRecursion (IsTarget segments) ts → AllByRecursion (λ t. target_with no_far_segment slots (spread_handles segments hs) t.file t.segment ≡ None) ts
   all_none [] all = tt
   all_none (t ∷ ts) all = (none_active t all.0, all_none ts all.1)
 

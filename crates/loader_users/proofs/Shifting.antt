@@ -12,12 +12,12 @@ use Rattle.omf_io.specs.Files.{FileMap}
 use Rattle.load_meaning.specs.LoadTable as load
 use Rattle.load_meaning.specs.declared.table.Target.{Target}
 use Rattle.iigs_meaning.specs.declared.handles.Handle.{Handle}
-use Rattle.iigs_meaning.specs.declared.slots.Content.TheVariants.{Used}
+use Rattle.iigs_meaning.specs.declared.slots.SlotContent.TheVariants.{Used}
 use Rattle.iigs_meaning.specs.declared.wants.Block.{Block}
 use Rattle.iigs_meaning.specs.Slots.{slot_at, new_slot, get, with_value}
 use Rattle.iigs_meaning.specs.Fits.{Slots, block_in}
 use Rattle.iigs_meaning.specs.Memory.{bytes_at}
-use Rattle.loader_machine.specs.declared.seen.Head.{Head}
+use Rattle.loader_machine.specs.declared.seen.SegmentHead.{SegmentHead}
 use Rattle.loader_machine.specs.declared.seen.Life.TheVariants.{Running, Dormant}
 use Rattle.loader_machine.specs.Heads.{head_of, at_number, is_static, is_table}
 use Rattle.loader_machine.specs.State.{User, Machine, Outline, first_id, user_of, attached_at, handles_in}
@@ -26,8 +26,8 @@ use Rattle.loader_machine.specs.Presences.{handle_at, presence, presence_at, the
 use Rattle.loader_machine.specs.Stands.{Far, setting_with, far_of}
 use Rattle.load_meaning.specs.LoadTable.{target_at, entry_count}
 use Rattle.load_meaning.specs.Table.{entry_start}
-use Rattle.loader_machine.specs.Steps.{changed, with_slots}
-use Rattle.loader_agrees.specs.Agrees.{Kept, Loaded, outline, kept_outlines, UserAgrees, LeadsFar, EntriesLead, AreAttached, IsCall, Agrees, IsSegments, IsOf, Has, IsSound}
+use Rattle.loader_machine.specs.Steps.{with_block_changed, with_slots}
+use Rattle.loader_agrees.specs.Agrees.{LoadedUser, Loaded, outline, kept_outlines, UserAgrees, LeadsFar, EntriesLead, AreAttached, IsCall, Agrees, IsSegments, IsOf, Has, IsSound}
 use Rattle.loader_agrees.specs.laws.Begun.{decide}
 use Rattle.loader_agrees.specs.laws.Frame.{Same, agrees_still}
 use Rattle.loader_agrees.specs.laws.Leading.{Leading, Its, Holder}
@@ -35,7 +35,7 @@ use Rattle.loader_agrees.specs.laws.Reads.{head_at}
 use Rattle.loader_agrees.specs.laws.Seeing.{made_at, user_is, IsKept, kept_is, has_any}
 use Rattle.loader_agrees.specs.laws.Slotted.{slot_apart, slot_set}
 use Rattle.loader_agrees.specs.laws.Stay.{is_there}
-use Rattle.loader_users.specs.Renewing.{is_chosen, renewed}
+use Rattle.loader_users.specs.Renewing.{is_chosen, relinked_entries}
 use Rattle.loader_users.proofs.Lead.{target_stays as target_kept}
 use Rattle.loader_users.specs.Shifted.{HasShifted}
 use Rattle.loader_users.proofs.Turned.{Becomes, Stays, Turns, Turned, turned_agrees}
@@ -106,7 +106,7 @@ there_block h block some = go block.at block.locked some
     go (Some a) false e = refl
 
 -- the block of a segment that is there has room for LENGTH bytes
-pub room_there : (loader : Loaded) → IsSound loader.memory loader.users → (p n : ℕ) (g : Head) (j : Handle) → Has loader.users p n g j → IsSome (there_at (presence loader.memory.slots (Some j))) → g.length ≤ length (bytes_at loader.memory j.slot)
+pub room_there : (loader : Loaded) → IsSound loader.memory loader.users → (p n : ℕ) (g : SegmentHead) (j : Handle) → Has loader.users p n g j → IsSome (there_at (presence loader.memory.slots (Some j))) → g.length ≤ length (bytes_at loader.memory j.slot)
 room_there loader sound p n g j has there =
     let of' = sound.each p n g j has in
     of'.room (go of'.block.at of'.block.locked (subst (λ (o : Option Block). IsSome (there_at (lies_in j o))) of'.live there))
@@ -115,9 +115,9 @@ room_there loader sound p n g j has there =
     go None locked e = absurd cc
     go (Some a) locked e = refl
 
-module _ (old new : Loaded) (id number owner file : ℕ) (kept lead : Kept) (h : Handle) (change : Block → Block) (address : Option ℕ) (head : Head)
+module _ (old new : Loaded) (id number owner file : ℕ) (kept lead : LoadedUser) (h : Handle) (change : Block → Block) (address : Option ℕ) (head : SegmentHead)
     (sound : IsSound old.memory old.users) (leading : Leading old.users id owner file) (lead_made : user_of old.users owner ≡ Some lead)
-    (alone : file ≡ 1 ⊎ ((n : ℕ) (g : Head) → at_number kept.heads n ≡ Some g → is_table g ≡ false)) (made : user_of old.users id ≡ Some kept) (head' : at_number kept.heads number ≡ Some head) (handle : handle_at kept.handles number ≡ Some h)
+    (alone : file ≡ 1 ⊎ ((n : ℕ) (g : SegmentHead) → at_number kept.heads n ≡ Some g → is_table g ≡ false)) (made : user_of old.users id ≡ Some kept) (head' : at_number kept.heads number ≡ Some head) (handle : handle_at kept.handles number ≡ Some h)
     (dynamic : is_dynamic head.kind ≡ true) (turn : IsTurn change) (shifted : HasShifted old lead (file, number) h change address new) where
   abbrev place : ℕ
   place = id - first_id
@@ -143,7 +143,7 @@ module _ (old new : Loaded) (id number owner file : ℕ) (kept lead : Kept) (h :
   slots_are : new.memory.slots ≡ with_value old.memory.slots h (change block)
   slots_are = shifted.changes.slots ∙ ap (λ (t : Slots). with_value t h (change block)) shifted.renewed.slots
 
-  pub slots_changed : new.memory.slots ≡ changed change old.memory.slots h
+  pub slots_changed : new.memory.slots ≡ with_block_changed change old.memory.slots h
   slots_changed = slots_are ∙ sym (ap (λ (o : Option Block). option_map_or (λ b. with_value old.memory.slots h (change b)) o old.memory.slots) was)
 
   now_is : get new.memory.slots h ≡ Some (change block)
@@ -152,10 +152,10 @@ module _ (old new : Loaded) (id number owner file : ℕ) (kept lead : Kept) (h :
   get_apart : (k : Handle) → k.slot ≢ h.slot → get new.memory.slots k ≡ get old.memory.slots k
   get_apart k ne = ap (λ (t : Slots). get t k) slots_are ∙ slot_apart old.memory.slots h k (record { generation = h.generation; content = Used (change block) }) ne
 
-  apart : (p n : ℕ) (g : Head) (k : Handle) → Has old.users p n g k → ((p ≡ place) → (n ≡ number) → ⊥) → k.slot ≢ h.slot
+  apart : (p n : ℕ) (g : SegmentHead) (k : Handle) → Has old.users p n g k → ((p ≡ place) → (n ≡ number) → ⊥) → k.slot ≢ h.slot
   apart p n g k has differ same = let both = sound.once p place n number g head k h has has_it same in differ both.0 both.1
 
-  own : (n : ℕ) (k : Handle) → handle_at kept.handles n ≡ Some k → (g : Head) × Has old.users place n g k
+  own : (n : ℕ) (k : Handle) → handle_at kept.handles n ≡ Some k → (g : SegmentHead) × Has old.users place n g k
   own n k found = has_any old sound place kept its_users.0 n k found
 
   -- ---- where the segments are
@@ -187,15 +187,15 @@ module _ (old new : Loaded) (id number owner file : ℕ) (kept lead : Kept) (h :
   bytes_middle k there = shifted.changes.kept.bytes k.slot (none_in k.slot) (is_there new.memory k there)
 
   -- no table's block is written but the leading user's
-  plain_bytes : (p n : ℕ) (g : Head) (k : Handle) → Has old.users p n g k → ((p ≡ lead_place) → is_table g ≡ false) → bytes_at shifted.middle k.slot ≡ bytes_at old.memory k.slot
+  plain_bytes : (p n : ℕ) (g : SegmentHead) (k : Handle) → Has old.users p n g k → ((p ≡ lead_place) → is_table g ≡ false) → bytes_at shifted.middle k.slot ≡ bytes_at old.memory k.slot
   plain_bytes p n g k has plain = shifted.renewed.stay k.slot (λ m f j le fhead fhandle table same.
       let other : Has old.users lead_place m f j = record { kept = lead; made = lead_users.0; head' = fhead; handle = fhandle } in
       let both = sound.once lead_place p m n f g j k other has same in
       let kept_same : has.kept ≡ lead = kept_is_one has.kept lead (sym has.made ∙ ap (slice_get old.users) (sym both.0) ∙ lead_users.0) in
-      let heads : Some g ≡ Some f = sym has.head' ∙ ap (λ (x : Kept). at_number x.heads n) kept_same ∙ ap (at_number lead.heads) (sym both.1) ∙ fhead in
+      let heads : Some g ≡ Some f = sym has.head' ∙ ap (λ (x : LoadedUser). at_number x.heads n) kept_same ∙ ap (at_number lead.heads) (sym both.1) ∙ fhead in
       let clash : true ≡ false = sym table ∙ ap is_table (sym (same_Some g f heads)) ∙ plain (sym both.0) in absurd cc)
     where
-      kept_is_one : (a b : Kept) → Some (Some a) ≡ Some (Some b) → a ≡ b
+      kept_is_one : (a b : LoadedUser) → Some (Some a) ≡ Some (Some b) → a ≡ b
       kept_is_one a b e = cc
 
   sizes : (k : Handle) → IsSome (there_at (presence new.memory.slots (Some k))) → length (bytes_at new.memory k.slot) ≡ length (bytes_at old.memory k.slot)
@@ -203,16 +203,16 @@ module _ (old new : Loaded) (id number owner file : ℕ) (kept lead : Kept) (h :
 
   -- ---- what is true of every loader
 
-  static_apart : (n : ℕ) (g : Head) → at_number kept.heads n ≡ Some g → is_static g ≡ true → n ≢ number
+  static_apart : (n : ℕ) (g : SegmentHead) → at_number kept.heads n ≡ Some g → is_static g ≡ true → n ≢ number
   static_apart n g found static eq =
       let same : g ≡ head = same_Some g head (sym found ∙ ap (at_number kept.heads) eq ∙ head') in
-      no (is_dynamic g.kind) (is_skipped g.kind) (ap (λ (x : Head). is_dynamic x.kind) same ∙ dynamic) static
+      no (is_dynamic g.kind) (is_skipped g.kind) (ap (λ (x : SegmentHead). is_dynamic x.kind) same ∙ dynamic) static
     where
       no : (d k : Bool) → d ≡ true → (not d && not k) ≡ true → ⊥
       no true k e e' = cc
       no false k e e' = cc
 
-  of_same : (p : ℕ) (g : Head) (k : Handle) → IsOf old.memory (first_id + p) g k → get new.memory.slots k ≡ get old.memory.slots k → IsOf new.memory (first_id + p) g k
+  of_same : (p : ℕ) (g : SegmentHead) (k : Handle) → IsOf old.memory (first_id + p) g k → get new.memory.slots k ≡ get old.memory.slots k → IsOf new.memory (first_id + p) g k
   of_same p g k is same = record {
     block = is.block;
     live = same ∙ is.live;
@@ -225,7 +225,7 @@ module _ (old new : Loaded) (id number owner file : ℕ) (kept lead : Kept) (h :
         omega (arith, is.room there, sizes k present);
   }
 
-  of_it : (p : ℕ) (g : Head) → IsOf old.memory (first_id + p) g h → IsOf new.memory (first_id + p) g h
+  of_it : (p : ℕ) (g : SegmentHead) → IsOf old.memory (first_id + p) g h → IsOf new.memory (first_id + p) g h
   of_it p g is =
       let same : is.block ≡ block = same_Some is.block block (sym is.live ∙ was) in
       record {
@@ -241,22 +241,22 @@ module _ (old new : Loaded) (id number owner file : ℕ) (kept lead : Kept) (h :
             omega (arith, is.room there', sizes h present);
       }
 
-  kept_one : (p : ℕ) (k : Kept) → slice_get old.users p ≡ Some (Some k) → p ≡ place → k ≡ kept
+  kept_one : (p : ℕ) (k : LoadedUser) → slice_get old.users p ≡ Some (Some k) → p ≡ place → k ≡ kept
   kept_one p k found eq = go k kept (sym found ∙ ap (slice_get old.users) eq ∙ its_users.0)
     where
-      go : (a b : Kept) → Some (Some a) ≡ Some (Some b) → a ≡ b
+      go : (a b : LoadedUser) → Some (Some a) ≡ Some (Some b) → a ≡ b
       go a b e = cc
 
-  each_now : (p n : ℕ) (g : Head) (k : Handle) → Has old.users p n g k → IsOf new.memory (first_id + p) g k
+  each_now : (p n : ℕ) (g : SegmentHead) (k : Handle) → Has old.users p n g k → IsOf new.memory (first_id + p) g k
   each_now p n g k has = elim (cases_eq k.slot h.slot) [
     | inl same ↦
         let both = sound.once p place n number g head k h has has_it same in
-        let one : k ≡ h = same_Some k h (sym has.handle ∙ ap (λ (x : Kept). handle_at x.handles n) (kept_one p has.kept has.made both.0) ∙ ap (handle_at kept.handles) both.1 ∙ handle) in
+        let one : k ≡ h = same_Some k h (sym has.handle ∙ ap (λ (x : LoadedUser). handle_at x.handles n) (kept_one p has.kept has.made both.0) ∙ ap (handle_at kept.handles) both.1 ∙ handle) in
         subst (λ (x : Handle). IsOf new.memory (first_id + p) g x) (sym one) (of_it p g (subst (λ (x : Handle). IsOf old.memory (first_id + p) g x) one (sound.each p n g k has)))
     | inr ne ↦ of_same p g k (sound.each p n g k has) (get_apart k ne)
   ]
 
-  statics_now : (p : ℕ) (k : Kept) (n : ℕ) (g : Head) → slice_get old.users p ≡ Some (Some k) → k.life ≡ Running → at_number k.heads n ≡ Some g → is_static g ≡ true
+  statics_now : (p : ℕ) (k : LoadedUser) (n : ℕ) (g : SegmentHead) → slice_get old.users p ≡ Some (Some k) → k.life ≡ Running → at_number k.heads n ≡ Some g → is_static g ≡ true
       → is_active (presence_at new.memory.slots k.handles n) ≡ true
   statics_now p k n g made' runs found static = go (handle_at k.handles n) refl (sound.statics p k n g made' runs found static)
     where
@@ -264,10 +264,10 @@ module _ (old new : Loaded) (id number owner file : ℕ) (kept lead : Kept) (h :
       go None e active = absurd cc
       go (Some j) e active =
           let has : Has old.users p n g j = record { kept = k; made = made'; head' = found; handle = e } in
-          let ne : j.slot ≢ h.slot = apart p n g j has (λ pe ne. static_apart n g (ap (λ (x : Kept). at_number x.heads n) (sym (kept_one p k made' pe)) ∙ found) static ne) in
+          let ne : j.slot ≢ h.slot = apart p n g j has (λ pe ne. static_apart n g (ap (λ (x : LoadedUser). at_number x.heads n) (sym (kept_one p k made' pe)) ∙ found) static ne) in
           ap (λ (o : Option Handle). is_active (presence new.memory.slots o)) e ∙ ap (λ (o : Option Block). is_active (lies_in j o)) (get_apart j ne) ∙ active
 
-  rests_now : kept.life ≡ Running → (p : ℕ) (k : Kept) (n : ℕ) → slice_get old.users p ≡ Some (Some k) → k.life ≡ Dormant → is_active (presence_at new.memory.slots k.handles n) ≡ false
+  rests_now : kept.life ≡ Running → (p : ℕ) (k : LoadedUser) (n : ℕ) → slice_get old.users p ≡ Some (Some k) → k.life ≡ Dormant → is_active (presence_at new.memory.slots k.handles n) ≡ false
   rests_now runs p k n made' life = go (handle_at k.handles n) refl (sound.rests p k n made' life)
     where
       not_both : Running ≡ Dormant → ⊥
@@ -277,32 +277,32 @@ module _ (old new : Loaded) (id number owner file : ℕ) (kept lead : Kept) (h :
       go None e rests = ap (λ (o : Option Handle). is_active (presence new.memory.slots o)) e
       go (Some j) e rests =
           let one = has_any old sound p k made' n j e in
-          let ne : j.slot ≢ h.slot = apart p n one.0 j one.1 (λ pe ne. not_both (sym runs ∙ ap (λ (x : Kept). x.life) (sym (kept_one p k made' pe)) ∙ life)) in
+          let ne : j.slot ≢ h.slot = apart p n one.0 j one.1 (λ pe ne. not_both (sym runs ∙ ap (λ (x : LoadedUser). x.life) (sym (kept_one p k made' pe)) ∙ life)) in
           ap (λ (o : Option Handle). is_active (presence new.memory.slots o)) e ∙ ap (λ (o : Option Block). is_active (lies_in j o)) (get_apart j ne) ∙ rests
 
   only_now : (slot : ℕ) (b : Block) → block_in (slot_at new.memory.slots slot) ≡ Some b → b.user ≢ 0
-      → (p : ℕ) × (n : ℕ) × (g : Head) × (k : Handle) × Has old.users p n g k × (k.slot ≡ slot)
+      → (p : ℕ) × (n : ℕ) × (g : SegmentHead) × (k : Handle) × Has old.users p n g k × (k.slot ≡ slot)
   only_now slot b found user = elim (value_in old.memory.slots h block (change block) was slot b (sym (ap (λ (t : Slots). block_in (slot_at t slot)) slots_are) ∙ found)) [
     | inl here ↦ (place, number, head, h, has_it, sym here.0)
     | inr before ↦ sound.only slot b before user
   ]
 
-  lead_one : (p : ℕ) (k : Kept) → slice_get old.users p ≡ Some (Some k) → p ≡ lead_place → k ≡ lead
+  lead_one : (p : ℕ) (k : LoadedUser) → slice_get old.users p ≡ Some (Some k) → p ≡ lead_place → k ≡ lead
   lead_one p k found eq = go k lead (sym found ∙ ap (slice_get old.users) eq ∙ lead_users.0)
     where
-      go : (a b : Kept) → Some (Some a) ≡ Some (Some b) → a ≡ b
+      go : (a b : LoadedUser) → Some (Some a) ≡ Some (Some b) → a ≡ b
       go a b e = cc
 
-  at_most : (heads : List Head) (n : ℕ) (g : Head) → at_number heads n ≡ Some g → n ≤ length heads
+  at_most : (heads : List SegmentHead) (n : ℕ) (g : SegmentHead) → at_number heads n ≡ Some g → n ≤ length heads
   at_most heads zero g e = omega arith
   at_most heads (suc m) g e = let inside = slice_get_within heads m g e in omega (arith, inside)
 
   -- a segment that is there was there
-  was_there : (p n : ℕ) (g : Head) (k : Handle) → Has old.users p n g k → IsSome (there_at (presence new.memory.slots (Some k))) → IsSome (there_at (presence old.memory.slots (Some k)))
+  was_there : (p n : ℕ) (g : SegmentHead) (k : Handle) → Has old.users p n g k → IsSome (there_at (presence new.memory.slots (Some k))) → IsSome (there_at (presence old.memory.slots (Some k)))
   was_there p n g k has there = elim (cases_eq k.slot h.slot) [
     | inl same ↦
         let both = sound.once p place n number g head k h has has_it same in
-        let one : k ≡ h = same_Some k h (sym has.handle ∙ ap (λ (x : Kept). handle_at x.handles n) (kept_one p has.kept has.made both.0) ∙ ap (handle_at kept.handles) both.1 ∙ handle) in
+        let one : k ≡ h = same_Some k h (sym has.handle ∙ ap (λ (x : LoadedUser). handle_at x.handles n) (kept_one p has.kept has.made both.0) ∙ ap (handle_at kept.handles) both.1 ∙ handle) in
         subst (λ (x : Handle). IsSome (there_at (presence old.memory.slots (Some x)))) (sym one)
         (subst (λ (o : Option ℕ). IsSome o) there_here (subst (λ (x : Handle). IsSome (there_at (presence new.memory.slots (Some x)))) one there))
     | inr ne ↦ subst (λ (o : Option Block). IsSome (there_at (lies_in k o))) (get_apart k ne) there
@@ -311,7 +311,7 @@ module _ (old new : Loaded) (id number owner file : ℕ) (kept lead : Kept) (h :
   entries_fit : (size : ℕ) (bytes : List ℕ) (k : ℕ) → k < entry_count size → size ≤ length bytes → entry_start (entry_count size) ≤ length bytes
   entries_fit size bytes k inside room = omega (arith, inside, room)
 
-  calls_now : (p n k : ℕ) (g : Head) (j : Handle) → Has old.users p n g j → is_table g ≡ true → IsSome (there_at (presence new.memory.slots (Some j))) → k < entry_count g.length
+  calls_now : (p n k : ℕ) (g : SegmentHead) (j : Handle) → Has old.users p n g j → is_table g ≡ true → IsSome (there_at (presence new.memory.slots (Some j))) → k < entry_count g.length
       → IsCall old.users (first_id + p) (target_at (bytes_at new.memory j.slot) k)
   calls_now p n k g j has table there inside =
       let was = was_there p n g j has there in
@@ -319,8 +319,8 @@ module _ (old new : Loaded) (id number owner file : ℕ) (kept lead : Kept) (h :
       elim (cases_eq p lead_place) [
         | inl eq ↦
             let user = lead_one p has.kept has.made eq in
-            let ghead : at_number lead.heads n ≡ Some g = ap (λ (x : Kept). at_number x.heads n) (sym user) ∙ has.head' in
-            let ghandle : handle_at lead.handles n ≡ Some j = ap (λ (x : Kept). handle_at x.handles n) (sym user) ∙ has.handle in
+            let ghead : at_number lead.heads n ≡ Some g = ap (λ (x : LoadedUser). at_number x.heads n) (sym user) ∙ has.head' in
+            let ghandle : handle_at lead.handles n ≡ Some j = ap (λ (x : LoadedUser). handle_at x.handles n) (sym user) ∙ has.handle in
             let follows = shifted.renewed.follow n g j (at_most lead.heads n g ghead) ghead ghandle table was in
             let of' = sound.each p n g j has in
             let some : IsSome of'.block.at = block_at j of'.block of'.live was in
@@ -345,7 +345,7 @@ module _ (old new : Loaded) (id number owner file : ℕ) (kept lead : Kept) (h :
   -- ---- agreement
 
   -- another user's segments are where they were
-  presence_other : (p : ℕ) (k : Kept) (n : ℕ) → slice_get old.users p ≡ Some (Some k) → p ≢ place → (o : Option Handle) → handle_at k.handles n ≡ o → presence new.memory.slots o ≡ presence old.memory.slots o
+  presence_other : (p : ℕ) (k : LoadedUser) (n : ℕ) → slice_get old.users p ≡ Some (Some k) → p ≢ place → (o : Option Handle) → handle_at k.handles n ≡ o → presence new.memory.slots o ≡ presence old.memory.slots o
   presence_other p k n made' ne None e = refl
   presence_other p k n made' ne (Some j) e =
       let one = has_any old sound p k made' n j e in
@@ -375,7 +375,7 @@ module _ (old new : Loaded) (id number owner file : ℕ) (kept lead : Kept) (h :
     far_miss : (q f n : ℕ) → (attached_at outs q f ≡ Some id → n ≡ number → ⊥) → far_new q f n ≡ far_old q f n
     far_miss q f n not = go (attached_at outs q f) refl
       where
-        user : (other : ℕ) (o : Option Kept) → user_of old.users other ≡ o → other ≢ id
+        user : (other : ℕ) (o : Option LoadedUser) → user_of old.users other ≡ o → other ≢ id
             → active_at (presence_at new.memory.slots (option_map_or (λ (u : Outline). u.handles) (option_map outline o) []) n)
             ≡ active_at (presence_at old.memory.slots (option_map_or (λ (u : Outline). u.handles) (option_map outline o) []) n)
         user other None is ne = nothing n
@@ -404,7 +404,7 @@ module _ (old new : Loaded) (id number owner file : ℕ) (kept lead : Kept) (h :
       is = kept_is held old state agrees id kept made
 
       heads_at : (n : ℕ) (s : Segment) → segment_at is.does_agree.segments n ≡ Some s → at_number kept.heads n ≡ Some (head_of s)
-      heads_at n s found = ap (λ (hs : List Head). at_number hs n) is.does_agree.heads ∙ head_at is.does_agree.segments n s found
+      heads_at n s found = ap (λ (hs : List SegmentHead). at_number hs n) is.does_agree.heads ∙ head_at is.does_agree.segments n s found
 
       chosen_is : (f n m : ℕ) → is_chosen (Some (f, m)) f n ≡ true → n ≡ m
       chosen_is f n m c = grind (arith, c)
@@ -429,23 +429,23 @@ module _ (old new : Loaded) (id number owner file : ℕ) (kept lead : Kept) (h :
       -- a table of the user's own follows
       own_table : (n : ℕ) (s : Segment) (k : Handle) → segment_at is.does_agree.segments n ≡ Some s → handle_at kept.handles n ≡ Some k → load.is_table s ≡ true
           → IsSome (there_at (presence old.memory.slots (Some k))) → IsSome (there_at (presence new.memory.slots (Some k)))
-          → bytes_at new.memory k.slot ≡ renewed (Some (1, number)) address (entry_count s.fields.length) (bytes_at old.memory k.slot)
+          → bytes_at new.memory k.slot ≡ relinked_entries (Some (1, number)) address (entry_count s.fields.length) (bytes_at old.memory k.slot)
       own_table n s k found has table before now = go leading
         where
-          one_kept : (a b : Kept) → Some a ≡ Some b → a ≡ b
+          one_kept : (a b : LoadedUser) → Some a ≡ Some b → a ≡ b
           one_kept a b e = cc
 
-          go : Leading old.users id owner file → bytes_at new.memory k.slot ≡ renewed (Some (1, number)) address (entry_count s.fields.length) (bytes_at old.memory k.slot)
+          go : Leading old.users id owner file → bytes_at new.memory k.slot ≡ relinked_entries (Some (1, number)) address (entry_count s.fields.length) (bytes_at old.memory k.slot)
           go (Holder above ne there empty only) = elim alone [
             | inl one ↦ absurd (omega (arith, above, one))
             | inr plain ↦ (let clash : true ≡ false = sym table ∙ plain n (head_of s) (heads_at n s found) in absurd cc)
           ]
           go (Its same one none) =
               let user : lead ≡ kept = one_kept lead kept (sym lead_made ∙ ap (user_of old.users) same ∙ made) in
-              let fhead : at_number lead.heads n ≡ Some (head_of s) = ap (λ (x : Kept). at_number x.heads n) user ∙ heads_at n s found in
-              let fhandle : handle_at lead.handles n ≡ Some k = ap (λ (x : Kept). handle_at x.handles n) user ∙ has in
+              let fhead : at_number lead.heads n ≡ Some (head_of s) = ap (λ (x : LoadedUser). at_number x.heads n) user ∙ heads_at n s found in
+              let fhandle : handle_at lead.handles n ≡ Some k = ap (λ (x : LoadedUser). handle_at x.handles n) user ∙ has in
               bytes_middle k now ∙ shifted.renewed.follow n (head_of s) k (at_most lead.heads n (head_of s) fhead) fhead fhandle table before
-              ∙ ap (λ (f : ℕ). renewed (Some (f, number)) address (entry_count s.fields.length) (bytes_at old.memory k.slot)) one
+              ∙ ap (λ (f : ℕ). relinked_entries (Some (f, number)) address (entry_count s.fields.length) (bytes_at old.memory k.slot)) one
 
       becomes : (n : ℕ) (s : Segment) (k : Handle) → segment_at is.does_agree.segments n ≡ Some s → handle_at kept.handles n ≡ Some k → IsSome (there_at (presence_at new.memory.slots kept.handles n))
           → Becomes (setting_with (far_old id) id old.memory.slots kept.handles) (setting_with (far_new id) id new.memory.slots kept.handles) (Some (1, number)) address old.memory new.memory kept is.user is.user n s k
@@ -476,7 +476,7 @@ module _ (old new : Loaded) (id number owner file : ℕ) (kept lead : Kept) (h :
         far_others = λ f n above c. far_miss id f n (λ found eq. not_its f found);
         fits = λ n s found c some.
             let same : head_of s ≡ head = same_Some (head_of s) head (sym (heads_at n s found) ∙ ap (at_number kept.heads) (chosen_is 1 n number c) ∙ head') in
-            omega (arith, fits some, ap (λ (x : Head). x.length) same);
+            omega (arith, fits some, ap (λ (x : SegmentHead). x.length) same);
         others = λ n s found dynamic' kept' c. ap active_at (presence_apart n (handle_at kept.handles n) refl (not_chosen n c));
         each = λ there n s k found has present. becomes n s k found has present;
       }
@@ -496,7 +496,7 @@ module _ (old new : Loaded) (id number owner file : ℕ) (kept lead : Kept) (h :
         place_ne e = ne (omega (arith, lead_users.1, its_users.1, e))
 
         lead_heads : (n : ℕ) (s : Segment) → segment_at its.does_agree.segments n ≡ Some s → at_number lead.heads n ≡ Some (head_of s)
-        lead_heads n s found = ap (λ (hs : List Head). at_number hs n) its.does_agree.heads ∙ head_at its.does_agree.segments n s found
+        lead_heads n s found = ap (λ (hs : List SegmentHead). at_number hs n) its.does_agree.heads ∙ head_at its.does_agree.segments n s found
 
         lead_here : (n : ℕ) → presence_at new.memory.slots lead.handles n ≡ presence_at old.memory.slots lead.handles n
         lead_here n = presence_other lead_place lead n lead_users.0 place_ne (handle_at lead.handles n) refl
@@ -545,8 +545,8 @@ module _ (old new : Loaded) (id number owner file : ℕ) (kept lead : Kept) (h :
             let both = chosen_file file t.file t.segment number c in
             let same : far.other ≡ id = same_Some far.other id (sym far.named ∙ ap (attached_at outs owner) both.0 ∙ there) in
             let user : far.kept ≡ kept = same_Some far.kept kept (sym far.made ∙ ap (user_of old.users) same ∙ made) in
-            let its_head : far.head ≡ head = same_Some far.head head (sym far.head' ∙ ap (λ (x : Kept). at_number x.heads t.segment) user ∙ ap (at_number kept.heads) both.1 ∙ head') in
-            omega (arith, far.inside, ap (λ (g : Head). g.length) its_head, fits some)
+            let its_head : far.head ≡ head = same_Some far.head head (sym far.head' ∙ ap (λ (x : LoadedUser). at_number x.heads t.segment) user ∙ ap (at_number kept.heads) both.1 ∙ head') in
+            omega (arith, far.inside, ap (λ (g : SegmentHead). g.length) its_head, fits some)
 
         -- so does the user whose tables lead to it
         lead_agrees : UserAgrees held new.memory (far_new owner) owner lead its.user
@@ -554,7 +554,7 @@ module _ (old new : Loaded) (id number owner file : ℕ) (kept lead : Kept) (h :
             (entries_lead held old state agrees sound owner lead lead_made (Some (file, number)) address offset_fits its.does_agree.segments its.does_agree.holds) (sound.short lead_place lead lead_users.0) lead_turned
 
       -- and every other
-      others_agree : (p : ℕ) (k : Kept) (user : User) → slice_get old.users p ≡ Some (Some k) → p ≢ place → p ≢ lead_place → ((f n : ℕ) → 2 ≤ f → far_new (first_id + p) f n ≡ far_old (first_id + p) f n)
+      others_agree : (p : ℕ) (k : LoadedUser) (user : User) → slice_get old.users p ≡ Some (Some k) → p ≢ place → p ≢ lead_place → ((f n : ℕ) → 2 ≤ f → far_new (first_id + p) f n ≡ far_old (first_id + p) f n)
           → UserAgrees held old.memory (far_old (first_id + p)) (first_id + p) k user → UserAgrees held new.memory (far_new (first_id + p)) (first_id + p) k user
       others_agree p k user made' ne ne' same was' = agrees_still held old.memory new.memory (far_old (first_id + p)) (far_new (first_id + p)) (first_id + p) k user was' (λ n j found.
           let one = has_any old sound p k made' n j found in
@@ -563,18 +563,18 @@ module _ (old new : Loaded) (id number owner file : ℕ) (kept lead : Kept) (h :
       user_one : (a b : User) → Some (Some a) ≡ Some (Some b) → a ≡ b
       user_one a b e = cc
 
-      abbrev Agreeing : List (Option Kept) → ℕ → Kept → User → Type 0
+      abbrev Agreeing : List (Option LoadedUser) → ℕ → LoadedUser → User → Type 0
       Agreeing users p k user = UserAgrees held new.memory (far_of new.memory.slots (kept_outlines users) (first_id + p)) (first_id + p) k user
 
-      here_agrees : (p : ℕ) (k : Kept) (user : User) → slice_get old.users p ≡ Some (Some k) → slice_get state.users p ≡ Some (Some user) → p ≡ place → Agreeing old.users p k user
+      here_agrees : (p : ℕ) (k : LoadedUser) (user : User) → slice_get old.users p ≡ Some (Some k) → slice_get state.users p ≡ Some (Some user) → p ≡ place → Agreeing old.users p k user
       here_agrees p k user made' made'' eq =
           let kept_same : k ≡ kept = kept_one p k made' eq in
           let user_same : user ≡ is.user = user_one user is.user (sym made'' ∙ ap (slice_get state.users) eq ∙ (made_at state.users id is.user is.made).0) in
           let id_is : id ≡ first_id + p = omega (arith, its_users.1, eq) in
           subst (λ (n : ℕ). UserAgrees held new.memory (far_new n) n k user) id_is
-          (subst (λ (u : User). UserAgrees held new.memory (far_new id) id k u) (sym user_same) (subst (λ (x : Kept). UserAgrees held new.memory (far_new id) id x is.user) (sym kept_same) user_agrees))
+          (subst (λ (u : User). UserAgrees held new.memory (far_new id) id k u) (sym user_same) (subst (λ (x : LoadedUser). UserAgrees held new.memory (far_new id) id x is.user) (sym kept_same) user_agrees))
 
-      there_agrees : (p : ℕ) (k : Kept) (user : User) → slice_get old.users p ≡ Some (Some k) → slice_get state.users p ≡ Some (Some user) → p ≢ place
+      there_agrees : (p : ℕ) (k : LoadedUser) (user : User) → slice_get old.users p ≡ Some (Some k) → slice_get state.users p ≡ Some (Some user) → p ≢ place
           → UserAgrees held old.memory (far_old (first_id + p)) (first_id + p) k user → Agreeing old.users p k user
       there_agrees p k user made' made'' ne was' = go leading
         where
@@ -587,20 +587,20 @@ module _ (old new : Loaded) (id number owner file : ℕ) (kept lead : Kept) (h :
                 let user_same : user ≡ it.user = user_one user it.user (sym made'' ∙ ap (slice_get state.users) eq ∙ (made_at state.users owner it.user it.made).0) in
                 let id_is : owner ≡ first_id + p = omega (arith, lead_users.1, eq) in
                 subst (λ (n : ℕ). UserAgrees held new.memory (far_new n) n k user) id_is
-                (subst (λ (u : User). UserAgrees held new.memory (far_new owner) owner k u) (sym user_same) (subst (λ (x : Kept). UserAgrees held new.memory (far_new owner) owner x it.user) (sym kept_same) (lead_agrees above apart' there only)))
+                (subst (λ (u : User). UserAgrees held new.memory (far_new owner) owner k u) (sym user_same) (subst (λ (x : LoadedUser). UserAgrees held new.memory (far_new owner) owner x it.user) (sym kept_same) (lead_agrees above apart' there only)))
             | inr ne' ↦ others_agree p k user made' ne ne' (λ f n above'. far_miss (first_id + p) f n (λ found eq. ne' (omega (arith, (only (first_id + p) f above' found).0, lead_users.1)))) was'
           ]
 
-      pub shifted_agrees : Agrees held new (with_slots state (changed change state.slots h))
+      pub shifted_agrees : Agrees held new (with_slots state (with_block_changed change state.slots h))
       shifted_agrees = record {
         banks = shifted.changes.kept.banks ∙ shifted.renewed.banks ∙ agrees.banks;
-        slots = slots_changed ∙ ap (λ (t : Slots). changed change t h) agrees.slots;
+        slots = slots_changed ∙ ap (λ (t : Slots). with_block_changed change t h) agrees.slots;
         users = ap kept_outlines shifted.users ∙ agrees.users;
         attached = subst AreAttached (sym shifted.users) agrees.attached;
         entries = subst (EntriesLead held) (sym shifted.users) agrees.entries;
         each = λ p k user made' made''.
-            let old_made : slice_get old.users p ≡ Some (Some k) = ap (λ (us : List (Option Kept)). slice_get us p) (sym shifted.users) ∙ made' in
-            subst (λ (us : List (Option Kept)). Agreeing us p k user) (sym shifted.users) (elim (cases_eq p place) [
+            let old_made : slice_get old.users p ≡ Some (Some k) = ap (λ (us : List (Option LoadedUser)). slice_get us p) (sym shifted.users) ∙ made' in
+            subst (λ (us : List (Option LoadedUser)). Agreeing us p k user) (sym shifted.users) (elim (cases_eq p place) [
               | inl eq ↦ here_agrees p k user old_made made'' eq
               | inr ne ↦ there_agrees p k user old_made made'' ne (agrees.each p k user old_made made'')
             ]);

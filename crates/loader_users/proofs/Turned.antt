@@ -17,31 +17,31 @@ use Rattle.loader_machine.specs.declared.seen.Life.TheVariants.{Running}
 use Rattle.loader_machine.specs.Heads.{head_of, is_static}
 use Rattle.loader_machine.specs.State.{User, no_pokes, held_at}
 use Rattle.loader_machine.specs.Presences.{handle_at, presence_at, there_at, active_at, is_active}
-use Rattle.loader_machine.specs.Stands.{Far, Setting, setting_with, place_in, entry_for, stands}
+use Rattle.loader_machine.specs.Stands.{Far, AddressSetting, setting_with, place_in, entry_for, stands}
 use Rattle.loader_machine.specs.laws.StandsLaws.{AreAlike, stands_alike}
 use Rattle.loader_machine.specs.Found.{HoldsLoad}
-use Rattle.loader_agrees.specs.Agrees.{Kept, outline, outline_of, AreThere, UserAgrees}
+use Rattle.loader_agrees.specs.Agrees.{LoadedUser, outline, outline_of, AreThere, UserAgrees}
 use Rattle.loader_agrees.specs.laws.EntryReads.{table_stands, targets_count, number_within}
-use Rattle.loader_users.specs.Renewing.{Choice, is_chosen, renewed}
+use Rattle.loader_users.specs.Renewing.{Choice, is_chosen, relinked_entries}
 use Rattle.loader_users.proofs.Leads.{Leads, Own, Other}
 use Rattle.loader_users.proofs.Renewed.{Follows, renewed_stands}
 
 -- what becomes of a user's segment that is there afterwards
-pub data Becomes (a b : Setting) (only : Choice) (address : Option ℕ) (old new : Memory) (kept : Kept) (user user' : User) (number : ℕ) (s : Segment) (h : Handle) : Type 0 where
+pub data Becomes (a b : AddressSetting) (only : Choice) (address : Option ℕ) (old new : Memory) (kept : LoadedUser) (user user' : User) (number : ℕ) (s : Segment) (h : Handle) : Type 0 where
   -- it stays where it was, with its bytes and pokes
   Stays : is_table s ≡ false → handle_at kept.handles number ≡ Some h → IsSome (there_at (presence_at old.slots kept.handles number)) → b.place number ≡ a.place number
       → (held_at user' number).pokes ≡ (held_at user number).pokes → bytes_at new h.slot ≡ bytes_at old h.slot
       → Becomes a b only address old new kept user user' number s h
   -- it is a table whose entries follow
   Turns : is_table s ≡ true → handle_at kept.handles number ≡ Some h → IsSome (there_at (presence_at old.slots kept.handles number))
-      → bytes_at new h.slot ≡ renewed only address (entry_count s.fields.length) (bytes_at old h.slot)
+      → bytes_at new h.slot ≡ relinked_entries only address (entry_count s.fields.length) (bytes_at old h.slot)
       → Becomes a b only address old new kept user user' number s h
   -- it begins with what stands in it
   Anew : IsFront (stands b (held_at user' number).pokes s) (bytes_at new h.slot) → Becomes a b only address old new kept user user' number s h
 
 -- what a call does to a user: where its segments are afterwards, and what becomes of them. The entries of its tables for the chosen
 -- segments follow them.
-pub record Turned (old new : Memory) (far now : Far) (id : ℕ) (only : Choice) (address : Option ℕ) (kept kept' : Kept) (user user' : User) (segments : List Segment) : Type 0 where
+pub record Turned (old new : Memory) (far now : Far) (id : ℕ) (only : Choice) (address : Option ℕ) (kept kept' : LoadedUser) (user user' : User) (segments : List Segment) : Type 0 where
   pub same : outline kept' ≡ outline_of user'
   pub path : kept'.path ≡ kept.path
   pub heads : kept'.heads ≡ kept.heads
@@ -63,13 +63,13 @@ pub record Turned (old new : Memory) (far now : Far) (id : ℕ) (only : Choice) 
       → handle_at kept'.handles number ≡ Some h → IsSome (there_at (presence_at new.slots kept'.handles number))
       → Becomes (setting_with far id old.slots kept.handles) (setting_with now id new.slots kept'.handles) only address old new kept user user' number s h
 
-module _ (held : FileMap) (old new : Memory) (far now : Far) (id : ℕ) (only : Choice) (address : Option ℕ) (kept kept' : Kept) (user user' : User) (agrees : UserAgrees held old far id kept user)
+module _ (held : FileMap) (old new : Memory) (far now : Far) (id : ℕ) (only : Choice) (address : Option ℕ) (kept kept' : LoadedUser) (user user' : User) (agrees : UserAgrees held old far id kept user)
     (lead : (number : ℕ) (s : Segment) → segment_at agrees.segments number ≡ Some s → is_table s ≡ true → AllByRecursion (Leads only address agrees.segments) (targets_of s))
     (short : length kept.heads < 2 ^ 16) (turned : Turned old new far now id only address kept kept' user user' agrees.segments) where
-  abbrev a : Setting
+  abbrev a : AddressSetting
   a = setting_with far id old.slots kept.handles
 
-  abbrev b : Setting
+  abbrev b : AddressSetting
   b = setting_with now id new.slots kept'.handles
 
   few : length agrees.segments < 2 ^ 16

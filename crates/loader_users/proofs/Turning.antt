@@ -3,7 +3,7 @@ use Rattle.std.proofs.Common.{◌≡◌, inl, inr, ℕ, zero, suc, List, [], ◌
 use Rattle.std.specs.Prelude.{slice_set}
 use Rattle.std.proofs.lemmas.Option.{same_Some}
 use Rattle.iigs_meaning.specs.declared.handles.Handle.{Handle}
-use Rattle.iigs_meaning.specs.declared.slots.Content.TheVariants.{Used}
+use Rattle.iigs_meaning.specs.declared.slots.SlotContent.TheVariants.{Used}
 use Rattle.iigs_meaning.specs.declared.wants.Block.{Block}
 use Rattle.iigs_meaning.specs.Slots.{slot_at, get, with_value}
 use Rattle.iigs_meaning.specs.Fits.{Slots}

@@ -4,13 +4,13 @@ use Rattle.std.specs.Prelude.{slice_get, option_map}
 use Rattle.std.proofs.lemmas.Option.{slice_get-map, slice_get-get_or, slice_get_within}
 use Rattle.std.proofs.lemmas.List.{length-map}
 use Rattle.loader_machine.specs.State.{first_id, user_of}
-use Rattle.loader_agrees.specs.Agrees.{Kept}
+use Rattle.loader_agrees.specs.Agrees.{LoadedUser}
 use Rattle.loader_agrees.specs.laws.Seeing.{made_at}
 use Rattle.loader_users.specs.View.{kept}
 use Rattle.loader_users.specs.declared.user.User.{User}
 
 -- the user at its ID's place is the one that is kept
-pub item_is : (users : List (Option User)) (id n : ℕ) (item : Option User) (u : User) (k : Kept) → n ≡ id - first_id → user_of (map (option_map kept) users) id ≡ Some k
+pub item_is : (users : List (Option User)) (id n : ℕ) (item : Option User) (u : User) (k : LoadedUser) → n ≡ id - first_id → user_of (map (option_map kept) users) id ≡ Some k
     → item ≡ get_or users n item → item ≡ Some u → kept u ≡ k
 item_is users id n item u k place made at is =
     let here : slice_get (map (option_map kept) users) n ≡ Some (Some k) = ap (slice_get (map (option_map kept) users)) place ∙ (made_at (map (option_map kept) users) id k made).0 in
@@ -20,7 +20,7 @@ item_is users id n item u k place made at is =
     ap (λ (o : Option User). option_map (option_map kept) (Some o)) at ∙ ap (option_map (option_map kept)) (sym (slice_get-get_or users n item inside)) ∙ sym (slice_get-map (option_map kept) users n) ∙ here in
     one (kept u) k (ap (λ (o : Option User). option_map (option_map kept) (Some o)) (sym is) ∙ whole)
   where
-    one : (a b : Kept) → Some (Some a) ≡ Some (Some b) → a ≡ b
+    one : (a b : LoadedUser) → Some (Some a) ≡ Some (Some b) → a ≡ b
     one a b e = cc
 
 -- a value that is some is one

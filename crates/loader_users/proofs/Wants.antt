@@ -1,11 +1,11 @@
 -- The wants of segments, gathered one by one.
 use Rattle.std.proofs.Common.{◌≡◌, ℕ, List, ◌++◌, drop, map}
 use Rattle.iigs_meaning.specs.declared.wants.Want.{Want}
-use Rattle.loader_machine.specs.declared.seen.Head.{Head}
+use Rattle.loader_machine.specs.declared.seen.SegmentHead.{SegmentHead}
 use Rattle.loader_machine.specs.Heads.{wants_of}
 use Rattle.loader_users.specs.declared.user.Segment.{Segment}
 
-abbrev pub heads : List Segment → List Head
+abbrev pub heads : List Segment → List SegmentHead
 heads segments = map (λ s. s.head) segments
 
 -- these wants and those of the segments from a place on are all wants

@@ -11,7 +11,7 @@ use Rattle.iigs_meaning.specs.declared.handles.Handle.{Handle}
 use Rattle.iigs_meaning.specs.Slots.{get}
 use Rattle.iigs_meaning.specs.Fits.{Slots}
 use Rattle.iigs_meaning.specs.Memory.{Memory, bytes_at}
-use Rattle.loader_machine.specs.declared.seen.Head.{Head}
+use Rattle.loader_machine.specs.declared.seen.SegmentHead.{SegmentHead}
 use Rattle.loader_machine.specs.Heads.{head_of, at_number}
 use Rattle.loader_machine.specs.Presences.{handle_at}
 use Rattle.loader_agrees.specs.laws.Lists.{number_map}
@@ -19,7 +19,7 @@ use Rattle.loader_agrees.specs.laws.Reads.{headed}
 use Rattle.loader_users.specs.declared.user.Segment as users
 use Rattle.loader_users.specs.Filling.{HasHead, IsFilled, IsWritten, IsReady, AreReady, AreFilled}
 
-abbrev pub heads_of : List users.Segment → List Head
+abbrev pub heads_of : List users.Segment → List SegmentHead
 heads_of segments = map (λ s. s.head) segments
 
 abbrev pub handles_of : List users.Segment → List (Option Handle)
@@ -41,7 +41,7 @@ handle_here segments place s inside is =
 pub has_head : (load : List Segment) (segments : List users.Segment) (place : ℕ) (s : users.Segment) → heads_of segments ≡ map head_of load → place < length segments → s ≡ get_or segments place s
     → HasHead load (place + 1) s.head
 has_head load segments place s same inside is =
-    let found = headed load (place + 1) s.head (ap (λ (hs : List Head). at_number hs (place + 1)) (sym same) ∙ head_here segments place s inside is) in
+    let found = headed load (place + 1) s.head (ap (λ (hs : List SegmentHead). at_number hs (place + 1)) (sym same) ∙ head_here segments place s inside is) in
     rw found.1 (sym found.2)
 
 -- ---- one more
@@ -69,7 +69,7 @@ filled_skip load handles user places old now k so_far none = record {
   sizes = so_far.sizes;
 }
 
-module _ (load : List Segment) (heads : List Head) (handles : List (Option Handle)) (user : ℕ) (places : List (Option ℕ)) (old now new : Memory) (k : ℕ) (h : Handle) (head : Head)
+module _ (load : List Segment) (heads : List SegmentHead) (handles : List (Option Handle)) (user : ℕ) (places : List (Option ℕ)) (old now new : Memory) (k : ℕ) (h : Handle) (head : SegmentHead)
     (so_far : AreFilled load handles user places old now k) (ready : AreReady old heads handles) (has : at_number heads (k + 1) ≡ Some head) (is_handle : handle_at handles (k + 1) ≡ Some h) where
   abbrev one : IsReady old head h
   one = ready.each (k + 1) head h has is_handle

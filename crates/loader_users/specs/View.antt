@@ -1,10 +1,10 @@
 -- How the loader's Rust values are seen.
 use Rattle.std.specs.Prelude.{List, map, option_map, Option, string_bytes}
 use Rattle.iigs_meaning.specs.Memory.{Memory}
-use Rattle.loader_agrees.specs.Agrees.{Kept, Loaded}
+use Rattle.loader_agrees.specs.Agrees.{LoadedUser, Loaded}
 use Rattle.loader_users.specs.declared.user.User.{User}
 
-abbrev pub kept : User → Kept
+abbrev pub kept : User → LoadedUser
 kept user = record {
   path = string_bytes user.path;
   life = user.life;

@@ -8,11 +8,11 @@ ghost use Rattle.loader_users.specs.Changed.{IsChanged};
 
 use crate::file::head_from;
 use crate::user::Segment;
-use loader_machine::{Facts, Head, LoaderFault};
+use loader_machine::{Facts, LoaderFault, SegmentHead};
 use omf_cells::LoadFile;
 
 /// What is told of a segment of a file with so many.
-fn facts_of(count: u32, segment: u32, head: &Head) -> Facts
+fn facts_of(count: u32, segment: u32, head: &SegmentHead) -> Facts
     ensures { result ≡ activating.facts_of count segment head.now }
 {
     Facts {
@@ -44,7 +44,7 @@ fn count_facts(count: u32) -> Facts
 }
 
 /// Whether two headers are the same.
-fn is_same(one: &Head, other: &Head) -> bool
+fn is_same(one: &SegmentHead, other: &SegmentHead) -> bool
     ensures yes { result ≡ true → one.now ≡ other.now }
     ensures no { result ≡ false → one.now ≢ other.now }
 {

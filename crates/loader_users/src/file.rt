@@ -8,16 +8,16 @@ ghost use Rattle.loader_agrees.specs.Acts.{no_handle_of};
 ghost use Rattle.loader_users.specs.Filling.{head_in};
 
 use crate::user::Segment;
-use loader_machine::Head;
+use loader_machine::SegmentHead;
 use omf_cells::LoadFile;
 use omf_header::Header;
 use std::alloc::{AllocError, Global};
 
 /// What is kept of a header.
-pub fn head_from(header: &Header) -> Head
+pub fn head_from(header: &Header) -> SegmentHead
     ensures { result ≡ head_in (fields header.now) }
 {
-    Head {
+    SegmentHead {
         length: header.length,
         kind: header.kind.bits,
         bank_size: header.bank_size,

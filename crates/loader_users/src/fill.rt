@@ -17,7 +17,7 @@ use crate::user;
 use iigs_compact_memory::CompactBanks;
 use iigs_meaning::Handle;
 use jump_table::put_entry;
-use loader_machine::Head;
+use loader_machine::SegmentHead;
 use omf_cells::{LoadFile, Places, patch_into};
 
 /// Writes a segment that is no table to the front of the bytes, as it stands at these places.
@@ -54,7 +54,14 @@ fn fill_table(load: &LoadFile<'_>, user: u16, out: &mut [u8])
 }
 
 /// Writes a segment to the front of the bytes, as it stands where the file's segments lie at these places.
-fn fill(load: &LoadFile<'_>, number: u32, head: &Head, places: &Places, user: u16, out: &mut [u8])
+fn fill(
+    load: &LoadFile<'_>,
+    number: u32,
+    head: &SegmentHead,
+    places: &Places,
+    user: u16,
+    out: &mut [u8],
+)
     requires sound { AreSound load.now }
     requires head { HasHead load.now number head.now }
     requires fits { head.now.length ≤ length out.old }
@@ -74,7 +81,7 @@ pub fn fill_block(
     h: Handle,
     load: &LoadFile<'_>,
     number: u32,
-    head: &Head,
+    head: &SegmentHead,
     places: &Places,
     user: u16,
 )

@@ -7,7 +7,7 @@ ghost use Rattle.loader_machine.specs.Heads as heads;
 ghost use Rattle.loader_machine.specs.Steps as steps;
 
 use iigs_meaning::Want;
-use loader_machine::Head;
+use loader_machine::SegmentHead;
 use omf_header::Kind;
 
 /// The type of a jump table.
@@ -25,28 +25,28 @@ const PAGE: u32 = 0x100;
 /// The size of a bank.
 const BANK: u32 = 0x10000;
 
-fn kind(head: &Head) -> Kind
+fn kind(head: &SegmentHead) -> Kind
     ensures { result.bits ≡ head.now.kind }
 {
     Kind { bits: head.kind }
 }
 
 /// The segment is never loaded.
-pub fn is_skipped(head: &Head) -> bool
+pub fn is_skipped(head: &SegmentHead) -> bool
     ensures { result ≡ format.is_skipped head.now.kind }
 {
     kind(head).is_skip()
 }
 
 /// The segment is loaded when it is called.
-pub fn is_dynamic(head: &Head) -> bool
+pub fn is_dynamic(head: &SegmentHead) -> bool
     ensures { result ≡ format.is_dynamic head.now.kind }
 {
     kind(head).is_dynamic()
 }
 
 /// The segment is loaded with its file.
-pub fn is_static(head: &Head) -> bool
+pub fn is_static(head: &SegmentHead) -> bool
     ensures { result ≡ heads.is_static head.now }
 {
     let kind = kind(head);
@@ -54,34 +54,34 @@ pub fn is_static(head: &Head) -> bool
 }
 
 /// The segment is static, and read again at each restart.
-pub fn is_read_again(head: &Head) -> bool
+pub fn is_read_again(head: &SegmentHead) -> bool
     ensures { result ≡ steps.is_read_again head.now }
 {
     is_static(head) && kind(head).is_reload()
 }
 
 /// The segment is a jump table.
-pub fn is_table(head: &Head) -> bool
+pub fn is_table(head: &SegmentHead) -> bool
     ensures { result ≡ heads.is_table head.now }
 {
     kind(head).form() == TABLE
 }
 
 /// The segment is code.
-pub fn is_code(head: &Head) -> bool
+pub fn is_code(head: &SegmentHead) -> bool
     ensures { result ≡ (format.form_of head.now.kind == 0x00) }
 {
     kind(head).form() == CODE
 }
 
-fn is_stack(head: &Head) -> bool
+fn is_stack(head: &SegmentHead) -> bool
     ensures { result ≡ heads.is_stack head.now }
 {
     kind(head).form() == STACK
 }
 
 /// Of what the segment's address is a multiple.
-fn alignment(head: &Head) -> u32
+fn alignment(head: &SegmentHead) -> u32
     ensures { result ≡ format.alignment_of head.now.align }
 {
     match head.align {
@@ -91,27 +91,27 @@ fn alignment(head: &Head) -> u32
     }
 }
 
-fn stays_in_bank(head: &Head) -> bool
+fn stays_in_bank(head: &SegmentHead) -> bool
     ensures { result ≡ format.stays_in_bank head.now.bank_size }
 {
     head.bank_size != 0
 }
 
-fn fixes_bank(head: &Head) -> bool
+fn fixes_bank(head: &SegmentHead) -> bool
     ensures { result ≡ heads.fixes_bank head.now }
 {
     let kind = kind(head);
     head.org != 0 && (kind.is_absolute_bank() && !kind.is_bank_relative())
 }
 
-fn fixes_low(head: &Head) -> bool
+fn fixes_low(head: &SegmentHead) -> bool
     ensures { result ≡ heads.fixes_low head.now }
 {
     let kind = kind(head);
     head.org != 0 && (kind.is_bank_relative() && !kind.is_absolute_bank())
 }
 
-fn fixes_address(head: &Head) -> bool
+fn fixes_address(head: &SegmentHead) -> bool
     ensures { result ≡ heads.fixes_address head.now }
 {
     head.org != 0 && (!fixes_bank(head) && !fixes_low(head))
@@ -124,7 +124,7 @@ fn some_if(asked: bool, n: u32) -> Option<u32>
 }
 
 #[tactic(auto, unfolding(loader_machine::specs::Heads::stack_want))]
-fn stack_want(head: &Head) -> Want
+fn stack_want(head: &SegmentHead) -> Want
     ensures is { result ≡ heads.stack_want head.now }
     ensures want { IsWant result }
 {
@@ -140,7 +140,7 @@ fn stack_want(head: &Head) -> Want
 }
 
 #[tactic(auto, unfolding(loader_machine::specs::Heads::plain_want))]
-fn plain_want(head: &Head) -> Want
+fn plain_want(head: &SegmentHead) -> Want
     ensures is { result ≡ heads.plain_want head.now }
     ensures want { IsWant result }
 {
@@ -157,7 +157,7 @@ fn plain_want(head: &Head) -> Want
 
 /// What is asked of the segment's place.
 #[tactic(auto, unfolding(loader_machine::specs::Heads::want_of))]
-pub fn want_of(head: &Head) -> Want
+pub fn want_of(head: &SegmentHead) -> Want
     ensures is { result ≡ heads.want_of head.now }
     ensures want { IsWant result }
 {

@@ -80,7 +80,7 @@ fn is_reached_in(users: &Vec<Option<User>>, attached: &Vec<u16>, target: &Target
 }
 
 /// The first entry that leads nowhere, where these are the users of the rows.
-pub fn lost(load: &LoadFile<'_>, joined: &Vec<User>) -> Option<LoadFault>
+pub fn first_dangling_entry(load: &LoadFile<'_>, joined: &Vec<User>) -> Option<LoadFault>
     ensures { result ≡ option_and_then (steps.lost_in (new_heads joined.now.items) load.now) (table_of load.now) }
 {
     let table = match load.table() {
@@ -101,7 +101,7 @@ pub fn lost(load: &LoadFile<'_>, joined: &Vec<User>) -> Option<LoadFault>
 }
 
 /// The same where these are the IDs of the attached users.
-pub fn lost_in(
+pub fn first_dangling_entry_of(
     load: &LoadFile<'_>,
     users: &Vec<Option<User>>,
     attached: &Vec<u16>,

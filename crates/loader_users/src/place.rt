@@ -5,7 +5,7 @@ ghost use Rattle.iigs_meaning.specs.Fits.{IsWant};
 ghost use Rattle.loader_machine.specs.Heads as heads;
 ghost use Rattle.loader_machine.specs.Presences as presences;
 ghost use Rattle.loader_machine.specs.Stands.{place_in};
-ghost use Rattle.loader_machine.specs.Steps.{spread};
+ghost use Rattle.loader_machine.specs.Steps.{held_of_heads};
 
 use crate::head::{is_code, is_static, want_of};
 use crate::memory::presence;
@@ -31,10 +31,10 @@ pub fn wants_of(alloc: Global, segments: &Vec<Segment>) -> Result<Vec<Want>, All
 }
 
 /// Gives the static segments these handles, in order, and the others none.
-pub fn deal(segments: &mut Vec<Segment>, handles: &[Handle])
+pub fn assign_handles(segments: &mut Vec<Segment>, handles: &[Handle])
     requires { length handles.now ≡ length (heads.wants_of (map (λ s. s.head) segments.old.items)) }
     ensures heads { map (λ s. s.head) segments.new.items ≡ map (λ s. s.head) segments.old.items }
-    ensures handles { map (λ s. s.handle) segments.new.items ≡ map (λ held. held.handle) (spread (map (λ s. s.head) segments.old.items) handles.now) }
+    ensures handles { map (λ s. s.handle) segments.new.items ≡ map (λ held. held.handle) (held_of_heads (map (λ s. s.head) segments.old.items) handles.now) }
 {
     let mut next = 0;
     let count = segments.len();

@@ -12,7 +12,7 @@ use std::alloc::{AllocError, Global};
 
 /// What a program needs beside its blocks.
 #[derive(Drop)]
-pub struct Plan {
+pub struct LoadPlan {
     /// The segments, none of which has a handle.
     pub segments: Vec<Segment>,
     /// What the static ones ask of their places, in order.
@@ -34,7 +34,7 @@ fn no_handles(alloc: Global, count: usize) -> Result<Vec<Handle>, AllocError>
 }
 
 /// What a program of this load file needs.
-pub fn plan_of(alloc: Global, load: &LoadFile<'_>) -> Result<Plan, AllocError>
+pub fn plan_of(alloc: Global, load: &LoadFile<'_>) -> Result<LoadPlan, AllocError>
     ensures { IfOk result (IsPlan load.now) }
 {
     let segments = segments_of(alloc, load)?;
@@ -44,7 +44,7 @@ pub fn plan_of(alloc: Global, load: &LoadFile<'_>) -> Result<Plan, AllocError>
         Ok(places) => places,
         Err(PlacesFault::Memory) => return Err(AllocError),
     };
-    Ok(Plan {
+    Ok(LoadPlan {
         segments,
         wants,
         handles,

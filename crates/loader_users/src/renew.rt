@@ -5,7 +5,7 @@ ghost use Rattle.iigs_meaning.specs.Slots.{get};
 ghost use Rattle.iigs_meaning.specs.Memory.{bytes_at};
 ghost use Rattle.loader_machine.specs.Presences as presences;
 ghost use Rattle.loader_users.specs.Bytes.{with_bytes};
-ghost use Rattle.loader_users.specs.Renewing.{is_chosen, code_for, renewed_at, renewed, IsRenewed, AreRoomy, AreRenewed};
+ghost use Rattle.loader_users.specs.Renewing.{is_chosen, code_for, renewed_at, relinked_entries, IsRenewed, AreRoomy, AreRenewed};
 
 use crate::head::is_table;
 use crate::memory::presence;
@@ -17,7 +17,7 @@ use loader_machine::Presence;
 use omf_base::number;
 
 /// The entries for this segment, of the file with this number, follow.
-fn chosen(only: Option<(u16, u16)>, file: u32, segment: u32) -> bool
+fn is_chosen_entry(only: Option<(u16, u16)>, file: u32, segment: u32) -> bool
     ensures { result ≡ is_chosen only file segment }
 {
     match only {
@@ -35,12 +35,12 @@ pub fn address_in(place: u32, offset: u32) -> u32
 
 /// The entry that begins there follows, if it is for this segment.
 #[tactic(auto, unfolding(crate::specs::Renewing::renewed_at))]
-fn renew_one(bytes: &mut [u8], at: usize, only: Option<(u16, u16)>, place: Option<u32>)
+fn relink_entry(bytes: &mut [u8], at: usize, only: Option<(u16, u16)>, place: Option<u32>)
     requires { at + 14 ≤ length bytes.old }
     ensures is { bytes.new ≡ renewed_at only place at bytes.old }
     ensures same { length bytes.new ≡ length bytes.old }
 {
-    if chosen(only, number(bytes, at + 2, 2), number(bytes, at + 4, 2)) {
+    if is_chosen_entry(only, number(bytes, at + 2, 2), number(bytes, at + 4, 2)) {
         match place {
             Some(place) => {
                 let offset = number(bytes, at + 6, 4);
@@ -52,18 +52,18 @@ fn renew_one(bytes: &mut [u8], at: usize, only: Option<(u16, u16)>, place: Optio
 }
 
 /// So many entries of a table follow.
-fn renew(bytes: &mut [u8], count: usize, only: Option<(u16, u16)>, place: Option<u32>)
+fn relink_entries(bytes: &mut [u8], count: usize, only: Option<(u16, u16)>, place: Option<u32>)
     requires { 14 * count ≤ length bytes.old - 12 }
-    ensures is { bytes.new ≡ renewed only place count bytes.old }
+    ensures is { bytes.new ≡ relinked_entries only place count bytes.old }
     ensures same { length bytes.new ≡ length bytes.old }
 {
     'entries: for k in 0..count {
-        renew_one(bytes, 8 + 14 * k, only, place);
+        relink_entry(bytes, 8 + 14 * k, only, place);
     }
 }
 
 /// The entries of a table's block follow.
-fn renew_block(
+fn relink_block(
     banks: &mut CompactBanks,
     h: Handle,
     count: usize,
@@ -72,14 +72,14 @@ fn renew_block(
 )
     requires there { IsSomeAnd (get banks.old.slots h) (λ block. IsSome block.at) }
     requires room { 14 * count ≤ length (bytes_at banks.old h.slot) - 12 }
-    ensures written { banks.new ≡ with_bytes banks.old h.slot (renewed only place count (bytes_at banks.old h.slot)) }
-    ensures same { length (renewed only place count (bytes_at banks.old h.slot)) ≡ length (bytes_at banks.old h.slot) }
+    ensures written { banks.new ≡ with_bytes banks.old h.slot (relinked_entries only place count (bytes_at banks.old h.slot)) }
+    ensures same { length (relinked_entries only place count (bytes_at banks.old h.slot)) ≡ length (bytes_at banks.old h.slot) }
 {
-    renew(banks.lend(h), count, only, place);
+    relink_entries(banks.lend(h), count, only, place);
 }
 
 /// The entries of a table follow, if it is there.
-fn renew_table(
+fn relink_table(
     banks: &mut CompactBanks,
     table: &Segment,
     only: Option<(u16, u16)>,
@@ -91,8 +91,8 @@ fn renew_table(
 {
     let count = entry_count(table.head.length) as usize;
     match presence(banks, table.handle) {
-        Presence::Active(h, _) => renew_block(banks, h, count, only, place),
-        Presence::Idle(h, _) => renew_block(banks, h, count, only, place),
+        Presence::Active(h, _) => relink_block(banks, h, count, only, place),
+        Presence::Idle(h, _) => relink_block(banks, h, count, only, place),
         Presence::Purged(_) => {}
         Presence::Absent => {}
     }
@@ -100,7 +100,7 @@ fn renew_table(
 
 /// The entries of a user's tables for a segment, by file and number, or for all, lead to it at a place, or call the loader where it isn't
 /// active.
-pub fn renew_tables(
+pub fn relink_tables(
     banks: &mut CompactBanks,
     segments: &Vec<Segment>,
     only: Option<(u16, u16)>,
@@ -112,7 +112,7 @@ pub fn renew_tables(
     'places: for k in 0..segments.len() {
         let segment = &segments[k];
         if is_table(&segment.head) {
-            renew_table(banks, segment, only, place);
+            relink_table(banks, segment, only, place);
         }
     }
 }

@@ -10,7 +10,7 @@ ghost use Rattle.loader_users.specs.Users.{with_handle};
 
 use crate::head::is_skipped;
 use iigs_meaning::Handle;
-use loader_machine::{Head, Life, LoaderFault};
+use loader_machine::{Life, LoaderFault, SegmentHead};
 
 /// The ID of the first user.
 pub const FIRST_ID: u16 = 0x1001;
@@ -19,7 +19,7 @@ pub const FIRST_ID: u16 = 0x1001;
 #[derive(Clone, Copy, PartialEq, Eq, Debug)]
 pub struct Segment {
     pub handle: Option<Handle>,
-    pub head: Head,
+    pub head: SegmentHead,
 }
 
 /// A user as the loader keeps it.

@@ -4,7 +4,7 @@ ghost use Rattle.std.specs.Prelude.{◌≡◌, ◌<◌, ◌≤◌, slice_get, le
 ghost use Rattle.std.specs.Option.{option_and_then};
 ghost use Rattle.loader_machine.specs.State as state;
 ghost use Rattle.loader_machine.specs.State.{user_of, with_user, with_all, max_users};
-ghost use Rattle.loader_agrees.specs.Agrees.{Kept, kept_outlines, AreAttached};
+ghost use Rattle.loader_agrees.specs.Agrees.{LoadedUser, kept_outlines, AreAttached};
 ghost use Rattle.load_meaning.specs.Pathnames.{most_paths};
 ghost use Rattle.loader_users.specs.View.{kept};
 ghost use Rattle.loader_users.specs.Users.{with_handle};
@@ -44,7 +44,7 @@ fn file_in(attached: &Vec<u16>, id: u16) -> Option<u16>
 
 /// The same in the list of a user, if it isn't gone.
 fn file_of(user: &Option<User>, id: u16) -> Option<u16>
-    requires { (k : Kept) → option_map kept user.now ≡ Some k → length k.attached ≤ most_paths }
+    requires { (k : LoadedUser) → option_map kept user.now ≡ Some k → length k.attached ≤ most_paths }
     ensures { result ≡ option_and_then (λ k. state.file_in 2 k.attached id) (option_map kept user.now) }
 {
     match user {
@@ -80,7 +80,7 @@ pub fn remove(users: &mut Vec<Option<User>>, id: u16)
 /// The user of an ID, which has one, runs, and its segments are these.
 pub fn set_segments(users: &mut Vec<Option<User>>, id: u16, segments: Vec<Segment>)
     requires { IsSome (user_of (map (option_map kept) users.old.items) id) }
-    ensures set { (k : Kept) → user_of (map (option_map kept) users.old.items) id ≡ Some k
+    ensures set { (k : LoadedUser) → user_of (map (option_map kept) users.old.items) id ≡ Some k
         → map (option_map kept) users.new.items ≡ with_user (map (option_map kept) users.old.items) id (Some (record k {
           life = Life.Running;
           handles = map (λ s. s.handle) segments.items;
@@ -100,7 +100,7 @@ pub fn set_segments(users: &mut Vec<Option<User>>, id: u16, segments: Vec<Segmen
 /// Sets whether the user of an ID, which has one, runs.
 pub fn set_life(users: &mut Vec<Option<User>>, id: u16, life: Life)
     requires { IsSome (user_of (map (option_map kept) users.old.items) id) }
-    ensures set { (k : Kept) → user_of (map (option_map kept) users.old.items) id ≡ Some k
+    ensures set { (k : LoadedUser) → user_of (map (option_map kept) users.old.items) id ≡ Some k
         → map (option_map kept) users.new.items ≡ with_user (map (option_map kept) users.old.items) id (Some (record k { life = life })) }
     ensures room { vec_capacity users.new ≡ vec_capacity users.old }
 {
@@ -113,7 +113,7 @@ pub fn set_life(users: &mut Vec<Option<User>>, id: u16, life: Life)
 /// How many users are attached to the user of an ID, which has one.
 pub fn attached_count(users: &Vec<Option<User>>, id: u16) -> usize
     requires { IsSome (user_of (map (option_map kept) users.now.items) id) }
-    ensures { (k : Kept) → user_of (map (option_map kept) users.now.items) id ≡ Some k → result ≡ length k.attached }
+    ensures { (k : LoadedUser) → user_of (map (option_map kept) users.now.items) id ≡ Some k → result ≡ length k.attached }
 {
     user_in(users, id).attached.len()
 }
@@ -121,8 +121,8 @@ pub fn attached_count(users: &Vec<Option<User>>, id: u16) -> usize
 /// The ID of one of them.
 pub fn attached_in(users: &Vec<Option<User>>, id: u16, place: usize) -> u16
     requires made { IsSome (user_of (map (option_map kept) users.now.items) id) }
-    requires inside { (k : Kept) → user_of (map (option_map kept) users.now.items) id ≡ Some k → place < length k.attached }
-    ensures { (k : Kept) → user_of (map (option_map kept) users.now.items) id ≡ Some k → slice_get k.attached place ≡ Some result }
+    requires inside { (k : LoadedUser) → user_of (map (option_map kept) users.now.items) id ≡ Some k → place < length k.attached }
+    ensures { (k : LoadedUser) → user_of (map (option_map kept) users.now.items) id ≡ Some k → slice_get k.attached place ≡ Some result }
 {
     user_in(users, id).attached[place]
 }
@@ -131,7 +131,7 @@ pub fn attached_in(users: &Vec<Option<User>>, id: u16, place: usize) -> u16
 pub fn set_lives(users: &mut Vec<Option<User>>, id: u16, life: Life)
     requires made { IsSome (user_of (map (option_map kept) users.old.items) id) }
     requires there { HasItsUsers (map (option_map kept) users.old.items) id }
-    ensures set { (k : Kept) → user_of (map (option_map kept) users.old.items) id ≡ Some k
+    ensures set { (k : LoadedUser) → user_of (map (option_map kept) users.old.items) id ≡ Some k
         → map (option_map kept) users.new.items ≡ with_all (with_life life) (map (option_map kept) users.old.items) k.attached }
     ensures room { vec_capacity users.new ≡ vec_capacity users.old }
 {
@@ -144,8 +144,8 @@ pub fn set_lives(users: &mut Vec<Option<User>>, id: u16, life: Life)
 /// Gives the segment with a number of the user of an ID, which has both, a handle.
 pub fn set_handle(users: &mut Vec<Option<User>>, id: u16, number: u16, h: Handle)
     requires made { IsSome (user_of (map (option_map kept) users.old.items) id) }
-    requires inside { (k : Kept) → user_of (map (option_map kept) users.old.items) id ≡ Some k → (1 ≤ number) × (number ≤ length k.heads) }
-    ensures set { (k : Kept) → user_of (map (option_map kept) users.old.items) id ≡ Some k
+    requires inside { (k : LoadedUser) → user_of (map (option_map kept) users.old.items) id ≡ Some k → (1 ≤ number) × (number ≤ length k.heads) }
+    ensures set { (k : LoadedUser) → user_of (map (option_map kept) users.old.items) id ≡ Some k
         → map (option_map kept) users.new.items ≡ with_user (map (option_map kept) users.old.items) id (Some (with_handle k number h)) }
     ensures room { vec_capacity users.new ≡ vec_capacity users.old }
 {

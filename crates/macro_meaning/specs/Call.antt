@@ -78,8 +78,8 @@ complete names None = None
 complete names (Some symbols) = Some (with_missing names symbols)
 
 -- the symbols with which an expansion begins; None where the operands don't fit
-unfoldable pub bound : Model → List ℕ → List ℕ → Option Symbols
-bound model label operand =
+unfoldable pub bound_arguments : Model → List ℕ → List ℕ → Option Symbols
+bound_arguments model label operand =
     complete (all_names model) (bound_all model.parameters 0 (arguments operand) (label_bound model.label label))
 
 -- a parameter can't be SYSCNT

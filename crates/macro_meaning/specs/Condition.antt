@@ -13,7 +13,7 @@ use Rattle.orca_meaning.specs.Formula.{MeansAt, has_large}
 use Rattle.orca_meaning.specs.Token.{Found}
 use Rattle.macro_meaning.specs.declared.faults.MacroCause.{MacroCause}
 use Rattle.macro_meaning.specs.declared.faults.MacroCause.TheVariants.{NoSuchSymbol, BadSetting}
-use Rattle.macro_meaning.specs.Pieces.{quoted_at, quoted}
+use Rattle.macro_meaning.specs.Pieces.{quoted_at, unquoted_text}
 use Rattle.macro_meaning.specs.Symbol.{Values, text_of}
 
 -- ---- what a formula asks of symbols
@@ -27,8 +27,8 @@ attribute_of code None = None
 attribute_of code (Some text) = Some (attribute code text)
 
 -- a formula here knows symbols alone
-abbrev pub environment : Values → Environment
-environment values = record {
+abbrev pub symbol_environment : Values → Environment
+symbol_environment values = record {
   label = λ name weak. None;
   attribute = λ code name. attribute_of code (text_of values name);
   location = Fixed 0;
@@ -60,7 +60,7 @@ answer_of values tree =
     if not (list_all (is_declared values) (terms_of tree)) then Err NoSuchSymbol
     else if has_large tree then Err BadSetting
     else if nat_lt 64 (depth tree) then Err BadSetting
-    else number_of (value (environment values) 0 0 tree)
+    else number_of (value (symbol_environment values) 0 0 tree)
 
 -- this is the value of the formula that the text is, or what is wrong with it
 pub data IsNumber (values : Values) (text : List ℕ) (answer : Answer) : Type 0 where
@@ -84,7 +84,7 @@ same_as equal a (Some b) = Some (if equal then bytes_eq a b else not (bytes_eq a
 
 abbrev pub compared_with : List ℕ → Option (Bool × List ℕ) → Option Bool
 compared_with a None = None
-compared_with a (Some (equal, behind)) = same_as equal a (quoted behind)
+compared_with a (Some (equal, behind)) = same_as equal a (unquoted_text behind)
 
 abbrev pub compared_from : Found (List ℕ) → Option Bool
 compared_from None = None

@@ -6,7 +6,7 @@ use Rattle.macro_meaning.specs.declared.faults.MacroCause.TheVariants.{Unclosed,
 use Rattle.orca_meaning.specs.Token.{name_at}
 use Rattle.orca_meaning.specs.Line.{Line, Fields, part, is_comment, three_fields}
 use Rattle.macro_meaning.specs.Pieces.{pieces}
-use Rattle.macro_meaning.specs.Statements.{is_operation, whole, symbol_name}
+use Rattle.macro_meaning.specs.Statements.{is_operation, whole_match, symbol_name}
 
 -- ---- the lines of a file
 
@@ -15,17 +15,17 @@ operation_is spelling line = is_operation spelling (part line.text line.fields.o
 
 -- a part of a file: a line outside definitions; a definition, with its MACRO line, the lines in it and its MEND line; or
 -- one that lacks its MEND
-pub data Part : Type 0 where
-  Plain : (line : Line) → Part
-  Closed : (begins : Line) (lines : List Line) (ends : Line) → Part
-  Open : (begins : Line) (lines : List Line) → Part
+pub data DefinitionPart : Type 0 where
+  Plain : (line : Line) → DefinitionPart
+  Closed : (begins : Line) (lines : List Line) (ends : Line) → DefinitionPart
+  Open : (begins : Line) (lines : List Line) → DefinitionPart
 
 -- the definition that is open: its MACRO line and the lines in it so far
 abbrev pub Begun : Type 0
 Begun = Option (Line × List Line)
 
 -- The parts of a file in order. A MACRO line begins a definition, and the first MEND behind it ends it.
-unfoldable pub parts_of : Begun → List Line → List Part
+unfoldable pub parts_of : Begun → List Line → List DefinitionPart
 parts_of None [] = []
 parts_of (Some (begins, inner)) [] = Open begins inner ∷ []
 parts_of None (line ∷ lines) =
@@ -70,7 +70,7 @@ model_from None label parameters = None
 
 abbrev pub model_by : List ℕ → Fields → Option Model
 model_by text fields =
-    model_from (whole (name_at (part text fields.operation))) (label_of (part text fields.label)) (parameters_of (part text fields.operand))
+    model_from (whole_match (name_at (part text fields.operation))) (label_of (part text fields.label)) (parameters_of (part text fields.operand))
 
 -- a model line: a label parameter `&NAME` or none, a name as operation, and parameters `&NAME` parted by commas
 unfoldable pub model_of : List ℕ → Option Model
@@ -85,17 +85,17 @@ pub record Body : Type 0 where
   pub reach : ℕ
 
 -- a macro: it counts in expansions that began behind this line of the source, in all where that is 0
-pub record Definition : Type 0 where
+pub record MacroDefinition : Type 0 where
   pub model : Model
-  pub behind : ℕ
+  pub visible_after : ℕ
   pub body : Body
 
-abbrev pub definition_by : ℕ → List Line → Line → Option Model → Option Definition
+abbrev pub definition_by : ℕ → List Line → Line → Option Model → Option MacroDefinition
 definition_by behind inner ends None = None
-definition_by behind inner ends (Some model) = Some (record { model = model; behind = behind; body = record { lines = inner ++ ends ∷ []; reach = length inner } })
+definition_by behind inner ends (Some model) = Some (record { model = model; visible_after = behind; body = record { lines = inner ++ ends ∷ []; reach = length inner } })
 
 -- the definition with these lines between MACRO and MEND, of which the first is the model line
-abbrev pub definition_from : ℕ → List Line → Line → Option Definition
+abbrev pub definition_from : ℕ → List Line → Line → Option MacroDefinition
 definition_from behind [] ends = None
 definition_from behind (model ∷ inner) ends = definition_by behind inner ends (model_of model.text)
 
@@ -103,26 +103,26 @@ definition_from behind (model ∷ inner) ends = definition_by behind inner ends 
 abbrev pub counts_behind : Bool → Line → ℕ
 counts_behind in_source begins = if in_source then begins.number else 0
 
-abbrev pub definition_of : Bool → Part → Option Definition
+abbrev pub definition_of : Bool → DefinitionPart → Option MacroDefinition
 definition_of in_source (Plain line) = None
 definition_of in_source (Closed begins inner ends) = definition_from (counts_behind in_source begins) inner ends
 definition_of in_source (Open begins inner) = None
 
-abbrev pub listed : {A : Type 0} → Option A → List A
-listed None = []
-listed (Some a) = a ∷ []
+abbrev pub list_of_option : {A : Type 0} → Option A → List A
+list_of_option None = []
+list_of_option (Some a) = a ∷ []
 
-unfoldable pub definitions_in : Bool → List Part → List Definition
+unfoldable pub definitions_in : Bool → List DefinitionPart → List MacroDefinition
 definitions_in in_source [] = []
-definitions_in in_source (p ∷ ps) = listed (definition_of in_source p) ++ definitions_in in_source ps
+definitions_in in_source (p ∷ ps) = list_of_option (definition_of in_source p) ++ definitions_in in_source ps
 
 -- the lines of the source that are visited: of a definition its MACRO line alone
-abbrev pub source_line : Part → Line
+abbrev pub source_line : DefinitionPart → Line
 source_line (Plain line) = line
 source_line (Closed begins inner ends) = begins
 source_line (Open begins inner) = begins
 
-abbrev pub source_body : List Part → Body
+abbrev pub source_body : List DefinitionPart → Body
 source_body ps = record { lines = map source_line ps; reach = length ps }
 
 -- ---- what is wrong with definitions
@@ -132,7 +132,7 @@ abbrev pub model_fault : Line → Option Model → Option (Line × MacroCause)
 model_fault line None = Some (line, BadArguments)
 model_fault line (Some model) = None
 
-abbrev pub part_fault : Part → Option (Line × MacroCause)
+abbrev pub part_fault : DefinitionPart → Option (Line × MacroCause)
 part_fault (Plain line) = None
 part_fault (Closed begins [] ends) = Some (ends, BadArguments)
 part_fault (Closed begins (model ∷ inner) ends) = model_fault model (model_of model.text)
@@ -142,7 +142,7 @@ abbrev pub or_else : {A : Type 0} → Option A → Option A → Option A
 or_else (Some a) other = Some a
 or_else None other = other
 
-unfoldable pub first_part_fault : List Part → Option (Line × MacroCause)
+unfoldable pub first_part_fault : List DefinitionPart → Option (Line × MacroCause)
 first_part_fault [] = None
 first_part_fault (p ∷ ps) = or_else (part_fault p) (first_part_fault ps)
 
@@ -153,10 +153,10 @@ abbrev pub next_place : Option ℕ → Option ℕ
 next_place None = None
 next_place (Some place) = Some (place + 1)
 
-unfoldable pub first_named : List ℕ → List Definition → Option ℕ
+unfoldable pub first_named : List ℕ → List MacroDefinition → Option ℕ
 first_named name [] = None
 first_named name (d ∷ ds) = if bytes_eq d.model.name name then Some 0 else next_place (first_named name ds)
 
 -- it counts in an expansion that began at this line of the source, or at that line
-abbrev pub counts : ℕ → Definition → Bool
-counts root d = nat_lt d.behind root
+abbrev pub is_visible_in : ℕ → MacroDefinition → Bool
+is_visible_in root d = nat_lt d.visible_after root

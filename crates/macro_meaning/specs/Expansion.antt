@@ -3,25 +3,25 @@ use Rattle.std.specs.Prelude.{◌≡◌, ℕ, ◌+◌, min, true, false, List, [
 use Rattle.omf_format.specs.Lines.{lines_of}
 use Rattle.orca_meaning.specs.declared.lines.TextCause.{TextCause}
 use Rattle.orca_meaning.specs.declared.lines.TextCause.TheVariants as texts
-use Rattle.orca_meaning.specs.Line.{Line, numbered, first_line_fault}
+use Rattle.orca_meaning.specs.Line.{Line, numbered_lines, first_line_fault}
 use Rattle.macro_meaning.specs.declared.faults.MacroCause.{MacroCause}
 use Rattle.macro_meaning.specs.declared.faults.MacroCause.TheVariants.{LineTooLong, TooManyLines, BadSetting, Memory}
 use Rattle.macro_meaning.specs.declared.faults.MacroFault.{MacroFault}
-use Rattle.macro_meaning.specs.Definition.{Part, Definition, parts_of, definitions_in, source_body, first_part_fault, or_else}
+use Rattle.macro_meaning.specs.Definition.{DefinitionPart, MacroDefinition, parts_of, definitions_in, source_body, first_part_fault, or_else}
 use Rattle.macro_meaning.specs.Visit.{Program, Visit, Move, Ends, Stops, Follow, first_visit}
 
 -- ---- files
 
 -- the parts of a file; the source is file 0, and macro files count from 1
-abbrev pub file_parts : ℕ → List ℕ → List Part
-file_parts file bytes = parts_of None (numbered file 1 (lines_of bytes))
+abbrev pub file_parts : ℕ → List ℕ → List DefinitionPart
+file_parts file bytes = parts_of None (numbered_lines file 1 (lines_of bytes))
 
 -- the number of the next macro file; no number is above 4,294,967,295
 abbrev pub next_file : ℕ → ℕ
 next_file file = min (file + 1) 4294967295
 
 -- the macros of files, of which the first has this number
-unfoldable pub macros_in : ℕ → List (List ℕ) → List Definition
+unfoldable pub macros_in : ℕ → List (List ℕ) → List MacroDefinition
 macros_in file [] = []
 macros_in file (bytes ∷ more) = definitions_in false (file_parts file bytes) ++ macros_in (next_file file) more
 

@@ -5,7 +5,7 @@ pub mod Substitution
 pub mod Condition
 pub mod Definition
 pub mod Call
-pub mod Deed
+pub mod Effect
 pub mod Visit
 pub mod Expansion
 pub mod ExpansionLaws

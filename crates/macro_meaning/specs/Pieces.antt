@@ -42,20 +42,20 @@ quoted_at [] = None
 quoted_at (quote ∷ behind) = if quote == ascii.apostrophe || quote == ascii.double_quote then closed_at quote behind else None
 
 -- the text in quotes that this is, with nothing behind
-abbrev pub only : Found (List ℕ) → Option (List ℕ)
-only None = None
-only (Some (text, [])) = Some text
-only (Some (text, byte ∷ behind)) = None
+abbrev pub whole_quoted_text : Found (List ℕ) → Option (List ℕ)
+whole_quoted_text None = None
+whole_quoted_text (Some (text, [])) = Some text
+whole_quoted_text (Some (text, byte ∷ behind)) = None
 
-abbrev pub quoted : List ℕ → Option (List ℕ)
-quoted text = only (quoted_at text)
+abbrev pub unquoted_text : List ℕ → Option (List ℕ)
+unquoted_text text = whole_quoted_text (quoted_at text)
 
-abbrev pub appended : Option (List ℕ) → Option (List ℕ) → Option (List ℕ)
-appended (Some a) (Some b) = Some (a ++ b)
-appended (Some a) None = None
-appended None b = None
+abbrev pub appended_texts : Option (List ℕ) → Option (List ℕ) → Option (List ℕ)
+appended_texts (Some a) (Some b) = Some (a ++ b)
+appended_texts (Some a) None = None
+appended_texts None b = None
 
 -- texts in quotes, joined
-unfoldable pub joined : List (List ℕ) → Option (List ℕ)
-joined [] = Some []
-joined (piece ∷ pieces) = appended (quoted piece) (joined pieces)
+unfoldable pub joined_texts : List (List ℕ) → Option (List ℕ)
+joined_texts [] = Some []
+joined_texts (piece ∷ pieces) = appended_texts (unquoted_text piece) (joined_texts pieces)

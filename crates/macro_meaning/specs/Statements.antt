@@ -7,7 +7,7 @@ use Rattle.macro_meaning.specs.declared.statements.Declaration.TheVariants.{Loca
 use Rattle.macro_meaning.specs.declared.statements.Statement.{Statement}
 use Rattle.macro_meaning.specs.declared.statements.Statement.TheVariants.{Declare, Set, Middle, BranchIf, Branch, Count, Nothing, Leave, Note, Define}
 use Rattle.orca_meaning.specs.Characters.{folded}
-use Rattle.orca_meaning.specs.Operation.{beside}
+use Rattle.orca_meaning.specs.Operation.{value_of_spelling}
 use Rattle.orca_meaning.specs.Token.{Found, name_at, symbol_at}
 
 -- the statements that don't declare or set symbols
@@ -25,7 +25,7 @@ statements =
 
 -- the statement that an operation is, in upper or lower case
 unfoldable pub statement_of : List ℕ → Option Statement
-statement_of operation = beside (folded operation) statements
+statement_of operation = value_of_spelling (folded operation) statements
 
 abbrev pub is_operation : List ℕ → List ℕ → Bool
 is_operation spelling operation = bytes_eq (folded operation) spelling
@@ -33,14 +33,14 @@ is_operation spelling operation = bytes_eq (folded operation) spelling
 -- ---- names of symbols, and sequence symbols
 
 -- what was found, where nothing stands behind it
-abbrev pub whole : Found (List ℕ) → Option (List ℕ)
-whole None = None
-whole (Some (name, [])) = Some name
-whole (Some (name, byte ∷ behind)) = None
+abbrev pub whole_match : Found (List ℕ) → Option (List ℕ)
+whole_match None = None
+whole_match (Some (name, [])) = Some name
+whole_match (Some (name, byte ∷ behind)) = None
 
 -- `&NAME` and nothing else: the name, in upper case
 abbrev pub symbol_name : List ℕ → Option (List ℕ)
-symbol_name text = whole (symbol_at text)
+symbol_name text = whole_match (symbol_at text)
 
 abbrev pub behind_dot : List ℕ → Found (List ℕ)
 behind_dot [] = None
@@ -48,7 +48,7 @@ behind_dot (byte ∷ behind) = if byte == ascii.dot then name_at behind else Non
 
 -- `.NAME` and nothing else: the name of a sequence symbol, in upper case
 abbrev pub sequence_name : List ℕ → Option (List ℕ)
-sequence_name text = whole (behind_dot text)
+sequence_name text = whole_match (behind_dot text)
 
 -- where a branch goes: a sequence symbol, maybe behind a `^`
 abbrev pub target_name : List ℕ → Option (List ℕ)

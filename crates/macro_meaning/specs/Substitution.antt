@@ -100,13 +100,13 @@ in_place text_of Declared behind = Some (ascii.ampersand ∷ [], 0)
 
 -- From a place on: the text with each symbol's text in its place, from left to right. The first so many bytes were taken
 -- already, and what comes in place of a symbol isn't read again. None where a symbol isn't declared.
-unfoldable pub substituted : (List ℕ → Option (List ℕ)) → (ℕ → Naming) → ℕ → ℕ → List ℕ → Option (List ℕ)
-substituted text_of naming at taken [] = Some []
-substituted text_of naming at (suc taken) (byte ∷ behind) = substituted text_of naming (at + 1) taken behind
-substituted text_of naming at zero (byte ∷ behind) =
+unfoldable pub substituted_from : (List ℕ → Option (List ℕ)) → (ℕ → Naming) → ℕ → ℕ → List ℕ → Option (List ℕ)
+substituted_from text_of naming at taken [] = Some []
+substituted_from text_of naming at (suc taken) (byte ∷ behind) = substituted_from text_of naming (at + 1) taken behind
+substituted_from text_of naming at zero (byte ∷ behind) =
     if byte == ascii.ampersand
     then elim (in_place text_of (naming at) behind) [
       | None ↦ None
-      | Some found ↦ with_front found.0 (substituted text_of naming (at + 1) found.1 behind)
+      | Some found ↦ with_front found.0 (substituted_from text_of naming (at + 1) found.1 behind)
     ]
-    else with_front (byte ∷ []) (substituted text_of naming (at + 1) 0 behind)
+    else with_front (byte ∷ []) (substituted_from text_of naming (at + 1) 0 behind)

@@ -7,15 +7,15 @@ use Rattle.macro_meaning.specs.declared.faults.MacroCause.TheVariants.{TooManyLi
 use Rattle.macro_meaning.specs.declared.statements.Kind.{Kind}
 use Rattle.macro_meaning.specs.declared.statements.Declaration.TheVariants.{Local, Shared}
 use Rattle.macro_meaning.specs.Call.{no_symbols}
-use Rattle.macro_meaning.specs.Deed.{Deed, Rests, Gives, Declares, Sets, Goes, Counts, Leaves, Calls, Fails, Setting, IsDeed}
-use Rattle.macro_meaning.specs.Definition.{Body, Definition}
+use Rattle.macro_meaning.specs.Effect.{Effect, NoEffect, Emit, DeclareSymbol, SetSymbol, BranchTo, SetCounter, Exit, CallMacro, Fail, SymbolSetting, IsDeed}
+use Rattle.macro_meaning.specs.Definition.{Body, MacroDefinition}
 use Rattle.macro_meaning.specs.Statements.{sequence_name}
 use Rattle.macro_meaning.specs.Symbol.{Symbol, Own, Common, Symbols, SharedTexts, with_name, first_text}
 
 -- the lines of the source, and the macros
 pub record Program : Type 0 where
   pub source : Body
-  pub definitions : List Definition
+  pub definitions : List MacroDefinition
 
 -- A visited line: the macro whose line it is by its place among the definitions, or the source; the line's place there; how
 -- deep its expansion is nested; the place in the list of visits of the one that called it; the line of the source at
@@ -43,7 +43,7 @@ pub data Move : Type 0 where
 abbrev pub no_body : Body
 no_body = record { lines = []; reach = 0 }
 
-abbrev pub body_from : Option Definition → Body
+abbrev pub body_from : Option MacroDefinition → Body
 body_from None = no_body
 body_from (Some d) = d.body
 
@@ -63,7 +63,7 @@ abbrev pub is_source : Option ℕ → Bool
 is_source None = true
 is_source (Some place) = false
 
-abbrev pub setting_of : Program → Visit → ℕ → Setting
+abbrev pub setting_of : Program → Visit → ℕ → SymbolSetting
 setting_of program v number = record {
   definitions = program.definitions;
   root = root_by v.caller v.root number;
@@ -82,12 +82,12 @@ set_by name kind text v (Some (Common other)) = record v { texts = with_name nam
 abbrev pub shared_first : List ℕ → Kind → SharedTexts → SharedTexts
 shared_first name kind texts = if is_some (texts name) then texts else with_name name (kind, first_text kind) texts
 
-abbrev pub after : Visit → Deed → Visit
-after v (Declares name (Local kind)) = record v { symbols = with_name name (Own kind (first_text kind)) v.symbols }
-after v (Declares name (Shared kind)) = record v { symbols = with_name name (Common kind) v.symbols; texts = shared_first name kind v.texts }
-after v (Sets name kind text) = set_by name kind text v (v.symbols name)
-after v (Counts n) = record v { counter = n }
-after v _ = v
+abbrev pub visit_after : Visit → Effect → Visit
+visit_after v (DeclareSymbol name (Local kind)) = record v { symbols = with_name name (Own kind (first_text kind)) v.symbols }
+visit_after v (DeclareSymbol name (Shared kind)) = record v { symbols = with_name name (Common kind) v.symbols; texts = shared_first name kind v.texts }
+visit_after v (SetSymbol name kind text) = set_by name kind text v (v.symbols name)
+visit_after v (SetCounter n) = record v { counter = n }
+visit_after v _ = v
 
 -- ---- what follows
 
@@ -95,25 +95,25 @@ abbrev pub if_line : Option Line → Move → Move → Move
 if_line None on otherwise = otherwise
 if_line (Some line) on otherwise = on
 
-abbrev pub onward : Visit → Visit
-onward v = record v { line = v.line + 1 }
+abbrev pub next_visit : Visit → Visit
+next_visit v = record v { line = v.line + 1 }
 
 -- the visit of the line behind a call, with what all expansions share as it is now
-abbrev pub resumed : Visit → Visit → Visit
-resumed v last = record v { line = v.line + 1; texts = last.texts; calls = last.calls }
+abbrev pub visit_after_call : Visit → Visit → Visit
+visit_after_call v last = record v { line = v.line + 1; texts = last.texts; calls = last.calls }
 
 -- behind an expansion: the line behind its call, or behind that of the expansion around it where no line is there
-unfoldable pub returned : Program → List Visit → Visit → ℕ → Option ℕ → Move
-returned program before last zero caller = Ends
-returned program before last (suc depth) None = Ends
-returned program before last (suc depth) (Some place) = elim (slice_get before place) [
+unfoldable pub move_after_expansion : Program → List Visit → Visit → ℕ → Option ℕ → Move
+move_after_expansion program before last zero caller = Ends
+move_after_expansion program before last (suc depth) None = Ends
+move_after_expansion program before last (suc depth) (Some place) = elim (slice_get before place) [
   | None ↦ Ends
-  | Some v ↦ if_line (line_at program v.macro (v.line + 1)) (On (resumed v last)) (returned program before last depth v.caller)
+  | Some v ↦ if_line (line_at program v.macro (v.line + 1)) (On (visit_after_call v last)) (move_after_expansion program before last depth v.caller)
 ]
 
 -- the next line of the body, or what is behind the expansion
 unfoldable pub next_line : Program → List Visit → Visit → Move
-next_line program before v = if_line (line_at program v.macro (v.line + 1)) (On (onward v)) (returned program before v v.depth v.caller)
+next_line program before v = if_line (line_at program v.macro (v.line + 1)) (On (next_visit v)) (move_after_expansion program before v v.depth v.caller)
 
 -- the places of the lines that have a sequence symbol, as they are written
 abbrev pub same_name : List ℕ → Option (List ℕ) → Bool
@@ -159,22 +159,22 @@ call_of before v line place symbols =
       calls = v.calls + 1;
     })
 
-unfoldable pub move_of : Program → List Visit → Visit → Line → Deed → Move
-move_of program before v line Rests = next_line program before v
-move_of program before v line (Gives text) = next_line program before v
-move_of program before v line (Declares name declaration) = next_line program before (after v (Declares name declaration))
-move_of program before v line (Sets name kind text) = next_line program before (after v (Sets name kind text))
-move_of program before v line (Goes name) = branch_to v line (target_of (body_of program v.macro) name)
-move_of program before v line (Counts n) = next_line program before (after v (Counts n))
-move_of program before v line Leaves = returned program before v v.depth v.caller
-move_of program before v line (Calls place symbols) = call_of before v line place symbols
-move_of program before v line (Fails cause) = Stops line cause
+unfoldable pub move_of : Program → List Visit → Visit → Line → Effect → Move
+move_of program before v line NoEffect = next_line program before v
+move_of program before v line (Emit text) = next_line program before v
+move_of program before v line (DeclareSymbol name declaration) = next_line program before (visit_after v (DeclareSymbol name declaration))
+move_of program before v line (SetSymbol name kind text) = next_line program before (visit_after v (SetSymbol name kind text))
+move_of program before v line (BranchTo name) = branch_to v line (target_of (body_of program v.macro) name)
+move_of program before v line (SetCounter n) = next_line program before (visit_after v (SetCounter n))
+move_of program before v line Exit = move_after_expansion program before v v.depth v.caller
+move_of program before v line (CallMacro place symbols) = call_of before v line place symbols
+move_of program before v line (Fail cause) = Stops line cause
 
 -- ---- visits
 
 -- the lines that a deed gives
-abbrev pub given_by : Line → Deed → List Line
-given_by line (Gives text) = line_of line.file line.number text ∷ []
+abbrev pub given_by : Line → Effect → List Line
+given_by line (Emit text) = line_of line.file line.number text ∷ []
 given_by _ _ = []
 
 -- the most visits
@@ -184,7 +184,7 @@ most_visits = 1000000
 abbrev pub IsVisitOf : Program → List Visit → Visit → Line → Bool → List Line → Move → Type 0
 IsVisitOf program before v line true given move = (given ≡ []) × (move ≡ Stops line TooManyLines)
 IsVisitOf program before v line false given move =
-    (deed : Deed) × IsDeed (setting_of program v line.number) line deed × (given ≡ given_by line deed) × (move ≡ move_of program before v line deed)
+    (deed : Effect) × IsDeed (setting_of program v line.number) line deed × (given ≡ given_by line deed) × (move ≡ move_of program before v line deed)
 
 abbrev pub IsVisitAt : Program → List Visit → Visit → Option Line → List Line → Move → Type 0
 IsVisitAt program before v None given move = (given ≡ []) × (move ≡ Ends)

@@ -10,14 +10,14 @@ use std::process::ExitCode;
 
 /// The words after the program's name. Where one isn't UTF-8 text, none.
 fn words(rt: &HostRuntime) -> Result<Vec<String>, AllocError> {
-    match collected(rt) {
+    match collect_arguments(rt) {
         Ok(words) => Ok(words),
         Err(error) if error.kind() == ErrorKind::OutOfMemory => Err(AllocError),
         Err(_) => Ok(Vec::new(rt.alloc())),
     }
 }
 
-fn collected(rt: &HostRuntime) -> io::Result<Vec<String>> {
+fn collect_arguments(rt: &HostRuntime) -> io::Result<Vec<String>> {
     let words = env::args(rt)?.skip(1).collect(rt.alloc())?;
     Ok(words)
 }

@@ -4,7 +4,7 @@ ghost use Rattle.std.specs.Prelude.{◌≡◌, ◌≤◌, length, take, drop};
 
 /// The first `count` items.
 #[inline]
-pub fn front<T>(items: &[T], count: usize) -> &[T]
+pub fn first_items<T>(items: &[T], count: usize) -> &[T]
     requires { count ≤ length items.now }
     ensures { result.now ≡ take count items.now }
 {
@@ -13,7 +13,7 @@ pub fn front<T>(items: &[T], count: usize) -> &[T]
 
 /// The items behind the first `count`.
 #[inline]
-pub fn behind<T>(items: &[T], count: usize) -> &[T]
+pub fn items_after<T>(items: &[T], count: usize) -> &[T]
     requires { count ≤ length items.now }
     ensures { result.now ≡ drop count items.now }
 {

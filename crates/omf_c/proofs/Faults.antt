@@ -11,7 +11,7 @@ use Rattle.load_meaning.specs.declared.load.LoadFault.{LoadFault}
 use Rattle.load_meaning.specs.Loadable.{IsFirstLoadFault}
 use Rattle.link_meaning.specs.declared.fault.LinkCause.TheVariants as link_causes
 use Rattle.link_meaning.specs.declared.fault.LinkFault.{LinkFault}
-use Rattle.link_meaning.specs.LinkFaults.{Given}
+use Rattle.link_meaning.specs.LinkFaults.{LinkInput}
 use Rattle.link_meaning.specs.EmitFaults.{IsFirstLinkFault}
 use Rattle.asm_meaning.specs.declared.faults.AsmCause.TheVariants as asm_causes
 use Rattle.asm_meaning.specs.declared.faults.AsmFault.{AsmFault}
@@ -53,7 +53,7 @@ first_load load_causes.Memory fault P other is = absurd (other refl)
 pub load_first : (fault : LoadFault) (file : List ℕ) → fault.cause ≢ load_causes.Memory → cells.IsRefused fault file → IsFirstLoadFault file fault
 load_first fault file other refused = first_load fault.cause fault (IsFirstLoadFault file fault) other refused
 
-pub link_first : (given : Given) (fault : LinkFault) → fault.cause ≢ link_causes.Memory → IsLinkRefused given fault → IsFirstLinkFault given fault
+pub link_first : (given : LinkInput) (fault : LinkFault) → fault.cause ≢ link_causes.Memory → IsLinkRefused given fault → IsFirstLinkFault given fault
 link_first given fault other (inl lacks) = absurd (other (ap (λ (f : LinkFault). f.cause) lacks))
 link_first given fault other (inr first) = first
 

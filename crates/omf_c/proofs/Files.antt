@@ -6,7 +6,7 @@ use Rattle.std.specs.List.{list_all, AllByRecursion}
 use Rattle.std.specs.declared.alloc.Global.{Global}
 use Rattle.load_meaning.specs.Pathnames.{IsPath}
 use Rattle.lib_dict.specs.declared.member.Member.{Member}
-use Rattle.lib_dict.specs.Library.{Given}
+use Rattle.lib_dict.specs.Library.{LibraryInput}
 use Rattle.lib_dict.specs.Made.{given_file}
 use Rattle.link_meaning.specs.declared.form.LinkForm.{LinkForm}
 use Rattle.link_meaning.specs.LinkFaults as link
@@ -18,19 +18,19 @@ use Rattle.omf_c.specs.Handed.{told_outcome}
 use Rattle.omf_c.specs.Making.{Makes, link_given, library_given, HasName, IsShort}
 
 -- a number of each file that is at most another one in all
-module _ (size : Given → ℕ) (most : ℕ) where
-  abbrev given : OmfFile → Given
+module _ (size : LibraryInput → ℕ) (most : ℕ) where
+  abbrev given : OmfFile → LibraryInput
   given f = record { name = f.name.now; bytes = f.bytes.now }
 
   abbrev test : OmfFile → Bool
   test f = nat_le (size (given f)) most
 
-  from_test : (files : List OmfFile) → list_all test files ≡ true → All (λ (g : Given). size g ≤ most) (map given files)
+  from_test : (files : List OmfFile) → list_all test files ≡ true → All (λ (g : LibraryInput). size g ≤ most) (map given files)
   from_test [] is k d less = absurd (omega (arith, less))
   from_test (f ∷ files) is zero d less = leb-true (size (given f)) most (and_parts (test f) (list_all test files) is).0
   from_test (f ∷ files) is (suc k) d less = from_test files (and_parts (test f) (list_all test files) is).1 k d (omega (arith, less))
 
-  to_test : (files : List OmfFile) → All (λ (g : Given). size g ≤ most) (map given files) → list_all test files ≡ true
+  to_test : (files : List OmfFile) → All (λ (g : LibraryInput). size g ≤ most) (map given files) → list_all test files ≡ true
   to_test [] all = refl
   to_test (f ∷ files) all =
       let here : test f ≡ true = le-leb (size (given f)) most (all 0 (given f) (omega arith)) in
@@ -38,12 +38,12 @@ module _ (size : Given → ℕ) (most : ℕ) where
       rw (here, behind) refl
 
 pub names_all : (files : List OmfFile) → (list_all (λ (f : OmfFile). nat_le (length f.name.now) 255) files ≡ true) ↔ All HasName (library_given files)
-names_all files = (from_test (λ (g : Given). length g.name) 255 files, to_test (λ (g : Given). length g.name) 255 files)
+names_all files = (from_test (λ (g : LibraryInput). length g.name) 255 files, to_test (λ (g : LibraryInput). length g.name) 255 files)
 
 pub short_all : (files : List OmfFile) → (list_all (λ (f : OmfFile). nat_le (length f.bytes.now) 0xFFFF_FFFF) files ≡ true) ↔ All IsShort (library_given files)
 short_all files = (
-  λ is k d less. let most = from_test (λ (g : Given). length g.bytes) 0xFFFF_FFFF files is k d less in omega (arith, most),
-  λ all. to_test (λ (g : Given). length g.bytes) 0xFFFF_FFFF files (λ k d less. let most = all k d less in omega (arith, most)),
+  λ is k d less. let most = from_test (λ (g : LibraryInput). length g.bytes) 0xFFFF_FFFF files is k d less in omega (arith, most),
+  λ all. to_test (λ (g : LibraryInput). length g.bytes) 0xFFFF_FFFF files (λ k d less. let most = all k d less in omega (arith, most)),
 )
 
 short_at : (files : List OmfFile) (k : ℕ) (d : OmfFile) → All HasName (library_given files) → k < length files → length (get_or files k d).name.now ≤ 255
@@ -60,7 +60,7 @@ count_given [] = refl
 count_given (f ∷ files) = ap suc (count_given files)
 
 -- copies of short files are short
-pub short_members : (members : List Member) (g : List Given) → map given_file members ≡ g → All IsShort g → All (λ (m : Member). length m.bytes.items < 2 ^ 32) members
+pub short_members : (members : List Member) (g : List LibraryInput) → map given_file members ≡ g → All IsShort g → All (λ (m : Member). length m.bytes.items < 2 ^ 32) members
 short_members members g same all = go members (subst (All IsShort) (sym same) all)
   where
     go : (ms : List Member) → All IsShort (map given_file ms) → All (λ (m : Member). length m.bytes.items < 2 ^ 32) ms
@@ -71,7 +71,7 @@ short_members members g same all = go members (subst (All IsShort) (sym same) al
 -- ---- what is linked
 
 -- the files of a library as run-time library files
-abbrev pair : Given → List ℕ × List ℕ
+abbrev pair : LibraryInput → List ℕ × List ℕ
 pair g = (g.name, g.bytes)
 
 pairs_of : (members : List Member) → map pair (map given_file members) ≡ files_of members
@@ -87,8 +87,8 @@ pub given_same : (form : LinkForm) (inputs : List (Vec ℕ Global)) (runtimes : 
     → given_of inputs runtimes form ≡ link_given form bytes files
 given_same form inputs runtimes bytes files same same' =
     let pairs = sym (pairs_of runtimes) ∙ ap (map pair) same' ∙ pairs_given files in
-    ap (λ (b : List (List ℕ)). let g : link.Given = record { inputs = b; runtimes = files_of runtimes; form = form } in g) same
-    ∙ ap (λ (r : List (List ℕ × List ℕ)). let g : link.Given = record { inputs = bytes; runtimes = r; form = form } in g) pairs
+    ap (λ (b : List (List ℕ)). let g : link.LinkInput = record { inputs = b; runtimes = files_of runtimes; form = form } in g) same
+    ∙ ap (λ (r : List (List ℕ × List ℕ)). let g : link.LinkInput = record { inputs = bytes; runtimes = r; form = form } in g) pairs
 
 paths_named : (files : List OmfFile) → AllByRecursion (λ (p : List ℕ × List ℕ). IsPath p.0) (map (λ (f : OmfFile). (f.name.now, f.bytes.now)) files) → All HasName (library_given files)
 paths_named [] all k d less = absurd (omega (arith, less))

@@ -11,18 +11,18 @@ use Rattle.load_content.specs.Places.{address_in, Stands}
 use Rattle.omf_cells.specs.Load.{HasFields}
 use Rattle.omf_c.specs.declared.header.OmfHeader.{OmfHeader}
 use Rattle.omf_c.specs.declared.fault.OmfFault.{OmfFault}
-use Rattle.omf_c.specs.Handed.{Outcome, Made, Refused, NoMemory, Misused, Room, IsTold, IsHanded, done, small}
+use Rattle.omf_c.specs.Handed.{CallOutcome, Made, Refused, NoMemory, Misused, Room, IsTold, IsHanded, status_done, status_small}
 use Rattle.omf_c.specs.Loaded.{Reads, TellsFields, Places, IsUnread, TooLong, Lacks, Refuses}
 
 module _ (file : List ℕ) (status : ℕ) (old new : OmfFault) where
   pub unread_told : {X : Type 0} (Gives : List Segment → X → Type 0) (Misses : List Segment → Type 0) (x : X) → IsUnread file status old new
-      → (outcome : Outcome X) × Reads file Gives Misses outcome × IsTold outcome status x x old new
+      → (outcome : CallOutcome X) × Reads file Gives Misses outcome × IsTold outcome status x x old new
   unread_told Gives Misses x (TooLong is long same) = (Misused, inl long, (is, refl, same))
   unread_told Gives Misses x (Lacks is same) = (NoMemory, tt, (is, refl, same))
   unread_told Gives Misses x (Refuses is short fault first tells) = (Refused new, (short, fault, first, tells), (is, refl, refl))
 
   pub unread_handed : {X : Type 0} (Gives : List Segment → List X → Type 0) (Misses : List Segment → Type 0) (room : Room X) → IsUnread file status old new
-      → (outcome : Outcome (List X)) × Reads file Gives Misses outcome × IsHanded outcome status room room old new
+      → (outcome : CallOutcome (List X)) × Reads file Gives Misses outcome × IsHanded outcome status room room old new
   unread_handed Gives Misses room (TooLong is long same) = (Misused, inl long, (is, refl, same))
   unread_handed Gives Misses room (Lacks is same) = (NoMemory, tt, (is, refl, same))
   unread_handed Gives Misses room (Refuses is short fault first tells) = (Refused new, (short, fault, first, tells), (is, refl, refl))
@@ -57,7 +57,7 @@ some_stand segments number places f has = go (segment_at segments number) has
 -- a segment that doesn't fit the room: its size is told
 pub small_placed : (file : List ℕ) (segments : List Segment) (number : ℕ) (addresses room : List ℕ) (size size' : ℕ) (fault : OmfFault) → IsLoadable file segments → length segments ≡ length addresses
     → (f : Fields) → f.length ≡ size' → HasFields segments number f → length room < size'
-    → (outcome : Outcome (List ℕ)) × Places file number addresses outcome × IsHanded outcome small (record { items = room; size = size }) (record { items = room; size = size' }) fault fault
+    → (outcome : CallOutcome (List ℕ)) × Places file number addresses outcome × IsHanded outcome status_small (record { items = room; size = size }) (record { items = room; size = size' }) fault fault
 small_placed file segments number addresses room size size' fault is count f long has less =
     let stood = some_stand segments number (map Some addresses) f has in
     let same : length stood.0 ≡ size' = stood_long file segments number (map Some addresses) f stood.0 is has stood.1 ∙ long in
@@ -66,7 +66,7 @@ small_placed file segments number addresses room size size' fault is count f lon
 -- a segment that fits it
 pub all_placed : (file : List ℕ) (segments : List Segment) (number : ℕ) (addresses room bytes : List ℕ) (size size' : ℕ) (fault : OmfFault) → IsLoadable file segments → length segments ≡ length addresses
     → Stands segments number (map Some addresses) bytes → length bytes ≡ size' → size' ≤ length room
-    → (outcome : Outcome (List ℕ)) × Places file number addresses outcome × IsHanded outcome done (record { items = room; size = size }) (record { items = bytes ++ drop size' room; size = size' }) fault fault
+    → (outcome : CallOutcome (List ℕ)) × Places file number addresses outcome × IsHanded outcome status_done (record { items = room; size = size }) (record { items = bytes ++ drop size' room; size = size' }) fault fault
 all_placed file segments number addresses room bytes size size' fault is count stood long fits = (
   Made bytes,
   (segments, is, (count, stood)),

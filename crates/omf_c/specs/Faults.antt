@@ -15,8 +15,8 @@ use Rattle.omf_c.specs.declared.fault.OmfFault.{OmfFault}
 use Rattle.omf_c.specs.Causes.{name_of}
 
 -- a name in so many bytes, with zeros behind it
-abbrev pub padded : ℕ → List ℕ → List ℕ
-padded size name = name ++ replicate (size - length name) 0
+abbrev pub zero_padded : ℕ → List ℕ → List ℕ
+zero_padded size name = name ++ replicate (size - length name) 0
 
 -- the number is that of the cause with this name; the file from 1, the segment from 1 and the displacement are these, 0 where there is none;
 -- so is the line, from 1; and the name to which the fault belongs has zeros behind it
@@ -27,7 +27,7 @@ pub record Tells (told : OmfFault) (cause : List ℕ) (file segment at line : �
   pub at' : told.at ≡ at
   pub line' : told.line ≡ line
   pub size' : told.name_size ≡ length name
-  pub name' : told.name ≡ padded 256 name
+  pub name' : told.name ≡ zero_padded 256 name
 
 -- a fault of one file, which is file 1
 abbrev pub TellsFile : OmfFault → FileFault → Type 0

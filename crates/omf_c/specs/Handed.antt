@@ -5,27 +5,27 @@ use Rattle.omf_c.specs.declared.answer.Answer.{Answer}
 use Rattle.omf_c.specs.declared.answer.Answer.TheVariants as answer
 
 -- the statuses
-abbrev pub done : ℕ
-done = 0
+abbrev pub status_done : ℕ
+status_done = 0
 
-abbrev pub refused : ℕ
-refused = 1
+abbrev pub status_refused : ℕ
+status_refused = 1
 
 abbrev pub memory : ℕ
 memory = 2
 
-abbrev pub misused : ℕ
-misused = 3
+abbrev pub status_misused : ℕ
+status_misused = 3
 
-abbrev pub small : ℕ
-small = 4
+abbrev pub status_small : ℕ
+status_small = 4
 
 -- what a call comes to: what it was asked for, or why there is none
-pub data Outcome (X : Type 0) : Type 0 where
-  Made : X → Outcome X
-  Refused : OmfFault → Outcome X
-  NoMemory : Outcome X
-  Misused : Outcome X
+pub data CallOutcome (X : Type 0) : Type 0 where
+  Made : X → CallOutcome X
+  Refused : OmfFault → CallOutcome X
+  NoMemory : CallOutcome X
+  Misused : CallOutcome X
 
 -- a caller's room for a list, and the number of items that are told
 pub record Room (X : Type 0) : Type 0 where
@@ -35,31 +35,31 @@ pub record Room (X : Type 0) : Type 0 where
 -- the items stand at the front of the room where they fit, and nothing is written where they don't; their number is told in both cases
 abbrev pub IsPut : {X : Type 0} → List X → ℕ → Room X → Room X → Type 0
 IsPut xs status old new =
-    ((status ≡ done) × (length xs ≤ length old.items) × (new ≡ record { items = xs ++ drop (length xs) old.items; size = length xs }))
-    ⊎ ((status ≡ small) × (length old.items < length xs) × (new ≡ record { items = old.items; size = length xs }))
+    ((status ≡ status_done) × (length xs ≤ length old.items) × (new ≡ record { items = xs ++ drop (length xs) old.items; size = length xs }))
+    ⊎ ((status ≡ status_small) × (length old.items < length xs) × (new ≡ record { items = old.items; size = length xs }))
 
 -- a call with a room was answered: only what it made, or its fault, is written
-abbrev pub IsHanded : {X : Type 0} → Outcome (List X) → ℕ → Room X → Room X → OmfFault → OmfFault → Type 0
+abbrev pub IsHanded : {X : Type 0} → CallOutcome (List X) → ℕ → Room X → Room X → OmfFault → OmfFault → Type 0
 IsHanded (Made xs) status old new fault after = IsPut xs status old new × (after ≡ fault)
-IsHanded (Refused told) status old new fault after = (status ≡ refused) × (new ≡ old) × (after ≡ told)
+IsHanded (Refused told) status old new fault after = (status ≡ status_refused) × (new ≡ old) × (after ≡ told)
 IsHanded NoMemory status old new fault after = (status ≡ memory) × (new ≡ old) × (after ≡ fault)
-IsHanded Misused status old new fault after = (status ≡ misused) × (new ≡ old) × (after ≡ fault)
+IsHanded Misused status old new fault after = (status ≡ status_misused) × (new ≡ old) × (after ≡ fault)
 
 -- a call for one value was answered
-abbrev pub IsTold : {X : Type 0} → Outcome X → ℕ → X → X → OmfFault → OmfFault → Type 0
-IsTold (Made x) status old new fault after = (status ≡ done) × (new ≡ x) × (after ≡ fault)
-IsTold (Refused told) status old new fault after = (status ≡ refused) × (new ≡ old) × (after ≡ told)
+abbrev pub IsTold : {X : Type 0} → CallOutcome X → ℕ → X → X → OmfFault → OmfFault → Type 0
+IsTold (Made x) status old new fault after = (status ≡ status_done) × (new ≡ x) × (after ≡ fault)
+IsTold (Refused told) status old new fault after = (status ≡ status_refused) × (new ≡ old) × (after ≡ told)
 IsTold NoMemory status old new fault after = (status ≡ memory) × (new ≡ old) × (after ≡ fault)
-IsTold Misused status old new fault after = (status ≡ misused) × (new ≡ old) × (after ≡ fault)
+IsTold Misused status old new fault after = (status ≡ status_misused) × (new ≡ old) × (after ≡ fault)
 
 -- what an answer comes to
-abbrev pub outcome_of : Answer → Outcome (List ℕ)
+abbrev pub outcome_of : Answer → CallOutcome (List ℕ)
 outcome_of (answer.Made bytes) = Made bytes.items
 outcome_of (answer.Refused told) = Refused told
 outcome_of answer.Memory = NoMemory
 outcome_of answer.Misused = Misused
 
 -- a fault as an outcome; none is want of memory
-abbrev pub told_outcome : {X : Type 0} → Option OmfFault → Outcome X
+abbrev pub told_outcome : {X : Type 0} → Option OmfFault → CallOutcome X
 told_outcome None = NoMemory
 told_outcome (Some told) = Refused told

@@ -9,13 +9,13 @@ use Rattle.load_content.specs.Places.{Stands}
 use Rattle.omf_cells.specs.Load.{IsOutside, table_targets}
 use Rattle.omf_c.specs.declared.header.OmfHeader.{OmfHeader}
 use Rattle.omf_c.specs.declared.target.OmfTarget.{OmfTarget}
-use Rattle.omf_c.specs.Faults.{padded, TellsLoad}
+use Rattle.omf_c.specs.Faults.{zero_padded, TellsLoad}
 use Rattle.omf_c.specs.declared.fault.OmfFault.{OmfFault}
-use Rattle.omf_c.specs.Handed.{misused, memory, refused, Outcome, Made, Refused, NoMemory, Misused}
+use Rattle.omf_c.specs.Handed.{status_misused, memory, status_refused, CallOutcome, Made, Refused, NoMemory, Misused}
 
 -- A file of fewer than 2^32 bytes is read: what is given belongs to its segments, or its first fault is told. A call is misused where the
 -- file is longer, or where what was asked for doesn't fit the segments.
-abbrev pub Reads : {X : Type 0} → List ℕ → (List Segment → X → Type 0) → (List Segment → Type 0) → Outcome X → Type 0
+abbrev pub Reads : {X : Type 0} → List ℕ → (List Segment → X → Type 0) → (List Segment → Type 0) → CallOutcome X → Type 0
 Reads file Gives Misses (Made x) = (segments : List Segment) × IsLoadable file segments × Gives segments x
 Reads file Gives Misses (Refused told) = (length file < 2 ^ 32) × (fault : LoadFault) × IsFirstLoadFault file fault × TellsLoad told fault
 Reads file Gives Misses NoMemory = Unit {0}
@@ -23,12 +23,12 @@ Reads file Gives Misses Misused = (2 ^ 32 ≤ length file) ⊎ ((segments : List
 
 -- a call that reads a load file ends with this status, since there is none
 pub data IsUnread (file : List ℕ) (status : ℕ) (old new : OmfFault) : Type 0 where
-  TooLong : status ≡ misused → 2 ^ 32 ≤ length file → new ≡ old → IsUnread file status old new
+  TooLong : status ≡ status_misused → 2 ^ 32 ≤ length file → new ≡ old → IsUnread file status old new
   Lacks : status ≡ memory → new ≡ old → IsUnread file status old new
-  Refuses : status ≡ refused → length file < 2 ^ 32 → (fault : LoadFault) → IsFirstLoadFault file fault → TellsLoad new fault → IsUnread file status old new
+  Refuses : status ≡ status_refused → length file < 2 ^ 32 → (fault : LoadFault) → IsFirstLoadFault file fault → TellsLoad new fault → IsUnread file status old new
 
 -- how many segments the file has
-abbrev pub CountsSegments : List ℕ → Outcome ℕ → Type 0
+abbrev pub CountsSegments : List ℕ → CallOutcome ℕ → Type 0
 CountsSegments file = Reads file (λ segments count. count ≡ length segments) (λ segments. ⊥)
 
 -- the fields of a header; the name has zeros behind it
@@ -48,15 +48,15 @@ pub record TellsFields (header : OmfHeader) (f : Fields) : Type 0 where
   pub disp_data : header.disp_data ≡ f.disp_data
   pub load_name : header.load_name ≡ f.load_name
   pub name_size : header.name_size ≡ length f.name
-  pub name : header.name ≡ padded 256 f.name
+  pub name : header.name ≡ zero_padded 256 f.name
 
 -- the header of the segment with a number, from 1
-abbrev pub TellsHeader : List ℕ → ℕ → Outcome OmfHeader → Type 0
+abbrev pub TellsHeader : List ℕ → ℕ → CallOutcome OmfHeader → Type 0
 TellsHeader file number =
     Reads file (λ segments header. IsSomeAnd (segment_at segments number) (λ s. TellsFields header s.fields)) (λ segments. IsOutside segments number)
 
 -- the bytes that stand in memory for the segment with a number, from 1, where all segments of the file lie at these addresses
-abbrev pub Places : List ℕ → ℕ → List ℕ → Outcome (List ℕ) → Type 0
+abbrev pub Places : List ℕ → ℕ → List ℕ → CallOutcome (List ℕ) → Type 0
 Places file number addresses =
     Reads file (λ segments bytes. (length segments ≡ length addresses) × Stands segments number (map Some addresses) bytes)
     (λ segments. (length segments ≢ length addresses) ⊎ IsOutside segments number)
@@ -66,5 +66,5 @@ abbrev pub told_target : Target → OmfTarget
 told_target target = record { file = target.file; segment = target.segment; offset = target.offset }
 
 -- where the entries of the file's jump table lead, in order; none where there is no table
-abbrev pub TellsEntries : List ℕ → Outcome (List OmfTarget) → Type 0
+abbrev pub TellsEntries : List ℕ → CallOutcome (List OmfTarget) → Type 0
 TellsEntries file = Reads file (λ segments targets. targets ≡ map told_target (table_targets segments)) (λ segments. ⊥)

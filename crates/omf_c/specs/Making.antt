@@ -1,7 +1,7 @@
 -- What the calls that make a file come to.
 use Rattle.std.specs.Prelude.{◌≢◌, ℕ, ◌<◌, ◌≤◌, ◌^◌, List, length, map, All}
 use Rattle.omf_format.specs.File as file
-use Rattle.omf_listing.specs.Listing.{IsListing}
+use Rattle.dump_lines.specs.Listing.{IsListing}
 use Rattle.lib_dict.specs.declared.fault.LibCause.TheVariants as lib_causes
 use Rattle.lib_dict.specs.Library as library
 use Rattle.lib_dict.specs.Made.{IsLibRefused}
@@ -14,10 +14,10 @@ use Rattle.omf_c.specs.declared.fault.OmfFault.{OmfFault}
 use Rattle.omf_c.specs.declared.file.OmfBytes.{OmfBytes}
 use Rattle.omf_c.specs.declared.file.OmfFile.{OmfFile}
 use Rattle.omf_c.specs.Faults.{TellsFile, TellsLib, TellsLink, TellsAsm}
-use Rattle.omf_c.specs.Handed.{Outcome, Made, Refused, NoMemory, Misused}
+use Rattle.omf_c.specs.Handed.{CallOutcome, Made, Refused, NoMemory, Misused}
 
 -- What is given can be taken, and the bytes are made of it, or its first fault is told; a call is misused exactly where it can't be taken.
-abbrev pub Makes : {F : Type 0} → Type 0 → (List ℕ → Type 0) → (F → Type 0) → (OmfFault → F → Type 0) → Outcome (List ℕ) → Type 0
+abbrev pub Makes : {F : Type 0} → Type 0 → (List ℕ → Type 0) → (F → Type 0) → (OmfFault → F → Type 0) → CallOutcome (List ℕ) → Type 0
 Makes Can IsMade IsFirst Tells (Made bytes) = Can × IsMade bytes
 Makes {F = F} Can IsMade IsFirst Tells (Refused told) = Can × (fault : F) × IsFirst fault × Tells told fault
 Makes Can IsMade IsFirst Tells NoMemory = Unit {0}
@@ -28,41 +28,41 @@ abbrev pub contents : List OmfBytes → List (List ℕ)
 contents files = map (λ f. f.bytes.now) files
 
 -- the listing of a file of fewer than 2^32 bytes
-abbrev pub Dumps : List ℕ → Outcome (List ℕ) → Type 0
+abbrev pub Dumps : List ℕ → CallOutcome (List ℕ) → Type 0
 Dumps bytes = Makes (length bytes < 2 ^ 32) (IsListing bytes) (file.IsFirstFault bytes) TellsFile
 
 -- the object of a source with macro files
-abbrev pub Assembles : List ℕ → List (List ℕ) → Outcome (List ℕ) → Type 0
+abbrev pub Assembles : List ℕ → List (List ℕ) → CallOutcome (List ℕ) → Type 0
 Assembles source macros = Makes (Unit {0}) (asm.IsObject source macros) (asm.IsFirstFault source macros) TellsAsm
 
 -- what the linker is given
-abbrev pub link_given : LinkForm → List (List ℕ) → List OmfFile → link.Given
+abbrev pub link_given : LinkForm → List (List ℕ) → List OmfFile → link.LinkInput
 link_given form inputs runtimes = record { inputs = inputs; runtimes = map (λ f. (f.name.now, f.bytes.now)) runtimes; form = form }
 
 -- The load file of what the linker is given: of fewer than 2^32 files with fewer than 2^32 bytes together, and in a program of at most 16
 -- run-time library files with paths.
-abbrev pub Links : link.Given → Outcome (List ℕ) → Type 0
+abbrev pub Links : link.LinkInput → CallOutcome (List ℕ) → Type 0
 Links given = Makes (FewGiven given × HavePaths given) (IsLinkedTo given) (IsFirstLinkFault given) TellsLink
 
 -- the files of a library
-abbrev pub library_given : List OmfFile → List library.Given
+abbrev pub library_given : List OmfFile → List library.LibraryInput
 library_given files = map (λ f. record { name = f.name.now; bytes = f.bytes.now }) files
 
 -- a file has a name of at most 255 bytes
-abbrev pub HasName : library.Given → Type 0
+abbrev pub HasName : library.LibraryInput → Type 0
 HasName f = length f.name ≤ 255
 
 -- and fewer than 2^32 bytes
-abbrev pub IsShort : library.Given → Type 0
+abbrev pub IsShort : library.LibraryInput → Type 0
 IsShort f = length f.bytes < 2 ^ 32
 
 -- a library is made of at most 65,535 such files
-pub record CanStand (given : List library.Given) : Type 0 where
+pub record CanStand (given : List library.LibraryInput) : Type 0 where
   pub few : length given ≤ 65535
   pub names : All HasName given
   pub short : All IsShort given
 
 -- the library of the files
-abbrev pub MakesLibrary : List library.Given → Outcome (List ℕ) → Type 0
+abbrev pub MakesLibrary : List library.LibraryInput → CallOutcome (List ℕ) → Type 0
 MakesLibrary given =
     Makes (CanStand given) (library.IsLibraryOf given) (λ fault. IsLibRefused fault given × (fault.cause ≢ lib_causes.Memory)) TellsLib

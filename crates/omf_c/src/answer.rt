@@ -30,7 +30,7 @@ pub enum Answer {
 }
 
 /// Puts bytes into the caller's room, if they fit, and tells their number.
-pub fn put(bytes: &[u8], room: &mut [u8], size: &mut usize) -> u32
+pub fn write_answer(bytes: &[u8], room: &mut [u8], size: &mut usize) -> u32
     ensures { IsPut bytes.now result (record { items = room.old; size = size.old }) (record { items = room.new; size = size.new }) }
 {
     *size = bytes.len();
@@ -46,7 +46,7 @@ pub fn hand(answer: Answer, room: &mut [u8], size: &mut usize, fault: &mut OmfFa
     ensures { IsHanded (outcome_of answer) result (record { items = room.old; size = size.old }) (record { items = room.new; size = size.new }) fault.old fault.new }
 {
     match answer {
-        Answer::Made(bytes) => put(&bytes, room, size),
+        Answer::Made(bytes) => write_answer(&bytes, room, size),
         Answer::Refused(told) => {
             *fault = told;
             REFUSED

@@ -8,7 +8,7 @@ ghost use Rattle.lib_dict.specs.declared.fault.LibCause.TheVariants as lib_cause
 ghost use Rattle.link_meaning.specs.declared.fault.LinkCause.TheVariants as link_causes;
 ghost use Rattle.asm_meaning.specs.declared.faults.AsmCause.TheVariants as asm_causes;
 ghost use Rattle.omf_c.specs.Causes.{name_of};
-ghost use Rattle.omf_c.specs.Faults.{padded, Tells, TellsFile, TellsLoad, TellsLib, TellsLink, TellsAsm};
+ghost use Rattle.omf_c.specs.Faults.{zero_padded, Tells, TellsFile, TellsLoad, TellsLib, TellsLink, TellsAsm};
 
 use crate::causes::{asm_number, file_number, lib_number, link_number, load_number};
 use lib_dict::LibFault;
@@ -39,9 +39,9 @@ pub struct OmfFault {
 }
 
 /// A name with zeros behind it.
-pub fn padded(name: &[u8]) -> [u8; 256]
+pub fn zero_padded(name: &[u8]) -> [u8; 256]
     requires { length name.now ≤ 255 }
-    ensures { result ≡ padded 256 name.now }
+    ensures { result ≡ zero_padded 256 name.now }
 {
     let mut out = [0u8; 256];
     out[..name.len()].copy_from_slice(name);
@@ -49,7 +49,7 @@ pub fn padded(name: &[u8]) -> [u8; 256]
 }
 
 /// A fault of a file at a place, of this cause, with this name.
-fn told(cause: u32, spot: Spot, line: u32, name: &[u8]) -> OmfFault
+fn to_omf_fault(cause: u32, spot: Spot, line: u32, name: &[u8]) -> OmfFault
     requires { length name.now ≤ 255 }
     ensures { (text : List ℕ) → name_of cause ≡ Some text → Tells result text spot.file spot.segment spot.at line name.now }
 {
@@ -60,39 +60,39 @@ fn told(cause: u32, spot: Spot, line: u32, name: &[u8]) -> OmfFault
         at: spot.at,
         line,
         name_size: name.len() as u32,
-        name: padded(name),
+        name: zero_padded(name),
     }
 }
 
 /// A fault of a listed file, unless memory ran out.
 pub fn file_fault(fault: FileFault) -> Option<OmfFault>
-    ensures { MatchOption result (fault.cause ≡ file_causes.Memory) (λ told. (fault.cause ≢ file_causes.Memory) × TellsFile told fault) }
+    ensures { MatchOption result (fault.cause ≡ file_causes.Memory) (λ to_omf_fault. (fault.cause ≢ file_causes.Memory) × TellsFile to_omf_fault fault) }
 {
     let spot = Spot {
         file: 1,
         segment: fault.segment,
         at: fault.at,
     };
-    Some(told(file_number(fault.cause)?, spot, 0, &[]))
+    Some(to_omf_fault(file_number(fault.cause)?, spot, 0, &[]))
 }
 
 /// A fault of a load file, unless memory ran out.
 pub fn load_fault(fault: LoadFault) -> Option<OmfFault>
-    ensures { MatchOption result (fault.cause ≡ load_causes.Memory) (λ told. (fault.cause ≢ load_causes.Memory) × TellsLoad told fault) }
+    ensures { MatchOption result (fault.cause ≡ load_causes.Memory) (λ to_omf_fault. (fault.cause ≢ load_causes.Memory) × TellsLoad to_omf_fault fault) }
 {
     let spot = Spot {
         file: 1,
         segment: fault.segment,
         at: fault.at,
     };
-    Some(told(load_number(fault.cause)?, spot, 0, &[]))
+    Some(to_omf_fault(load_number(fault.cause)?, spot, 0, &[]))
 }
 
 /// A fault of a library's files, unless memory ran out.
 pub fn lib_fault(fault: LibFault) -> Option<OmfFault>
-    ensures { MatchOption result (fault.cause ≡ lib_causes.Memory) (λ told. (fault.cause ≢ lib_causes.Memory) × TellsLib told fault) }
+    ensures { MatchOption result (fault.cause ≡ lib_causes.Memory) (λ to_omf_fault. (fault.cause ≢ lib_causes.Memory) × TellsLib to_omf_fault fault) }
 {
-    Some(told(lib_number(fault.cause)?, fault.spot, 0, &[]))
+    Some(to_omf_fault(lib_number(fault.cause)?, fault.spot, 0, &[]))
 }
 
 /// The bytes of a name, if there is one.
@@ -108,20 +108,20 @@ fn bytes_of(name: &Option<Name>) -> &[u8]
 
 /// A fault of linked files, unless memory ran out.
 pub fn link_fault(fault: &LinkFault) -> Option<OmfFault>
-    ensures { MatchOption result (fault.now.cause ≡ link_causes.Memory) (λ told. (fault.now.cause ≢ link_causes.Memory) × TellsLink told fault.now) }
+    ensures { MatchOption result (fault.now.cause ≡ link_causes.Memory) (λ to_omf_fault. (fault.now.cause ≢ link_causes.Memory) × TellsLink to_omf_fault fault.now) }
 {
     let number = link_number(fault.cause)?;
-    Some(told(number, fault.spot, 0, bytes_of(&fault.name)))
+    Some(to_omf_fault(number, fault.spot, 0, bytes_of(&fault.name)))
 }
 
 /// A fault of a source, unless memory ran out.
 pub fn asm_fault(fault: AsmFault) -> Option<OmfFault>
-    ensures { MatchOption result (fault.cause ≡ asm_causes.Memory) (λ told. (fault.cause ≢ asm_causes.Memory) × TellsAsm told fault) }
+    ensures { MatchOption result (fault.cause ≡ asm_causes.Memory) (λ to_omf_fault. (fault.cause ≢ asm_causes.Memory) × TellsAsm to_omf_fault fault) }
 {
     let spot = Spot {
         file: fault.file,
         segment: 0,
         at: 0,
     };
-    Some(told(asm_number(fault.cause)?, spot, fault.line, &[]))
+    Some(to_omf_fault(asm_number(fault.cause)?, spot, fault.line, &[]))
 }

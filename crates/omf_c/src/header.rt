@@ -4,7 +4,7 @@ ghost use Rattle.std.specs.Prelude.{◌≡◌};
 ghost use Rattle.omf_header.specs.View.{fields};
 ghost use Rattle.omf_c.specs.Loaded.{TellsFields};
 
-use crate::fault::padded;
+use crate::fault::zero_padded;
 use omf_header::Header;
 
 /// The fields of a segment's header. Displacements are in the segment, counted from its start.
@@ -46,7 +46,7 @@ pub struct OmfHeader {
 }
 
 /// A header, as C sees it.
-pub fn told(header: &Header) -> OmfHeader
+pub fn to_omf_header(header: &Header) -> OmfHeader
     ensures { TellsFields result (fields header.now) }
 {
     let name = header.name.bytes();
@@ -66,6 +66,6 @@ pub fn told(header: &Header) -> OmfHeader
         version: header.version,
         load_name: header.load_name,
         name_size: name.len() as u32,
-        name: padded(name),
+        name: zero_padded(name),
     }
 }

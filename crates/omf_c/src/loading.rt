@@ -6,7 +6,7 @@ ghost use Rattle.load_meaning.specs.Loadable.{IsLoadable};
 ghost use Rattle.load_content.specs.Places.{Stands};
 ghost use Rattle.omf_cells.specs.Load.{IsOutside, IsRefused, HasLength, table_targets};
 ghost use Rattle.omf_c.specs.Loaded.{CountsSegments, TellsHeader, Places, TellsEntries, IsUnread, told_target};
-ghost use Rattle.omf_c.specs.Handed.{Outcome, IsTold, IsHanded, IsPut};
+ghost use Rattle.omf_c.specs.Handed.{CallOutcome, IsTold, IsHanded, IsPut};
 
 use crate::answer::{DONE, MEMORY, MISUSED, REFUSED, SMALL};
 use crate::fault::{OmfFault, load_fault};
@@ -21,21 +21,25 @@ use std::alloc::Global;
 const MOST: usize = 0xFFFF_FFFF;
 
 /// The load file that a call was given, or the status with which the call ends.
-fn read<'a>(alloc: Global, file: &'a [u8], fault: &mut OmfFault) -> Result<LoadFile<'a>, u32>
+fn read_load_file<'a>(
+    alloc: Global,
+    file: &'a [u8],
+    fault: &mut OmfFault,
+) -> Result<LoadFile<'a>, u32>
     ensures ok { IfOk result (λ load. IsLoadable file.now load × (fault.new ≡ fault.old)) }
-    ensures refused { IfErr result (λ status. IsUnread file.now status fault.old fault.new) }
+    ensures report_load_fault { IfErr result (λ status. IsUnread file.now status fault.old fault.new) }
 {
     if file.len() > MOST {
         return Err(MISUSED);
     }
     match read_load(alloc, file) {
         Ok(load) => Ok(load),
-        Err(found) => Err(refused(found, fault)),
+        Err(found) => Err(report_load_fault(found, fault)),
     }
 }
 
 /// Tells a load file's fault.
-fn refused(found: LoadFault, fault: &mut OmfFault) -> u32
+fn report_load_fault(found: LoadFault, fault: &mut OmfFault) -> u32
     ensures { (file : List ℕ) → length file < 2 ^ 32 → IsRefused found file → IsUnread file result fault.old fault.new }
 {
     match load_fault(found) {
@@ -55,9 +59,9 @@ pub extern "C" fn omf_segments(
     count: &mut u32,
     fault: &mut OmfFault,
 ) -> u32
-    ensures { (outcome : Outcome ℕ) × CountsSegments file.now outcome × IsTold outcome result count.old count.new fault.old fault.new }
+    ensures { (outcome : CallOutcome ℕ) × CountsSegments file.now outcome × IsTold outcome result count.old count.new fault.old fault.new }
 {
-    match read(alloc, file, fault) {
+    match read_load_file(alloc, file, fault) {
         Ok(load) => {
             *count = load.count();
             DONE
@@ -76,12 +80,12 @@ pub extern "C" fn omf_header(
     told: &mut OmfHeader,
     fault: &mut OmfFault,
 ) -> u32
-    ensures { (outcome : Outcome OmfHeader) × TellsHeader file.now number outcome × IsTold outcome result told.old told.new fault.old fault.new }
+    ensures { (outcome : CallOutcome OmfHeader) × TellsHeader file.now number outcome × IsTold outcome result told.old told.new fault.old fault.new }
 {
-    match read(alloc, file, fault) {
+    match read_load_file(alloc, file, fault) {
         Ok(load) => match load.header(number) {
             Some(header) => {
-                *told = header::told(header);
+                *told = header::to_omf_header(header);
                 DONE
             }
             None => MISUSED,
@@ -111,7 +115,7 @@ fn place(
     room: &mut [u8],
     size: &mut usize,
 ) -> u32
-    ensures { (file : List ℕ) → (fault : OmfFault) → IsLoadable file load.now → (outcome : Outcome (List ℕ)) × Places file number addresses.now outcome
+    ensures { (file : List ℕ) → (fault : OmfFault) → IsLoadable file load.now → (outcome : CallOutcome (List ℕ)) × Places file number addresses.now outcome
         × IsHanded outcome result (record { items = room.old; size = size.old }) (record { items = room.new; size = size.new }) fault fault }
 {
     if addresses.len() != load.count() as usize {
@@ -146,10 +150,10 @@ pub extern "C" fn omf_place(
     size: &mut usize,
     fault: &mut OmfFault,
 ) -> u32
-    ensures { (outcome : Outcome (List ℕ)) × Places file.now number addresses.now outcome
+    ensures { (outcome : CallOutcome (List ℕ)) × Places file.now number addresses.now outcome
         × IsHanded outcome result (record { items = room.old; size = size.old }) (record { items = room.new; size = size.new }) fault.old fault.new }
 {
-    match read(alloc, file, fault) {
+    match read_load_file(alloc, file, fault) {
         Ok(load) => place(alloc, &load, number, addresses, room, size),
         Err(status) => status,
     }
@@ -166,7 +170,7 @@ fn put_targets(load: &LoadFile<'_>, room: &mut [OmfTarget], size: &mut usize) ->
     }
     for k in 0..count {
         match load.target(k) {
-            Some(target) => room[k as usize] = target::told(target),
+            Some(target) => room[k as usize] = target::to_omf_target(target),
             None => unreachable!(),
         }
     }
@@ -183,10 +187,10 @@ pub extern "C" fn omf_entries(
     size: &mut usize,
     fault: &mut OmfFault,
 ) -> u32
-    ensures { (outcome : Outcome (List OmfTarget)) × TellsEntries file.now outcome
+    ensures { (outcome : CallOutcome (List OmfTarget)) × TellsEntries file.now outcome
         × IsHanded outcome result (record { items = room.old; size = size.old }) (record { items = room.new; size = size.new }) fault.old fault.new }
 {
-    match read(alloc, file, fault) {
+    match read_load_file(alloc, file, fault) {
         Ok(load) => put_targets(&load, room, size),
         Err(status) => status,
     }

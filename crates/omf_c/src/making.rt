@@ -4,21 +4,21 @@ ghost use Rattle.std.specs.Prelude.{◌≡◌, ◌≢◌, ◌<◌, ◌≤◌, �
 ghost use Rattle.link_meaning.specs.declared.form.LinkForm.TheVariants as forms;
 ghost use Rattle.link_meaning.specs.LinkFaults.{plain};
 ghost use Rattle.omf_c.specs.Making.{contents, link_given, library_given, Dumps, Assembles, Links, MakesLibrary};
-ghost use Rattle.omf_c.specs.Handed.{Outcome, IsHanded, outcome_of, told_outcome};
+ghost use Rattle.omf_c.specs.Handed.{CallOutcome, IsHanded, outcome_of, told_outcome};
 
 use crate::answer::{Answer, hand};
 use crate::fault::{OmfFault, asm_fault, file_fault, lib_fault, link_fault};
 use crate::file::{OmfBytes, OmfFile, are_short, copies, have_names, members};
+use dump_lines::dump_file;
 use lib_dict::{LibFault, make_library};
 use link_emit::link_with;
 use link_meaning::{LinkFault, LinkForm};
 use link_resolve::may_resolve;
-use omf_listing::list_file;
 use orca_asm::assemble;
 use std::alloc::Global;
 
 /// The answer that tells a fault; none is want of memory.
-fn refused(fault: Option<OmfFault>) -> Answer
+fn answer_of_fault(fault: Option<OmfFault>) -> Answer
     ensures { outcome_of result ≡ told_outcome fault }
 {
     match fault {
@@ -28,15 +28,15 @@ fn refused(fault: Option<OmfFault>) -> Answer
 }
 
 /// The listing of a file.
-fn dumped(alloc: Global, file: &[u8]) -> Answer
+fn dump_to_answer(alloc: Global, file: &[u8]) -> Answer
     ensures { Dumps file.now (outcome_of result) }
 {
     if file.len() > 0xFFFF_FFFF {
         return Answer::Misused;
     }
-    match list_file(alloc, file) {
+    match dump_file(alloc, file) {
         Ok(text) => Answer::Made(text.into_bytes()),
-        Err(fault) => refused(file_fault(fault)),
+        Err(fault) => answer_of_fault(file_fault(fault)),
     }
 }
 
@@ -49,14 +49,14 @@ pub extern "C" fn omf_dump(
     size: &mut usize,
     fault: &mut OmfFault,
 ) -> u32
-    ensures { (outcome : Outcome (List ℕ)) × Dumps file.now outcome
+    ensures { (outcome : CallOutcome (List ℕ)) × Dumps file.now outcome
         × IsHanded outcome result (record { items = room.old; size = size.old }) (record { items = room.new; size = size.new }) fault.old fault.new }
 {
-    hand(dumped(alloc, file), room, size, fault)
+    hand(dump_to_answer(alloc, file), room, size, fault)
 }
 
 /// The object of a source with macro files.
-fn assembled(alloc: Global, source: &[u8], macros: &[OmfBytes<'_>]) -> Answer
+fn assemble_to_answer(alloc: Global, source: &[u8], macros: &[OmfBytes<'_>]) -> Answer
     ensures { Assembles source.now (contents macros.now) (outcome_of result) }
 {
     let Ok(macros) = copies(alloc, macros) else {
@@ -64,7 +64,7 @@ fn assembled(alloc: Global, source: &[u8], macros: &[OmfBytes<'_>]) -> Answer
     };
     match assemble(alloc, source, &macros) {
         Ok(object) => Answer::Made(object),
-        Err(fault) => refused(asm_fault(fault)),
+        Err(fault) => answer_of_fault(asm_fault(fault)),
     }
 }
 
@@ -78,14 +78,14 @@ pub extern "C" fn omf_assemble(
     size: &mut usize,
     fault: &mut OmfFault,
 ) -> u32
-    ensures { (outcome : Outcome (List ℕ)) × Assembles source.now (contents macros.now) outcome
+    ensures { (outcome : CallOutcome (List ℕ)) × Assembles source.now (contents macros.now) outcome
         × IsHanded outcome result (record { items = room.old; size = size.old }) (record { items = room.new; size = size.new }) fault.old fault.new }
 {
-    hand(assembled(alloc, source, macros), room, size, fault)
+    hand(assemble_to_answer(alloc, source, macros), room, size, fault)
 }
 
 /// The load file of objects and libraries in a form, linked with run-time library files.
-fn linked(
+fn link_to_answer(
     alloc: Global,
     inputs: &[OmfBytes<'_>],
     runtimes: &[OmfFile<'_>],
@@ -107,7 +107,7 @@ fn linked(
     }
     match link_with(alloc, &inputs, &runtimes, form) {
         Ok(output) => Answer::Made(output),
-        Err(fault) => refused(link_fault(&fault)),
+        Err(fault) => answer_of_fault(link_fault(&fault)),
     }
 }
 
@@ -121,11 +121,11 @@ pub extern "C" fn omf_link(
     size: &mut usize,
     fault: &mut OmfFault,
 ) -> u32
-    ensures { (outcome : Outcome (List ℕ)) × Links (plain (contents inputs.now)) outcome
+    ensures { (outcome : CallOutcome (List ℕ)) × Links (plain (contents inputs.now)) outcome
         × IsHanded outcome result (record { items = room.old; size = size.old }) (record { items = room.new; size = size.new }) fault.old fault.new }
 {
     hand(
-        linked(alloc, inputs, &[], LinkForm::Program),
+        link_to_answer(alloc, inputs, &[], LinkForm::Program),
         room,
         size,
         fault,
@@ -141,11 +141,11 @@ pub extern "C" fn omf_link_runtime(
     size: &mut usize,
     fault: &mut OmfFault,
 ) -> u32
-    ensures { (outcome : Outcome (List ℕ)) × Links (record { inputs = contents inputs.now; runtimes = []; form = forms.Runtime }) outcome
+    ensures { (outcome : CallOutcome (List ℕ)) × Links (record { inputs = contents inputs.now; runtimes = []; form = forms.Runtime }) outcome
         × IsHanded outcome result (record { items = room.old; size = size.old }) (record { items = room.new; size = size.new }) fault.old fault.new }
 {
     hand(
-        linked(alloc, inputs, &[], LinkForm::Runtime),
+        link_to_answer(alloc, inputs, &[], LinkForm::Runtime),
         room,
         size,
         fault,
@@ -164,11 +164,11 @@ pub extern "C" fn omf_link_with(
     size: &mut usize,
     fault: &mut OmfFault,
 ) -> u32
-    ensures { (outcome : Outcome (List ℕ)) × Links (link_given forms.Program (contents inputs.now) runtimes.now) outcome
+    ensures { (outcome : CallOutcome (List ℕ)) × Links (link_given forms.Program (contents inputs.now) runtimes.now) outcome
         × IsHanded outcome result (record { items = room.old; size = size.old }) (record { items = room.new; size = size.new }) fault.old fault.new }
 {
     hand(
-        linked(alloc, inputs, runtimes, LinkForm::Program),
+        link_to_answer(alloc, inputs, runtimes, LinkForm::Program),
         room,
         size,
         fault,
@@ -176,7 +176,7 @@ pub extern "C" fn omf_link_with(
 }
 
 /// The library of files under their names.
-fn collected(alloc: Global, files: &[OmfFile<'_>]) -> Answer
+fn library_to_answer(alloc: Global, files: &[OmfFile<'_>]) -> Answer
     ensures { MakesLibrary (library_given files.now) (outcome_of result) }
 {
     if files.len() > 0xFFFF || !have_names(files) || !are_short(files) {
@@ -187,7 +187,7 @@ fn collected(alloc: Global, files: &[OmfFile<'_>]) -> Answer
     };
     match make_library(alloc, &members) {
         Ok(library) => Answer::Made(library),
-        Err(fault) => refused(lib_fault(fault)),
+        Err(fault) => answer_of_fault(lib_fault(fault)),
     }
 }
 
@@ -201,8 +201,8 @@ pub extern "C" fn omf_library(
     size: &mut usize,
     fault: &mut OmfFault,
 ) -> u32
-    ensures { (outcome : Outcome (List ℕ)) × MakesLibrary (library_given files.now) outcome
+    ensures { (outcome : CallOutcome (List ℕ)) × MakesLibrary (library_given files.now) outcome
         × IsHanded outcome result (record { items = room.old; size = size.old }) (record { items = room.new; size = size.new }) fault.old fault.new }
 {
-    hand(collected(alloc, files), room, size, fault)
+    hand(library_to_answer(alloc, files), room, size, fault)
 }

@@ -2,9 +2,9 @@
 
 ghost use Rattle.std.specs.Prelude.{◌≡◌, MatchOption, option_map};
 ghost use Rattle.omf_c.specs.Causes.{name_of};
-ghost use Rattle.omf_c.specs.Handed.{IsPut, misused};
+ghost use Rattle.omf_c.specs.Handed.{IsPut, status_misused};
 
-use crate::answer::{MISUSED, put};
+use crate::answer::{MISUSED, write_answer};
 
 /// The name of the cause with a number.
 fn name_of(number: u32) -> Option<&'static str>
@@ -70,11 +70,11 @@ fn name_of(number: u32) -> Option<&'static str>
 /// Tells the name of the cause with a number, from 1, as the program prints it. A number that no cause has is misuse.
 #[unsafe(no_mangle)]
 pub extern "C" fn omf_cause_name(number: u32, room: &mut [u8], size: &mut usize) -> u32
-    ensures { MatchOption (name_of number) ((result ≡ misused) × (room.new ≡ room.old) × (size.new ≡ size.old))
+    ensures { MatchOption (name_of number) ((result ≡ status_misused) × (room.new ≡ room.old) × (size.new ≡ size.old))
         (λ name. IsPut name result (record { items = room.old; size = size.old }) (record { items = room.new; size = size.new })) }
 {
     match name_of(number) {
-        Some(name) => put(name.as_bytes(), room, size),
+        Some(name) => write_answer(name.as_bytes(), room, size),
         None => MISUSED,
     }
 }

@@ -18,7 +18,7 @@ pub struct OmfTarget {
 }
 
 /// A target, as C sees it.
-pub fn told(target: Target) -> OmfTarget
+pub fn to_omf_target(target: Target) -> OmfTarget
     ensures { result ≡ told_target target }
 {
     OmfTarget {

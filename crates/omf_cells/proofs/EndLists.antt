@@ -6,17 +6,17 @@ use Rattle.std.proofs.lemmas.Bool.{cases_lt}
 use Rattle.std.proofs.lemmas.List.{take_more}
 use Rattle.load_meaning.specs.Cells.{Cell}
 use Rattle.load_meaning.specs.WrittenBody.{is_zero}
-use Rattle.load_content.specs.declared.pieces.Piece.{Piece}
-use Rattle.load_content.specs.declared.spots.Spot.{Spot}
+use Rattle.load_content.specs.declared.pieces.BytePiece.{BytePiece}
+use Rattle.load_content.specs.declared.spots.PatchSpot.{PatchSpot}
 use Rattle.load_content.specs.Content.{ArePieces, IsAt, IsElsewhere, spread_spot, shown_spots, last_at}
-use Rattle.written_bodies.specs.WrittenParts.{IsKept}
+use Rattle.load_writer.specs.WrittenParts.{IsKept}
 use Rattle.omf_cells.specs.Ends.{IsEnd, EndsAt, HasReach, HaveReach}
 use Rattle.load_content.proofs.Splits.{within}
 use Rattle.load_content.proofs.SpotLists.{Covers, cell_in, shown-push, spot_here, spot_else, last_at-append}
 
 -- ---- spots
 
-pub spot_ends : (s : Spot) (end : ℕ) → end ≡ s.at + (s.end - s.first) → 1 ≤ s.end - s.first → IsEnd (spread_spot s) end
+pub spot_ends : (s : PatchSpot) (end : ℕ) → end ≡ s.at + (s.end - s.first) → 1 ≤ s.end - s.first → IsEnd (spread_spot s) end
 spot_ends s end is some = record {
   past = λ k le. spot_else s k (λ (c : Covers k s). omega (arith, c, le, is));
   last = inr (cell_in s (end - 1), omega (arith, is, some), spot_here s (end - 1) (omega (arith, is, some), omega (arith, is, some)), refl);
@@ -60,10 +60,10 @@ ends_more xs ys a b end first more most = record {
 
 -- ---- pieces
 
-piece_is : (p q : Piece) → Some p ≡ Some q → p ≡ q
+piece_is : (p q : BytePiece) → Some p ≡ Some q → p ≡ q
 piece_is p q e = cc
 
-pub have_more : (pieces : List Piece) (n low a r end : ℕ) (p : Piece) → HaveReach pieces n low a → IsAt pieces n p → HasReach p low r → (a ≤ end) × (r ≤ end) × ((end ≡ a) ⊎ (end ≡ r))
+pub have_more : (pieces : List BytePiece) (n low a r end : ℕ) (p : BytePiece) → HaveReach pieces n low a → IsAt pieces n p → HasReach p low r → (a ≤ end) × (r ≤ end) × ((end ≡ a) ⊎ (end ≡ r))
     → HaveReach pieces (n + 1) low end
 have_more pieces n low a r end p have here has most = record {
   low' = omega (arith, have.low', most.0);
@@ -72,10 +72,10 @@ have_more pieces n low a r end p have here has most = record {
     | inr last ↦
         let place : i ≡ n = omega (arith, lt, last) in
         let one : p ≡ q = piece_is p q (sym here ∙ ap (slice_get pieces) (sym place) ∙ at) in
-        subst (λ (x : Piece). slice_get x.bytes.now m ≡ Some 0) one
-        (has.zeros m (subst (λ (x : Piece). m < length x.bytes.now) (sym one) inside)
-        (subst (λ (x : Piece). low ≤ x.start + m) (sym one) (omega (arith, le, most.0, have.low')))
-        (subst (λ (x : Piece). r ≤ x.start + m) (sym one) (omega (arith, le, most.1))))
+        subst (λ (x : BytePiece). slice_get x.bytes.now m ≡ Some 0) one
+        (has.zeros m (subst (λ (x : BytePiece). m < length x.bytes.now) (sym one) inside)
+        (subst (λ (x : BytePiece). low ≤ x.start + m) (sym one) (omega (arith, le, most.0, have.low')))
+        (subst (λ (x : BytePiece). r ≤ x.start + m) (sym one) (omega (arith, le, most.1))))
   ];
   last = elim most.2 [
     | inl same ↦ elim have.last [
@@ -90,7 +90,7 @@ have_more pieces n low a r end p have here has most = record {
 }
 
 -- a piece has a byte at the offset, or none has
-look_for : (pieces : List Piece) (k : ℕ) → ((i : ℕ) × (p : Piece) × IsAt pieces i p × (p.start ≤ k) × (k < p.start + length p.bytes.now)) ⊎ ((i : ℕ) (p : Piece) → IsAt pieces i p → IsElsewhere p k)
+look_for : (pieces : List BytePiece) (k : ℕ) → ((i : ℕ) × (p : BytePiece) × IsAt pieces i p × (p.start ≤ k) × (k < p.start + length p.bytes.now)) ⊎ ((i : ℕ) (p : BytePiece) → IsAt pieces i p → IsElsewhere p k)
 look_for [] k = inr (λ i p at. absurd cc)
 look_for (q ∷ pieces) k = elim (cases_lt k q.start) [
   | inl before ↦ elim (look_for pieces k) [
@@ -106,12 +106,12 @@ look_for (q ∷ pieces) k = elim (cases_lt k q.start) [
   ]
 ]
   where
-    elsewhere : IsElsewhere q k → ((i : ℕ) (p : Piece) → IsAt pieces i p → IsElsewhere p k) → (i : ℕ) (p : Piece) → IsAt (q ∷ pieces) i p → IsElsewhere p k
-    elsewhere here none zero p at = subst (λ (x : Piece). IsElsewhere x k) (piece_is q p at) here
+    elsewhere : IsElsewhere q k → ((i : ℕ) (p : BytePiece) → IsAt pieces i p → IsElsewhere p k) → (i : ℕ) (p : BytePiece) → IsAt (q ∷ pieces) i p → IsElsewhere p k
+    elsewhere here none zero p at = subst (λ (x : BytePiece). IsElsewhere x k) (piece_is q p at) here
     elsewhere here none (suc i) p at = none i p at
 
 -- where all pieces were gone over
-pub all_kept : (pieces : List Piece) (n low end : ℕ) (bytes : List ℕ) → HaveReach pieces n low end → length pieces ≤ n → ArePieces pieces bytes → low ≤ length bytes → IsKept bytes low end
+pub all_kept : (pieces : List BytePiece) (n low end : ℕ) (bytes : List ℕ) → HaveReach pieces n low end → length pieces ≤ n → ArePieces pieces bytes → low ≤ length bytes → IsKept bytes low end
 all_kept pieces n low end bytes have all are fits = record {
   reaches = have.low';
   within = elim have.last [
@@ -151,7 +151,7 @@ is_max a b end is = (
   ],
 )
 
-pub last_more : (spots : List Spot) (i : ℕ) (d : Spot) (a b end : ℕ) → i < length spots → IsEnd (shown_spots (take i spots)) a → IsEnd (spread_spot (get_or spots i d)) b → end ≡ max a b
+pub last_more : (spots : List PatchSpot) (i : ℕ) (d : PatchSpot) (a b end : ℕ) → i < length spots → IsEnd (shown_spots (take i spots)) a → IsEnd (spread_spot (get_or spots i d)) b → end ≡ max a b
     → IsEnd (shown_spots (take (i + 1) spots)) end
 last_more spots i d a b end lt first more is =
     subst (λ (l : List (ℕ × Cell)). IsEnd l end) (sym (ap shown_spots (take_more spots i d lt) ∙ shown-push (take i spots) (get_or spots i d)))

@@ -18,8 +18,8 @@ use Rattle.load_meaning.specs.LoadTable.{table_of, entry_count, target_at, targe
 use Rattle.load_meaning.specs.laws.LoadTableLaws.{length-targets_from, get-targets_from}
 use Rattle.load_meaning.specs.Loadable.{patch_list, IsSoundSegment}
 use Rattle.omf_records.specs.declared.segment.SegmentView.{SegmentView}
-use Rattle.omf_records.specs.Segments.{placed, shown}
-use Rattle.load_content.specs.declared.targets.Content.{Content}
+use Rattle.omf_records.specs.Segments.{placed_view, segment_of_view}
+use Rattle.load_content.specs.declared.targets.SegmentContent.{SegmentContent}
 use Rattle.load_content.specs.Walk.{content, gives_patch}
 use Rattle.load_content.specs.Content.{spread_all, last_at, shown_spots, AreBelow, with_cells}
 use Rattle.load_content.specs.Places.{address_in, Stands}
@@ -40,34 +40,34 @@ load_view_at : (file : List ℕ) (views : List SegmentView) (k : ℕ) (v : Segme
 load_view_at file views k v all is =
     subst (IsLoadView file) (get_or_from_slice_get views k v v is) (All-get_or (IsLoadView file) views k v (slice_get_within views k v is) all)
 
-pub shows : (views : List SegmentView) (contents : List Content) (number : ℕ) (v : SegmentView) → AreLoadViews views contents → 0 < number → slice_get views (number - 1) ≡ Some v → Shows (map shown views) number v
+pub shows : (views : List SegmentView) (contents : List SegmentContent) (number : ℕ) (v : SegmentView) → AreLoadViews views contents → 0 < number → slice_get views (number - 1) ≡ Some v → Shows (map segment_of_view views) number v
 shows views contents number v is more found =
-    let here : segment_at (map shown views) number ≡ Some (shown v) =
-    segment_at-some (map shown views) number more ∙ slice_get-map shown views (number - 1) ∙ ap (option_map shown) found in
+    let here : segment_at (map segment_of_view views) number ≡ Some (segment_of_view v) =
+    segment_at-some (map segment_of_view views) number more ∙ slice_get-map segment_of_view views (number - 1) ∙ ap (option_map segment_of_view) found in
     let view = load_view_at is.file views (number - 1) v is.each found in
     record {
       here = here;
       short = omega (arith, ap length view.file', is.short);
       view = subst (λ (f : List ℕ). IsLoadView f v) (sym view.file') view;
-      sound = loadable_has is.file (map shown views) is.loadable number (shown v) here;
+      sound = loadable_has is.file (map segment_of_view views) is.loadable number (segment_of_view v) here;
     }
 
 -- a load file has fewer than 2 ^ 32 segments
-pub few_views : (views : List SegmentView) (contents : List Content) → AreLoadViews views contents → length views < 2 ^ 32
+pub few_views : (views : List SegmentView) (contents : List SegmentContent) → AreLoadViews views contents → length views < 2 ^ 32
 few_views views contents is =
-    omega (arith, segments_fit (map shown views) 0 is.file (length is.file) is.loadable.is_file, length-map views shown, is.short)
+    omega (arith, segments_fit (map segment_of_view views) 0 is.file (length is.file) is.loadable.is_file, length-map views segment_of_view, is.short)
 
 -- and there is room for one more number
-pub few_more : (views : List SegmentView) (contents : List Content) → AreLoadViews views contents → length views + 1 < 2 ^ 32
+pub few_more : (views : List SegmentView) (contents : List SegmentContent) → AreLoadViews views contents → length views + 1 < 2 ^ 32
 few_more views contents is =
-    omega (arith, segments_fit (map shown views) 0 is.file (length is.file) is.loadable.is_file, length-map views shown, is.short)
+    omega (arith, segments_fit (map segment_of_view views) 0 is.file (length is.file) is.loadable.is_file, length-map views segment_of_view, is.short)
 
 -- ---- cells
 
 -- LENGTH has room for the bytes of its body
-pub content_fits : (segments : List Segment) (number : ℕ) (v : SegmentView) (reader : Reader) → Shows segments number v → reader ≡ body_reader v.start (placed v).fields v.file.now → length (content reader) ≤ v.header.length
+pub content_fits : (segments : List Segment) (number : ℕ) (v : SegmentView) (reader : Reader) → Shows segments number v → reader ≡ body_reader v.start (placed_view v).fields v.file.now → length (content reader) ≤ v.header.length
 content_fits segments number v reader is at =
-    let size : length (body_bytes (shown v)) ≡ length (content reader) = ap length (body_content (placed v) ∙ ap content (sym at)) in
+    let size : length (body_bytes (segment_of_view v)) ≡ length (content reader) = ap length (body_content (placed_view v) ∙ ap content (sym at)) in
     omega (arith, size, is.sound.fits)
 
 -- what a cell of a segment is: that of the last patch over it, or the byte of the data there
@@ -79,27 +79,27 @@ cell_of segments number s k sound =
     ∙ get-laid (λ p. parts_from p 0 p.count) (patch_list s) (map Byte (segment_bytes s)) k (fit_in segments s (length (map Byte (segment_bytes s))) (patch_list s) size sound.patches)
     ∙ last_over-spread (patch_list s) k (slice_get (map Byte (segment_bytes s)) k)
 
-cell_at-shown : (segments : List Segment) (number k : ℕ) (v : SegmentView) → Shows segments number v → cell_at segments number k ≡ slice_get (cells (shown v)) k
+cell_at-shown : (segments : List Segment) (number k : ℕ) (v : SegmentView) → Shows segments number v → cell_at segments number k ≡ slice_get (cells (segment_of_view v)) k
 cell_at-shown segments number k v is = ap (option_and_then (λ (s : Segment). slice_get (cells s) k)) is.here
 
 -- past LENGTH there is none
 pub cell_past : (segments : List Segment) (number k : ℕ) (v : SegmentView) → Shows segments number v → v.header.length ≤ k → cell_at segments number k ≡ None
 cell_past segments number k v is past =
-    cell_at-shown segments number k v is ∙ slice_get_past (cells (shown v)) k (omega (arith, length-cells segments number (shown v) is.sound))
+    cell_at-shown segments number k v is ∙ slice_get_past (cells (segment_of_view v)) k (omega (arith, length-cells segments number (segment_of_view v) is.sound))
 
 -- a cell of a patch
-pub cell_part : (segments : List Segment) (number k : ℕ) (v : SegmentView) (content : Content) (cell : Cell) → ShowsContent segments number v content → last_at (shown_spots content.spots.items) k ≡ Some cell → cell_at segments number k ≡ Some cell
+pub cell_part : (segments : List Segment) (number k : ℕ) (v : SegmentView) (content : SegmentContent) (cell : Cell) → ShowsContent segments number v content → last_at (shown_spots content.spots.items) k ≡ Some cell → cell_at segments number k ≡ Some cell
 cell_part segments number k v content cell is found =
-    cell_at-shown segments number k v is.shows ∙ cell_of segments number (shown v) k is.shows.sound
-    ∙ ap (λ o. option_or o (slice_get (map Byte (segment_bytes (shown v))) k)) (sym (is.content'.spots.last k) ∙ found)
+    cell_at-shown segments number k v is.shows ∙ cell_of segments number (segment_of_view v) k is.shows.sound
+    ∙ ap (λ o. option_or o (slice_get (map Byte (segment_bytes (segment_of_view v))) k)) (sym (is.content'.spots.last k) ∙ found)
 
 -- a byte of the data
-pub cell_byte : (segments : List Segment) (number k : ℕ) (v : SegmentView) (content : Content) (b : ℕ) → ShowsContent segments number v content → last_at (shown_spots content.spots.items) k ≡ None
-    → slice_get (segment_bytes (shown v)) k ≡ Some b → cell_at segments number k ≡ Some (Byte b)
+pub cell_byte : (segments : List Segment) (number k : ℕ) (v : SegmentView) (content : SegmentContent) (b : ℕ) → ShowsContent segments number v content → last_at (shown_spots content.spots.items) k ≡ None
+    → slice_get (segment_bytes (segment_of_view v)) k ≡ Some b → cell_at segments number k ≡ Some (Byte b)
 cell_byte segments number k v content b is none found =
-    cell_at-shown segments number k v is.shows ∙ cell_of segments number (shown v) k is.shows.sound
-    ∙ ap (λ o. option_or o (slice_get (map Byte (segment_bytes (shown v))) k)) (sym (is.content'.spots.last k) ∙ none)
-    ∙ slice_get-map Byte (segment_bytes (shown v)) k ∙ ap (option_map Byte) found
+    cell_at-shown segments number k v is.shows ∙ cell_of segments number (segment_of_view v) k is.shows.sound
+    ∙ ap (λ o. option_or o (slice_get (map Byte (segment_bytes (segment_of_view v))) k)) (sym (is.content'.spots.last k) ∙ none)
+    ∙ slice_get-map Byte (segment_bytes (segment_of_view v)) k ∙ ap (option_map Byte) found
 
 -- ---- bytes in memory
 
@@ -147,28 +147,28 @@ over_byte-map places None (Some b) = refl
 over_byte-map places (Some cell) b = refl
 
 -- the spots lie below LENGTH
-pub shown_below : (segments : List Segment) (number : ℕ) (v : SegmentView) (content : Content) → ShowsContent segments number v content → AreBelow v.header.length (shown_spots content.spots.items)
-shown_below segments number v content is = spots-below segments (shown v) (patch_list (shown v)) content.spots.items content.runs.items is.shows.sound.patches is.content'.spots
+pub shown_below : (segments : List Segment) (number : ℕ) (v : SegmentView) (content : SegmentContent) → ShowsContent segments number v content → AreBelow v.header.length (shown_spots content.spots.items)
+shown_below segments number v content is = spots-below segments (segment_of_view v) (patch_list (segment_of_view v)) content.spots.items content.runs.items is.shows.sound.patches is.content'.spots
 
 -- the data with the spots over it is what stands in memory
-pub stands-spots : (segments : List Segment) (number : ℕ) (v : SegmentView) (content : Content) (places : ℕ → ℕ) (bytes out : List ℕ) → ShowsContent segments number v content
-    → bytes ≡ segment_bytes (shown v) → out ≡ with_cells places (shown_spots content.spots.items) bytes → out ≡ stands places (shown v)
-stands-spots segments number v content places bytes out is data_is out_is = same_list out (stands places (shown v)) at
+pub stands-spots : (segments : List Segment) (number : ℕ) (v : SegmentView) (content : SegmentContent) (places : ℕ → ℕ) (bytes out : List ℕ) → ShowsContent segments number v content
+    → bytes ≡ segment_bytes (segment_of_view v) → out ≡ with_cells places (shown_spots content.spots.items) bytes → out ≡ stands places (segment_of_view v)
+stands-spots segments number v content places bytes out is data_is out_is = same_list out (stands places (segment_of_view v)) at
   where
     size : length bytes ≡ v.header.length
-    size = ap length data_is ∙ length-segment_bytes (shown v) is.shows.sound.fits
+    size = ap length data_is ∙ length-segment_bytes (segment_of_view v) is.shows.sound.fits
 
-    at : (k : ℕ) → slice_get out k ≡ slice_get (stands places (shown v)) k
+    at : (k : ℕ) → slice_get out k ≡ slice_get (stands places (segment_of_view v)) k
     at k =
         ap (λ (l : List ℕ). slice_get l k) out_is
         ∙ get-with_cells places (shown_spots content.spots.items) bytes k (subst (λ (n : ℕ). AreBelow n (shown_spots content.spots.items)) (sym size) (shown_below segments number v content is))
         ∙ over_byte-map places (last_at (shown_spots content.spots.items) k) (slice_get bytes k)
         ∙ ap (λ o. option_map (byte_of places) (option_or o (option_map Byte (slice_get bytes k)))) (is.content'.spots.last k)
-        ∙ ap (λ o. option_map (byte_of places) (option_or (last_at (spread_all (patch_list (shown v))) k) o)) (ap (λ (l : List ℕ). option_map Byte (slice_get l k)) data_is ∙ sym (slice_get-map Byte (segment_bytes (shown v)) k))
-        ∙ ap (option_map (byte_of places)) (sym (cell_of segments number (shown v) k is.shows.sound))
-        ∙ sym (slice_get-map (byte_of places) (cells (shown v)) k)
+        ∙ ap (λ o. option_map (byte_of places) (option_or (last_at (spread_all (patch_list (segment_of_view v))) k) o)) (ap (λ (l : List ℕ). option_map Byte (slice_get l k)) data_is ∙ sym (slice_get-map Byte (segment_bytes (segment_of_view v)) k))
+        ∙ ap (option_map (byte_of places)) (sym (cell_of segments number (segment_of_view v) k is.shows.sound))
+        ∙ sym (slice_get-map (byte_of places) (cells (segment_of_view v)) k)
 
-pub stands-there : (segments : List Segment) (number : ℕ) (v : SegmentView) (places : List (Option ℕ)) (out : List ℕ) → Shows segments number v → out ≡ stands (address_in places) (shown v) → Stands segments number places out
+pub stands-there : (segments : List Segment) (number : ℕ) (v : SegmentView) (places : List (Option ℕ)) (out : List ℕ) → Shows segments number v → out ≡ stands (address_in places) (segment_of_view v) → Stands segments number places out
 stands-there segments number v places out is e = subst (λ (o : Option Segment). IsSomeAnd o (λ (s : Segment). out ≡ stands (address_in places) s)) (sym is.here) e
 
 -- ---- a segment's bytes as a whole
@@ -180,14 +180,14 @@ no_items : (patches : List (ℕ × Patch)) → ((patches ≡ [] → ⊥) → ⊥
 no_items [] none = refl
 no_items (p ∷ patches) none = absurd (none (λ e. cc))
 
-unpatched_shown : (segments : List Segment) (number : ℕ) (v : SegmentView) → Shows segments number v → (HasPatches segments number → ⊥) → patches_of (shown v) ≡ []
+unpatched_shown : (segments : List Segment) (number : ℕ) (v : SegmentView) → Shows segments number v → (HasPatches segments number → ⊥) → patches_of (segment_of_view v) ≡ []
 unpatched_shown segments number v is none =
-    no_items (patches_of (shown v)) (λ some. none (subst (λ (o : Option Segment). IsSomeAnd o (λ (s : Segment). patches_of s ≡ [] → ⊥)) (sym is.here) some))
+    no_items (patches_of (segment_of_view v)) (λ some. none (subst (λ (o : Option Segment). IsSomeAnd o (λ (s : Segment). patches_of s ≡ [] → ⊥)) (sym is.here) some))
 
-pub has_bytes : (segments : List Segment) (number : ℕ) (v : SegmentView) (reader : Reader) (bytes : List ℕ) → Shows segments number v → (HasPatches segments number → ⊥) → reader ≡ body_reader v.start (placed v).fields v.file.now
+pub has_bytes : (segments : List Segment) (number : ℕ) (v : SegmentView) (reader : Reader) (bytes : List ℕ) → Shows segments number v → (HasPatches segments number → ⊥) → reader ≡ body_reader v.start (placed_view v).fields v.file.now
     → bytes ≡ content reader ++ replicate (v.header.length - length (content reader)) 0 → HasBytes segments number bytes
 has_bytes segments number v reader bytes is none of same =
-    let all : cells (shown v) ≡ map Byte bytes = cells-bytes (shown v) (unpatched_shown segments number v is none) ∙ ap (map Byte) (bytes-shown v reader of ∙ sym same) in
+    let all : cells (segment_of_view v) ≡ map Byte bytes = cells-bytes (segment_of_view v) (unpatched_shown segments number v is none) ∙ ap (map Byte) (bytes-shown v reader of ∙ sym same) in
     subst (λ (o : Option Segment). IsSomeAnd o (λ (s : Segment). cells s ≡ map Byte bytes)) (sym is.here) all
 
 -- outside the numbers there is no segment
@@ -202,36 +202,36 @@ no_length segments number n has is = subst (λ (o : Option Segment). IsSomeAnd o
 -- ---- patches
 
 -- the segment with this number has patches where a record of the view's body gives one
-pub patches_shown : (segments : List Segment) (number : ℕ) (v : SegmentView) (reader : Reader) (any : Bool) → Shows segments number v → reader ≡ body_reader v.start (placed v).fields v.file.now
+pub patches_shown : (segments : List Segment) (number : ℕ) (v : SegmentView) (reader : Reader) (any : Bool) → Shows segments number v → reader ≡ body_reader v.start (placed_view v).fields v.file.now
     → any ≡ list_any (λ found. gives_patch found.1) (records_of reader) → (IsTrue any → HasPatches segments number) × (HasPatches segments number → IsTrue any)
 patches_shown segments number v reader any is at given = (
-  λ yes. subst HasSome (sym is.here) (has_some (shown v) (sym whole ∙ yes)),
+  λ yes. subst HasSome (sym is.here) (has_some (segment_of_view v) (sym whole ∙ yes)),
   λ has. by_any any whole (subst HasSome is.here has),
 )
   where
     HasSome : Option Segment → Type 0
     HasSome o = IsSomeAnd o (λ s. patches_of s ≡ [] → ⊥)
 
-    whole : any ≡ list_any (λ found. gives_patch found.1) (shown v).records
+    whole : any ≡ list_any (λ found. gives_patch found.1) (segment_of_view v).records
     whole = given ∙ ap (λ (r : Reader). list_any (λ found. gives_patch found.1) (records_of r)) at
 
-    by_any : (b : Bool) → b ≡ list_any (λ found. gives_patch found.1) (shown v).records → (patches_of (shown v) ≡ [] → ⊥) → b ≡ true
+    by_any : (b : Bool) → b ≡ list_any (λ found. gives_patch found.1) (segment_of_view v).records → (patches_of (segment_of_view v) ≡ [] → ⊥) → b ≡ true
     by_any true same some = refl
-    by_any false same some = absurd (some (has_none (shown v) (sym same)))
+    by_any false same some = absurd (some (has_none (segment_of_view v) (sym same)))
 
 pub nothing_patched : (segments : List Segment) (number : ℕ) → IsOutside segments number → HasPatches segments number → ⊥
 nothing_patched segments number is has = subst (λ (o : Option Segment). IsSomeAnd o (λ (s : Segment). patches_of s ≡ [] → ⊥)) (outside segments number is) has
 
 -- ---- the table
 
-pub shows_content : (views : List SegmentView) (contents : List Content) (number : ℕ) (v : SegmentView) (content : Content) → AreLoadViews views contents → 0 < number
-    → slice_get views (number - 1) ≡ Some v → slice_get contents (number - 1) ≡ Some content → ShowsContent (map shown views) number v content
+pub shows_content : (views : List SegmentView) (contents : List SegmentContent) (number : ℕ) (v : SegmentView) (content : SegmentContent) → AreLoadViews views contents → 0 < number
+    → slice_get views (number - 1) ≡ Some v → slice_get contents (number - 1) ≡ Some content → ShowsContent (map segment_of_view views) number v content
 shows_content views contents number v content is more here there = record {
   shows = shows views contents number v is more here;
   content' = contents_at views contents is.contents' (number - 1) v content here there;
 }
 
-pub targets-there : (segments : List Segment) (number : ℕ) (v : SegmentView) → table_of segments ≡ Some number → Shows segments number v → table_targets segments ≡ targets_of (shown v)
+pub targets-there : (segments : List Segment) (number : ℕ) (v : SegmentView) → table_of segments ≡ Some number → Shows segments number v → table_targets segments ≡ targets_of (segment_of_view v)
 targets-there segments number v is shows =
     ap (λ o. option_map_or targets_of (option_and_then (segment_at segments) o) []) is ∙ ap (λ o. option_map_or targets_of o []) shows.here
 

@@ -8,21 +8,21 @@ use Rattle.omf_format.specs.File.{Segment, AreSegments}
 use Rattle.omf_format.specs.laws.FileLaws.{LiesIn, header_lies, AreSegments-append, segments_fit}
 use Rattle.load_meaning.specs.Loadable.{HasReadFault, IsLoadSegment, later_fault, IsLoadable, IsFirstLoadFault, OfReading}
 use Rattle.omf_records.specs.declared.segment.SegmentView.{SegmentView}
-use Rattle.omf_records.specs.Segments.{placed, shown}
+use Rattle.omf_records.specs.Segments.{placed_view, segment_of_view}
 use Rattle.load_content.specs.Views.{IsLoadView}
 use Rattle.omf_cells.specs.Load.{IsRefused, IsReadRefused}
 use Rattle.load_content.proofs.NamedFaults.{unless_then}
 
 -- these views are the segments from the file's front up to this displacement, and pass phase 1
 pub record Read (file : List ℕ) (views : List SegmentView) (start number : ℕ) : Type 0 where
-  pub are : AreSegments (map shown views) 0 file start
-  pub pass : AllByRecursion IsLoadSegment (map shown views)
+  pub are : AreSegments (map segment_of_view views) 0 file start
+  pub pass : AllByRecursion IsLoadSegment (map segment_of_view views)
   pub each : All (IsLoadView file) views
   pub count : number ≡ length views + 1
   pub within : start ≤ length file
 
-pub view_lies : (file : List ℕ) (v : SegmentView) → IsLoadView file v → LiesIn v.start (placed v).fields file
-view_lies file v is = header_lies v.start (placed v).fields file is.segment.header
+pub view_lies : (file : List ℕ) (v : SegmentView) → IsLoadView file v → LiesIn v.start (placed_view v).fields file
+view_lies file v is = header_lies v.start (placed_view v).fields file is.segment.header
 
 all-append : (segments : List Segment) (s : Segment) → AllByRecursion IsLoadSegment segments → IsLoadSegment s → AllByRecursion IsLoadSegment (segments ++ s ∷ [])
 all-append [] s all one = (one, tt)
@@ -33,22 +33,22 @@ pub read_more : (file : List ℕ) (views : List SegmentView) (v : SegmentView) (
     → Read file (views ++ v ∷ []) (start + v.header.byte_count) (number + 1)
 read_more file views v start number read at more is =
     let lies = view_lies file v is in
-    let one : AreSegments (shown v ∷ []) start file (start + v.header.byte_count) = (at, more, is.segment, refl) in
-    let whole : map shown (views ++ v ∷ []) ≡ map shown views ++ shown v ∷ [] = map-append shown views (v ∷ []) in
+    let one : AreSegments (segment_of_view v ∷ []) start file (start + v.header.byte_count) = (at, more, is.segment, refl) in
+    let whole : map segment_of_view (views ++ v ∷ []) ≡ map segment_of_view views ++ segment_of_view v ∷ [] = map-append segment_of_view views (v ∷ []) in
     record {
-      are = subst (λ (l : List Segment). AreSegments l 0 file (start + v.header.byte_count)) (sym whole) (AreSegments-append (map shown views) (shown v ∷ []) 0 file start (start + v.header.byte_count) read.are one);
-      pass = subst (AllByRecursion IsLoadSegment) (sym whole) (all-append (map shown views) (shown v) read.pass is.pass);
+      are = subst (λ (l : List Segment). AreSegments l 0 file (start + v.header.byte_count)) (sym whole) (AreSegments-append (map segment_of_view views) (segment_of_view v ∷ []) 0 file start (start + v.header.byte_count) read.are one);
+      pass = subst (AllByRecursion IsLoadSegment) (sym whole) (all-append (map segment_of_view views) (segment_of_view v) read.pass is.pass);
       each = All-push (IsLoadView file) views v read.each is;
       count = omega (arith, length-append views (v ∷ []), read.count);
       within = omega (arith, lies.within, at);
     }
 
 -- all segments up to the file's end are a load file, where no later phase finds a fault
-pub read_loadable : (file : List ℕ) (views : List SegmentView) (start number : ℕ) → Read file views start number → length file ≤ start → (length file ≡ 0 → ⊥) → later_fault (map shown views) ≡ None → IsLoadable file (map shown views)
+pub read_loadable : (file : List ℕ) (views : List SegmentView) (start number : ℕ) → Read file views start number → length file ≤ start → (length file ≡ 0 → ⊥) → later_fault (map segment_of_view views) ≡ None → IsLoadable file (map segment_of_view views)
 read_loadable file views start number read past some none =
     let end : start ≡ length file = omega (arith, read.within, past) in
     record {
-      is_file = subst (λ (n : ℕ). AreSegments (map shown views) 0 file n) end read.are;
+      is_file = subst (λ (n : ℕ). AreSegments (map segment_of_view views) 0 file n) end read.are;
       some = λ e. some (let none' : 0 ≡ start = subst (λ (l : List Segment). AreSegments l 0 file start) e read.are in omega (arith, none', end));
       pass = read.pass;
       sound = none;
@@ -60,15 +60,15 @@ refused_in file views fault start number read more is = unless_then fault.cause 
   where
     first : (fault.segment ≡ number) × HasReadFault start file (fault.cause, fault.at) → IsFirstLoadFault file fault
     first h = OfReading record {
-      before = map shown views;
+      before = map segment_of_view views;
       at = start;
       sound = read.are;
       pass = read.pass;
       more = more;
-      number = omega (arith, h.0, read.count, length-map views shown);
+      number = omega (arith, h.0, read.count, length-map views segment_of_view);
       here = h.1;
     }
 
 -- as many segments as fit the file
 pub few_read : (file : List ℕ) (views : List SegmentView) (start number : ℕ) → Read file views start number → 10 * number ≤ start + 10
-few_read file views start number read = omega (arith, segments_fit (map shown views) 0 file start read.are, length-map views shown, read.count)
+few_read file views start number read = omega (arith, segments_fit (map segment_of_view views) 0 file start read.are, length-map views segment_of_view, read.count)

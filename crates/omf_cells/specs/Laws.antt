@@ -4,7 +4,7 @@ use Rattle.omf_format.specs.declared.fault.HeaderFault.{HeaderFault}
 use Rattle.omf_format.specs.declared.fault.RecordFault.{RecordFault}
 use Rattle.load_meaning.specs.declared.load.LoadFault.{LoadFault}
 use Rattle.omf_format.specs.Header.{version_of, header_fault}
-use Rattle.omf_format.specs.File.{Segment, segment_at, told_header, told_record}
+use Rattle.omf_format.specs.File.{Segment, segment_at, to_file_header_fault, to_file_record_fault}
 use Rattle.load_meaning.specs.Cells.{Byte, segment_bytes, patches_of, cells}
 use Rattle.load_meaning.specs.Loadable.{as_load, answer_fault, HasReadFault, IsLoadable, IsFirstLoadFault, IsSoundSegment}
 
@@ -23,11 +23,11 @@ OneFirstFault = (file : List ℕ) (a b : LoadFault) → IsFirstLoadFault file a 
 -- a header's fault has the cause and the place that it has in any file
 abbrev pub HeaderFaultKeeps : Type 0
 HeaderFaultKeeps = (of : HeaderFault) (start : ℕ) (file : List ℕ) → header_fault (drop start file) ≡ Some of
-    → HasReadFault start file (as_load (told_header start (version_of (drop start file)) of))
+    → HasReadFault start file (as_load (to_file_header_fault start (version_of (drop start file)) of))
 
 -- and so has a record's
 abbrev pub RecordFaultKeeps : Type 0
-RecordFaultKeeps = (of : RecordFault) → answer_fault (Err of) ≡ Some (as_load (told_record of))
+RecordFaultKeeps = (of : RecordFault) → answer_fault (Err of) ≡ Some (as_load (to_file_record_fault of))
 
 -- a segment of a load file has LENGTH cells
 abbrev pub HasLengthCells : Type 0

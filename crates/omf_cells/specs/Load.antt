@@ -6,7 +6,7 @@ use Rattle.omf_format.specs.declared.fault.HeaderFault.TheVariants as header
 use Rattle.load_meaning.specs.declared.load.LoadCause.TheVariants.{Memory}
 use Rattle.load_meaning.specs.declared.load.LoadFault.{LoadFault}
 use Rattle.omf_format.specs.Header.{Fields}
-use Rattle.omf_format.specs.File.{Segment, IsHeader, segment_at, told_header}
+use Rattle.omf_format.specs.File.{Segment, IsHeader, segment_at, to_file_header_fault}
 use Rattle.load_meaning.specs.Cells.{Byte, patches_of, cells}
 use Rattle.load_meaning.specs.Loadable.{segment_refusal, as_load, in_segment, HasReadFault, IsSoundSegment, IsLoadable, IsFirstLoadFault}
 use Rattle.load_meaning.specs.Exports.{exports_of}
@@ -16,8 +16,8 @@ use Rattle.load_meaning.specs.Runtime.{IsFirstRuntimeFault}
 use Rattle.std.specs.Borrow.{Bor}
 use Rattle.load_meaning.specs.declared.table.Target.{Target}
 use Rattle.omf_records.specs.declared.segment.SegmentView.{SegmentView}
-use Rattle.omf_records.specs.Segments.{shown}
-use Rattle.load_content.specs.declared.targets.Content.{Content}
+use Rattle.omf_records.specs.Segments.{segment_of_view}
+use Rattle.load_content.specs.declared.targets.SegmentContent.{SegmentContent}
 use Rattle.load_content.specs.Content.{IsContent, AreContents}
 use Rattle.load_content.specs.Views.{UnlessMemory, IsLoadView}
 use Rattle.load_tables.specs.declared.exports.Export.{Export}
@@ -37,9 +37,9 @@ IsReadRefused fault number start file = UnlessMemory fault.cause fault ((fault.s
 
 -- a fault of a header of a version as one of the load file, in the segment with this number
 abbrev pub IsHeaderFault : HeaderFault → ℕ → ℕ → ℕ → LoadFault → Type 0
-IsHeaderFault (header.Truncated n) start version number fault = fault ≡ in_segment number (as_load (told_header start version (header.Truncated n)))
-IsHeaderFault (header.Unsupported field) start version number fault = fault ≡ in_segment number (as_load (told_header start version (header.Unsupported field)))
-IsHeaderFault (header.BadField field) start version number fault = fault ≡ in_segment number (as_load (told_header start version (header.BadField field)))
+IsHeaderFault (header.Truncated n) start version number fault = fault ≡ in_segment number (as_load (to_file_header_fault start version (header.Truncated n)))
+IsHeaderFault (header.Unsupported field) start version number fault = fault ≡ in_segment number (as_load (to_file_header_fault start version (header.Unsupported field)))
+IsHeaderFault (header.BadField field) start version number fault = fault ≡ in_segment number (as_load (to_file_header_fault start version (header.BadField field)))
 IsHeaderFault header.Memory start version number fault = (fault.cause ≡ Memory) × (fault.segment ≡ 0) × (fault.at ≡ 0)
 
 -- a header that phase 1 lets pass stands there
@@ -48,19 +48,19 @@ pub record IsLoadHeader (start : ℕ) (f : Fields) (file : List ℕ) : Type 0 wh
   pub front : segment_refusal f ≡ None
 
 -- the views of a load file show its segments, and what is kept of them is theirs
-pub record AreLoadViews (views : List SegmentView) (contents : List Content) : Type 0 where
+pub record AreLoadViews (views : List SegmentView) (contents : List SegmentContent) : Type 0 where
   pub file : List ℕ
   pub short : length file < 2 ^ 32
   pub each : All (IsLoadView file) views
-  pub loadable : IsLoadable file (map shown views)
+  pub loadable : IsLoadable file (map segment_of_view views)
   pub contents' : AreContents views contents
 
 -- what a load file keeps: views of its segments and what is in them, fewer than 2 ^ 32 names that it exports, and its paths
-pub record IsKept (views : List SegmentView) (contents : List Content) (exports : List Export) (paths : List (Bor (List ℕ))) : Type 0 where
+pub record IsKept (views : List SegmentView) (contents : List SegmentContent) (exports : List Export) (paths : List (Bor (List ℕ))) : Type 0 where
   pub views' : AreLoadViews views contents
-  pub exports' : map seen_export exports ≡ exports_of (map shown views)
+  pub exports' : map seen_export exports ≡ exports_of (map segment_of_view views)
   pub few : length exports < 2 ^ 32
-  pub paths' : seen_paths paths ≡ paths_of (map shown views)
+  pub paths' : seen_paths paths ≡ paths_of (map segment_of_view views)
 
 -- ---- what the calls of a load file tell
 
@@ -90,12 +90,12 @@ table_targets segments = option_map_or targets_of (option_and_then (segment_at s
 
 -- the view shows the segment with this number, which is of a load file
 pub record Shows (segments : List Segment) (number : ℕ) (v : SegmentView) : Type 0 where
-  pub here : segment_at segments number ≡ Some (shown v)
+  pub here : segment_at segments number ≡ Some (segment_of_view v)
   pub short : length v.file.now < 2 ^ 32
   pub view : IsLoadView v.file.now v
-  pub sound : IsSoundSegment segments number (shown v)
+  pub sound : IsSoundSegment segments number (segment_of_view v)
 
 -- what is kept of the segment with this number beside its header
-pub record ShowsContent (segments : List Segment) (number : ℕ) (v : SegmentView) (content : Content) : Type 0 where
+pub record ShowsContent (segments : List Segment) (number : ℕ) (v : SegmentView) (content : SegmentContent) : Type 0 where
   pub shows : Shows segments number v
   pub content' : IsContent v content

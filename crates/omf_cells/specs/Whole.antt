@@ -2,7 +2,7 @@
 use Rattle.std.specs.Prelude.{◌≡◌, ℕ, ◌+◌, ◌-◌, ◌≤◌, List, [], ◌∷◌, ◌++◌, length, map, replicate, IsSomeAnd}
 use Rattle.std.specs.Option.{option_map_or}
 use Rattle.omf_format.specs.File.{Segment, segment_at}
-use Rattle.load_meaning.specs.Cells.{Byte, Patch, patched, segment_bytes, cells}
+use Rattle.load_meaning.specs.Cells.{Byte, Patch, patched_cells, segment_bytes, cells}
 use Rattle.load_meaning.specs.WrittenBody.{zeros_behind}
 
 -- how many cells a segment has up to the last one that isn't a byte 0
@@ -29,7 +29,7 @@ AreSpaced size low (p ∷ patches) = (low ≤ p.location) × (1 ≤ p.count) × 
 -- the patches lie apart inside a segment, in order, and over its data they give its cells
 pub record AreWhole (s : Segment) (patches : List Patch) : Type 0 where
   pub spaced : AreSpaced s.fields.length 0 patches
-  pub cells' : cells s ≡ patched (map Byte (segment_bytes s)) patches
+  pub cells' : cells s ≡ patched_cells (map Byte (segment_bytes s)) patches
 
 -- they do so in the segment with this number
 abbrev pub HasWhole : List Segment → ℕ → List Patch → Type 0

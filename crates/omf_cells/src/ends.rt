@@ -2,14 +2,14 @@
 
 ghost use Rattle.std.specs.Prelude.{◌≡◌, ◌≤◌, ℕ, List, length};
 ghost use Rattle.load_content.specs.Content.{ArePieces, spread_spot, shown_spots};
-ghost use Rattle.written_bodies.specs.WrittenParts.{IsKept};
+ghost use Rattle.load_writer.specs.WrittenParts.{IsKept};
 ghost use Rattle.omf_cells.specs.Ends.{IsEnd, HasReach};
 
-use load_content::{Piece, Spot, size_of};
-use written_bodies::kept;
+use load_content::{BytePiece, PatchSpot, size_of};
+use load_writer::kept;
 
 /// Where a spot ends; 0 where it has no bytes.
-fn end_of(spot: &Spot) -> usize
+fn end_of(spot: &PatchSpot) -> usize
     ensures { IsEnd (spread_spot spot.now) result }
 {
     let size = size_of(spot);
@@ -20,7 +20,7 @@ fn end_of(spot: &Spot) -> usize
 }
 
 /// Where the last of the spots ends.
-pub fn last_end(spots: &[Spot]) -> usize
+pub fn last_end(spots: &[PatchSpot]) -> usize
     ensures { IsEnd (shown_spots spots.now) result }
 {
     let mut end = 0usize;
@@ -31,7 +31,7 @@ pub fn last_end(spots: &[Spot]) -> usize
 }
 
 /// Where the last byte of a piece, from an offset on, ends that isn't 0; 0 where there is none.
-fn reach(piece: &Piece, low: usize) -> usize
+fn end_of_nonzero(piece: &BytePiece, low: usize) -> usize
     ensures { HasReach piece.now low result }
 {
     let start = piece.start as usize;
@@ -47,12 +47,12 @@ fn reach(piece: &Piece, low: usize) -> usize
 }
 
 /// Where the last byte, from an offset on, ends that isn't 0; the offset where there is none.
-pub fn end_from(pieces: &[Piece], low: usize) -> usize
+pub fn end_from(pieces: &[BytePiece], low: usize) -> usize
     ensures { (bytes : List ℕ) → ArePieces pieces.now bytes → low ≤ length bytes → IsKept bytes low result }
 {
     let mut end = low;
     'pieces: for piece in pieces {
-        end = end.max(reach(piece, low));
+        end = end.max(end_of_nonzero(piece, low));
     }
     end
 }

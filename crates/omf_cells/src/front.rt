@@ -11,7 +11,7 @@ use crate::told::load_fault;
 use load_meaning::{LoadCause, LoadFault};
 use omf_format::HeaderFault;
 use omf_header::{Header, read_header};
-use omf_records::told_header;
+use omf_records::to_file_header_fault;
 use std::alloc::Global;
 
 /// The header that stands there, in the segment with this number.
@@ -21,7 +21,7 @@ pub fn front_at(alloc: Global, file: &[u8], start: u32, number: u32) -> Result<H
     ensures ok { IfOk result (λ header. IsLoadHeader start (fields header) file.now) }
     ensures err { IfErr result (λ fault. IsReadRefused fault number start file.now) }
 {
-    let bytes = from(file, start as usize);
+    let bytes = bytes_from(file, start as usize);
     let header = match read_header(alloc, bytes) {
         Ok(header) => header,
         Err(fault) => return Err(header_fault(fault, bytes, number, start)),
@@ -37,7 +37,7 @@ pub fn front_at(alloc: Global, file: &[u8], start: u32, number: u32) -> Result<H
 }
 
 /// The bytes from a displacement on.
-fn from(bytes: &[u8], at: usize) -> &[u8]
+fn bytes_from(bytes: &[u8], at: usize) -> &[u8]
     requires { at ≤ length bytes.now }
     ensures value { result.now ≡ drop at bytes.now }
     ensures size { length result.now ≤ length bytes.now }
@@ -74,7 +74,7 @@ fn header_fault(fault: HeaderFault, bytes: &[u8], segment: u32, start: u32) -> L
 {
     match fault {
         HeaderFault::Truncated(_) | HeaderFault::Unsupported(_) | HeaderFault::BadField(_) => {
-            load_fault(told_header(fault, bytes, start), segment)
+            load_fault(to_file_header_fault(fault, bytes, start), segment)
         }
         HeaderFault::Memory => LoadFault {
             cause: LoadCause::Memory,

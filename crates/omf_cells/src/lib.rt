@@ -20,8 +20,8 @@ pub use load::{LoadFile, patch_into};
 pub use load_content::{Cell, Places, PlacesFault};
 pub use load_meaning::{LoadCause, LoadFault, Target};
 pub use load_tables::Export;
-pub use reading::{read_load, read_runtime};
-pub use written_bodies::{
+pub use load_writer::{
     Body, BodyFault, Patch, bodies_stand_for_their_cells, body_of, files_stand_for_their_cells,
     locations_are_read_again, put_body, put_plain_body,
 };
+pub use reading::{read_load, read_runtime};

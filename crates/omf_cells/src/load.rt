@@ -10,7 +10,7 @@ ghost use Rattle.omf_header.specs.View.{fields};
 ghost use Rattle.load_content.specs.View.{view};
 ghost use Rattle.load_content.specs.Places.{Stands};
 ghost use Rattle.load_tables.specs.View.{seen_export};
-ghost use Rattle.written_bodies.specs.WrittenParts.{seen};
+ghost use Rattle.load_writer.specs.WrittenParts.{seen};
 ghost use Rattle.omf_cells.specs.Load.{IsOutside, HasFields, HasLength, HasPatches, HasBytes, table_targets, Shows, ShowsContent};
 ghost use Rattle.omf_cells.specs.Whole.{front_at, data_at, HasData, HasWhole};
 
@@ -18,23 +18,23 @@ use crate::ends::{end_from, last_end};
 use crate::whole::{are_spaced, in_places, whole_patches};
 use jump_table::entry_count;
 use load_content::{
-    Cell, Content, Places, byte_at, gives_patches, lone_piece, put_bytes, spot_at, write_body,
-    write_spots,
+    Cell, Places, SegmentContent, byte_at, gives_patches, lone_piece, put_bytes, spot_at,
+    write_body, write_spots,
 };
 use load_meaning::{LoadCause, LoadFault, Target};
 use load_tables::{Export, check_kinds, pathnames_of, table_of, target_from};
+use load_writer::Patch;
 use omf_header::Header;
 use omf_records::SegmentView;
 use std::alloc::{AllocError, Global};
 use std::marker::Model;
-use written_bodies::Patch;
 
 /// A load file. Contracts see the list of its segments. Beside the headers it keeps where the data of each segment stands
 /// in the file, and the bytes that patches give; and what the file exports, and its paths.
 #[derive(Drop)]
 pub struct LoadFile<'a> {
     pub(crate) views: Vec<SegmentView<'a>>,
-    pub(crate) contents: Vec<Content<'a>>,
+    pub(crate) contents: Vec<SegmentContent<'a>>,
     pub(crate) exports: Vec<Export<'a>>,
     pub(crate) paths: Vec<&'a [u8]>,
 }
@@ -42,12 +42,12 @@ pub struct LoadFile<'a> {
 impl<'a> Model for LoadFile<'a> {
     ghost use Rattle.std.specs.Prelude.{List, map};
     ghost use Rattle.omf_format.specs.File.{Segment};
-    ghost use Rattle.omf_records.specs.Segments.{shown};
+    ghost use Rattle.omf_records.specs.Segments.{segment_of_view};
     ghost use Rattle.omf_cells.specs.Load.{IsKept};
 
     ghost Value = { List Segment };
 
-    ghost view = { λ load. map shown load.views.items };
+    ghost view = { λ load. map segment_of_view load.views.items };
 
     ghost invariant = { λ load. IsKept load.views.items load.contents.items load.exports.items load.paths.items };
 }
@@ -74,7 +74,7 @@ impl<'a> LoadFile<'a> {
     }
 
     /// The segment with this number, from 1, and what is kept of it beside its header.
-    fn content(&self, number: u32) -> Option<(&SegmentView<'a>, &Content<'a>)>
+    fn content(&self, number: u32) -> Option<(&SegmentView<'a>, &SegmentContent<'a>)>
         ensures { MatchOption result (IsOutside self.now number) (λ found. ShowsContent self.now number found.0.now found.1.now) }
     {
         if number == 0 {

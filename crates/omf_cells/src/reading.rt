@@ -4,7 +4,7 @@ ghost use Rattle.std.specs.Prelude.{◌≡◌, ◌<◌, ◌^◌, length, map, If
 ghost use Rattle.load_meaning.specs.Pathnames.{paths_of};
 ghost use Rattle.load_meaning.specs.Loadable.{IsLoadable, later_fault};
 ghost use Rattle.load_meaning.specs.Runtime.{IsRuntime};
-ghost use Rattle.omf_records.specs.Segments.{shown};
+ghost use Rattle.omf_records.specs.Segments.{segment_of_view};
 ghost use Rattle.load_content.specs.Views.{IsLoadView, AreShown, IsLaterRefused};
 ghost use Rattle.load_content.specs.Content.{AreContents};
 ghost use Rattle.load_tables.specs.View.{seen_paths};
@@ -14,7 +14,7 @@ use crate::front::front_at;
 use crate::load::LoadFile;
 use crate::records::check_records;
 use crate::shape::check_shapes;
-use load_content::{Content, contents_of};
+use load_content::{SegmentContent, contents_of};
 use load_meaning::{LoadCause, LoadFault};
 use load_tables::{add_exports, check_pathnames, check_tables};
 use omf_records::SegmentView;
@@ -49,12 +49,12 @@ fn segment_from(
 fn check_later<'a>(
     alloc: Global,
     views: &Vec<SegmentView<'a>>,
-) -> Result<(Vec<Content<'a>>, Vec<&'a [u8]>), LoadFault>
+) -> Result<(Vec<SegmentContent<'a>>, Vec<&'a [u8]>), LoadFault>
     requires { AreShown views.now.items }
-    ensures sound { OnOk result (later_fault (map shown views.now.items) ≡ None) }
+    ensures sound { OnOk result (later_fault (map segment_of_view views.now.items) ≡ None) }
     ensures contents { IfOk result (λ kept. AreContents views.now.items kept.0.items) }
-    ensures paths { IfOk result (λ kept. seen_paths kept.1.items ≡ paths_of (map shown views.now.items)) }
-    ensures refused { IfErr result (λ fault. IsLaterRefused fault (later_fault (map shown views.now.items))) }
+    ensures paths { IfOk result (λ kept. seen_paths kept.1.items ≡ paths_of (map segment_of_view views.now.items)) }
+    ensures refused { IfErr result (λ fault. IsLaterRefused fault (later_fault (map segment_of_view views.now.items))) }
 {
     match check_shapes(views) {
         Some(fault) => return Err(fault),

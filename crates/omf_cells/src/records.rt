@@ -2,14 +2,14 @@
 
 ghost use Rattle.std.specs.Prelude.{◌≡◌, Some, OnOk, IfErr};
 ghost use Rattle.load_meaning.specs.Loadable.{record_refusal, as_load, in_segment};
-ghost use Rattle.omf_format.specs.File.{told_record};
+ghost use Rattle.omf_format.specs.File.{to_file_record_fault};
 ghost use Rattle.omf_records.specs.View.{view};
 ghost use Rattle.load_content.specs.Walk.{IsLoadBody, HasBodyFault};
 
 use crate::told::load_fault;
 use load_meaning::{LoadCause, LoadFault};
 use omf_format::RecordFault;
-use omf_records::{Rec, Records, told_record};
+use omf_records::{Rec, Records, to_file_record_fault};
 
 /// Goes over the records up to END.
 pub fn check_records(records: Records, number: u32) -> Result<(), LoadFault>
@@ -66,8 +66,8 @@ fn refusal(rec: &Rec) -> Option<LoadCause>
 /// A record's fault as one of the load file.
 #[tactic(auto, using(crate::proofs::FrontFaults::told_named))]
 fn record_fault(fault: RecordFault, segment: u32) -> LoadFault
-    ensures value { result ≡ in_segment segment (as_load (told_record fault)) }
+    ensures value { result ≡ in_segment segment (as_load (to_file_record_fault fault)) }
     ensures named { result.cause ≡ LoadCause.Memory → ⊥ }
 {
-    load_fault(told_record(fault), segment)
+    load_fault(to_file_record_fault(fault), segment)
 }

@@ -3,15 +3,15 @@
 ghost use Rattle.std.specs.Prelude.{◌≡◌, ◌+◌, IsTrue, IfOk, IfSome, map};
 ghost use Rattle.std.specs.List.Sorted.{IsPermutation};
 ghost use Rattle.load_content.specs.Content.{spread_all, shown_spots};
-ghost use Rattle.written_bodies.specs.WrittenParts.{seen};
+ghost use Rattle.load_writer.specs.WrittenParts.{seen};
 ghost use Rattle.omf_cells.specs.Whole.{AreSpaced};
 
-use load_content::Spot;
+use load_content::PatchSpot;
+use load_writer::Patch;
 use std::alloc::{AllocError, Global};
-use written_bodies::Patch;
 
 /// The patches that give the bytes of the spots, one for each, where each spot begins with the first byte of its place.
-pub fn whole_patches(alloc: Global, spots: &[Spot]) -> Result<Option<Vec<Patch>>, AllocError>
+pub fn whole_patches(alloc: Global, spots: &[PatchSpot]) -> Result<Option<Vec<Patch>>, AllocError>
     ensures { IfOk result (λ found. IfSome found (λ patches. spread_all (map seen patches.items) ≡ shown_spots spots.now)) }
 {
     let mut patches = Vec::with_capacity(alloc, spots.len())?;

@@ -13,10 +13,10 @@ use Rattle.load_meaning.specs.declared.table.Target.{Target}
 use Rattle.load_meaning.specs.Pathnames.{paths_of}
 use Rattle.load_meaning.specs.LoadTable.{table_of, targets_of}
 use Rattle.load_meaning.specs.Loadable.{IsLoadable}
-use Rattle.link_meaning.specs.Member.{Member, RuntimeFile, Setting, setting_in}
+use Rattle.link_meaning.specs.Member.{Member, RuntimeFile, LinkSetting, setting_in}
 use Rattle.link_meaning.specs.Layout.{load_names}
 use Rattle.link_meaning.specs.LinkedCells.{targets}
-use Rattle.link_meaning.specs.LinkFaults.{Given, HasBytes, AreRuntimes}
+use Rattle.link_meaning.specs.LinkFaults.{LinkInput, HasBytes, AreRuntimes}
 use Rattle.link_meaning.specs.LinkWritten.{images, written_file}
 use Rattle.link_meaning.specs.EmitFaults.{IsLinkedTo}
 use Rattle.link_meaning.specs.LinkLoadable.{NamesNoSkipped, StandFor, IsCalled}
@@ -30,12 +30,12 @@ use Rattle.link_meaning.specs.laws.LinkLoadableLaws.{only_calls_reach_dynamic, i
 use Rattle.loader_machine.specs.Rule.{RoomRule}
 use Rattle.loader_machine.specs.declared.faults.LoaderFault.{LoaderFault}
 use Rattle.loader_machine.specs.declared.faults.LoaderFault.TheVariants as fault
-use Rattle.loader_machine.specs.declared.seen.Head.{Head}
+use Rattle.loader_machine.specs.declared.seen.SegmentHead.{SegmentHead}
 use Rattle.loader_machine.specs.Heads.{head_of, at_number}
 use Rattle.loader_machine.specs.State.{User, Machine, max_users}
 use Rattle.loader_machine.specs.Commands.{Load, Started, Refused, Reply}
 use Rattle.loader_machine.specs.Refusals.{Refuse, load_refusal, rows_refusal}
-use Rattle.loader_machine.specs.Found.{HoldsFile, HoldsLoad, Found, Unread, Good, IsFound, Joined, Stops, Joins, joined_behind, AreJoined}
+use Rattle.loader_machine.specs.Found.{HoldsFile, HoldsLoad, FileFound, Unread, Good, IsFound, Joined, Stops, Joins, joined_behind, AreJoined}
 use Rattle.loader_machine.specs.Steps.{Put, NoSlots, Lacks, PutIn, Lands, Begins, Decides, LoadsJoined, LoadsFound, is_reached, lost_from, lost_in, lost_refusal}
 use Rattle.loader_machine.specs.laws.OnceLaws.{found_once, joined_once}
 use Rattle.loader_agrees.specs.Agrees.{Loaded, Meets}
@@ -108,7 +108,7 @@ rows_come held (file ∷ files) (r ∷ runtimes) are there = by_size (nat_le (le
 
 -- ---- the entries of the table
 
-abbrev heads_in : List RuntimeFile → List (List Head)
+abbrev heads_in : List RuntimeFile → List (List SegmentHead)
 heads_in runtimes = map (map head_of) (map (λ r. r.segments) runtimes)
 
 -- an offset below LENGTH of a segment
@@ -116,9 +116,9 @@ inside_segment : (segments : List Segment) (number offset : ℕ) → offset < op
     → option_map_or (λ head. nat_lt offset head.length) (at_number (map head_of segments) number) false ≡ true
 inside_segment segments zero offset below = absurd (omega (arith, below))
 inside_segment segments (suc k) offset below =
-    ap (λ (o : Option Head). option_map_or (λ (head : Head). nat_lt offset head.length) o false) (slice_get-map head_of segments k) ∙ by_segment (slice_get segments k) below
+    ap (λ (o : Option SegmentHead). option_map_or (λ (head : SegmentHead). nat_lt offset head.length) o false) (slice_get-map head_of segments k) ∙ by_segment (slice_get segments k) below
   where
-    by_segment : (o : Option Segment) → offset < option_map_or (λ s. s.fields.length) o 0 → option_map_or (λ (head : Head). nat_lt offset head.length) (option_map head_of o) false ≡ true
+    by_segment : (o : Option Segment) → offset < option_map_or (λ s. s.fields.length) o 0 → option_map_or (λ (head : SegmentHead). nat_lt offset head.length) (option_map head_of o) false ≡ true
     by_segment None below' = absurd (omega (arith, below'))
     by_segment (Some s) below' = lt-ltb offset s.fields.length below'
 
@@ -144,13 +144,13 @@ none_lost list k [] called = refl
 none_lost list k (t ∷ ts) called =
     ap (λ (b : Bool). cond b (lost_from (heads_in (setting_in list).runtimes) (k + 1) ts) (Some k)) (reached list t called.0) ∙ none_lost list (k + 1) ts called.1
 
-none_in : (attached : List (List Head)) (segments : List Segment) (number : ℕ) (s : Segment) → segment_at segments number ≡ Some s → lost_from attached 0 (targets_of s) ≡ None
+none_in : (attached : List (List SegmentHead)) (segments : List Segment) (number : ℕ) (s : Segment) → segment_at segments number ≡ Some s → lost_from attached 0 (targets_of s) ≡ None
     → lost_in attached segments number ≡ None
 none_in attached segments number s there none = rw there (rw none refl)
 
 -- ---- a load
 
-module _ (given : Given) (output : List ℕ) (bytes : HasBytes given) (is : IsLinkedTo given output) (none : NamesNoSkipped is.list is.table)
+module _ (given : LinkInput) (output : List ℕ) (bytes : HasBytes given) (is : IsLinkedTo given output) (none : NamesNoSkipped is.list is.table)
     (held : FileMap) (path : List ℕ) (here : get held path ≡ Some output) (libraries : HoldsLibraries held given) (state : Machine) where
   loaded : (segments : List Segment) × IsLoadable output segments × StandFor is.list is.table segments
   loaded = is_loaded given output bytes is none
@@ -182,7 +182,7 @@ module _ (given : Given) (output : List ℕ) (bytes : HasBytes given) (is : IsLi
           rw number (rw rest refl)
 
   module _ (reply : Reply) (next : Machine) where
-    lands : (put : Put) (id : ℕ) (heads : List Head) (users : User → List (Option User)) → Lands state path id heads users put reply next → ReplyBegins reply
+    lands : (put : Put) (id : ℕ) (heads : List SegmentHead) (users : User → List (Option User)) → Lands state path id heads users put reply next → ReplyBegins reply
     lands NoSlots id heads users at = refused reply fault.NoHandle tt at.0
     lands (Lacks i) id heads users at = refused reply (fault.NoRoom _) tt at.0
     lands (PutIn handles slots) id heads users at = subst ReplyBegins (sym at.0) tt
@@ -201,19 +201,19 @@ module _ (given : Given) (output : List ℕ) (bytes : HasBytes given) (is : IsLi
     rows (Some why) e at = refused reply why (too_many (length state.users) (length (paths_of loaded.0)) why e) at.0
     rows None e at =
         let program = is.linkable.resolved.program in
-        let come = of_setting given is.list program (λ (s : Setting). (joined : Joined) × AreJoined held (map (λ r. r.path) s.runtimes) joined × Joining s.runtimes joined)
+        let come = of_setting given is.list program (λ (s : LinkSetting). (joined : Joined) × AreJoined held (map (λ r. r.path) s.runtimes) joined × Joining s.runtimes joined)
         (rows_come held [] [] tt tt) (rows_come held given.runtimes program.setting.runtimes program.is_setting.runtimes' libraries) in
         let same : come.0 ≡ at.0 = joined_once held (paths_of loaded.0) come.0 at.0 (subst (λ (paths : List (List ℕ)). AreJoined held paths come.0) (sym back.paths) come.1) at.1 in
         joins at.0 (subst (Joining (setting_in is.list).runtimes) same come.2) at.2
 
-    found : (f : Found) → IsFound held path f → LoadsFound RoomRule held state path f reply next → ReplyBegins reply
+    found : (f : FileFound) → IsFound held path f → LoadsFound RoomRule held state path f reply next → ReplyBegins reply
     found f is_found at =
         let good : HoldsLoad held path loaded.0 = record { file = output; is_held = (here, is_read_whole given output is); loadable = loaded.1 } in
         rows (rows_refusal (length state.users) (length (paths_of loaded.0))) refl
-        (subst (λ (g : Found). LoadsFound RoomRule held state path g reply next) (found_once held path f (Good loaded.0) is_found good) at)
+        (subst (λ (g : FileFound). LoadsFound RoomRule held state path g reply next) (found_once held path f (Good loaded.0) is_found good) at)
 
     steps : (r : Refuse) → load_refusal (length state.users) ≡ r
-        → Decides r state reply next ((f : Found) × IsFound held path f × LoadsFound RoomRule held state path f reply next) → ReplyBegins reply
+        → Decides r state reply next ((f : FileFound) × IsFound held path f × LoadsFound RoomRule held state path f reply next) → ReplyBegins reply
     steps None e at = found at.0 at.1 at.2
     steps (Some why) e at = refused reply why (full (length state.users) why e) at.0
 

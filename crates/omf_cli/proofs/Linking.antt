@@ -8,7 +8,7 @@ use Rattle.std.proofs.lemmas.List.{length-map, length-take, length-drop, take-ma
 use Rattle.lib_dict.specs.declared.member.Member.{Member}
 use Rattle.link_meaning.specs.declared.form.LinkForm.{LinkForm}
 use Rattle.link_meaning.specs.declared.form.LinkForm.TheVariants.{Program}
-use Rattle.link_meaning.specs.LinkFaults.{Given}
+use Rattle.link_meaning.specs.LinkFaults.{LinkInput}
 use Rattle.load_meaning.specs.Pathnames.{IsPath}
 use Rattle.link_resolve.specs.Runtimes.{files_of}
 use Rattle.link_resolve.specs.Resolved.{total_size, FewGiven, HavePaths, given_of}
@@ -83,5 +83,5 @@ given_parted paths files inputs behind runtimes front rest under =
     ap (λ (l : List (List ℕ)). made l (files_of runtimes)) inputs_are
     ∙ ap (λ (l : List (List ℕ × List ℕ)). made (take (length (all_bytes files) - length (words_of paths)) (all_bytes files)) l) (under ∙ ap (under_paths (words_of paths)) behind_are)
   where
-    made : List (List ℕ) → List (List ℕ × List ℕ) → Given
+    made : List (List ℕ) → List (List ℕ × List ℕ) → LinkInput
     made inputs runtimes = record { inputs = inputs; runtimes = runtimes; form = Program }

@@ -1,6 +1,6 @@
 -- Each end was reached by exactly its reads, where the count is below its end.
 use Rattle.std.proofs.Common.{◌≡◌, ℕ, zero, suc, ◌+◌, ◌-◌, ◌^◌, ◌≤◌, List, ◌∷◌, length, length-append, inl, inr, Option, Some, ap, ◌∙◌, arith}
-use Rattle.omf_io.specs.Counts.{one_more, risen}
+use Rattle.omf_io.specs.Counts.{one_more, saturating_sum}
 use Rattle.omf_making.specs.declared.status.Status.TheVariants as status
 use Rattle.omf_io.specs.Files.{StoreSeen}
 use Rattle.loader_agrees.specs.Agrees.{Loaded}
@@ -9,7 +9,7 @@ use Rattle.omf_io.specs.Outside.{Outside}
 use Rattle.omf_making.specs.Making.{MakesRun}
 use Rattle.omf_commands.specs.Script.{ScriptRun}
 
-risen-is : (more count : ℕ) → count + more ≤ 2 ^ 64 - 1 → risen more count ≡ count + more
+risen-is : (more count : ℕ) → count + more ≤ 2 ^ 64 - 1 → saturating_sum more count ≡ count + more
 risen-is zero count small = omega arith
 risen-is (suc more) count small = ap one_more (risen-is more count (omega arith)) ∙ omega arith
 

@@ -21,7 +21,7 @@ use Rattle.link_meaning.specs.Layout.{load_names, load_fields, load_headers}
 use Rattle.link_meaning.specs.LinkValues.{Told}
 use Rattle.link_meaning.specs.Fitting.{load_header, length_of}
 use Rattle.link_meaning.specs.LinkedCells.{table_number, targets}
-use Rattle.link_meaning.specs.LinkFaults.{Given, HasBytes, is_too_long}
+use Rattle.link_meaning.specs.LinkFaults.{LinkInput, HasBytes, is_too_long}
 use Rattle.link_meaning.specs.LinkWritten.{image_of, load_images, table_images, path_images, images}
 use Rattle.link_meaning.specs.EmitFaults.{IsLinkable}
 use Rattle.link_meaning.specs.LinkLoadable.{IsCalled}
@@ -107,7 +107,7 @@ abbrev pub HasTable : ℕ → List Target → List Segment → Type 0
 HasTable count ts segments = (table_of segments ≡ None)
     ⊎ ((s : Segment) × (segment_at segments (suc count) ≡ Some s) × (table_of segments ≡ Some (suc count)) × (targets_of s ≡ ts))
 
-module _ (given : Given) (list : List Member) (table : List Told) (bytes : HasBytes given) (is : IsLinkable given list table) where
+module _ (given : LinkInput) (list : List Member) (table : List Told) (bytes : HasBytes given) (is : IsLinkable given list table) where
   -- LENGTH of a load segment
   length_fits : (number : ℕ) → length_of (load_headers list) number ≤ 0xFFFFFF
   length_fits number = by_header (load_header (load_headers list) number) refl

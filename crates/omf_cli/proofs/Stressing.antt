@@ -23,7 +23,7 @@ use Rattle.link_meaning.specs.Layout.{load_names}
 use Rattle.link_meaning.specs.LinkedCells.{table_number, targets}
 use Rattle.link_meaning.specs.LinkWritten.{load_images, table_images, path_images, images}
 use Rattle.link_meaning.specs.laws.LinkWrittenLaws.{few_loads}
-use Rattle.link_meaning.specs.LinkFaults.{Given, plain, IsResolved}
+use Rattle.link_meaning.specs.LinkFaults.{LinkInput, plain, IsResolved}
 use Rattle.link_meaning.specs.EmitFaults.{IsFirstLinkFault, IsLinkedTo}
 use Rattle.link_meaning.specs.laws.EmitFaultLaws.{linkable_stands_for}
 use Rattle.link_meaning.specs.laws.LoadSegmentLaws.{is_read_whole}
@@ -56,7 +56,7 @@ length-paths : (number : ℕ) (runtimes : List RuntimeFile) → length (path_ima
 length-paths number [] = omega arith
 length-paths number (r ∷ runtimes) = omega arith
 
-few_images : (given : Given) (list : List Member) (table : List Told) → IsResolved given list → length (images list table) ≤ 256
+few_images : (given : LinkInput) (list : List Member) (table : List Told) → IsResolved given list → length (images list table) ≤ 256
 unfolding images
 few_images given list table resolved =
     let tables = table_images (table_number list) (targets list table) in

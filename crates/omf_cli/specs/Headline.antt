@@ -6,7 +6,7 @@ use Rattle.asm_meaning.specs.ObjectFile.{ObjectIsFile}
 use Rattle.link_meaning.specs.EmitFaults.{OneLinkAnswer}
 use Rattle.link_meaning.specs.LinkLoadable.{StandsForLinkedCells, OnlyCallsReachDynamic, IsLoadedWhereNoneSkipped}
 use Rattle.loader_agrees.specs.StepsOnce.{StepsOnce}
-use Rattle.omf_listing.specs.Listing.{IsListing}
+use Rattle.dump_lines.specs.Listing.{IsListing}
 use Rattle.omf_cli.specs.Loads.{LinkedFilesBegin}
 
 -- a file has one listing at most

@@ -5,7 +5,7 @@ use Rattle.link_meaning.specs.declared.form.LinkForm.{LinkForm}
 use Rattle.link_meaning.specs.declared.form.LinkForm.TheVariants.{Program}
 use Rattle.link_meaning.specs.declared.fault.LinkFault.{LinkFault}
 use Rattle.link_meaning.specs.declared.fault.LinkCause.TheVariants as causes
-use Rattle.link_meaning.specs.LinkFaults.{Given}
+use Rattle.link_meaning.specs.LinkFaults.{LinkInput}
 use Rattle.link_meaning.specs.EmitFaults.{IsFirstLinkFault, IsLinkedTo}
 use Rattle.omf_cli.specs.LinkCauses.{link_cause_name}
 use Rattle.omf_making.specs.Lines.{refused_line}
@@ -16,12 +16,12 @@ abbrev pub link_fault_line : LinkFault → List ℕ
 link_fault_line fault = refused_line (link_cause_name fault.cause) fault.name fault.spot.file fault.spot.segment fault.spot.at
 
 -- the load file of what is given, or the line of the first fault of all phases
-abbrev pub LinkMakes : Given → Made → Type 0
+abbrev pub LinkMakes : LinkInput → Made → Type 0
 LinkMakes given (Bytes output) = IsLinkedTo given output
 LinkMakes given (Refusal text) = (fault : LinkFault) × IsFirstLinkFault given fault × (text ≡ link_fault_line fault)
 
 -- all files are inputs, and are linked in this form
-abbrev pub given_alone : LinkForm → List (List ℕ) → Given
+abbrev pub given_alone : LinkForm → List (List ℕ) → LinkInput
 given_alone form files = record { inputs = files; runtimes = []; form = form }
 
 -- the files, each with its path
@@ -31,7 +31,7 @@ under_paths [] files = []
 under_paths (path ∷ paths) [] = []
 
 -- a program of files, of which the last are run-time library files with these paths
-abbrev pub given_with : List (List ℕ) → List (List ℕ) → Given
+abbrev pub given_with : List (List ℕ) → List (List ℕ) → LinkInput
 given_with paths files =
     let inputs = length files - length paths in
     record { inputs = take inputs files; runtimes = under_paths paths (drop inputs files); form = Program }

@@ -3,7 +3,7 @@ use Rattle.std.specs.Prelude.{◌≡◌, ℕ, List, Some, Result, Ok, Err}
 use Rattle.std.specs.List.{AllByRecursion}
 use Rattle.std.specs.FinMap.{get}
 use Rattle.omf_io.specs.Files.{FileMap}
-use Rattle.link_meaning.specs.LinkFaults.{Given, HasBytes}
+use Rattle.link_meaning.specs.LinkFaults.{LinkInput, HasBytes}
 use Rattle.link_meaning.specs.EmitFaults.{IsLinkedTo}
 use Rattle.link_meaning.specs.LinkLoadable.{NamesNoSkipped}
 use Rattle.loader_machine.specs.Rule.{RoomRule}
@@ -30,13 +30,13 @@ BeginsOrLacks (Ok started) = Unit {0}
 BeginsOrLacks (Err why) = LiesOutside why
 
 -- at the path of each run-time library file that was given, which is the path of its row, stands that very file
-abbrev pub HoldsLibraries : FileMap → Given → Type 0
+abbrev pub HoldsLibraries : FileMap → LinkInput → Type 0
 HoldsLibraries held given = AllByRecursion (λ file. get held file.0 ≡ Some file.1) given.runtimes
 
 -- Where a path holds a file that the linker wrote, no part of it and no entry of its jump table for the file itself names a skipped
 -- segment, and the run-time library files with which it was linked stand at the paths of its rows, a load of that path is answered by
 -- its program, or refused for a reason outside the file.
 abbrev pub LinkedFilesBegin : Type 0
-LinkedFilesBegin = (given : Given) (output : List ℕ) → HasBytes given → (is : IsLinkedTo given output) → NamesNoSkipped is.list is.table
+LinkedFilesBegin = (given : LinkInput) (output : List ℕ) → HasBytes given → (is : IsLinkedTo given output) → NamesNoSkipped is.list is.table
     → (held : FileMap) (path : List ℕ) → get held path ≡ Some output → HoldsLibraries held given
     → (state : Machine) (result : Result Started LoaderFault) (new : Loaded) (before now : ℕ) → Meets RoomRule held state (Load path) (load_reply result) new before now → BeginsOrLacks result

@@ -136,7 +136,10 @@ fn under_paths(
 }
 
 /// The files but the last so many, and these.
-fn parted(mut files: Vec<Vec<u8>>, count: usize) -> Result<(Vec<Vec<u8>>, Vec<Vec<u8>>), AllocError>
+fn split_last(
+    mut files: Vec<Vec<u8>>,
+    count: usize,
+) -> Result<(Vec<Vec<u8>>, Vec<Vec<u8>>), AllocError>
     ensures front { IfOk result (λ parts. parts.0.items ≡ take (length files.items - count) files.items) }
     ensures behind { IfOk result (λ parts. parts.1.items ≡ drop (length files.items - count) files.items) }
 {
@@ -162,7 +165,7 @@ fn make_with(alloc: Global, files: Vec<Vec<u8>>, paths: &[String]) -> Result<Mak
     requires printing { IsTrue (are_printing (words_of paths.now)) }
     ensures { IfOk result (λ made. LinkMakes (given_with (words_of paths.now) (all_bytes files.items)) (made_of made)) }
 {
-    let (inputs, behind) = parted(files, paths.len())?;
+    let (inputs, behind) = split_last(files, paths.len())?;
     let runtimes = under_paths(alloc, paths, behind)?;
     make_of(alloc, &inputs, &runtimes, LinkForm::Program)
 }

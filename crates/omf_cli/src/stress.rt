@@ -20,13 +20,13 @@ use sys_loader::Loader;
 use workload::{Draws, ReliableFiles, Worked, object, work};
 
 /// The numbers of an object are bytes.
-fn know_bytes(object: &[u8])
+fn recall_bytes(object: &[u8])
     ensures { IsBytes object.now }
 {}
 
 /// The load file of a workload's object, which has no fault.
 #[tactic(auto, using(crate::proofs::Stressing::few_object))]
-fn linked(alloc: Global, inputs: &Vec<Vec<u8>>) -> Result<Vec<u8>, AllocError>
+fn link_object(alloc: Global, inputs: &Vec<Vec<u8>>) -> Result<Vec<u8>, AllocError>
     requires { IsOfWorkload (all_bytes inputs.now.items) }
     ensures { IfOk result (λ file. IsLinkedTo (plain (all_bytes inputs.now.items)) file.items) }
 {
@@ -45,7 +45,7 @@ fn count_of(alloc: Global, object: &[u8], file: &[u8]) -> Result<u16, AllocError
     ensures count { IfOk result (λ count. HasSegments file.now count) }
     ensures few { IfOk result (λ count. count ≤ 256) }
 {
-    know_bytes(object);
+    recall_bytes(object);
     match segments(alloc, file) {
         Ok(list) => Ok(list.count() as u16),
         Err(fault) => match fault.cause {
@@ -82,10 +82,10 @@ fn store_of(alloc: Global, object: Vec<u8>) -> Result<(ReliableFiles, u16), Allo
     ensures store { IfOk result (λ held. IsStore object.items held.0.files held.1) }
     ensures few { IfOk result (λ held. held.1 ≤ 256) }
 {
-    know_bytes(&object);
+    recall_bytes(&object);
     let mut inputs = Vec::new(alloc);
     inputs.push(object)?;
-    let file = linked(alloc, &inputs)?;
+    let file = link_object(alloc, &inputs)?;
     let count = count_of(alloc, &inputs[0], &file)?;
     let mut files = ReliableFiles::new(alloc);
     files.set("prog", &file)?;

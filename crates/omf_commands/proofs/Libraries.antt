@@ -8,7 +8,7 @@ use Rattle.std.proofs.lemmas.List.{append-nil, length-append, length-map, map-ap
 use Rattle.std.proofs.lemmas.List.Elements.{All-push}
 use Rattle.omf_io.specs.Files.{max_file}
 use Rattle.lib_dict.specs.declared.member.Member.{Member}
-use Rattle.lib_dict.specs.Library.{Given}
+use Rattle.lib_dict.specs.Library.{LibraryInput}
 use Rattle.lib_dict.specs.Made.{given_file}
 use Rattle.omf_making.specs.Words.{is_path, are_paths, words_of}
 use Rattle.omf_making.specs.Made.{all_bytes, AreShort}
@@ -86,13 +86,13 @@ gathered_more paths files i members new path file m g short lt is there name byt
       count = omega (arith, ap length is_new, length-append members (m ∷ []), g.count);
       whole =
           g.whole
-          ∙ ap (λ (l : List Given). map given_file members ++ l) one
+          ∙ ap (λ (l : List LibraryInput). map given_file members ++ l) one
           ∙ sym (append_assoc (map given_file members) (given_file m ∷ []) rest)
-          ∙ ap (λ (l : List Given). l ++ rest) (sym (ap (map given_file) is_new ∙ map-append given_file members (m ∷ [])));
+          ∙ ap (λ (l : List LibraryInput). l ++ rest) (sym (ap (map given_file) is_new ∙ map-append given_file members (m ∷ [])));
       short = subst (All (λ m. length m.bytes.items < 2 ^ 32)) (sym is_new) (All-push (λ m. length m.bytes.items < 2 ^ 32) members m g.short small);
     }
   where
-    made : List ℕ → List ℕ → Given
+    made : List ℕ → List ℕ → LibraryInput
     made name bytes = record { name = name; bytes = bytes }
 
 none_of : (paths : List (List ℕ)) → given_of paths [] ≡ []
@@ -107,6 +107,6 @@ gathered_files paths files i members g none =
     sym (
     g.whole
     ∙ ap (λ (l : List (List ℕ)). map given_file members ++ given_of (drop i (words_of paths)) l) left
-    ∙ ap (λ (l : List Given). map given_file members ++ l) (none_of (drop i (words_of paths)))
+    ∙ ap (λ (l : List LibraryInput). map given_file members ++ l) (none_of (drop i (words_of paths)))
     ∙ append-nil (map given_file members)
     )

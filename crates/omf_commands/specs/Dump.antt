@@ -2,7 +2,7 @@
 use Rattle.std.specs.Prelude.{◌≡◌, ℕ, List, None}
 use Rattle.omf_format.specs.declared.fault.FileFault.{FileFault}
 use Rattle.omf_format.specs.File.{IsFirstFault}
-use Rattle.omf_listing.specs.Listing.{IsListing}
+use Rattle.dump_lines.specs.Listing.{IsListing}
 use Rattle.omf_making.specs.FileCauses.{cause_name}
 use Rattle.omf_making.specs.Lines.{refused_line}
 use Rattle.omf_making.specs.Made.{Made, Bytes, Refusal, first_of}

@@ -2,14 +2,14 @@
 use Rattle.std.specs.Prelude.{◌≡◌, ◌≢◌, ℕ, List, [], ◌∷◌, None}
 use Rattle.lib_dict.specs.declared.fault.LibFault.{LibFault}
 use Rattle.lib_dict.specs.declared.fault.LibCause.TheVariants as lib
-use Rattle.lib_dict.specs.Library.{Given, IsLibraryOf}
+use Rattle.lib_dict.specs.Library.{LibraryInput, IsLibraryOf}
 use Rattle.lib_dict.specs.Made.{IsLibRefused}
 use Rattle.omf_commands.specs.LibCauses.{lib_cause_name}
 use Rattle.omf_making.specs.Lines.{refused_line}
 use Rattle.omf_making.specs.Made.{Made, Bytes, Refusal}
 
 -- the files, each with its path as its name
-abbrev pub given_of : List (List ℕ) → List (List ℕ) → List Given
+abbrev pub given_of : List (List ℕ) → List (List ℕ) → List LibraryInput
 given_of (path ∷ paths) (file ∷ files) = record { name = path; bytes = file } ∷ given_of paths files
 given_of [] files = []
 given_of (path ∷ paths) [] = []

@@ -1,7 +1,7 @@
 //! `dump`: the listing of a file.
 
+use dump_lines::dump_file;
 use omf_base::Spot;
-use omf_listing::list_file;
 use omf_making::{Maker, Making, cause_name, first_of, refused_line};
 use omf_records::FileCause;
 use std::alloc::{AllocError, Global};
@@ -14,7 +14,7 @@ impl Maker for Dump {
     ghost makes = { λ _ files made. DumpMakes files made };
 
     fn make(&self, alloc: Global, files: Vec<Vec<u8>>) -> Result<Making, AllocError> {
-        let fault = match list_file(alloc, first_of(&files)) {
+        let fault = match dump_file(alloc, first_of(&files)) {
             Ok(text) => return Ok(Making::Bytes(text.into_bytes())),
             Err(fault) => fault,
         };

@@ -12,11 +12,11 @@ use Rattle.omf_format.specs.Header.{Fields, form_of}
 use Rattle.omf_format.specs.Record.{Record, LongConst, spelling}
 use Rattle.omf_format.specs.File.{Segment, segment_at}
 use Rattle.load_meaning.specs.Cells.{Cell, Byte, Part, Patch, parts_from, segment_bytes, patches_of, cells}
-use Rattle.load_meaning.specs.WrittenBody.{AreWritten, with_stored, zeros_behind, written_cells, written_data, data_records, lone, lone_record, supers_from, body_records, body_text}
+use Rattle.load_meaning.specs.WrittenBody.{AreWritten, with_stored, zeros_behind, written_cells, written_data, data_records, patches_stored_alone, lone_record, supers_from, body_records, body_text}
 use Rattle.load_meaning.specs.laws.CellLaws.{length-cells, length-segment_bytes}
 use Rattle.load_meaning.specs.laws.LayingLaws.{get-front, get-take, Missed, same_laid}
 use Rattle.load_meaning.specs.laws.StoredLaws.{zeros-le, written_apart, parts, patched-laid, stored-laid, fit-stored, fit-cells}
-use Rattle.load_meaning.specs.WrittenBody.{stored}
+use Rattle.load_meaning.specs.WrittenBody.{stored_bytes}
 use Rattle.omf_cells.specs.Whole.{front_of, front_at, data_at}
 use Rattle.omf_compact.specs.Stretches.{first_broken, stretches, byte_in, bytes_in, IsWrittenCell}
 use Rattle.omf_compact.specs.Canonical.{plain_of, is_pathname, canon_fields, canon_segment}
@@ -36,7 +36,7 @@ module _ (own : ℕ) (ps : List Patch) (xs ys : List ℕ) (size : length xs ≡ 
   same_stored : with_stored own xs ps ≡ with_stored own ys ps
   same_stored =
       stored-laid own xs ps
-      ∙ same_laid (stored own) ps ps xs ys size (fit-stored own (length xs) ps are) (written_apart (length xs) 0 ps are) (λ p h. h) (λ p h. h) same
+      ∙ same_laid (stored_bytes own) ps ps xs ys size (fit-stored own (length xs) ps are) (written_apart (length xs) 0 ps are) (λ p h. h) (λ p h. h) same
       ∙ sym (stored-laid own ys ps)
 
   same_cells : written_cells xs ps ≡ written_cells ys ps
@@ -50,9 +50,9 @@ module _ (own : ℕ) (ps : List Patch) (xs ys : List ℕ) (size : length xs ≡ 
   pub same_body : body_records own xs ps ≡ body_records own ys ps
   unfolding body_records written_data
   same_body =
-      ap (λ (l : List Cell). data_records (take (length xs - zeros_behind l) (with_stored own xs ps)) ++ (map (lone_record own) (lone own ps) ++ supers_from own ps 0 38)) same_cells
-      ∙ ap (λ (n : ℕ). data_records (take (n - zeros_behind (written_cells ys ps)) (with_stored own xs ps)) ++ (map (lone_record own) (lone own ps) ++ supers_from own ps 0 38)) size
-      ∙ ap (λ (l : List ℕ). data_records (take (length ys - zeros_behind (written_cells ys ps)) l) ++ (map (lone_record own) (lone own ps) ++ supers_from own ps 0 38)) same_stored
+      ap (λ (l : List Cell). data_records (take (length xs - zeros_behind l) (with_stored own xs ps)) ++ (map (lone_record own) (patches_stored_alone own ps) ++ supers_from own ps 0 38)) same_cells
+      ∙ ap (λ (n : ℕ). data_records (take (n - zeros_behind (written_cells ys ps)) (with_stored own xs ps)) ++ (map (lone_record own) (patches_stored_alone own ps) ++ supers_from own ps 0 38)) size
+      ∙ ap (λ (l : List ℕ). data_records (take (length ys - zeros_behind (written_cells ys ps)) l) ++ (map (lone_record own) (patches_stored_alone own ps) ++ supers_from own ps 0 38)) same_stored
 
 -- ---- the cells up to the last that isn't a byte 0
 

@@ -7,7 +7,7 @@ use Rattle.std.proofs.lemmas.List.Concat.{flat_map-cons}
 use Rattle.omf_format.specs.Field.{written_layout}
 use Rattle.omf_format.specs.Record.{Record, End, Const, LongConst, Align, Org, Space, Reloc, InterSeg, ShortReloc, ShortInterSeg, Super, Using, Strong, Label, Equate, Formula, Entry, IsRecord, spelling}
 use Rattle.omf_format.specs.File.{Segment, segment_at}
-use Rattle.load_meaning.specs.Exports.{Export, exported, exports_from, exports_of}
+use Rattle.load_meaning.specs.Exports.{Export, exports_of_record, exports_from, exports_of}
 use Rattle.omf_compact.specs.Canonical.{is_entry}
 use Rattle.omf_compact.specs.laws.Writing.{IsKnown, entry_of, entries_text, AtExports}
 use Rattle.omf_compact.specs.laws.HeldLaws.{entries-are}
@@ -25,21 +25,21 @@ drop_next (y ∷ xs) (suc i) x e = let step : suc i + 1 ≡ suc (i + 1) = omega 
 
 -- what the records of the segment with this number export
 abbrev pub exports_in : ℕ → List (ℕ × Record) → List Export
-exports_in number founds = flat_map (λ found. exported number found.1) founds
+exports_in number founds = flat_map (λ found. exports_of_record number found.1) founds
 
 -- the records of exports
 abbrev pub records_for : List Export → List Record
 records_for es = map entry_of es
 
-one_more : (number : ℕ) (found : ℕ × Record) (founds : List (ℕ × Record)) → exports_in number (found ∷ founds) ≡ exported number found.1 ++ exports_in number founds
-one_more number found founds = flat_map-cons (λ (f : ℕ × Record). exported number f.1) found founds
+one_more : (number : ℕ) (found : ℕ × Record) (founds : List (ℕ × Record)) → exports_in number (found ∷ founds) ≡ exports_of_record number found.1 ++ exports_in number founds
+one_more number found founds = flat_map-cons (λ (f : ℕ × Record). exports_of_record number f.1) found founds
 
 entries-records : (number : ℕ) (founds : List (ℕ × Record)) → records_for (exports_in number founds) ≡ filter is_entry (map (λ (found : ℕ × Record). found.1) founds)
 entries-records number [] = refl
 entries-records number (found ∷ founds) = ap records_for (one_more number found founds) ∙ by_record found.1 (entries-records number founds)
   where
     by_record : (r : Record) → records_for (exports_in number founds) ≡ filter is_entry (map (λ (of : ℕ × Record). of.1) founds)
-        → records_for (exported number r ++ exports_in number founds) ≡ filter is_entry (r ∷ map (λ (of : ℕ × Record). of.1) founds)
+        → records_for (exports_of_record number r ++ exports_in number founds) ≡ filter is_entry (r ∷ map (λ (of : ℕ × Record). of.1) founds)
     by_record (Entry segment offset name) rest = ap (λ (l : List Record). Entry segment offset name ∷ l) rest
     by_record End rest = rest
     by_record (Const bytes) rest = rest
@@ -58,7 +58,7 @@ entries-records number (found ∷ founds) = ap records_for (one_more number foun
     by_record (Equate global name size form private expr) rest = rest
     by_record (Formula code count n expr) rest = rest
 
-held-by : (number : ℕ) (r : Record) → AllByRecursion (λ e. e.holder ≡ number) (exported number r)
+held-by : (number : ℕ) (r : Record) → AllByRecursion (λ e. e.holder ≡ number) (exports_of_record number r)
 held-by number (Entry segment offset name) = (refl, tt)
 held-by number End = tt
 held-by number (Const bytes) = tt
@@ -85,7 +85,7 @@ all-held : (number : ℕ) (founds : List (ℕ × Record)) → AllByRecursion (λ
 all-held number [] = tt
 all-held number (found ∷ founds) =
     subst (AllByRecursion (λ e. e.holder ≡ number)) (sym (one_more number found founds))
-    (both-held (λ e. e.holder ≡ number) (exported number found.1) (exports_in number founds) (held-by number found.1) (all-held number founds))
+    (both-held (λ e. e.holder ≡ number) (exports_of_record number found.1) (exports_in number founds) (held-by number found.1) (all-held number founds))
 
 weaker : (P Q : Export → Type 0) (es : List Export) → ((e : Export) → P e → Q e) → AllByRecursion P es → AllByRecursion Q es
 weaker P Q [] f all = tt

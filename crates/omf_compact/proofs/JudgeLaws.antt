@@ -12,8 +12,8 @@ use Rattle.load_meaning.specs.Cells.{Cell, Patch, segment_bytes, cells}
 use Rattle.load_meaning.specs.WrittenBody.{written_cells}
 use Rattle.load_meaning.specs.laws.CellLaws.{length-segment_bytes}
 use Rattle.load_meaning.specs.laws.LayingLaws.{get-front, get-behind}
-use Rattle.written_bodies.specs.declared.written.Patch as code
-use Rattle.written_bodies.specs.WrittenParts.{seen}
+use Rattle.load_writer.specs.declared.written.Patch as code
+use Rattle.load_writer.specs.WrittenParts.{seen}
 use Rattle.omf_cells.specs.Whole.{AreSpaced, AreWhole, HasWhole}
 use Rattle.omf_compact.specs.Stretches.{first_broken, stretches, IsWrittenCell}
 use Rattle.omf_compact.specs.Canonical.{plain_of, plain, broken_in}

@@ -6,7 +6,7 @@ ghost use Rattle.omf_compact.specs.Answer.{IsAnswer, IsRefused};
 
 use crate::fault::{CompactCause, CompactFault, of_load};
 use crate::head::WriteFault;
-use crate::judge::judged;
+use crate::judge::patches_or_broken_part;
 use crate::segments::put_segments;
 use omf_cells::read_load;
 use std::alloc::Global;
@@ -31,7 +31,7 @@ pub fn canonical(alloc: Global, file: &[u8]) -> Result<Vec<u8>, CompactFault>
         Ok(load) => load,
         Err(fault) => return Err(of_load(fault)),
     };
-    let lists = judged(alloc, &load)?;
+    let lists = patches_or_broken_part(alloc, &load)?;
     let mut out = Vec::new(alloc);
     // As much as the file has is mostly enough. Where there isn't so much, it is asked for piece by piece.
     let _ = out.reserve(file.len());

@@ -3,13 +3,13 @@
 ghost use Rattle.std.specs.Prelude.{◌≡◌, ◌≤◌, ◌<◌, ◌++◌, Some, true, false, length, map, take, IfOk, IfErr, OnOk, IsErrOf};
 ghost use Rattle.omf_format.specs.File.{Segment, segment_at};
 ghost use Rattle.omf_header.specs.View.{fields};
-ghost use Rattle.written_bodies.specs.WrittenParts.{seen};
+ghost use Rattle.load_writer.specs.WrittenParts.{seen};
 ghost use Rattle.omf_cells.specs.Whole.{front_at, data_at};
 ghost use Rattle.omf_compact.specs.Canonical.{plain_of, is_pathname, canon_fields, canon_segment};
 ghost use Rattle.omf_compact.specs.laws.Writing.{IsKnown, HasSegment, HasStretches, first_text};
 
 use crate::head::WriteFault;
-use omf_base::front;
+use omf_base::first_items;
 use omf_cells::{LoadFile, Patch, put_body};
 use omf_header::Header;
 use omf_records::{Rec, put_record};
@@ -70,7 +70,7 @@ fn put_plain(
                     out,
                     load,
                     number,
-                    front(bytes, size as usize),
+                    first_items(bytes, size as usize),
                     patches,
                 );
             }

@@ -67,7 +67,7 @@ impl From<PutFault> for WriteFault {
 }
 
 /// The header with so many zeros behind the data, without what its writing gives it.
-fn spaced(alloc: Global, header: &Header, zeros: u32) -> Result<Header, WriteFault>
+fn with_reserved_zeros(alloc: Global, header: &Header, zeros: u32) -> Result<Header, WriteFault>
     ensures ok { IfOk result (λ written. fields written ≡ fields_with (fields header.now) zeros) }
     ensures memory_alone { IfErr result (λ fault. fault ≡ WriteFault.Memory) }
 {
@@ -109,7 +109,7 @@ pub fn front_of(
     if size >= MOST_BYTES {
         return Err(WriteFault::TooLong);
     }
-    let written = spaced(alloc, header, zeros)?;
+    let written = with_reserved_zeros(alloc, header, zeros)?;
     match write_header(alloc, &written, size as u32 + 1) {
         Ok(front) => Ok(front),
         Err(WriteHeaderFault::TooLong) => Err(WriteFault::TooLong),
@@ -118,7 +118,7 @@ pub fn front_of(
 }
 
 /// How many bytes a header has.
-pub fn head_size(header: &Header) -> usize
+pub fn header_size(header: &Header) -> usize
     ensures value { result ≡ 0x37 + length header.now.name }
     ensures few { result < 2 ^ 9 }
 {
@@ -161,6 +161,6 @@ pub fn close(out: &mut Vec<u8>, start: usize, front: &[u8]) -> Result<(), WriteF
 }
 
 /// LOADNAME has ten bytes.
-pub fn know_size(load_name: [u8; 10])
+pub fn recall_header_size(load_name: [u8; 10])
     ensures { length load_name ≡ 10 }
 {}

@@ -13,9 +13,9 @@ use omf_cells::{LoadFile, Patch};
 use std::alloc::{AllocError, Global};
 
 /// The patches of the cells of the segment with this number, or its first broken part.
-fn parted(alloc: Global, load: &LoadFile, number: u32) -> Result<Parted, AllocError>
+fn patches_of_segment(alloc: Global, load: &LoadFile, number: u32) -> Result<Parted, AllocError>
     requires { IsKnown load.now }
-    ensures { IfOk result (λ parted. (s : Segment) → segment_at load.now number ≡ Some s → IsParted (cells s) parted) }
+    ensures { IfOk result (λ patches_of_segment. (s : Segment) → segment_at load.now number ≡ Some s → IsParted (cells s) patches_of_segment) }
 {
     match load.patches(alloc, number)? {
         Some(patches) => Ok(Parted::Patches(patches)),
@@ -24,7 +24,10 @@ fn parted(alloc: Global, load: &LoadFile, number: u32) -> Result<Parted, AllocEr
 }
 
 /// The patches of each segment, or the first broken part.
-pub fn judged(alloc: Global, load: &LoadFile) -> Result<Vec<Vec<Patch>>, CompactFault>
+pub fn patches_or_broken_part(
+    alloc: Global,
+    load: &LoadFile,
+) -> Result<Vec<Vec<Patch>>, CompactFault>
     requires { IsKnown load.now }
     ensures whole { IfOk result (λ lists. broken_in 1 (plain load.now) ≡ None) }
     ensures lists { IfOk result (λ lists. AreStretches load.now lists.items) }
@@ -32,7 +35,7 @@ pub fn judged(alloc: Global, load: &LoadFile) -> Result<Vec<Vec<Patch>>, Compact
 {
     let mut lists = Vec::new(alloc);
     'segments: for place in 0..load.count() {
-        match parted(alloc, load, place + 1)? {
+        match patches_of_segment(alloc, load, place + 1)? {
             Parted::Patches(patches) => lists.push(patches)?,
             Parted::Broken(at) => {
                 return Err(CompactFault {

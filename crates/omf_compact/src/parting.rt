@@ -4,7 +4,7 @@ ghost use Rattle.std.specs.Prelude.{◌≡◌, ◌<◌, true, false, map, Some, 
 ghost use Rattle.std.specs.List.{AllByRecursion};
 ghost use Rattle.omf_format.specs.File.{Segment, segment_at};
 ghost use Rattle.load_meaning.specs.Cells.{cells, cell_at};
-ghost use Rattle.written_bodies.specs.WrittenParts.{seen};
+ghost use Rattle.load_writer.specs.WrittenParts.{seen};
 ghost use Rattle.omf_compact.specs.Stretches.{IsWrittenCell};
 ghost use Rattle.omf_compact.specs.laws.Walk.{placed, goes_on, with_part, IsNoPart, IsPartAt, IsParted};
 
@@ -44,7 +44,7 @@ fn goes_on(patch: &Patch, part: &Single) -> bool
 fn extend(patches: &mut Vec<Patch>, part: &Single) -> Result<bool, AllocError>
     requires some { (part.now).index ≡ 0 → ⊥ }
     requires few { (part.now).index < 4 }
-    ensures put { IfOk result (λ ok. ok ≡ true → with_part (map seen patches.old.items) (placed part.now).0 (placed part.now).1 ≡ Some (map seen patches.new.items)) }
+    ensures append_part { IfOk result (λ ok. ok ≡ true → with_part (map seen patches.old.items) (placed part.now).0 (placed part.now).1 ≡ Some (map seen patches.new.items)) }
     ensures broken { IfOk result (λ ok. ok ≡ false → with_part (map seen patches.old.items) (placed part.now).0 (placed part.now).1 ≡ None) }
 {
     let mut last = match patches.pop() {
@@ -60,9 +60,9 @@ fn extend(patches: &mut Vec<Patch>, part: &Single) -> Result<bool, AllocError>
 }
 
 /// Adds a part to the patches, if it isn't broken.
-fn put(patches: &mut Vec<Patch>, part: &Single) -> Result<bool, AllocError>
+fn append_part(patches: &mut Vec<Patch>, part: &Single) -> Result<bool, AllocError>
     requires { (part.now).index < 4 }
-    ensures put { IfOk result (λ ok. ok ≡ true → with_part (map seen patches.old.items) (placed part.now).0 (placed part.now).1 ≡ Some (map seen patches.new.items)) }
+    ensures append_part { IfOk result (λ ok. ok ≡ true → with_part (map seen patches.old.items) (placed part.now).0 (placed part.now).1 ≡ Some (map seen patches.new.items)) }
     ensures broken { IfOk result (λ ok. ok ≡ false → with_part (map seen patches.old.items) (placed part.now).0 (placed part.now).1 ≡ None) }
 {
     if part.index > 0 {
@@ -115,7 +115,7 @@ pub fn part_cells(alloc: Global, load: &LoadFile, number: u32) -> Result<Parted,
     'cells: for at in 0..end {
         match part_at(load, number, at) {
             Some(part) => {
-                if !put(&mut patches, &part)? {
+                if !append_part(&mut patches, &part)? {
                     return Ok(Parted::Broken(at));
                 }
             }

@@ -2,13 +2,13 @@
 
 ghost use Rattle.std.specs.Prelude.{◌≡◌, ◌≤◌, ◌+◌, ◌<◌, ◌++◌, [], ◌∷◌, Some, length, map, slice_get, IfOk, IfErr, OnOk, IsErrOf, MatchOption};
 ghost use Rattle.omf_format.specs.File.{Segment, segment_at};
-ghost use Rattle.written_bodies.specs.WrittenParts.{seen};
+ghost use Rattle.load_writer.specs.WrittenParts.{seen};
 ghost use Rattle.omf_compact.specs.Canonical.{plain_of, plain, canon_segment, canon};
 ghost use Rattle.omf_compact.specs.laws.Writing.{IsKnown, HasSegment, HasStretches, AreStretches, AtExports};
 
 use crate::content::put_content;
 use crate::exports::put_exports;
-use crate::head::{WriteFault, close, front_of, head_size, know_size, put_room};
+use crate::head::{WriteFault, close, front_of, header_size, put_room, recall_header_size};
 use omf_cells::{LoadFile, Patch};
 use std::alloc::Global;
 
@@ -37,9 +37,9 @@ fn put_segment(
         Some(header) => header,
         None => unreachable!(),
     };
-    know_size(header.load_name);
+    recall_header_size(header.load_name);
     let start = out.as_slice().len();
-    let room = head_size(header);
+    let room = header_size(header);
     put_room(out, room)?;
     let zeros = put_content(alloc, out, load, header, patches)?;
     let next = put_exports(out, load, header.seg_num, place)?;

@@ -11,7 +11,7 @@ use Rattle.omf_format.specs.laws.TermLaws.{term_takes_some}
 use Rattle.omf_format.specs.laws.TreeLaws.{tree_has_terms, operand_counts}
 use Rattle.omf_format.specs.laws.ExpressionLaws.{tree_leads_to_one, one-tree}
 use Rattle.omf_format.specs.Value.{Environment, operand_value, apply_one, apply_two, value}
-use Rattle.omf_expr.specs.Machine.{step_one, step_two, step, run}
+use Rattle.omf_expr.specs.Machine.{step_one, step_two, step, run_terms}
 use Rattle.omf_expr.proofs.TreeRuns.{run-tree}
 use Rattle.omf_expr.proofs.TermRuns.{First, first_is, no_terms, never_cut}
 
@@ -24,12 +24,12 @@ pub record Going (env : Environment) (l : ℕ) (text left : List ℕ) (pending :
   pub within : length left ≤ length text
   pub room : length pending ≤ 64
   pub leads : Lead (length pending) terms 1
-  pub same : run env l (length text - length left) terms pending ≡ (value env l 0 tree >>= λ v. Ok (v ∷ []))
+  pub same : run_terms env l (length text - length left) terms pending ≡ (value env l 0 tree >>= λ v. Ok (v ∷ []))
 
 pub going_begin : (env : Environment) (l : ℕ) (text : List ℕ) → IsExpression l text → Going env l text text []
 going_begin env l text is =
     let place : length text - length text ≡ 0 = omega arith in
-    let runs : run env l 0 (terms_of is.tree ++ []) [] ≡ (value env l 0 is.tree >>= λ v. Ok (v ∷ [])) = run-tree env l 0 is.tree [] [] is.spells.formed in
+    let runs : run_terms env l 0 (terms_of is.tree ++ []) [] ≡ (value env l 0 is.tree >>= λ v. Ok (v ∷ [])) = run-tree env l 0 is.tree [] [] is.spells.formed in
     record {
       tree = is.tree;
       spells = is.spells;
@@ -90,7 +90,7 @@ pub record Splits (env : Environment) (l : ℕ) (text left : List ℕ) (pending 
   pub some : operands_of term ≤ length pending
   pub room : pending_behind (length pending) term ≤ 64
   pub leads : Lead (pending_behind (length pending) term) others 1
-  pub same : (step env (length text - length left) term pending >>= λ after. run env l (length text - length left + length (term_text l term)) others after) ≡ (value env l 0 tree >>= λ v. Ok (v ∷ []))
+  pub same : (step env (length text - length left) term pending >>= λ after. run_terms env l (length text - length left + length (term_text l term)) others after) ≡ (value env l 0 tree >>= λ v. Ok (v ∷ []))
 
 pub splits : (env : Environment) (l : ℕ) (text left : List ℕ) (pending : List Value) (term : Term) (rest : List ℕ) → Going env l text left pending → term_field l left ≡ Ok (Some term, rest) → Splits env l text left pending term rest
 splits env l text left pending term rest g read = at_first (first_is l left rest g.terms term g.formed g.parts read)
@@ -110,7 +110,7 @@ splits env l text left pending term rest g read = at_first (first_is l left rest
           some = leads.0;
           room = leads.1;
           leads = leads.2;
-          same = subst (λ (ts : List Term). run env l (length text - length left) ts pending ≡ (value env l 0 g.tree >>= λ v. Ok (v ∷ []))) f.split g.same;
+          same = subst (λ (ts : List Term). run_terms env l (length text - length left) ts pending ≡ (value env l 0 g.tree >>= λ v. Ok (v ∷ []))) f.split g.same;
         }
 
 pub going_some : (env : Environment) (l : ℕ) (text left : List ℕ) (pending : List Value) (term : Term) (rest : List ℕ) → Going env l text left pending → term_field l left ≡ Ok (Some term, rest) → operands_of term ≤ length pending
@@ -127,8 +127,8 @@ going_more env l text left pending after term rest g read e =
     let within : length left ≤ length text = g.within in
     let some = term_takes_some l term in
     let place : length text - length left + length (term_text l term) ≡ length text - length rest = omega (arith, s.size) in
-    let on : run env l (length text - length left + length (term_text l term)) s.others after ≡ (value env l 0 s.tree >>= λ v. Ok (v ∷ [])) =
-    sym (ap (λ (r : Result (List Value) ValueFault). r >>= λ x. run env l (length text - length left + length (term_text l term)) s.others x) e) ∙ s.same in
+    let on : run_terms env l (length text - length left + length (term_text l term)) s.others after ≡ (value env l 0 s.tree >>= λ v. Ok (v ∷ [])) =
+    sym (ap (λ (r : Result (List Value) ValueFault). r >>= λ x. run_terms env l (length text - length left + length (term_text l term)) s.others x) e) ∙ s.same in
     record {
       tree = s.tree;
       spells = s.spells;
@@ -138,7 +138,7 @@ going_more env l text left pending after term rest g read e =
       within = omega (arith, s.size);
       room = omega (arith, s.room, height);
       leads = subst (λ (p : ℕ). Lead p s.others 1) (sym height) s.leads;
-      same = subst (λ (k : ℕ). run env l k s.others after ≡ (value env l 0 s.tree >>= λ v. Ok (v ∷ []))) place on;
+      same = subst (λ (k : ℕ). run_terms env l k s.others after ≡ (value env l 0 s.tree >>= λ v. Ok (v ∷ []))) place on;
     }
 
 bind_fault : (r : Result Value ValueFault) (fault : ValueFault) → Err fault ≡ (r >>= λ v. Ok (v ∷ [])) → Err fault ≡ r
@@ -154,14 +154,14 @@ pub going_fault : (env : Environment) (l : ℕ) (text left : List ℕ) (pending 
 going_fault env l text left pending term rest fault tree g read e is =
     let s = splits env l text left pending term rest g read in
     let failed : Err fault ≡ (value env l 0 s.tree >>= λ v. Ok (v ∷ [])) =
-    sym (ap (λ (r : Result (List Value) ValueFault). r >>= λ x. run env l (length text - length left + length (term_text l term)) s.others x) e) ∙ s.same in
+    sym (ap (λ (r : Result (List Value) ValueFault). r >>= λ x. run_terms env l (length text - length left + length (term_text l term)) s.others x) e) ∙ s.same in
     bind_fault (value env l 0 s.tree) fault failed ∙ ap (value env l 0) (one-tree l text s.tree tree s.spells is)
 
 pub going_end : (env : Environment) (l : ℕ) (text left : List ℕ) (pending below : List Value) (v : Value) (rest : List ℕ) (tree : Tree) → Going env l text left pending → term_field l left ≡ Ok (None, rest)
     → pending ≡ v ∷ below → Spells l text tree → Ok v ≡ value env l 0 tree
 going_end env l text left pending below v rest tree g read e is =
     let none : g.terms ≡ [] = no_terms l left rest g.terms g.formed g.parts read in
-    let ended : Ok pending ≡ (value env l 0 g.tree >>= λ x. Ok (x ∷ [])) = ap (λ (ts : List Term). run env l (length text - length left) ts pending) (sym none) ∙ g.same in
+    let ended : Ok pending ≡ (value env l 0 g.tree >>= λ x. Ok (x ∷ [])) = ap (λ (ts : List Term). run_terms env l (length text - length left) ts pending) (sym none) ∙ g.same in
     bind_last (value env l 0 g.tree) v below (ap some_list (sym e) ∙ ended) ∙ ap (value env l 0) (one-tree l text g.tree tree g.spells is)
   where
     some_list : List Value → Result (List Value) ValueFault

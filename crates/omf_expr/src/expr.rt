@@ -1,7 +1,7 @@
 //! An expression in postfix form.
 
 ghost use Rattle.std.specs.Prelude.{◌≡◌, ◌<◌, ◌≤◌, List, ℕ, length, Ok, IfOk, IfErr, IfSome};
-ghost use Rattle.omf_format.specs.Expression.{Tree, Spells, terms_of, terms_in, placed_terms, operand_count, operands_of, judged, term_step, read_all, IsExpression, IsFirstFault, BeginsWith, expression_field};
+ghost use Rattle.omf_format.specs.Expression.{Tree, Spells, terms_of, terms_in, placed_terms, operand_count, operands_of, pending_after_term, term_step, read_all, IsExpression, IsFirstFault, BeginsWith, expression_field};
 ghost use Rattle.omf_format.specs.Field.{Gives};
 ghost use Rattle.omf_expr.specs.View.{view, view_next, as_field};
 
@@ -131,9 +131,13 @@ fn operands_of(term: Term) -> usize
 
 /// How many values are pending behind a term, or None behind the end, where so many are pending before it.
 #[inline]
-fn judged(next: Option<Term>, at: usize, pending: usize) -> Result<Option<usize>, ExprFault>
+fn pending_after_term(
+    next: Option<Term>,
+    at: usize,
+    pending: usize,
+) -> Result<Option<usize>, ExprFault>
     requires { pending ≤ 64 }
-    ensures value { result ≡ judged at pending (view_next next.entry) }
+    ensures value { result ≡ pending_after_term at pending (view_next next.entry) }
     ensures bounded { IfOk result (λ behind. IfSome behind (λ n. n ≤ 64)) }
 {
     let Some(term) = next else {
@@ -169,7 +173,7 @@ fn next_step(
 {
     match next_term(bytes, lab_len) {
         Ok((next, rest)) => {
-            let behind = judged(next, at, pending)?;
+            let behind = pending_after_term(next, at, pending)?;
             Ok((behind, rest))
         }
         Err(Flaw::Cut) => Err(ExprFault::Truncated(at)),

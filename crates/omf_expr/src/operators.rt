@@ -1,7 +1,7 @@
 //! Operators on values. Numbers are 32 bits in two's complement.
 
 ghost use Rattle.std.specs.Prelude.{◌≡◌, ◌≢◌, false, pos, int_div, int_rem, IsTrue, IfOk, IfErr};
-ghost use Rattle.omf_format.specs.Value.{signed, bits_of, truth, shifted, number_of_one, arithmetic, logical, comparison, bitwise, number_of_two, divides, apply_one, apply_two};
+ghost use Rattle.omf_format.specs.Value.{signed, bits_of, truth, shifted_bits, number_of_one, arithmetic, logical, comparison, bitwise, number_of_two, divides, apply_one, apply_two};
 ghost use Rattle.omf_format.specs.Field.{is_shift};
 
 use omf_format::{Value, ValueFault};
@@ -26,8 +26,8 @@ fn truth(holds: bool) -> u32
 
 /// The bits shifted left by so many, or right where the count is negative, with zeros coming in.
 #[inline]
-fn shifted(bits: u32, count: i32) -> u32
-    ensures { result ≡ shifted bits count }
+fn shift_bits(bits: u32, count: i32) -> u32
+    ensures { result ≡ shifted_bits bits count }
 {
     if count < 0 {
         bits.unbounded_shr(count.unsigned_abs())
@@ -81,7 +81,7 @@ fn arithmetic(code: u8, a: u32, b: u32) -> u32
         0x03 => a.wrapping_mul(b),
         DIVIDE => quotient(a, b),
         MODULO => remainder(a, b),
-        _ => shifted(a, b.cast_signed()),
+        _ => shift_bits(a, b.cast_signed()),
     }
 }
 

@@ -159,9 +159,9 @@ Lead pending (term ∷ terms) last =
     (operands_of term ≤ pending) × (pending_behind pending term ≤ 64) × Lead (pending_behind pending term) terms last
 
 -- a term, or the end, where so many values are pending: how many are pending behind it, or what is wrong with it first
-abbrev pub judged : ℕ → ℕ → Option Term → Result (Option ℕ) ExprFault
-judged at pending None = if pending == 1 then Ok None else Err (Shape at)
-judged at pending (Some term) =
+abbrev pub pending_after_term : ℕ → ℕ → Option Term → Result (Option ℕ) ExprFault
+pending_after_term at pending None = if pending == 1 then Ok None else Err (Shape at)
+pending_after_term at pending (Some term) =
     if nat_lt pending (operands_of term) then Err (Shape at)
     else if nat_lt 64 (pending_behind pending term) then Err (TooDeep at)
     else Ok (Some (pending_behind pending term))
@@ -171,7 +171,7 @@ abbrev pub step_of : ℕ → ℕ → Result (Option Term × List ℕ) Flaw → R
 step_of at pending (Err Cut) = Err (Truncated at)
 step_of at pending (Err Unread) = Err (BadTerm at)
 step_of at pending (Err Broken) = Err (BadTerm at)
-step_of at pending (Ok found) = judged at pending found.0 >>= λ behind. Ok (behind, found.1)
+step_of at pending (Ok found) = pending_after_term at pending found.0 >>= λ behind. Ok (behind, found.1)
 
 unfoldable pub term_step : ℕ → ℕ → ℕ → List ℕ → Result (Option ℕ × List ℕ) ExprFault
 term_step lab_len at pending bytes = step_of at pending (term_field lab_len bytes)

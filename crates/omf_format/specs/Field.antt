@@ -58,8 +58,8 @@ abbrev pub ◌⊗◌ : {A B : Type 0} → Reads A → Reads B → Reads (A × B)
 (first ⊗ second) bytes = first bytes >>= λ a. second a.1 >>= λ b. Ok ((a.0, b.0), b.1)
 
 -- a field whose value has to pass a test
-abbrev pub checked : {A : Type 0} → (A → Bool) → Flaw → Reads A → Reads A
-checked test flaw read bytes = read bytes >>= λ x. if test x.0 then Ok x else Err flaw
+abbrev pub field_that_passes : {A : Type 0} → (A → Bool) → Flaw → Reads A → Reads A
+field_that_passes test flaw read bytes = read bytes >>= λ x. if test x.0 then Ok x else Err flaw
 
 -- fields of which something is made
 abbrev pub taken_as : {A B : Type 0} → (A → B) → Reads A → Reads B
@@ -70,7 +70,7 @@ abbrev pub is_count : ℕ → Bool
 is_count n = nat_le 1 n && nat_le n 4
 
 unfoldable pub count_field : Reads ℕ
-count_field = checked is_count Broken byte_field
+count_field = field_that_passes is_count Broken byte_field
 
 -- a shift is a number from -31 to 31; positive shifts left, negative right
 abbrev pub is_shift : ℤ → Bool
@@ -81,7 +81,7 @@ abbrev pub shift_byte : ℤ → ℕ
 shift_byte shift = cast_unsigned w8 shift
 
 unfoldable pub shift_field : Reads ℤ
-shift_field = checked is_shift Broken (taken_as (cast_signed w8) byte_field)
+shift_field = field_that_passes is_shift Broken (taken_as (cast_signed w8) byte_field)
 
 -- the bytes of a name: with LABLEN 0 a length byte and the name, else the name and spaces up to LABLEN bytes
 unfoldable pub name_text : ℕ → List ℕ → List ℕ

@@ -67,27 +67,27 @@ segment_at segments (suc k) = slice_get segments k
 -- ---- the first fault
 
 -- what a fault is told as: its cause, and its displacement in the file
-abbrev pub Told : Type 0
-Told = FileCause × ℕ
+abbrev pub FaultAt : Type 0
+FaultAt = FileCause × ℕ
 
 -- a fault of the header that starts there, of a version: the end of the bytes, or the place of the field; no check says Memory
-abbrev pub told_header : ℕ → ℕ → HeaderFault → Told
-told_header start version (header.Truncated n) = (cause.Truncated, start + n)
-told_header start version (header.Unsupported field) = (cause.Unsupported, start + displacement_of version field)
-told_header start version (header.BadField field) = (cause.BadHeader, start + displacement_of version field)
-told_header start version header.Memory = (cause.Memory, start)
+abbrev pub to_file_header_fault : ℕ → ℕ → HeaderFault → FaultAt
+to_file_header_fault start version (header.Truncated n) = (cause.Truncated, start + n)
+to_file_header_fault start version (header.Unsupported field) = (cause.Unsupported, start + displacement_of version field)
+to_file_header_fault start version (header.BadField field) = (cause.BadHeader, start + displacement_of version field)
+to_file_header_fault start version header.Memory = (cause.Memory, start)
 
 -- a fault of a record
-abbrev pub told_record : RecordFault → Told
-told_record (record_faults.Truncated at) = (cause.Truncated, at)
-told_record (record_faults.Unsupported code at) = (cause.Unsupported, at)
-told_record (record_faults.BadRecord at) = (cause.BadRecord, at)
+abbrev pub to_file_record_fault : RecordFault → FaultAt
+to_file_record_fault (record_faults.Truncated at) = (cause.Truncated, at)
+to_file_record_fault (record_faults.Unsupported code at) = (cause.Unsupported, at)
+to_file_record_fault (record_faults.BadRecord at) = (cause.BadRecord, at)
 
 -- the first fault of the segment that starts there is this one: its header's, or else that of the first record at fault
-pub data HasFault (start : ℕ) (file : List ℕ) (told : Told) : Type 0 where
-  InHeader : (of : HeaderFault) → header_fault (drop start file) ≡ Some of → told ≡ told_header start (version_of (drop start file)) of → HasFault start file told
+pub data HasFault (start : ℕ) (file : List ℕ) (told : FaultAt) : Type 0 where
+  InHeader : (of : HeaderFault) → header_fault (drop start file) ≡ Some of → told ≡ to_file_header_fault start (version_of (drop start file)) of → HasFault start file told
   InRecord : (f : Fields) (before : List (ℕ × Record)) (reader : Reader) (of : RecordFault) → IsHeader start f file
-      → HandsOut (body_reader start f file) before reader → next_answer reader ≡ Err of → told ≡ told_record of → HasFault start file told
+      → HandsOut (body_reader start f file) before reader → next_answer reader ≡ Err of → told ≡ to_file_record_fault of → HasFault start file told
 
 -- the first fault of a file: the segments before it are sound, and the next one has it
 pub record IsFirstFault (file : List ℕ) (fault : FileFault) : Type 0 where

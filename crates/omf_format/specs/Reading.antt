@@ -4,7 +4,7 @@ use Rattle.omf_format.specs.declared.fault.Flaw.{Flaw}
 use Rattle.omf_format.specs.declared.fault.Flaw.TheVariants.{Cut, Unread, Broken}
 use Rattle.omf_format.specs.declared.fault.RecordFault.{RecordFault}
 use Rattle.omf_format.specs.declared.fault.RecordFault.TheVariants.{Truncated, Unsupported, BadRecord}
-use Rattle.omf_format.specs.Field.{Layout, ◌>>=◌, Reads, ◌⊗◌, checked, taken_as, byte_field, bytes_field, number_field, name_field, count_field, shift_field}
+use Rattle.omf_format.specs.Field.{Layout, ◌>>=◌, Reads, ◌⊗◌, field_that_passes, taken_as, byte_field, bytes_field, number_field, name_field, count_field, shift_field}
 use Rattle.omf_format.specs.Expression.{expression_field}
 use Rattle.omf_format.specs.Super.{is_super, are_pages}
 use Rattle.omf_format.specs.Record.{Record, End, Const, LongConst, Align, Org, Space, Reloc, InterSeg, ShortReloc, ShortInterSeg, Super, Using, Strong, Label, Equate, Formula, Entry}
@@ -22,7 +22,7 @@ align_field = taken_as Align (number_field 4)
 
 -- a negative number would move the location counter back
 unfoldable pub org_field : Reads Record
-org_field = taken_as Org (checked (λ n. nat_lt n (2 ^ 31)) Unread (number_field 4))
+org_field = taken_as Org (field_that_passes (λ n. nat_lt n (2 ^ 31)) Unread (number_field 4))
 
 unfoldable pub space_field : Reads Record
 space_field = taken_as Space (number_field 4)
@@ -46,9 +46,9 @@ short_interseg_field = taken_as (λ x. ShortInterSeg x.0.0 x.0.1 x.1.0 x.1.1.0 x
 -- the length counts the type and the subrecords; the subrecords are one field
 unfoldable pub super_field : Reads Record
 super_field rest = do
-  size ← checked (nat_lt 0) Broken (number_field 4) rest
-  form ← checked is_super Unread byte_field size.1
-  bytes ← checked are_pages Broken (bytes_field (size.0 - 1)) form.1
+  size ← field_that_passes (nat_lt 0) Broken (number_field 4) rest
+  form ← field_that_passes is_super Unread byte_field size.1
+  bytes ← field_that_passes are_pages Broken (bytes_field (size.0 - 1)) form.1
   Ok (Super form.0 bytes.0, bytes.1)
 
 unfoldable pub using_field : ℕ → Reads Record
@@ -109,9 +109,9 @@ by_code [] code rest = Err Unread
 by_code (row ∷ more) code rest = if code == row.0 then row.1 rest else by_code more code rest
 
 -- the record at the front of the bytes, and the bytes behind it
-unfoldable pub front : Layout → Reads Record
-front l [] = Err Cut
-front l (code ∷ rest) =
+unfoldable pub first_record : Layout → Reads Record
+first_record l [] = Err Cut
+first_record l (code ∷ rest) =
     if code == 0x00 then Ok (End, rest)
     else if nat_lt code 0xE0 then constant_field code rest
     else by_code (rows l) code rest
@@ -140,21 +140,21 @@ abbrev pub is_end : Record → Bool
 is_end End = true
 is_end _ = false
 
-abbrev pub told : Reader → Result (Record × List ℕ) Flaw → Result (Option (ℕ × Record)) RecordFault
-told r (Ok found) = Ok (Some (place_of r, found.0))
-told r (Err flaw) = Err (fault_at r flaw)
+abbrev pub answer_of_reader : Reader → Result (Record × List ℕ) Flaw → Result (Option (ℕ × Record)) RecordFault
+answer_of_reader r (Ok found) = Ok (Some (place_of r, found.0))
+answer_of_reader r (Err flaw) = Err (fault_at r flaw)
 
 -- what the reader answers next: a record with its displacement, after END nothing, or the first fault
 unfoldable pub next_answer : Reader → Result (Option (ℕ × Record)) RecordFault
-next_answer r = if r.ended then Ok None else told r (front r.layout r.left)
+next_answer r = if r.ended then Ok None else answer_of_reader r (first_record r.layout r.left)
 
-abbrev pub moved : Reader → Result (Record × List ℕ) Flaw → Reader
-moved r (Ok found) = record r { left = found.1; ended = is_end found.0 }
-moved r (Err flaw) = r
+abbrev pub reader_after : Reader → Result (Record × List ℕ) Flaw → Reader
+reader_after r (Ok found) = record r { left = found.1; ended = is_end found.0 }
+reader_after r (Err flaw) = r
 
 -- where it stands then: behind the record, and where it was after END or a fault
 unfoldable pub after_next : Reader → Reader
-after_next r = if r.ended then r else moved r (front r.layout r.left)
+after_next r = if r.ended then r else reader_after r (first_record r.layout r.left)
 
 -- From the first reader on these records come, each with its displacement, and then the second one.
 abbrev pub HandsOut : Reader → List (ℕ × Record) → Reader → Type 0

@@ -19,45 +19,45 @@ abbrev pub bits_of : ℤ → ℕ
 bits_of z = cast_unsigned w32 z
 
 -- what is left of a number in 32 bits
-abbrev pub wrapped : ℕ → ℕ
-wrapped n = n % 2 ^ 32
+abbrev pub wrapped_to_32_bits : ℕ → ℕ
+wrapped_to_32_bits n = n % 2 ^ 32
 
 -- 1 for what is true, and 0 for what isn't
 abbrev pub truth : Bool → ℕ
 truth b = if b then 1 else 0
 
 -- every value but 0 counts as true
-abbrev pub holds : ℕ → Bool
-holds n = not (n == 0)
+abbrev pub is_true : ℕ → Bool
+is_true n = not (n == 0)
 
 -- shifted left by so many bits, or right where the count is negative, with zeros coming in; by 32 or more nothing is left
-abbrev pub shifted : ℕ → ℤ → ℕ
-shifted n (pos k) = if nat_lt k 32 then wrapped (n * 2 ^ k) else 0
-shifted n (negsuc k) = if nat_lt k 31 then n / 2 ^ (k + 1) else 0
+abbrev pub shifted_bits : ℕ → ℤ → ℕ
+shifted_bits n (pos k) = if nat_lt k 32 then wrapped_to_32_bits (n * 2 ^ k) else 0
+shifted_bits n (negsuc k) = if nat_lt k 31 then n / 2 ^ (k + 1) else 0
 
 -- the operators of one number: negate, logical NOT, bit NOT
 unfoldable pub number_of_one : ℕ → ℕ → ℕ
 number_of_one code a =
-    if code == 0x06 then wrapped (2 ^ 32 - a)
-    else if code == 0x0B then truth (not (holds a))
+    if code == 0x06 then wrapped_to_32_bits (2 ^ 32 - a)
+    else if code == 0x0B then truth (not (is_true a))
     else bit_not w32 a
 
 -- add, subtract, multiply, divide (towards zero), modulo (with the dividend's sign), shift; a divisor isn't 0
 unfoldable pub arithmetic : ℕ → ℕ → ℕ → ℕ
 arithmetic code a b =
-    if code == 0x01 then wrapped (a + b)
-    else if code == 0x02 then wrapped (a + (2 ^ 32 - b))
-    else if code == 0x03 then wrapped (a * b)
+    if code == 0x01 then wrapped_to_32_bits (a + b)
+    else if code == 0x02 then wrapped_to_32_bits (a + (2 ^ 32 - b))
+    else if code == 0x03 then wrapped_to_32_bits (a * b)
     else if code == 0x04 then bits_of (int_div (signed a) (signed b))
     else if code == 0x05 then bits_of (int_rem (signed a) (signed b))
-    else shifted a (signed b)
+    else shifted_bits a (signed b)
 
 -- logical AND, OR, EOR
 unfoldable pub logical : ℕ → ℕ → ℕ → ℕ
 logical code a b =
-    if code == 0x08 then truth (holds a && holds b)
-    else if code == 0x09 then truth (holds a || holds b)
-    else truth ((holds a && not (holds b)) || (holds b && not (holds a)))
+    if code == 0x08 then truth (is_true a && is_true b)
+    else if code == 0x09 then truth (is_true a || is_true b)
+    else truth ((is_true a && not (is_true b)) || (is_true b && not (is_true a)))
 
 -- <=, >=, <>, <, >, =, all of signed numbers
 unfoldable pub comparison : ℕ → ℕ → ℕ → ℕ
@@ -104,16 +104,16 @@ unfoldable pub apply_two : ℕ → Value → Value → Result Value ValueFault
 apply_two code (Fixed a) (Fixed b) =
     if divides code && b == 0 then Err DivideByZero else Ok (Fixed (number_of_two code a b))
 apply_two code (Fixed a) (At file segment offset shift) =
-    if code == 0x01 && is_unshifted shift then Ok (At file segment (wrapped (offset + a)) (pos 0)) else Err NotRelocatable
+    if code == 0x01 && is_unshifted shift then Ok (At file segment (wrapped_to_32_bits (offset + a)) (pos 0)) else Err NotRelocatable
 apply_two code (At file segment offset shift) (Fixed b) =
     if not (is_unshifted shift) then Err NotRelocatable
-    else if code == 0x01 then Ok (At file segment (wrapped (offset + b)) (pos 0))
-    else if code == 0x02 then Ok (At file segment (wrapped (offset + (2 ^ 32 - b))) (pos 0))
+    else if code == 0x01 then Ok (At file segment (wrapped_to_32_bits (offset + b)) (pos 0))
+    else if code == 0x02 then Ok (At file segment (wrapped_to_32_bits (offset + (2 ^ 32 - b))) (pos 0))
     else if code == 0x07 && is_shift (signed b) then Ok (At file segment offset (signed b))
     else Err NotRelocatable
 apply_two code (At file segment offset shift) (At file' segment' offset' shift') =
     if code == 0x02 && is_unshifted shift && is_unshifted shift' && file == file' && segment == segment'
-    then Ok (Fixed (wrapped (offset + (2 ^ 32 - offset'))))
+    then Ok (Fixed (wrapped_to_32_bits (offset + (2 ^ 32 - offset'))))
     else Err NotRelocatable
 
 -- ---- trees
@@ -126,15 +126,15 @@ pub record Environment : Type 0 where
   pub start : Value
 
 -- an answer, or that there is none for the term at this place
-abbrev pub known : {A : Type 0} → ℕ → Option A → Result A ValueFault
-known at None = Err (Unknown at)
-known at (Some answer) = Ok answer
+abbrev pub known_or_fault : {A : Type 0} → ℕ → Option A → Result A ValueFault
+known_or_fault at None = Err (Unknown at)
+known_or_fault at (Some answer) = Ok answer
 
 -- $82 is a weak name and $83 a name; $84, $85 and $86 ask for its length, type and count
 abbrev pub named_value : Environment → ℕ → ℕ → List ℕ → Result Value ValueFault
 named_value env at code name =
-    if nat_le code 0x83 then known at (env.label name (code == 0x82))
-    else known at (env.attribute code name) >>= λ n. Ok (Fixed n)
+    if nat_le code 0x83 then known_or_fault at (env.label name (code == 0x82))
+    else known_or_fault at (env.attribute code name) >>= λ n. Ok (Fixed n)
 
 -- the value of an operand at this place
 unfoldable pub operand_value : Environment → ℕ → Term → Result Value ValueFault

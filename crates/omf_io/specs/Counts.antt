@@ -6,9 +6,9 @@ abbrev pub one_more : ℕ → ℕ
 one_more count = min (count + 1) (2 ^ 64 - 1)
 
 -- so many more, up to 2^64 - 1
-abbrev pub risen : ℕ → ℕ → ℕ
-risen zero count = count
-risen (suc more) count = one_more (risen more count)
+abbrev pub saturating_sum : ℕ → ℕ → ℕ
+saturating_sum zero count = count
+saturating_sum (suc more) count = one_more (saturating_sum more count)
 
 -- the count rose, or stands still at its end
 abbrev pub Rose : ℕ → ℕ → Type 0

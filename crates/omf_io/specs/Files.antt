@@ -8,7 +8,7 @@ use Rattle.omf_io.specs.declared.files.ReadFault.{ReadFault}
 use Rattle.omf_io.specs.declared.files.ReadFault.TheVariants as read
 use Rattle.omf_io.specs.declared.files.WriteFault.{WriteFault}
 use Rattle.omf_io.specs.declared.files.WriteFault.TheVariants as write
-use Rattle.omf_io.specs.Counts.{one_more, risen, Told, ToldOr, IsFront}
+use Rattle.omf_io.specs.Counts.{one_more, saturating_sum, Told, ToldOr, IsFront}
 
 -- files by the bytes of their paths
 abbrev pub FileMap : Type 0
@@ -30,7 +30,7 @@ pub record StoreSeen : Type 0 where
 
 -- the store after so many reads that didn't fail
 abbrev pub after_reads : ℕ → StoreSeen → StoreSeen
-after_reads count store = record store { asked = risen count store.asked }
+after_reads count store = record store { asked = saturating_sum count store.asked }
 
 -- the store with these bytes at a path
 abbrev pub with_written : List ℕ → List ℕ → StoreSeen → StoreSeen

@@ -5,8 +5,8 @@ use Rattle.omf_io.specs.Sinks.{SinkSeen, with_text}
 use Rattle.omf_io.specs.Outside.{Outside}
 use Rattle.omf_making.specs.declared.status.Status.{Status}
 use Rattle.omf_making.specs.declared.status.Status.TheVariants as status
-use Rattle.omf_making.specs.declared.making.MakeEnd.{MakeEnd}
-use Rattle.omf_making.specs.declared.making.MakeEnd.TheVariants as end
+use Rattle.omf_making.specs.declared.making.MakeResult.{MakeResult}
+use Rattle.omf_making.specs.declared.making.MakeResult.TheVariants as end
 use Rattle.omf_making.specs.Lines.{cannot_read_line, cannot_write_line}
 use Rattle.omf_making.specs.Made.{Made}
 use Rattle.omf_making.specs.Printing.{Ends, IsPut, Whole, Part, Nothing, IsPrinted}
@@ -26,7 +26,7 @@ ends says done short wanted result text before now is whole (Part result_is fail
 ends says done short wanted result text before now is whole (Nothing result_is now_is) = subst (λ (s : Status). Ends says done short s before now) (sym result_is) (inr (wanted, text, is), now_is)
 
 -- a run of a maker
-pub makes_run : (makes : List (List ℕ) → Made → Type 0) (output : Option (List ℕ)) (inputs : List (List ℕ)) (came : MakeEnd) (result : Status) (o : Outside)
+pub makes_run : (makes : List (List ℕ) → Made → Type 0) (output : Option (List ℕ)) (inputs : List (List ℕ)) (came : MakeResult) (result : Status) (o : Outside)
     → HasCome makes output inputs came o.store o.new_store → HasSaid came result o.sink o.new_sink → MakesRun makes output inputs result o
 makes_run makes output inputs came result o = by_end came
   where
@@ -39,7 +39,7 @@ makes_run makes output inputs came result o = by_end came
     short : Type 0
     short = IsShort inputs o.store o.new_store
 
-    by_end : (came : MakeEnd) → HasCome makes output inputs came o.store o.new_store → HasSaid came result o.sink o.new_sink → MakesRun makes output inputs result o
+    by_end : (came : MakeResult) → HasCome makes output inputs came o.store o.new_store → HasSaid came result o.sink o.new_sink → MakesRun makes output inputs result o
     by_end end.Written come said = subst (λ (s : Status). MakesRun makes output inputs s o) (sym said.0) (inl (come, said.1))
     by_end (end.Text text) come said = ends says done short status.Done result text.items o.sink o.new_sink come (λ now. inr (text.items, come, now)) said
     by_end (end.Refused text) come said = ends says done short status.Refused result text o.sink o.new_sink come (λ now. (text, come, now)) said

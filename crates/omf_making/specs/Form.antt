@@ -78,14 +78,14 @@ form_of (name ∷ words) =
     else later_form name words)))))
 
 -- a form as it was read from words
-abbrev pub shown : Words → Form
-shown (words.Asm source output macros) = Asm source.now output.now (words_of macros.now)
-shown (words.Link output inputs) = Link output.now (words_of inputs.now)
-shown (words.Dump inputs) = Dump (words_of inputs.now)
-shown (words.Run inputs) = Run (words_of inputs.now)
-shown (words.Lib output inputs) = Lib output.now (words_of inputs.now)
-shown (words.Stress count seed) = Stress count seed
-shown (words.Rtl output inputs) = Rtl output.now (words_of inputs.now)
-shown (words.LinkRt output inputs runtimes) = LinkRt output.now (words_of inputs.now) (words_of runtimes.now)
-shown (words.Listing output inputs) = Listing output.now (words_of inputs.now)
-shown (words.Compact output inputs) = Compact output.now (words_of inputs.now)
+abbrev pub form_of_words : Words → Form
+form_of_words (words.Asm source output macros) = Asm source.now output.now (words_of macros.now)
+form_of_words (words.Link output inputs) = Link output.now (words_of inputs.now)
+form_of_words (words.Dump inputs) = Dump (words_of inputs.now)
+form_of_words (words.Run inputs) = Run (words_of inputs.now)
+form_of_words (words.Lib output inputs) = Lib output.now (words_of inputs.now)
+form_of_words (words.Stress count seed) = Stress count seed
+form_of_words (words.Rtl output inputs) = Rtl output.now (words_of inputs.now)
+form_of_words (words.LinkRt output inputs runtimes) = LinkRt output.now (words_of inputs.now) (words_of runtimes.now)
+form_of_words (words.Listing output inputs) = Listing output.now (words_of inputs.now)
+form_of_words (words.Compact output inputs) = Compact output.now (words_of inputs.now)

@@ -2,7 +2,7 @@
 use Rattle.std.specs.Prelude.{ℕ, List, [], ◌++◌, codes, Option, None, Some}
 use Rattle.omf_base.specs.Digits.{decimal, hexadecimal}
 use Rattle.omf_base.specs.Lines.{line}
-use Rattle.omf_listing.specs.Listing.{name_text}
+use Rattle.dump_lines.specs.Listing.{name_text}
 
 abbrev pub usage_line : List ℕ
 usage_line = line (codes "usage: omf asm, link, lib, dump, run, stress, rtl, linkrt, list or compact")

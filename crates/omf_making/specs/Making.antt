@@ -10,8 +10,8 @@ use Rattle.omf_making.specs.Printing.{Ends, IsPut}
 use Rattle.omf_making.specs.Made.{Made, Bytes, Refusal, all_bytes, AreShort}
 use Rattle.omf_making.specs.declared.reading.Reading.{Reading}
 use Rattle.omf_making.specs.declared.reading.Reading.TheVariants as reading
-use Rattle.omf_making.specs.declared.making.MakeEnd.{MakeEnd}
-use Rattle.omf_making.specs.declared.making.MakeEnd.TheVariants as end
+use Rattle.omf_making.specs.declared.making.MakeResult.{MakeResult}
+use Rattle.omf_making.specs.declared.making.MakeResult.TheVariants as end
 use Rattle.omf_making.specs.declared.status.Status.{Status}
 use Rattle.omf_making.specs.declared.status.Status.TheVariants.{Done, Refused, CannotRead, CannotWrite, Memory}
 
@@ -102,7 +102,7 @@ HasReadAll (reading.Unread path) inputs before now = StopsReading inputs path.no
 HasReadAll reading.Memory inputs before now = IsShort inputs before now
 
 -- how a command ends before anything is printed
-abbrev pub HasCome : (List (List ℕ) → Made → Type 0) → Option (List ℕ) → List (List ℕ) → MakeEnd → StoreSeen → StoreSeen → Type 0
+abbrev pub HasCome : (List (List ℕ) → Made → Type 0) → Option (List ℕ) → List (List ℕ) → MakeResult → StoreSeen → StoreSeen → Type 0
 HasCome makes output inputs end.Written before now = Writes makes output inputs before now
 HasCome makes output inputs (end.Text text) before now = Says Done makes output inputs before now text.items
 HasCome makes output inputs (end.Refused text) before now = Says Refused makes output inputs before now text
@@ -111,7 +111,7 @@ HasCome makes output inputs (end.Unwritten path) before now = Says CannotWrite m
 HasCome makes output inputs end.Memory before now = IsShort inputs before now
 
 -- what is printed of an end
-abbrev pub HasSaid : MakeEnd → Status → SinkSeen → SinkSeen → Type 0
+abbrev pub HasSaid : MakeResult → Status → SinkSeen → SinkSeen → Type 0
 HasSaid end.Written result before now = (result ≡ Done) × (now ≡ before)
 HasSaid (end.Text text) result before now = IsPut text.items Done result before now
 HasSaid (end.Refused text) result before now = IsPut text Refused result before now

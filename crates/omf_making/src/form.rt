@@ -3,7 +3,7 @@
 ghost use Rattle.std.specs.Prelude.{◌≡◌, ◌<◌, ◌^◌};
 ghost use Rattle.std.specs.Option.{option_map};
 ghost use Rattle.omf_making.specs.Words.{is_path, are_paths, is_printing, are_printing, words_of, number_in, number_between, short_number_between};
-ghost use Rattle.omf_making.specs.Form.{with_output, source_and_output, inputs_only, input_and_output, count_and_seed, last_inputs, output_and_runtimes, later_form, form_of, shown};
+ghost use Rattle.omf_making.specs.Form.{with_output, source_and_output, inputs_only, input_and_output, count_and_seed, last_inputs, output_and_runtimes, later_form, form_of, form_of_words};
 
 /// A command with its paths.
 pub enum Form<'a> {
@@ -218,7 +218,7 @@ fn input_and_output(words: &[String]) -> Option<(&str, &[String])>
 
 /// The form behind a name that was added later: run-time library files, the lister, and canonical load files.
 fn later_form<'a>(name: &str, words: &'a [String]) -> Option<Form<'a>>
-    ensures { option_map shown result ≡ later_form name.now (words_of words.now) }
+    ensures { option_map form_of_words result ≡ later_form name.now (words_of words.now) }
 {
     match name {
         "rtl" => {
@@ -247,7 +247,7 @@ fn later_form<'a>(name: &str, words: &'a [String]) -> Option<Form<'a>>
 
 /// The form of the words, or None where they have none.
 pub fn read_form(words: &[String]) -> Option<Form<'_>>
-    ensures { option_map shown result ≡ form_of (words_of words.now) }
+    ensures { option_map form_of_words result ≡ form_of (words_of words.now) }
 {
     let (name, words) = words.split_first()?;
     let name = name.as_str();

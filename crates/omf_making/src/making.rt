@@ -48,7 +48,7 @@ pub fn first_of(files: &[Vec<u8>]) -> &[u8]
 
 /// How a command ends before anything is printed.
 #[derive(Drop)]
-pub enum MakeEnd<'a> {
+pub enum MakeResult<'a> {
     /// The output was written.
     Written,
     /// What is to be printed.
@@ -69,50 +69,50 @@ fn make_all<'a, M: Maker, F: Files>(
     output: Option<&'a str>,
     inputs: &'a [String],
     files: &mut F,
-) -> MakeEnd<'a>
+) -> MakeResult<'a>
     requires { length inputs.now ≤ 255 }
     ensures { HasCome (M.makes maker.now) (option_map (λ path. path.now) output.entry) (words_of inputs.now) result (F.seen files.old) (F.seen files.new) }
 {
     let all = match read_all(alloc, inputs, files) {
         Reading::All(all) => all,
-        Reading::Unread(path) => return MakeEnd::Unread(path),
-        Reading::Memory => return MakeEnd::Memory,
+        Reading::Unread(path) => return MakeResult::Unread(path),
+        Reading::Memory => return MakeResult::Memory,
     };
     let bytes = match maker.make(alloc, all) {
         Ok(Making::Bytes(bytes)) => bytes,
-        Ok(Making::Refusal(text)) => return MakeEnd::Refused(text),
-        Err(AllocError) => return MakeEnd::Memory,
+        Ok(Making::Refusal(text)) => return MakeResult::Refused(text),
+        Err(AllocError) => return MakeResult::Memory,
     };
     let path = match output {
         Some(path) => path,
-        None => return MakeEnd::Text(bytes),
+        None => return MakeResult::Text(bytes),
     };
     match files.write(path, &bytes) {
-        Ok(()) => MakeEnd::Written,
-        Err(WriteFault::Failed) => MakeEnd::Unwritten(path),
-        Err(WriteFault::Memory) => MakeEnd::Memory,
+        Ok(()) => MakeResult::Written,
+        Err(WriteFault::Failed) => MakeResult::Unwritten(path),
+        Err(WriteFault::Memory) => MakeResult::Memory,
     }
 }
 
 /// Prints what an end says, and answers its status.
-fn say<S: Sink>(alloc: Global, end: MakeEnd<'_>, out: &mut S) -> Status
+fn report<S: Sink>(alloc: Global, end: MakeResult<'_>, out: &mut S) -> Status
     ensures { HasSaid end.entry result (S.seen out.old) (S.seen out.new) }
 {
     match end {
-        MakeEnd::Written => Status::Done,
-        MakeEnd::Text(text) => put(&text, Status::Done, out),
-        MakeEnd::Refused(text) => put(text.bytes(), Status::Refused, out),
-        MakeEnd::Unread(path) => print(
+        MakeResult::Written => Status::Done,
+        MakeResult::Text(text) => put(&text, Status::Done, out),
+        MakeResult::Refused(text) => put(text.bytes(), Status::Refused, out),
+        MakeResult::Unread(path) => print(
             path_line(alloc, "cannot read ", path),
             Status::CannotRead,
             out,
         ),
-        MakeEnd::Unwritten(path) => print(
+        MakeResult::Unwritten(path) => print(
             path_line(alloc, "cannot write ", path),
             Status::CannotWrite,
             out,
         ),
-        MakeEnd::Memory => Status::Memory,
+        MakeResult::Memory => Status::Memory,
     }
 }
 
@@ -133,5 +133,5 @@ pub fn run_maker<M: Maker, F: Files, S: Sink>(
         → (result ≡ Status.Done) ⊎ (result ≡ Status.Memory) }
 {
     let end = make_all(alloc, maker, output, inputs, files);
-    say(alloc, end, out)
+    report(alloc, end, out)
 }

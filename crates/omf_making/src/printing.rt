@@ -41,7 +41,7 @@ fn put_name(line: &mut Line, name: Option<&[u8]>) -> Result<(), LineFault>
     ensures { OnOk result (line.new ≡ line.old ++ with_name (option_map (λ bytes. bytes.now) name.entry)) }
 {
     match name {
-        Some(name) => omf_listing::put_name(line, name),
+        Some(name) => dump_lines::put_name(line, name),
         None => Ok(()),
     }
 }

@@ -4,9 +4,9 @@ use Rattle.omf_format.specs.Number.{IsBytes}
 use Rattle.omf_format.specs.Field.{Layout}
 use Rattle.omf_format.specs.Record.{Record, IsRecord}
 use Rattle.omf_format.specs.laws.RecordLaws.{front-takes}
-use Rattle.omf_format.specs.Reading.{front}
+use Rattle.omf_format.specs.Reading.{first_record}
 
-pub front-formed : (l : Layout) (bytes : List ℕ) (found : Record × List ℕ) → ((i : ℕ) → Fits w8 (get_or bytes i 0)) → front l bytes ≡ Ok found → IsRecord l found.0
+pub front-formed : (l : Layout) (bytes : List ℕ) (found : Record × List ℕ) → ((i : ℕ) → Fits w8 (get_or bytes i 0)) → first_record l bytes ≡ Ok found → IsRecord l found.0
 front-formed l bytes found each read =
     let fits : IsBytes bytes = λ i. (each i).fits in
     (front-takes l bytes found fits read).record'

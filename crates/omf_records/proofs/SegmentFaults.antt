@@ -9,7 +9,7 @@ use Rattle.omf_format.specs.declared.fault.FileFault.{FileFault}
 use Rattle.omf_format.specs.Header.{Fields, version_of, header_fault}
 use Rattle.omf_format.specs.laws.HeaderLaws.{fault_fits}
 use Rattle.omf_format.specs.Reading.{Reader, HandsOut}
-use Rattle.omf_format.specs.File.{body_reader, IsHeader, Told, told_header, HasFault, InHeader, InRecord}
+use Rattle.omf_format.specs.File.{body_reader, IsHeader, FaultAt, to_file_header_fault, HasFault, InHeader, InRecord}
 use Rattle.omf_header.specs.View.{IsRefused}
 use Rattle.omf_records.specs.Segments.{HasRecordFault, UnlessMemory, IsSegmentFault, IsTold, HasPlace}
 
@@ -27,7 +27,7 @@ has_place (BadField field) start bytes file is inside short refused =
 has_place Memory start bytes file is inside short refused = tt
 
 -- what a fault is told as may be said of it
-unless : (told : Told) (number : ℕ) (fault : FileFault) (P : Type 0) → ((fault.segment ≡ number) → ((fault.cause, fault.at) ≡ told) → P) → IsTold told number fault → UnlessMemory fault.cause fault P
+unless : (told : FaultAt) (number : ℕ) (fault : FileFault) (P : Type 0) → ((fault.segment ≡ number) → ((fault.cause, fault.at) ≡ told) → P) → IsTold told number fault → UnlessMemory fault.cause fault P
 unless told number fault P then is = subst (λ (c : FileCause). UnlessMemory c fault P) (sym is.cause) (by_cause told.0 refl is.place)
   where
     here : (fault.segment ≡ number) × (fault.at ≡ told.1) → P
@@ -40,14 +40,14 @@ unless told number fault P then is = subst (λ (c : FileCause). UnlessMemory c f
     by_cause cause.Unsupported same h = here h
     by_cause cause.BadRecord same h = here h
 
-of_header : (of : HeaderFault) (number start : ℕ) (bytes file : List ℕ) (fault : FileFault) → bytes ≡ drop start file → header_fault bytes ≡ Some of → IsTold (told_header start (version_of bytes) of) number fault
+of_header : (of : HeaderFault) (number start : ℕ) (bytes file : List ℕ) (fault : FileFault) → bytes ≡ drop start file → header_fault bytes ≡ Some of → IsTold (to_file_header_fault start (version_of bytes) of) number fault
     → IsSegmentFault fault number start file
 of_header of number start bytes file fault is e told =
-    unless (told_header start (version_of bytes) of) number fault _
-    (λ segment same. (segment, InHeader of (ap header_fault (sym is) ∙ e) (same ∙ ap (λ (b : List ℕ). told_header start (version_of b) of) is))) told
+    unless (to_file_header_fault start (version_of bytes) of) number fault _
+    (λ segment same. (segment, InHeader of (ap header_fault (sym is) ∙ e) (same ∙ ap (λ (b : List ℕ). to_file_header_fault start (version_of b) of) is))) told
 
 -- a header's fault, as it is told, is that of its segment
-pub segment_fault : (of : HeaderFault) (number start : ℕ) (bytes file : List ℕ) (fault : FileFault) → bytes ≡ drop start file → IsRefused of bytes → IsTold (told_header start (version_of bytes) of) number fault
+pub segment_fault : (of : HeaderFault) (number start : ℕ) (bytes file : List ℕ) (fault : FileFault) → bytes ≡ drop start file → IsRefused of bytes → IsTold (to_file_header_fault start (version_of bytes) of) number fault
     → IsSegmentFault fault number start file
 segment_fault (Truncated n) number start bytes file fault is refused told = of_header (Truncated n) number start bytes file fault is refused told
 segment_fault (Unsupported field) number start bytes file fault is refused told = of_header (Unsupported field) number start bytes file fault is refused told
@@ -56,7 +56,7 @@ segment_fault Memory number start bytes file fault is refused told =
     subst (λ (c : FileCause). UnlessMemory c fault ((fault.segment ≡ number) × HasFault start file (fault.cause, fault.at))) (sym told.cause) told.place
 
 -- and so is a record's
-pub record_segment_fault : (f : Fields) (number start : ℕ) (file : List ℕ) (reader : Reader) (told : Told) (fault : FileFault) → IsHeader start f file → reader ≡ body_reader start f file
+pub record_segment_fault : (f : Fields) (number start : ℕ) (file : List ℕ) (reader : Reader) (told : FaultAt) (fault : FileFault) → IsHeader start f file → reader ≡ body_reader start f file
     → HasRecordFault reader told → IsTold told number fault → IsSegmentFault fault number start file
 record_segment_fault f number start file reader told fault is at has says =
     let here : HandsOut (body_reader start f file) has.before has.at = subst (λ (r : Reader). HandsOut r has.before has.at) at has.run in

@@ -3,7 +3,7 @@ use Rattle.std.proofs.Common.{◌≡◌, ℕ, List, Result, Ok, sym, ap, ◌∙�
 use Rattle.omf_format.specs.declared.fault.Flaw.{Flaw}
 use Rattle.omf_format.specs.Record.{Record}
 use Rattle.omf_format.specs.laws.RecordLaws.{front-takes, front-again}
-use Rattle.omf_format.specs.Reading.{front}
+use Rattle.omf_format.specs.Reading.{first_record}
 use Rattle.omf_records.specs.Laws.{ReadIsSpelled, SpelledIsRead, NoneBeginsAnother}
 
 pub read_is_spelled : ReadIsSpelled
@@ -22,6 +22,6 @@ same_found a b e = cc
 
 pub none_begins_another : NoneBeginsAnother
 none_begins_another layout a b x y fits_a fits_b same =
-    let both : read_as (a, x) ≡ read_as (b, y) = sym (front-again layout a x fits_a) ∙ ap (front layout) same ∙ front-again layout b y fits_b in
+    let both : read_as (a, x) ≡ read_as (b, y) = sym (front-again layout a x fits_a) ∙ ap (first_record layout) same ∙ front-again layout b y fits_b in
     let pair = same_found (a, x) (b, y) both in
     (ap (λ (p : Record × List ℕ). p.0) pair, ap (λ (p : Record × List ℕ). p.1) pair)

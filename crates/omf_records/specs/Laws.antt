@@ -5,17 +5,17 @@ use Rattle.omf_format.specs.declared.fault.FileFault.{FileFault}
 use Rattle.omf_format.specs.Number.{IsBytes}
 use Rattle.omf_format.specs.Field.{Layout}
 use Rattle.omf_format.specs.Record.{Record, spelling, IsRecord}
-use Rattle.omf_format.specs.Reading.{Reader, front, HandsOut}
+use Rattle.omf_format.specs.Reading.{Reader, first_record, HandsOut}
 use Rattle.omf_format.specs.File.{Segment, IsSegment, IsFile, segment_of, IsFirstFault}
 
 -- a record that is read is spelled so
 abbrev pub ReadIsSpelled : Type 0
-ReadIsSpelled = (layout : Layout) (bytes rest : List ℕ) (r : Record) → IsBytes bytes → front layout bytes ≡ Ok (r, rest)
+ReadIsSpelled = (layout : Layout) (bytes rest : List ℕ) (r : Record) → IsBytes bytes → first_record layout bytes ≡ Ok (r, rest)
     → IsRecord layout r × (bytes ≡ spelling layout r ++ rest)
 
 -- a record that is spelled is read, whatever follows it
 abbrev pub SpelledIsRead : Type 0
-SpelledIsRead = (layout : Layout) (r : Record) (rest : List ℕ) → IsRecord layout r → front layout (spelling layout r ++ rest) ≡ Ok (r, rest)
+SpelledIsRead = (layout : Layout) (r : Record) (rest : List ℕ) → IsRecord layout r → first_record layout (spelling layout r ++ rest) ≡ Ok (r, rest)
 
 -- no spelling of a record begins a spelling of another one
 abbrev pub NoneBeginsAnother : Type 0

@@ -5,7 +5,7 @@ use Rattle.omf_format.specs.Reading.{IsBody}
 use Rattle.omf_format.specs.File.{Segment, body_reader, segment_at}
 use Rattle.omf_header.specs.View.{fields}
 use Rattle.omf_records.specs.declared.segment.SegmentView.{SegmentView}
-use Rattle.omf_records.specs.Segments.{shown, IsSound}
+use Rattle.omf_records.specs.Segments.{segment_of_view, IsSound}
 
 -- the records of a sound view come to END
 pub sound_body : (v : SegmentView) → IsSound v → IsBody (body_reader v.start (fields v.header) v.file.now)
@@ -16,7 +16,7 @@ pub at_number : (list : List Segment) (k : ℕ) → segment_at list (k + 1) ≡ 
 at_number list k = let same : k + 1 ≡ suc k = omega arith in ap (segment_at list) same
 
 -- the segment at a place of the list is the one that the view there shows
-pub shown_at : (list : List Segment) (k : ℕ) (v : SegmentView) → Some (shown v) ≡ segment_at list (k + 1) → slice_get list k ≡ Some (shown v)
+pub shown_at : (list : List Segment) (k : ℕ) (v : SegmentView) → Some (segment_of_view v) ≡ segment_at list (k + 1) → slice_get list k ≡ Some (segment_of_view v)
 shown_at list k v e = sym (at_number list k) ∙ sym e
 
 -- there is one at each place

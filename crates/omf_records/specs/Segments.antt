@@ -8,17 +8,17 @@ use Rattle.omf_format.specs.declared.fault.FileCause.TheVariants.{Memory}
 use Rattle.omf_format.specs.declared.fault.FileFault.{FileFault}
 use Rattle.omf_format.specs.Record.{Record}
 use Rattle.omf_format.specs.Reading.{Reader, next_answer, HandsOut}
-use Rattle.omf_format.specs.File.{Segment, Placed, segment_of, IsHeader, IsSegment, Told, told_record, HasFault, IsFirstFault}
+use Rattle.omf_format.specs.File.{Segment, Placed, segment_of, IsHeader, IsSegment, FaultAt, to_file_record_fault, HasFault, IsFirstFault}
 use Rattle.omf_header.specs.View.{fields}
 use Rattle.omf_records.specs.declared.segment.SegmentView.{SegmentView}
 
 -- a view without where its file lies
-abbrev pub placed : SegmentView → Placed
-placed v = record { start = v.start; fields = fields v.header; file = v.file.now }
+abbrev pub placed_view : SegmentView → Placed
+placed_view v = record { start = v.start; fields = fields v.header; file = v.file.now }
 
 -- the segment that a view shows
-abbrev pub shown : SegmentView → Segment
-shown v = segment_of (placed v)
+abbrev pub segment_of_view : SegmentView → Segment
+segment_of_view v = segment_of (placed_view v)
 
 -- a header stands there and passes its checks, in a file of fewer than 2 ^ 32 bytes
 pub record IsPlaced (p : Placed) : Type 0 where
@@ -27,22 +27,22 @@ pub record IsPlaced (p : Placed) : Type 0 where
 
 -- the view is placed, and the segment that it shows stands in its file
 pub record IsSound (v : SegmentView) : Type 0 where
-  pub placed' : IsPlaced (placed v)
-  pub segment : IsSegment (shown v) v.file.now
+  pub placed' : IsPlaced (placed_view v)
+  pub segment : IsSegment (segment_of_view v) v.file.now
 
 -- the view shows a segment of this file
 pub record IsView (file : List ℕ) (v : SegmentView) : Type 0 where
   pub file' : v.file.now ≡ file
-  pub segment : IsSegment (shown v) file
+  pub segment : IsSegment (segment_of_view v) file
 
 -- the first record that doesn't come, from there on, is told so
-pub record HasRecordFault (reader : Reader) (told : Told) : Type 0 where
+pub record HasRecordFault (reader : Reader) (told : FaultAt) : Type 0 where
   pub before : List (ℕ × Record)
   pub at : Reader
   pub of : RecordFault
   pub run : HandsOut reader before at
   pub fails : next_answer at ≡ Err of
-  pub told' : told ≡ told_record of
+  pub told' : told ≡ to_file_record_fault of
 
 -- a fault of want of memory has no place, and every other one is this
 abbrev pub UnlessMemory : FileCause → FileFault → Type 0 → Type 0
@@ -58,7 +58,7 @@ abbrev pub IsSegmentFault : FileFault → ℕ → ℕ → List ℕ → Type 0
 IsSegmentFault fault number start file = UnlessMemory fault.cause fault ((fault.segment ≡ number) × HasFault start file (fault.cause, fault.at))
 
 -- the fault has this cause, and the place is told of the segment with this number, unless memory ran out
-pub record IsTold (told : Told) (number : ℕ) (fault : FileFault) : Type 0 where
+pub record IsTold (told : FaultAt) (number : ℕ) (fault : FileFault) : Type 0 where
   pub cause : fault.cause ≡ told.0
   pub place : UnlessMemory told.0 fault ((fault.segment ≡ number) × (fault.at ≡ told.1))
 

@@ -33,16 +33,16 @@ abbrev pub view_layout : Layout → field.Layout
 view_layout l = field.layout_of l.version l.lab_len
 
 -- what a call of `next` answered
-abbrev pub seen : Result (Option (ℕ × Rec)) RecordFault → Result (Option (ℕ × Record)) RecordFault
-seen (Ok None) = Ok None
-seen (Ok (Some found)) = Ok (Some (found.0, view found.1))
-seen (Err fault) = Err fault
+abbrev pub record_answer : Result (Option (ℕ × Rec)) RecordFault → Result (Option (ℕ × Record)) RecordFault
+record_answer (Ok None) = Ok None
+record_answer (Ok (Some found)) = Ok (Some (found.0, view found.1))
+record_answer (Err fault) = Err fault
 
 -- the first item of a list, and the items behind it
 abbrev pub first : List ℕ → Option ℕ
 first [] = None
 first (x ∷ xs) = Some x
 
-abbrev pub behind : List ℕ → List ℕ
-behind [] = []
-behind (x ∷ xs) = xs
+abbrev pub bytes_after_first : List ℕ → List ℕ
+bytes_after_first [] = []
+bytes_after_first (x ∷ xs) = xs

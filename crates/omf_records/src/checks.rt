@@ -2,13 +2,13 @@
 
 ghost use Rattle.std.specs.Prelude.{◌≡◌, ◌<◌, ◌≤◌, ◌^◌, length, drop, OnOk, IfOk, IfErr};
 ghost use Rattle.omf_format.specs.Reading.{IsBody};
-ghost use Rattle.omf_format.specs.File.{Told, IsHeader};
+ghost use Rattle.omf_format.specs.File.{FaultAt, IsHeader};
 ghost use Rattle.omf_header.specs.View.{fields};
 ghost use Rattle.omf_records.specs.Segments.{IsView, HasRecordFault, IsSegmentFault, IsTold};
 
+use crate::file_faults::{to_file_header_fault, to_file_record_fault};
 use crate::reading::Records;
 use crate::segment::SegmentView;
-use crate::told::{told_header, told_record};
 use omf_format::{FileCause, FileFault};
 use omf_header::{Header, read_header};
 use std::alloc::Global;
@@ -20,15 +20,15 @@ fn header_at(alloc: Global, file: &[u8], start: u32, number: u32) -> Result<Head
     ensures ok { IfOk result (λ header. IsHeader start (fields header) file.now) }
     ensures err { IfErr result (λ fault. IsSegmentFault fault number start file.now) }
 {
-    let bytes = from(file, start as usize);
+    let bytes = bytes_from(file, start as usize);
     match read_header(alloc, bytes) {
         Ok(header) => Ok(header),
-        Err(fault) => Err(in_segment(number, told_header(fault, bytes, start))),
+        Err(fault) => Err(in_segment(number, to_file_header_fault(fault, bytes, start))),
     }
 }
 
 /// The bytes from a displacement on.
-fn from(bytes: &[u8], at: usize) -> &[u8]
+fn bytes_from(bytes: &[u8], at: usize) -> &[u8]
     requires { at ≤ length bytes.now }
     ensures value { result.now ≡ drop at bytes.now }
     ensures size { length result.now ≤ length bytes.now }
@@ -61,14 +61,14 @@ fn in_segment(number: u32, told: (FileCause, u32)) -> FileFault
 /// Goes over the records up to END.
 fn check_records(records: Records, number: u32) -> Result<(), FileFault>
     ensures ok { OnOk result (IsBody records.entry) }
-    ensures err { IfErr result (λ fault. (told : Told) × HasRecordFault records.entry told × IsTold told number fault) }
+    ensures err { IfErr result (λ fault. (told : FaultAt) × HasRecordFault records.entry told × IsTold told number fault) }
 {
     let mut records = records;
     'records: loop {
         match records.next() {
             Ok(None) => return Ok(()),
             Ok(Some(_)) => {}
-            Err(fault) => return Err(in_segment(number, told_record(fault))),
+            Err(fault) => return Err(in_segment(number, to_file_record_fault(fault))),
         }
     }
 }

@@ -3,7 +3,7 @@
 ghost use Rattle.std.specs.Prelude.{◌≡◌, ◌<◌, ◌≤◌, length, IfOk};
 ghost use Rattle.omf_format.specs.Field.{Gives};
 ghost use Rattle.omf_format.specs.Record.{IsRecord};
-ghost use Rattle.omf_format.specs.Reading.{constant_field, long_constant_field, align_field, org_field, space_field, rows, by_code, front};
+ghost use Rattle.omf_format.specs.Reading.{constant_field, long_constant_field, align_field, org_field, space_field, rows, by_code, first_record};
 ghost use Rattle.omf_records.specs.View.{view, view_layout};
 
 use crate::labels::{distance, entry, equate, formula, label, strong, using};
@@ -116,7 +116,7 @@ fn rarer(code: u8, rest: &[u8], layout: Layout) -> Result<(Rec<'_>, &[u8]), Flaw
 #[inline(always)]
 #[tactic(auto, unfolding(omf_format::specs::Reading::front, omf_format::specs::Reading::rows))]
 fn read_front(bytes: &[u8], layout: Layout) -> Result<(Rec<'_>, &[u8]), Flaw>
-    ensures gives { Gives (λ x. (view x.0, x.1.now)) result (front (view_layout layout) bytes.now) }
+    ensures gives { Gives (λ x. (view x.0, x.1.now)) result (first_record (view_layout layout) bytes.now) }
     ensures shorter { IfOk result (λ x. length x.1.now < length bytes.now) }
 {
     match bytes {
@@ -132,7 +132,7 @@ fn read_front(bytes: &[u8], layout: Layout) -> Result<(Rec<'_>, &[u8]), Flaw>
 /// The record, which is one of the format, and the bytes behind it.
 #[inline(always)]
 pub fn record_at_front(bytes: &[u8], layout: Layout) -> Result<(Rec<'_>, &[u8]), Flaw>
-    ensures gives { Gives (λ x. (view x.0, x.1.now)) result (front (view_layout layout) bytes.now) }
+    ensures gives { Gives (λ x. (view x.0, x.1.now)) result (first_record (view_layout layout) bytes.now) }
     ensures formed { IfOk result (λ x. IsRecord (view_layout layout) (view x.0)) }
     ensures shorter { IfOk result (λ x. length x.1.now < length bytes.now) }
 {

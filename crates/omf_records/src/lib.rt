@@ -3,6 +3,7 @@
 #![tactic(auto)]
 
 mod checks;
+mod file_faults;
 mod front;
 mod labels;
 mod laws;
@@ -13,9 +14,9 @@ mod patches;
 mod reading;
 mod record;
 mod segment;
-mod told;
 mod writing;
 
+pub use file_faults::{to_file_header_fault, to_file_record_fault};
 pub use laws::{
     bodies_are_handed_out, files_are_read_in_one_way, records_are_spelled, segments_are_shown,
 };
@@ -25,5 +26,4 @@ pub use omf_format::{FileCause, FileFault, RecordFault};
 pub use reading::Records;
 pub use record::Rec;
 pub use segment::SegmentView;
-pub use told::{told_header, told_record};
 pub use writing::{PutFault, put_record};

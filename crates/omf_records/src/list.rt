@@ -2,7 +2,7 @@
 
 ghost use Rattle.std.specs.Prelude.{◌≡◌, ◌<◌, ◌^◌, length, option_map, IfSome, IfOk, IfErr};
 ghost use Rattle.omf_format.specs.File.{segment_at, IsFile};
-ghost use Rattle.omf_records.specs.Segments.{shown, IsSound, IsRefused};
+ghost use Rattle.omf_records.specs.Segments.{segment_of_view, IsSound, IsRefused};
 
 use crate::checks::segment_at;
 use crate::segment::SegmentView;
@@ -19,11 +19,11 @@ pub struct SegmentList<'a> {
 impl<'a> Model for SegmentList<'a> {
     ghost use Rattle.std.specs.Prelude.{List, map};
     ghost use Rattle.omf_format.specs.File.{Segment};
-    ghost use Rattle.omf_records.specs.Segments.{shown, FitsViews};
+    ghost use Rattle.omf_records.specs.Segments.{segment_of_view, FitsViews};
 
     ghost Value = { List Segment };
 
-    ghost view = { λ list. map shown list.views.items };
+    ghost view = { λ list. map segment_of_view list.views.items };
 
     ghost invariant = { λ list. FitsViews list.views.items };
 }
@@ -38,7 +38,7 @@ impl<'a> SegmentList<'a> {
 
     /// The segment at a place, from 1.
     pub fn get(&self, place: u32) -> Option<&SegmentView<'a>>
-        ensures value { option_map (λ view. shown view.now) result ≡ segment_at self.now place }
+        ensures value { option_map (λ view. segment_of_view view.now) result ≡ segment_at self.now place }
 
         // A reader of its body may be had, and hands out the segment's records.
         ensures sound { IfSome result (λ view. IsSound view.now) }

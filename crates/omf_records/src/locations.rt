@@ -3,7 +3,7 @@
 ghost use Rattle.std.specs.Prelude.{◌≡◌, ◌⊎◌, ◌+◌, ◌*◌, ◌<◌, ◌≤◌, ◌^◌, ◌∷◌, [], List, length, Some, None, IfSome, IsNone};
 ghost use Rattle.std.specs.List.{flat_map, AllByRecursion};
 ghost use Rattle.omf_format.specs.Super.{Page, IsPage, page_text, HavePages, locations_from, locations_left};
-ghost use Rattle.omf_records.specs.View.{first, behind};
+ghost use Rattle.omf_records.specs.View.{first, bytes_after_first};
 
 use std::marker::Model;
 
@@ -47,7 +47,7 @@ impl<'a> Locations<'a> {
     #[inline(always)]
     pub fn next(&mut self) -> Option<u64>
         ensures answer { result ≡ first self.old }
-        ensures after { self.new ≡ behind self.old }
+        ensures after { self.new ≡ bytes_after_first self.old }
     {
         if self.lows == 0 {
             let (page, lows, left) = next_page(self.left, self.page);

@@ -107,14 +107,14 @@ fn are_pages(bytes: &[u8]) -> bool
 {
     let mut lows = 0u32;
     'bytes: for place in 0..bytes.len() {
-        lows = behind(lows, bytes[place]);
+        lows = lows_after_byte(lows, bytes[place]);
     }
     lows == 0
 }
 
 /// How many low bytes of locations are still to come behind a byte of subrecords.
 #[inline]
-fn behind(lows: u32, byte: u8) -> u32
+fn lows_after_byte(lows: u32, byte: u8) -> u32
     requires { lows ≤ 128 }
     ensures value { result ≡ lows_behind lows byte }
     ensures small { result ≤ 128 }

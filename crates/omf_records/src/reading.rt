@@ -3,7 +3,7 @@
 ghost use Rattle.std.specs.Prelude.{◌≡◌, ◌<◌, ◌≤◌, false, length, slice_index, IfOk, IfSome, OnSome};
 ghost use Rattle.omf_format.specs.Record.{IsRecord};
 ghost use Rattle.omf_format.specs.Reading.{next_answer, after_next, fault_at, is_end};
-ghost use Rattle.omf_records.specs.View.{seen, view, view_layout};
+ghost use Rattle.omf_records.specs.View.{record_answer, view, view_layout};
 
 use crate::front::record_at_front;
 use crate::layout::Layout;
@@ -52,7 +52,7 @@ impl<'a> Records<'a> {
     #[inline(always)]
     #[tactic(auto, unfolding(omf_format::specs::Reading::next_answer, omf_format::specs::Reading::after_next))]
     pub fn next(&mut self) -> Result<Option<(u32, Rec<'a>)>, RecordFault>
-        ensures answer { seen result ≡ next_answer self.old }
+        ensures answer { record_answer result ≡ next_answer self.old }
         ensures after { self.new ≡ after_next self.old }
 
         // Each record that comes is one of the format.

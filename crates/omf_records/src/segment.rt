@@ -18,17 +18,17 @@ pub struct SegmentView<'a> {
 
 impl<'a> SegmentView<'a> {
     ghost use Rattle.omf_header.specs.View.{fields};
-    ghost use Rattle.omf_records.specs.Segments.{placed, IsPlaced};
+    ghost use Rattle.omf_records.specs.Segments.{placed_view, IsPlaced};
 
     /// A reader at the front of the segment's body. It lends slices of the file.
     #[tactic(auto, unfolding(omf_format::specs::File::body_reader))]
     pub fn records(&self) -> Records<'a>
-        requires { IsPlaced (placed self.now) }
+        requires { IsPlaced (placed_view self.now) }
         ensures { result ≡ body_reader self.now.start (fields self.now.header) self.now.file.now }
     {
         let start = self.start as usize;
         let end = start + self.header.byte_count as usize;
-        let body = between(self.file, start + self.header.disp_data as usize, end);
+        let body = bytes_between(self.file, start + self.header.disp_data as usize, end);
         let layout = Layout {
             lab_len: self.header.lab_len,
             version: self.header.version,
@@ -38,7 +38,7 @@ impl<'a> SegmentView<'a> {
 }
 
 /// The bytes from one displacement up to another.
-fn between(bytes: &[u8], from: usize, to: usize) -> &[u8]
+fn bytes_between(bytes: &[u8], from: usize, to: usize) -> &[u8]
     requires ordered { from ≤ to }
     requires within { to ≤ length bytes.now }
     ensures value { result.now ≡ drop from (take to bytes.now) }

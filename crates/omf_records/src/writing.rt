@@ -58,7 +58,7 @@ fn put_both(out: &mut Vec<u8>, front: &[u8], bytes: &[u8]) -> Result<(), PutFaul
 }
 
 /// A number of four bytes.
-fn long(n: u32) -> [u8; 4]
+fn four_bytes(n: u32) -> [u8; 4]
     ensures { result ≡ little_bytes 4 n }
 {
     n.to_le_bytes()
@@ -76,7 +76,7 @@ fn put_number(out: &mut Vec<u8>, code: u8, n: u32) -> Result<(), PutFault>
     ensures ok { OnOk result (out.new.items ≡ out.old.items ++ (code ∷ little_bytes 4 n)) }
     ensures err { OnErr result (out.new.items ≡ out.old.items) }
 {
-    put_both(out, &[code], &long(n))
+    put_both(out, &[code], &four_bytes(n))
 }
 
 /// A code, and the count and the shift of a patch.
@@ -101,7 +101,7 @@ fn put_reloc(out: &mut Vec<u8>, front: &[u8], location: u32, offset: u32) -> Res
     ensures ok { OnOk result (out.new.items ≡ out.old.items ++ (front.now ++ (little_bytes 4 location ++ little_bytes 4 offset))) }
     ensures err { OnErr result (out.new.items ≡ out.old.items) }
 {
-    put_all(out, front, &[], &long(location), &long(offset))
+    put_all(out, front, &[], &four_bytes(location), &four_bytes(offset))
 }
 
 /// Appends what stands in front, a location, a file, a segment and an offset.
@@ -121,9 +121,9 @@ fn put_interseg(
     put_all(
         out,
         front,
-        &long(location),
+        &four_bytes(location),
         &words(file, segment),
-        &long(offset),
+        &four_bytes(offset),
     )
 }
 
@@ -163,7 +163,7 @@ fn put_entry(out: &mut Vec<u8>, segment: u16, offset: u32, name: &[u8]) -> Resul
     put_all(
         out,
         &[0xF4, low, high],
-        &long(offset),
+        &four_bytes(offset),
         &[name.len() as u8],
         name,
     )
@@ -176,7 +176,7 @@ fn put_formula(out: &mut Vec<u8>, code: u8, count: u8, n: u32, expr: &[u8]) -> R
     ensures err { OnErr result (out.new.items ≡ out.old.items) }
 {
     if code == 0xEE {
-        return put_all(out, &[code, count], &long(n), &[], expr);
+        return put_all(out, &[code, count], &four_bytes(n), &[], expr);
     }
     put_both(out, &[code, count], expr)
 }
@@ -191,7 +191,9 @@ pub fn put_record(out: &mut Vec<u8>, rec: &Rec) -> Result<(), PutFault>
     match rec {
         Rec::End => put_both(out, &[0x00], &[]),
         Rec::Const { bytes } => put_both(out, &[bytes.len() as u8], bytes),
-        Rec::LongConst { bytes } => { put_all(out, &[0xF2], &long(bytes.len() as u32), &[], bytes) }
+        Rec::LongConst { bytes } => {
+            put_all(out, &[0xF2], &four_bytes(bytes.len() as u32), &[], bytes)
+        }
         Rec::Align { n } => put_number(out, 0xE0, *n),
         Rec::Org { n } => put_number(out, 0xE1, *n),
         Rec::Space { n } => put_number(out, 0xF1, *n),
@@ -266,7 +268,7 @@ pub fn put_record(out: &mut Vec<u8>, rec: &Rec) -> Result<(), PutFault>
             put_all(out, &front, &word(*location), &[*segment], &word(*offset))
         }
         Rec::Super { form, bytes } => {
-            let size = long(bytes.len() as u32 + 1);
+            let size = four_bytes(bytes.len() as u32 + 1);
             put_all(out, &[0xF7], &size, &[*form], bytes)
         }
     }

@@ -7,7 +7,7 @@ ghost use Rattle.asm_meaning.specs.Object.{IsObject, IsAsmFault, cause_of};
 
 use asm_meaning::{AsmCause, AsmFault};
 use orca_macro::{MacroCause, MacroFault, expand};
-use orca_object::assembled;
+use orca_object::assemble_lines;
 use std::alloc::Global;
 
 /// Memory ran out.
@@ -64,7 +64,7 @@ pub fn assemble(alloc: Global, source: &[u8], macros: &Vec<Vec<u8>>) -> Result<V
         Ok(lines) => lines,
         Err(fault) => return Err(macro_fault(fault)),
     };
-    match assembled(alloc, &lines) {
+    match assemble_lines(alloc, &lines) {
         Ok(answer) => answer,
         Err(_) => Err(no_memory()),
     }

@@ -3,7 +3,7 @@ use Rattle.std.proofs.Common.{◌≡◌, ◌≤◌, ◌<◌, ◌+◌, ℕ, zero,
 use Rattle.std.specs.Prelude.{bytes_eq, slice_get}
 use Rattle.std.specs.Cmp.Lexicographic.{bytes_decides}
 use Rattle.std.proofs.lemmas.List.{length-take}
-use Rattle.macro_meaning.specs.Definition.{Definition, first_named, next_place, or_else}
+use Rattle.macro_meaning.specs.Definition.{MacroDefinition, first_named, next_place, or_else}
 use Rattle.orca_macro.proofs.Targets.{take_next}
 
 -- a name that is there keeps its place
@@ -29,7 +29,7 @@ comes name q at old new none is = is ∙ by_test (bytes_eq name q) refl (old q) 
         let same : old name ≡ old q = ap old ((bytes_decides name q).0 test) in
         let clash : None ≡ Some y = sym none ∙ same ∙ here in absurd cc
 
-first-more : (q : List ℕ) (ds : List Definition) (d : Definition) → first_named q (ds ++ d ∷ []) ≡ or_else (first_named q ds) (cond (bytes_eq d.model.name q) (Some (length ds)) None)
+first-more : (q : List ℕ) (ds : List MacroDefinition) (d : MacroDefinition) → first_named q (ds ++ d ∷ []) ≡ or_else (first_named q ds) (cond (bytes_eq d.model.name q) (Some (length ds)) None)
 unfolding first_named
 first-more q [] d = by_test (bytes_eq d.model.name q)
   where
@@ -48,7 +48,7 @@ first-more q (x ∷ ds) d = by_tests (bytes_eq x.model.name q) (bytes_eq d.model
     by_tests false b o p is = ap next_place is ∙ last b o
 
 -- one more definition
-pub next_name : (q : List ℕ) (ds : List Definition) (at : ℕ) (d : Definition) (old new : Option ℕ) → slice_get ds at ≡ Some d → at ≤ length ds → old ≡ first_named q (take at ds)
+pub next_name : (q : List ℕ) (ds : List MacroDefinition) (at : ℕ) (d : MacroDefinition) (old new : Option ℕ) → slice_get ds at ≡ Some d → at ≤ length ds → old ≡ first_named q (take at ds)
     → new ≡ or_else old (cond (bytes_eq d.model.name q) (Some at) None) → new ≡ first_named q (take (at + 1) ds)
 next_name q ds at d old new is few old_is new_is =
     let size : length (take at ds) ≡ at = omega (arith, few, length-take at ds) in
@@ -56,17 +56,17 @@ next_name q ds at d old new is few old_is new_is =
     ∙ ap (λ (k : ℕ). or_else (first_named q (take at ds)) (cond (bytes_eq d.model.name q) (Some k) None)) (sym size)
     ∙ sym (first-more q (take at ds) d) ∙ ap (first_named q) (sym (take_next ds at d is))
 
-pub all_names : (q : List ℕ) (ds : List Definition) (at : ℕ) (o : Option ℕ) → length ds ≤ at → o ≡ first_named q (take at ds) → o ≡ first_named q ds
+pub all_names : (q : List ℕ) (ds : List MacroDefinition) (at : ℕ) (o : Option ℕ) → length ds ≤ at → o ≡ first_named q (take at ds) → o ≡ first_named q ds
 all_names q ds at o end is = is ∙ ap (first_named q) (all ds at end)
   where
-    all : (l : List Definition) (i : ℕ) → length l ≤ i → take i l ≡ l
+    all : (l : List MacroDefinition) (i : ℕ) → length l ≤ i → take i l ≡ l
     all [] zero end = refl
     all [] (suc i) end = refl
     all (x ∷ l) zero end = absurd (omega (arith, end))
-    all (x ∷ l) (suc i) end = ap (λ (k : List Definition). x ∷ k) (all l i (omega (arith, end)))
+    all (x ∷ l) (suc i) end = ap (λ (k : List MacroDefinition). x ∷ k) (all l i (omega (arith, end)))
 
 -- it is one of them
-pub within : (q : List ℕ) (ds : List Definition) (k : ℕ) → first_named q ds ≡ Some k → k < length ds
+pub within : (q : List ℕ) (ds : List MacroDefinition) (k : ℕ) → first_named q ds ≡ Some k → k < length ds
 unfolding first_named
 within q [] k is = absurd cc
 within q (x ∷ ds) k is = by_test (bytes_eq x.model.name q) (first_named q ds) (within q ds) is

@@ -19,15 +19,15 @@ use Rattle.macro_meaning.specs.declared.statements.Declaration.{Declaration}
 use Rattle.macro_meaning.specs.declared.statements.Declaration.TheVariants.{Local, Shared}
 use Rattle.macro_meaning.specs.declared.statements.Statement.{Statement}
 use Rattle.macro_meaning.specs.declared.statements.Statement.TheVariants.{Declare, Set, Middle, BranchIf, Branch, Count, Nothing, Leave, Note, Define}
-use Rattle.macro_meaning.specs.Call.{bound, names_count}
-use Rattle.macro_meaning.specs.Condition.{Answer, answer_of, number_of, environment, is_declared, IsNumber, Formula, NoFormula, IsCondition, IsConditionBy, comparison}
-use Rattle.macro_meaning.specs.Deed.{Deed, Rests, Gives, Declares, Sets, Goes, Counts, Leaves, Calls, Fails, Setting, earlier, both, or_bad, again, first_time, or_deed, declaring, of_kind, settable, set_to, setting, printed_answer, middle_from, middle_of, going, going_to, counting, noting, IsBranchIf, IsMiddle, IsNote, IsSetting, IsDone, resting, called, calling_if, calling_at, IsDoneBy, operation_or_anop, IsAfterCut, cut, IsAfterText, begins_definition, IsShort, IsWithTexts, shown, IsWritten, IsDeed}
-use Rattle.macro_meaning.specs.Definition.{Definition, Part, Plain, Closed, Open, Model, model_of, model_fault, part_fault, first_part_fault, or_else, first_named, counts}
+use Rattle.macro_meaning.specs.Call.{bound_arguments, names_count}
+use Rattle.macro_meaning.specs.Condition.{Answer, answer_of, number_of, symbol_environment, is_declared, IsNumber, Formula, NoFormula, IsCondition, IsConditionBy, comparison}
+use Rattle.macro_meaning.specs.Effect.{Effect, NoEffect, Emit, DeclareSymbol, SetSymbol, BranchTo, SetCounter, Exit, CallMacro, Fail, SymbolSetting, earlier, pair_or_earlier_fault, or_bad, redeclaration_effect, first_time, or_deed, declaring, of_kind, settable, set_to, setting, printed_answer, middle_from, middle_of, going, going_to, counting, noting, IsBranchIf, IsMiddle, IsNote, IsSetting, IsDone, resting, call_effect, calling_if, calling_at, IsDoneBy, operation_or_anop, IsAfterCut, without_sequence_symbol, IsAfterText, begins_definition, IsShort, IsWithTexts, substituted_line, IsWritten, IsDeed}
+use Rattle.macro_meaning.specs.Definition.{MacroDefinition, DefinitionPart, Plain, Closed, Open, Model, model_of, model_fault, part_fault, first_part_fault, or_else, first_named, is_visible_in}
 use Rattle.macro_meaning.specs.Expansion.{line_fault_of, file_parts, file_part_fault, first_in, first_of_files, next_file, StopsAt}
-use Rattle.macro_meaning.specs.Pieces.{pieces, quoted, joined}
+use Rattle.macro_meaning.specs.Pieces.{pieces, unquoted_text, joined_texts}
 use Rattle.macro_meaning.specs.Statements.{symbol_name, target_name}
 use Rattle.macro_meaning.specs.Symbol.{Symbol, Symbols, Values, is_count, kind_of, declaration_of, is_kind, is_declaration}
-use Rattle.macro_meaning.specs.Visit.{Program, Visit, Move, On, Ends, Stops, IsVisitOf, IsVisitAt, IsVisit, Follow, line_at, if_line, onward, resumed, returned, next_line, branch_to, target_of, body_of, call_of, move_of, after, setting_of, most_visits, first_visit}
+use Rattle.macro_meaning.specs.Visit.{Program, Visit, Move, On, Ends, Stops, IsVisitOf, IsVisitAt, IsVisit, Follow, line_at, if_line, next_visit, visit_after_call, move_after_expansion, next_line, branch_to, target_of, body_of, call_of, move_of, visit_after, setting_of, most_visits, first_visit}
 
 unfoldable pub is_memory : MacroCause → Bool
 is_memory LineTooLong = false
@@ -46,16 +46,16 @@ abbrev Free : {A : Type 0} → Result A MacroCause → Type 0
 Free (Ok a) = Unit {0}
 Free (Err cause) = is_memory cause ≡ false
 
-abbrev DeedFree : Deed → Type 0
-DeedFree Rests = Unit {0}
-DeedFree (Gives text) = Unit {0}
-DeedFree (Declares name declaration) = Unit {0}
-DeedFree (Sets name kind text) = Unit {0}
-DeedFree (Goes name) = Unit {0}
-DeedFree (Counts n) = Unit {0}
-DeedFree Leaves = Unit {0}
-DeedFree (Calls place symbols) = Unit {0}
-DeedFree (Fails cause) = is_memory cause ≡ false
+abbrev DeedFree : Effect → Type 0
+DeedFree NoEffect = Unit {0}
+DeedFree (Emit text) = Unit {0}
+DeedFree (DeclareSymbol name declaration) = Unit {0}
+DeedFree (SetSymbol name kind text) = Unit {0}
+DeedFree (BranchTo name) = Unit {0}
+DeedFree (SetCounter n) = Unit {0}
+DeedFree Exit = Unit {0}
+DeedFree (CallMacro place symbols) = Unit {0}
+DeedFree (Fail cause) = is_memory cause ≡ false
 
 -- ---- answers
 
@@ -81,7 +81,7 @@ earlier_free TooNested b p q = p
 earlier_free (Noted n) b p q = p
 earlier_free Memory b p q = absurd cc
 
-both_free : {A B : Type 0} (a : Result A MacroCause) (b : Result B MacroCause) → Free a → Free b → Free (both a b)
+both_free : {A B : Type 0} (a : Result A MacroCause) (b : Result B MacroCause) → Free a → Free b → Free (pair_or_earlier_fault a b)
 both_free (Ok a) (Ok b) p q = tt
 both_free (Ok a) (Err c) p q = q
 both_free (Err c) (Ok b) p q = p
@@ -104,7 +104,7 @@ answer_free : (values : Values) (t : Tree) → Free (answer_of values t)
 unfolding answer_of
 answer_free values t =
     cond_free (not (list_all (is_declared values) (terms_of t))) _ _ lost_free
-    (cond_free (has_large t) _ _ bad_free (cond_free (ltb 64 (depth t)) _ _ bad_free (number_of_free (value (environment values) 0 0 t))))
+    (cond_free (has_large t) _ _ bad_free (cond_free (ltb 64 (depth t)) _ _ bad_free (number_of_free (value (symbol_environment values) 0 0 t))))
 
 as_free : {A : Type 0} (a b : Result A MacroCause) → a ≡ b → Free b → Free a
 as_free a b e p = subst Free (sym e) p
@@ -122,10 +122,10 @@ condition_free values text a is = by_comparison (comparison text) is
 
 -- ---- deeds
 
-deed_as : (d e : Deed) → d ≡ e → DeedFree e → DeedFree d
+deed_as : (d e : Effect) → d ≡ e → DeedFree e → DeedFree d
 deed_as d e is p = subst DeedFree (sym is) p
 
-cond_deed : (b : Bool) (x y : Deed) → DeedFree x → DeedFree y → DeedFree (cond b x y)
+cond_deed : (b : Bool) (x y : Effect) → DeedFree x → DeedFree y → DeedFree (cond b x y)
 cond_deed true x y p q = p
 cond_deed false x y p q = q
 
@@ -139,7 +139,7 @@ declaring_free values declaration (Some name) = cond_deed (is_count name) _ _ ba
     by_text (Shared kind) None = tt
     by_text (Shared kind) (Some x) = cond_deed (is_kind kind x.0) _ _ tt bad_free
 
-    by_symbol : (o : Option Symbol) → DeedFree (or_deed (again name declaration o) (first_time name declaration (values.texts name)))
+    by_symbol : (o : Option Symbol) → DeedFree (or_deed (redeclaration_effect name declaration o) (first_time name declaration (values.texts name)))
     by_symbol None = by_text declaration (values.texts name)
     by_symbol (Some s) = cond_deed (is_declaration declaration (declaration_of s)) _ _ tt bad_free
 
@@ -158,7 +158,7 @@ set_to_free kind (Err c) p = p
 
 setting_free : (values : Values) (kind : Kind) (label : List ℕ) (text : Result (List ℕ) MacroCause) → Free text → DeedFree (setting values kind label text)
 unfolding setting
-setting_free values kind label text p = set_to_free kind (both (settable values kind (symbol_name label)) text) (both_free _ text (settable_free values kind (symbol_name label)) p)
+setting_free values kind label text p = set_to_free kind (pair_or_earlier_fault (settable values kind (symbol_name label)) text) (both_free _ text (settable_free values kind (symbol_name label)) p)
 
 printed_free : (kind : Kind) (a : Answer) → Free a → Free (printed_answer kind a)
 printed_free kind (Ok n) p = tt
@@ -194,37 +194,37 @@ noting_free : (r : Result (List ℕ × ℕ) MacroCause) → Free r → DeedFree 
 noting_free (Ok x) p = cond_deed (int_le (pos 8) (signed x.1)) _ _ (noted_free x.1) tt
 noting_free (Err c) p = p
 
-branch_if_free : (values : Values) (ps : List (List ℕ)) (d : Deed) → IsBranchIf values ps d → DeedFree d
-branch_if_free values [] d p = deed_as d (Fails BadSetting) p bad_free
-branch_if_free values (a ∷ []) d p = deed_as d (Fails BadSetting) p bad_free
+branch_if_free : (values : Values) (ps : List (List ℕ)) (d : Effect) → IsBranchIf values ps d → DeedFree d
+branch_if_free values [] d p = deed_as d (Fail BadSetting) p bad_free
+branch_if_free values (a ∷ []) d p = deed_as d (Fail BadSetting) p bad_free
 branch_if_free values (a ∷ b ∷ []) d p = deed_as d _ p.2 (going_free _ (both_free p.0 (or_bad (target_name b)) (condition_free values a p.0 p.1) (or_bad_free (target_name b))))
-branch_if_free values (a ∷ b ∷ c ∷ ps) d p = deed_as d (Fails BadSetting) p bad_free
+branch_if_free values (a ∷ b ∷ c ∷ ps) d p = deed_as d (Fail BadSetting) p bad_free
 
-middle_deed_free : (values : Values) (label : List ℕ) (ps : List (List ℕ)) (d : Deed) → IsMiddle values label ps d → DeedFree d
+middle_deed_free : (values : Values) (label : List ℕ) (ps : List (List ℕ)) (d : Effect) → IsMiddle values label ps d → DeedFree d
 middle_deed_free values label [] d p = deed_as d _ p (setting_free values Text label (Err BadSetting) bad_free)
 middle_deed_free values label (a ∷ []) d p = deed_as d _ p (setting_free values Text label (Err BadSetting) bad_free)
 middle_deed_free values label (a ∷ b ∷ []) d p = deed_as d _ p (setting_free values Text label (Err BadSetting) bad_free)
 middle_deed_free values label (a ∷ b ∷ c ∷ []) d p =
-    deed_as d _ p.4 (setting_free values Text label _ (middle_free _ (both_free (or_bad (quoted a)) (both p.0 p.1) (or_bad_free (quoted a))
+    deed_as d _ p.4 (setting_free values Text label _ (middle_free _ (both_free (or_bad (unquoted_text a)) (pair_or_earlier_fault p.0 p.1) (or_bad_free (unquoted_text a))
     (both_free p.0 p.1 (is_number_free values b p.0 p.2) (is_number_free values c p.1 p.3)))))
 middle_deed_free values label (a ∷ b ∷ c ∷ x ∷ ps) d p = deed_as d _ p (setting_free values Text label (Err BadSetting) bad_free)
 
-note_free : (values : Values) (ps : List (List ℕ)) (d : Deed) → IsNote values ps d → DeedFree d
-note_free values [] d p = deed_as d (Fails BadSetting) p bad_free
-note_free values (a ∷ []) d p = deed_as d (Fails BadSetting) p bad_free
-note_free values (a ∷ b ∷ []) d p = deed_as d _ p.2 (noting_free _ (both_free (or_bad (quoted a)) p.0 (or_bad_free (quoted a)) (is_number_free values b p.0 p.1)))
-note_free values (a ∷ b ∷ c ∷ ps) d p = deed_as d (Fails BadSetting) p bad_free
+note_free : (values : Values) (ps : List (List ℕ)) (d : Effect) → IsNote values ps d → DeedFree d
+note_free values [] d p = deed_as d (Fail BadSetting) p bad_free
+note_free values (a ∷ []) d p = deed_as d (Fail BadSetting) p bad_free
+note_free values (a ∷ b ∷ []) d p = deed_as d _ p.2 (noting_free _ (both_free (or_bad (unquoted_text a)) p.0 (or_bad_free (unquoted_text a)) (is_number_free values b p.0 p.1)))
+note_free values (a ∷ b ∷ c ∷ ps) d p = deed_as d (Fail BadSetting) p bad_free
 
-setting_deed_free : (values : Values) (kind : Kind) (label operand : List ℕ) (d : Deed) → IsSetting values kind label operand d → DeedFree d
+setting_deed_free : (values : Values) (kind : Kind) (label operand : List ℕ) (d : Effect) → IsSetting values kind label operand d → DeedFree d
 setting_deed_free values Number label operand d p = deed_as d _ p.2 (setting_free values Number label _ (printed_free Number p.0 (condition_free values operand p.0 p.1)))
 setting_deed_free values Flag label operand d p = deed_as d _ p.2 (setting_free values Flag label _ (printed_free Flag p.0 (condition_free values operand p.0 p.1)))
-setting_deed_free values Text label operand d p = deed_as d _ p (setting_free values Text label _ (or_bad_free (joined (pieces 0x2B operand))))
+setting_deed_free values Text label operand d p = deed_as d _ p (setting_free values Text label _ (or_bad_free (joined_texts (pieces 0x2B operand))))
 
 resting_free : (label text : List ℕ) → DeedFree (resting label text)
 resting_free [] text = tt
 resting_free (byte ∷ label) text = tt
 
-done_free : (values : Values) (s : Statement) (text label operand : List ℕ) (d : Deed) → IsDone values s text label operand d → DeedFree d
+done_free : (values : Values) (s : Statement) (text label operand : List ℕ) (d : Effect) → IsDone values s text label operand d → DeedFree d
 done_free values (Declare declaration) text label operand d p = deed_as d _ p (declaring_free values declaration (symbol_name operand))
 done_free values (Set kind) text label operand d p = setting_deed_free values kind label operand d p
 done_free values Middle text label operand d p = middle_deed_free values label (pieces 0x2C operand) d p
@@ -232,31 +232,31 @@ done_free values BranchIf text label operand d p = branch_if_free values (pieces
 done_free values Branch text label operand d p = deed_as d _ p (going_to_free (target_name operand))
 done_free values Count text label operand d p = deed_as d _ p.2 (counting_free p.0 (is_number_free values operand p.0 p.1))
 done_free values Nothing text label operand d p = deed_as d _ p (resting_free label text)
-done_free values Leave text label operand d p = deed_as d Leaves p tt
+done_free values Leave text label operand d p = deed_as d Exit p tt
 done_free values Note text label operand d p = note_free values (pieces 0x2C operand) d p
-done_free values Define text label operand d p = deed_as d (Gives text) p tt
+done_free values Define text label operand d p = deed_as d (Emit text) p tt
 
 arguments_free : is_memory BadArguments ≡ false
 unfolding is_memory
 arguments_free = refl
 
-calling_free : (definitions : List Definition) (root : ℕ) (text : List ℕ) (o : Option ℕ) (label operand : List ℕ) → DeedFree (calling_at definitions root text o label operand)
+calling_free : (definitions : List MacroDefinition) (root : ℕ) (text : List ℕ) (o : Option ℕ) (label operand : List ℕ) → DeedFree (calling_at definitions root text o label operand)
 calling_free definitions root text None label operand = tt
 calling_free definitions root text (Some place) label operand = by_definition (slice_get definitions place)
   where
-    by_bound : (o : Option Symbols) → DeedFree (called place o)
+    by_bound : (o : Option Symbols) → DeedFree (call_effect place o)
     by_bound None = arguments_free
     by_bound (Some symbols) = tt
 
-    by_definition : (o : Option Definition) → DeedFree (calling_if root text place o label operand)
+    by_definition : (o : Option MacroDefinition) → DeedFree (calling_if root text place o label operand)
     by_definition None = tt
-    by_definition (Some d) = cond_deed (counts root d) _ _ (cond_deed (names_count d.model) _ _ bad_free (by_bound (bound d.model label operand))) tt
+    by_definition (Some d) = cond_deed (is_visible_in root d) _ _ (cond_deed (names_count d.model) _ _ bad_free (by_bound (bound_arguments d.model label operand))) tt
 
 long_free : is_memory LineTooLong ≡ false
 unfolding is_memory
 long_free = refl
 
-deed_free : (s : Setting) (line : Line) (d : Deed) → IsDeed s line d → DeedFree d
+deed_free : (s : SymbolSetting) (line : Line) (d : Effect) → IsDeed s line d → DeedFree d
 deed_free s line d p = by_comment (is_comment line.text) p
   where
     by_statement : (text : List ℕ) (fields : Fields) (o : Option Statement) → IsDoneBy s text fields o d → DeedFree d
@@ -264,24 +264,24 @@ deed_free s line d p = by_comment (is_comment line.text) p
     by_statement text fields (Some statement) p = done_free s.values statement text (part text fields.label) (part text fields.operand) d p
 
     by_cut : (b : Bool) (text : List ℕ) → IsAfterCut s b text d → DeedFree d
-    by_cut true text p = deed_as d Rests p tt
+    by_cut true text p = deed_as d NoEffect p tt
     by_cut false text p = by_statement text (three_fields text) (operation_or_anop (part text (three_fields text).operation)) p
 
     by_begins : (b : Bool) (text : List ℕ) → IsAfterText s b text d → DeedFree d
-    by_begins true text p = deed_as d Rests p tt
-    by_begins false text p = by_cut (is_comment (cut text)) (cut text) p
+    by_begins true text p = deed_as d NoEffect p tt
+    by_begins false text p = by_cut (is_comment (without_sequence_symbol text)) (without_sequence_symbol text) p
 
     by_length : (b : Bool) (text : List ℕ) → IsShort s line b text d → DeedFree d
-    by_length true text p = deed_as d (Fails LineTooLong) p long_free
+    by_length true text p = deed_as d (Fail LineTooLong) p long_free
     by_length false text p = by_begins (begins_definition s line) text p
 
     by_texts : (o : Option (List ℕ)) → IsWithTexts s line o d → DeedFree d
-    by_texts None p = deed_as d (Fails NoSuchSymbol) p lost_free
+    by_texts None p = deed_as d (Fail NoSuchSymbol) p lost_free
     by_texts (Some text) p = by_length (ltb 255 (length text)) text p
 
     by_comment : (b : Bool) → IsWritten s line b d → DeedFree d
-    by_comment true p = deed_as d Rests p tt
-    by_comment false p = by_texts (shown s.values line) p
+    by_comment true p = deed_as d NoEffect p tt
+    by_comment false p = by_texts (substituted_line s.values line) p
 
 -- ---- visits
 
@@ -294,20 +294,20 @@ if_line_free : (o : Option Line) (a b : Move) → MoveFree a → MoveFree b → 
 if_line_free None a b p q = q
 if_line_free (Some line) a b p q = p
 
-returned_free : (program : Program) (before : List Visit) (last : Visit) (depth : ℕ) (caller : Option ℕ) → MoveFree (returned program before last depth caller)
-unfolding returned
+returned_free : (program : Program) (before : List Visit) (last : Visit) (depth : ℕ) (caller : Option ℕ) → MoveFree (move_after_expansion program before last depth caller)
+unfolding move_after_expansion
 returned_free program before last zero caller = tt
 returned_free program before last (suc depth) None = tt
 returned_free program before last (suc depth) (Some place) = by_visit (slice_get before place) (λ (c : Option ℕ). returned_free program before last depth c)
   where
-    by_visit : (o : Option Visit) → ((c : Option ℕ) → MoveFree (returned program before last depth c))
-        → MoveFree (elim o [ None ↦ Ends | Some v ↦ if_line (line_at program v.macro (v.line + 1)) (On (resumed v last)) (returned program before last depth v.caller) ])
+    by_visit : (o : Option Visit) → ((c : Option ℕ) → MoveFree (move_after_expansion program before last depth c))
+        → MoveFree (elim o [ None ↦ Ends | Some v ↦ if_line (line_at program v.macro (v.line + 1)) (On (visit_after_call v last)) (move_after_expansion program before last depth v.caller) ])
     by_visit None more = tt
-    by_visit (Some v) more = if_line_free (line_at program v.macro (v.line + 1)) (On (resumed v last)) (returned program before last depth v.caller) tt (more v.caller)
+    by_visit (Some v) more = if_line_free (line_at program v.macro (v.line + 1)) (On (visit_after_call v last)) (move_after_expansion program before last depth v.caller) tt (more v.caller)
 
 next_free : (program : Program) (before : List Visit) (v : Visit) → MoveFree (next_line program before v)
 unfolding next_line
-next_free program before v = if_line_free (line_at program v.macro (v.line + 1)) (On (onward v)) (returned program before v v.depth v.caller) tt (returned_free program before v v.depth v.caller)
+next_free program before v = if_line_free (line_at program v.macro (v.line + 1)) (On (next_visit v)) (move_after_expansion program before v v.depth v.caller) tt (returned_free program before v v.depth v.caller)
 
 cond_move : (b : Bool) (x y : Move) → MoveFree x → MoveFree y → MoveFree (cond b x y)
 cond_move true x y p q = p
@@ -322,17 +322,17 @@ call_free : (before : List Visit) (v : Visit) (line : Line) (place : ℕ) (symbo
 unfolding is_memory
 call_free before v line place symbols = cond_move (eqb v.depth 32) _ _ refl tt
 
-move_free : (program : Program) (before : List Visit) (v : Visit) (line : Line) (d : Deed) → DeedFree d → MoveFree (move_of program before v line d)
+move_free : (program : Program) (before : List Visit) (v : Visit) (line : Line) (d : Effect) → DeedFree d → MoveFree (move_of program before v line d)
 unfolding move_of
-move_free program before v line Rests p = next_free program before v
-move_free program before v line (Gives text) p = next_free program before v
-move_free program before v line (Declares name declaration) p = next_free program before (after v (Declares name declaration))
-move_free program before v line (Sets name kind text) p = next_free program before (after v (Sets name kind text))
-move_free program before v line (Goes name) p = branch_free v line (target_of (body_of program v.macro) name)
-move_free program before v line (Counts n) p = next_free program before (after v (Counts n))
-move_free program before v line Leaves p = returned_free program before v v.depth v.caller
-move_free program before v line (Calls place symbols) p = call_free before v line place symbols
-move_free program before v line (Fails cause) p = p
+move_free program before v line NoEffect p = next_free program before v
+move_free program before v line (Emit text) p = next_free program before v
+move_free program before v line (DeclareSymbol name declaration) p = next_free program before (visit_after v (DeclareSymbol name declaration))
+move_free program before v line (SetSymbol name kind text) p = next_free program before (visit_after v (SetSymbol name kind text))
+move_free program before v line (BranchTo name) p = branch_free v line (target_of (body_of program v.macro) name)
+move_free program before v line (SetCounter n) p = next_free program before (visit_after v (SetCounter n))
+move_free program before v line Exit p = returned_free program before v v.depth v.caller
+move_free program before v line (CallMacro place symbols) p = call_free before v line place symbols
+move_free program before v line (Fail cause) p = p
 
 many_free : is_memory TooManyLines ≡ false
 unfolding is_memory
@@ -366,7 +366,7 @@ or_else_free : (a b : Option MacroFault) → FaultFree a → FaultFree b → Fau
 or_else_free None b p q = q
 or_else_free (Some fault) b p q = p
 
-part_free : (p : Part) → FaultFree (line_fault_of (part_fault p))
+part_free : (p : DefinitionPart) → FaultFree (line_fault_of (part_fault p))
 unfolding is_memory
 part_free (Plain line) = tt
 part_free (Closed begins [] ends) = refl
@@ -377,7 +377,7 @@ part_free (Closed begins (l ∷ inner) ends) = by_model (model_of l.text)
     by_model (Some m) = tt
 part_free (Open begins inner) = refl
 
-first_free : (ps : List Part) → FaultFree (line_fault_of (first_part_fault ps))
+first_free : (ps : List DefinitionPart) → FaultFree (line_fault_of (first_part_fault ps))
 unfolding first_part_fault
 first_free [] = tt
 first_free (p ∷ ps) = by_fault (part_fault p) (part_free p) (first_free ps)

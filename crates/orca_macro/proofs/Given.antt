@@ -3,9 +3,9 @@ use Rattle.std.proofs.Common.{◌≡◌, ◌≤◌, ℕ, Bool, true, false, eqb,
 use Rattle.std.specs.Prelude.{codes, not}
 use Rattle.orca_meaning.specs.Characters.{folded}
 use Rattle.orca_meaning.specs.Line.{Fields, Line, part, three_fields, fields_of, is_comment}
-use Rattle.macro_meaning.specs.Deed as meaning
-use Rattle.macro_meaning.specs.Deed.{Setting, IsAfterCut, IsDeed, IsDoneBy, IsStatement, calling_at, cut, operation_or_anop, resting}
-use Rattle.macro_meaning.specs.Definition.{Definition, operation_is, first_named}
+use Rattle.macro_meaning.specs.Effect as meaning
+use Rattle.macro_meaning.specs.Effect.{SymbolSetting, IsAfterCut, IsDeed, IsDoneBy, IsStatement, calling_at, without_sequence_symbol, operation_or_anop, resting}
+use Rattle.macro_meaning.specs.Definition.{MacroDefinition, operation_is, first_named}
 use Rattle.macro_meaning.specs.Statements.{is_operation}
 use Rattle.macro_meaning.specs.Substitution.{first_passes}
 use Rattle.macro_meaning.specs.Symbol.{SharedTexts}
@@ -17,7 +17,7 @@ use Rattle.orca_macro.specs.Plan.{IsGiven}
 use Rattle.orca_macro.specs.Untouched.{IsUntouched}
 use Rattle.orca_symbols.specs.Frame.{Frame}
 use Rattle.orca_macro.specs.Stacks.{MovesTo}
-use Rattle.orca_macro.specs.declared.visits.Outcome.{Outcome}
+use Rattle.orca_macro.specs.declared.visits.Flow.{Flow}
 use Rattle.orca_symbols.proofs.Cuts.{cut_none}
 use Rattle.orca_macro.proofs.Plans.{after_cut}
 
@@ -27,12 +27,12 @@ unfolding fields_of
 operation_same text other = rw other refl
 
 -- an operation that is neither a statement nor a macro
-other_operation : (s : Setting) (text operation : List ℕ) → part text (three_fields text).operation ≡ operation → operation_or_anop operation ≡ None
-    → first_named (folded operation) s.definitions ≡ None → IsStatement s text (three_fields text) (meaning.Gives text)
+other_operation : (s : SymbolSetting) (text operation : List ℕ) → part text (three_fields text).operation ≡ operation → operation_or_anop operation ≡ None
+    → first_named (folded operation) s.definitions ≡ None → IsStatement s text (three_fields text) (meaning.Emit text)
 other_operation s text operation is none unnamed =
     let which : operation_or_anop (part text (three_fields text).operation) ≡ None = ap operation_or_anop is ∙ none in
     let nowhere : first_named (folded (part text (three_fields text).operation)) s.definitions ≡ None = ap (λ (o : List ℕ). first_named (folded o) s.definitions) is ∙ unnamed in
-    subst (λ (o : Option Statement). IsDoneBy s text (three_fields text) o (meaning.Gives text)) (sym which)
+    subst (λ (o : Option Statement). IsDoneBy s text (three_fields text) o (meaning.Emit text)) (sym which)
     (sym (ap (λ (o : Option ℕ). calling_at s.definitions s.root text o (part text (three_fields text).label) (part text (three_fields text).operand)) nowhere))
 
 -- and its label the first one
@@ -75,12 +75,12 @@ module _ (l : Line) (text : List ℕ) (w : IsWrittenOut l text) where
       ap (part text) (sym (label_same text other)) ∙ ap (λ (t : List ℕ). part t (fields_of t).label) w.same ∙ ap (λ (f : Fields). part l.text f.label) (sym w.own)
 
   -- what its statement does it does
-  whole : (s : Setting) → is_comment text ≡ false → IsStatement s text (three_fields text) (meaning.Gives text) → IsDeed s l (meaning.Gives l.text)
+  whole : (s : SymbolSetting) → is_comment text ≡ false → IsStatement s text (three_fields text) (meaning.Emit text) → IsDeed s l (meaning.Emit l.text)
   whole s other given =
-      let cut_off : IsAfterCut s (is_comment text) text (meaning.Gives text) = subst (λ (b : Bool). IsAfterCut s b text (meaning.Gives text)) (sym other) given in
-      after_cut s l text (meaning.Gives l.text) w.same w.few other w.plain w.no_macro
-      (subst (λ (t : List ℕ). IsAfterCut s (is_comment (cut text)) (cut text) (meaning.Gives t)) w.same
-      (subst (λ (t : List ℕ). IsAfterCut s (is_comment t) t (meaning.Gives text)) (cut_none text w.dotless) cut_off))
+      let cut_off : IsAfterCut s (is_comment text) text (meaning.Emit text) = subst (λ (b : Bool). IsAfterCut s b text (meaning.Emit text)) (sym other) given in
+      after_cut s l text (meaning.Emit l.text) w.same w.few other w.plain w.no_macro
+      (subst (λ (t : List ℕ). IsAfterCut s (is_comment (without_sequence_symbol text)) (without_sequence_symbol text) (meaning.Emit t)) w.same
+      (subst (λ (t : List ℕ). IsAfterCut s (is_comment t) t (meaning.Emit text)) (cut_none text w.dotless) cut_off))
 
   -- its operation is no statement
   pub untouched : (operation : List ℕ) → operation ≡ part l.text l.fields.operation → operation_or_anop operation ≡ None → IsUntouched l
@@ -104,27 +104,27 @@ module _ (l : Line) (text : List ℕ) (w : IsWrittenOut l text) where
           let spelled : part text (three_fields text).operation ≡ operation = operation_is_second other ∙ sym operation_is in
           let labelled : part text (three_fields text).label ≡ label = label_is_first other ∙ sym label_is in
           whole s other
-          (subst (λ (o : Option Statement). IsDoneBy s text (three_fields text) o (meaning.Gives text)) (sym (ap operation_or_anop spelled ∙ anop))
+          (subst (λ (o : Option Statement). IsDoneBy s text (three_fields text) o (meaning.Emit text)) (sym (ap operation_or_anop spelled ∙ anop))
           (given_labelled (part text (three_fields text).label) text (ap (λ (b : List ℕ). not (eqb (length b) 0)) labelled ∙ some)));
     };
   }
     where
-      given_labelled : (label text : List ℕ) → not (eqb (length label) 0) ≡ true → meaning.Gives text ≡ resting label text
+      given_labelled : (label text : List ℕ) → not (eqb (length label) 0) ≡ true → meaning.Emit text ≡ resting label text
       given_labelled [] text some = absurd cc
       given_labelled (byte ∷ label) text some = refl
 
 -- one that no macro has the name of
-pub given_unnamed : (definitions : List Definition) (l : Line) (text operation : List ℕ) → text ≡ l.text → is_comment text ≡ false → IsUntouched l → operation ≡ part l.text l.fields.operation
+pub given_unnamed : (definitions : List MacroDefinition) (l : Line) (text operation : List ℕ) → text ≡ l.text → is_comment text ≡ false → IsUntouched l → operation ≡ part l.text l.fields.operation
     → first_named (folded operation) definitions ≡ None → IsGiven definitions l
 given_unnamed definitions l text operation same other stays operation_is unnamed =
     stays.given (ap is_comment (sym same) ∙ other) definitions (ap (λ (o : List ℕ). first_named (folded o) definitions) (sym operation_is) ∙ unnamed)
 
 -- a line that is given is the line itself
-pub given_line : (l : Line) (old new : List Line) → l.fields ≡ fields_of l.text → new ≡ old ++ l ∷ [] → new ≡ old ++ given_by l (meaning.Gives l.text)
+pub given_line : (l : Line) (old new : List Line) → l.fields ≡ fields_of l.text → new ≡ old ++ l ∷ [] → new ≡ old ++ given_by l (meaning.Emit l.text)
 given_line l old new own is = is ∙ ap (λ (f : Fields). old ++ record { file = l.file; number = l.number; text = l.text; fields = f } ∷ []) own
 
 -- what follows on a line that is given
-pub moves_on : (program : Program) (before : List Visit) (v : Visit) (l : Line) (outcome : Outcome) (f : Frame) (fs : List Frame) (texts : SharedTexts) (calls : ℕ)
-    → MovesTo (next_line program before v) (before ++ v ∷ []) l outcome f fs texts calls → MovesTo (move_of program before v l (meaning.Gives l.text)) (before ++ v ∷ []) l outcome f fs texts calls
+pub moves_on : (program : Program) (before : List Visit) (v : Visit) (l : Line) (outcome : Flow) (f : Frame) (fs : List Frame) (texts : SharedTexts) (calls : ℕ)
+    → MovesTo (next_line program before v) (before ++ v ∷ []) l outcome f fs texts calls → MovesTo (move_of program before v l (meaning.Emit l.text)) (before ++ v ∷ []) l outcome f fs texts calls
 unfolding move_of
 moves_on program before v l outcome f fs texts calls moves = moves

@@ -10,15 +10,15 @@ use Rattle.orca_meaning.specs.declared.lines.Span.{Span}
 use Rattle.orca_meaning.specs.Characters.{is_blank, folded}
 use Rattle.orca_meaning.specs.Line.{Fields, Line, part, three_fields, is_comment, is_ink, next_blank, next_ink, span}
 use Rattle.macro_meaning.specs.declared.statements.Statement.{Statement}
-use Rattle.macro_meaning.specs.Deed.{Setting, cut, operation_or_anop, IsDone, IsDoneBy, IsStatement, IsAfterCut, IsAfterText, IsShort, begins_definition, calling_at}
+use Rattle.macro_meaning.specs.Effect.{SymbolSetting, without_sequence_symbol, operation_or_anop, IsDone, IsDoneBy, IsStatement, IsAfterCut, IsAfterText, IsShort, begins_definition, calling_at}
 use Rattle.macro_meaning.specs.Definition.{first_named}
 use Rattle.macro_meaning.specs.Statements.{statement_of, sequence_name}
-use Rattle.orca_macro.specs.DeedView.{deed}
-use Rattle.orca_symbols.specs.Template.{BeginWith, followed}
+use Rattle.orca_macro.specs.DeedView.{effect_view}
+use Rattle.orca_symbols.specs.Template.{BeginWith, text_before}
 use Rattle.orca_macro.specs.Head.{HasFields, HasHead, IsHead, MayHaveHead, BeginsSo}
-use Rattle.orca_macro.specs.declared.deed.Deed.{Deed}
-use Rattle.orca_macro.specs.declared.head.Head.{Head}
-use Rattle.orca_symbols.specs.declared.template.Part.{Part}
+use Rattle.orca_macro.specs.declared.effect.Effect.{Effect}
+use Rattle.orca_macro.specs.declared.head.LineHead.{LineHead}
+use Rattle.orca_symbols.specs.declared.template.TemplatePart.{TemplatePart}
 
 -- ---- a place that is found in a front
 
@@ -83,7 +83,7 @@ no_comment (x ∷ xs) ys other = by (eqb x 0x2A) (eqb x 0x3B) (eqb x 0x21) (list
 record Cuts (xs rest : List ℕ) (n : ℕ) : Type 0 where
   within : n ≤ length xs
   front : drop n xs ≡ rest
-  all : (ys : List ℕ) → cut (xs ++ ys) ≡ drop n (xs ++ ys)
+  all : (ys : List ℕ) → without_sequence_symbol (xs ++ ys) ≡ drop n (xs ++ ys)
 
 minus_zero : (n : ℕ) → n - 0 ≡ n
 minus_zero n = omega arith
@@ -97,8 +97,8 @@ label_alike : (xs ys : List ℕ) → next_blank xs 0 < length xs → part (xs ++
 label_alike xs ys within =
     label_of (xs ++ ys) ∙ ap (λ (n : ℕ). take n (xs ++ ys)) (next_within is_blank 0 xs ys within) ∙ take-append-le (next_blank xs 0) xs ys (omega (arith, within)) ∙ sym (label_of xs)
 
-cuts_here : (xs rest : List ℕ) (n : ℕ) → next_blank xs 0 < length xs → rest ≡ cut xs → n ≡ length xs - length rest → Cuts xs rest n
-unfolding cut
+cuts_here : (xs rest : List ℕ) (n : ℕ) → next_blank xs 0 < length xs → rest ≡ without_sequence_symbol xs → n ≡ length xs - length rest → Cuts xs rest n
+unfolding without_sequence_symbol
 cuts_here xs rest n within rest_is n_is = by (is_some (sequence_name label)) refl
   where
     label : List ℕ
@@ -128,8 +128,8 @@ unfolding three_fields
 label_to xs = refl
 
 -- the label ends in a front behind whose sequence symbol an operation ends
-label_ends : (xs rest : List ℕ) → rest ≡ cut xs → (three_fields rest).operation.to < length rest → next_blank xs 0 < length xs
-unfolding cut
+label_ends : (xs rest : List ℕ) → rest ≡ without_sequence_symbol xs → (three_fields rest).operation.to < length rest → next_blank xs 0 < length xs
+unfolding without_sequence_symbol
 label_ends xs rest rest_is within = by (is_some (sequence_name label)) refl
   where
     label : List ℕ
@@ -153,7 +153,7 @@ some_operation : (operation : List ℕ) → eqb (length operation) 0 ≡ false �
 some_operation [] some = absurd cc
 some_operation (byte ∷ behind) some = refl
 
-fields_behind : (h : Head) (rest ys : List ℕ) → (three_fields rest).operation.to < length rest → eqb (length (part rest (three_fields rest).operation)) 0 ≡ false
+fields_behind : (h : LineHead) (rest ys : List ℕ) → (three_fields rest).operation.to < length rest → eqb (length (part rest (three_fields rest).operation)) 0 ≡ false
     → h.label ≡ (three_fields rest).label.to → h.end ≡ (three_fields rest).operation.to → h.operation ≡ folded (part rest (three_fields rest).operation)
     → h.statement ≡ statement_of (part rest (three_fields rest).operation) → HasFields h (rest ++ ys)
 fields_behind h rest ys within some label_is end_is operation_is statement_is =
@@ -168,7 +168,7 @@ fields_behind h rest ys within some label_is end_is operation_is statement_is =
     label_take : (t : List ℕ) (s : Span) → s.from ≡ 0 → part t s ≡ take s.to t
     label_take t s from = rw from (ap (λ (n : ℕ). take n t) (minus_zero s.to))
 
-pub head_is : (h : Head) (front rest : List ℕ) (fields : Fields) (operation : List ℕ) → rest ≡ cut front → is_comment rest ≡ false → fields ≡ three_fields rest → operation ≡ part rest fields.operation
+pub head_is : (h : LineHead) (front rest : List ℕ) (fields : Fields) (operation : List ℕ) → rest ≡ without_sequence_symbol front → is_comment rest ≡ false → fields ≡ three_fields rest → operation ≡ part rest fields.operation
     → fields.operation.to < length rest → eqb (length operation) 0 ≡ false → h.sequence ≡ length front - length rest → h.label ≡ fields.label.to → h.end ≡ fields.operation.to → h.operation ≡ folded operation
     → h.statement ≡ statement_of operation → IsHead h front
 head_is h front rest fields operation rest_is other fields_are operation_is within some sequence_is label_is end_is folded_is statement_is =
@@ -189,44 +189,44 @@ head_is h front rest fields operation rest_is other fields_are operation_is with
 
 -- ---- a line with a head
 
-pub heads_begin : {E : Type 0} (parts : List Part) (front : List ℕ) (r : Result (Option Head) E) → BeginWith parts front → IfOk r (λ (head : Option Head). IfSome head (λ (h : Head). IsHead h front))
-    → IfOk r (λ (head : Option Head). BeginsSo parts head)
+pub heads_begin : {E : Type 0} (parts : List TemplatePart) (front : List ℕ) (r : Result (Option LineHead) E) → BeginWith parts front → IfOk r (λ (head : Option LineHead). IfSome head (λ (h : LineHead). IsHead h front))
+    → IfOk r (λ (head : Option LineHead). BeginsSo parts head)
 heads_begin parts front (Err e) begin is = is
 heads_begin parts front (Ok None) begin is = record { is = λ text_of text are. tt }
 heads_begin parts front (Ok (Some h)) begin is = record { is = λ text_of text are. subst (HasHead h) (sym (begin.is text_of text are)) (is.is (drop (length front) text)) }
 
-pub no_head : (parts : List Part) → BeginsSo parts None
+pub no_head : (parts : List TemplatePart) → BeginsSo parts None
 no_head parts = record { is = λ text_of text are. tt }
 
-pub begins_so : (parts : List Part) (head : Option Head) (text_of : List ℕ → Option (List ℕ)) (text shown : List ℕ) → BeginsSo parts head → followed text_of parts (Some []) ≡ Some text → shown ≡ text → MayHaveHead head shown
+pub begins_so : (parts : List TemplatePart) (head : Option LineHead) (text_of : List ℕ → Option (List ℕ)) (text shown : List ℕ) → BeginsSo parts head → text_before text_of parts (Some []) ≡ Some text → shown ≡ text → MayHaveHead head shown
 begins_so parts head text_of text shown begin are same = subst (MayHaveHead head) (sym same) (begin.is text_of text are)
 
-pub behind_has : (h : Head) (text rest : List ℕ) → HasHead h text → rest ≡ drop h.sequence text → HasFields h rest
+pub behind_has : (h : LineHead) (text rest : List ℕ) → HasHead h text → rest ≡ drop h.sequence text → HasFields h rest
 behind_has h text rest head is = subst (HasFields h) (sym is) head.fields
 
-pub statement_ok : {E : Type 0} (s : Setting) (h : Head) (text label operand : List ℕ) (found : Statement) (r : Result Deed E) → HasFields h text → h.statement ≡ Some found → label ≡ take h.label text
-    → operand ≡ part text (three_fields text).operand → IfOk r (λ (d : Deed). IsDone s.values found text label operand (deed d)) → IfOk r (λ (d : Deed). IsStatement s text (three_fields text) (deed d))
+pub statement_ok : {E : Type 0} (s : SymbolSetting) (h : LineHead) (text label operand : List ℕ) (found : Statement) (r : Result Effect E) → HasFields h text → h.statement ≡ Some found → label ≡ take h.label text
+    → operand ≡ part text (three_fields text).operand → IfOk r (λ (d : Effect). IsDone s.values found text label operand (effect_view d)) → IfOk r (λ (d : Effect). IsStatement s text (three_fields text) (effect_view d))
 statement_ok s h text label operand found (Err e) fields is label_is operand_is done = done
 statement_ok s h text label operand found (Ok d) fields is label_is operand_is done =
-    subst (λ (o : Option Statement). IsDoneBy s text (three_fields text) o (deed d)) (sym (fields.statement ∙ is))
-    (subst (λ (l : List ℕ). IsDone s.values found text l (part text (three_fields text).operand) (deed d)) (label_is ∙ sym fields.label)
-    (subst (λ (o : List ℕ). IsDone s.values found text label o (deed d)) operand_is done))
+    subst (λ (o : Option Statement). IsDoneBy s text (three_fields text) o (effect_view d)) (sym (fields.statement ∙ is))
+    (subst (λ (l : List ℕ). IsDone s.values found text l (part text (three_fields text).operand) (effect_view d)) (label_is ∙ sym fields.label)
+    (subst (λ (o : List ℕ). IsDone s.values found text label o (effect_view d)) operand_is done))
 
-pub call_ok : {E : Type 0} (s : Setting) (h : Head) (text : List ℕ) (r : Result Deed E) → HasFields h text → h.statement ≡ None
-    → IfOk r (λ (d : Deed). deed d ≡ calling_at s.definitions s.root text (first_named h.operation s.definitions) (take h.label text) (part text (three_fields text).operand))
-    → IfOk r (λ (d : Deed). IsStatement s text (three_fields text) (deed d))
+pub call_ok : {E : Type 0} (s : SymbolSetting) (h : LineHead) (text : List ℕ) (r : Result Effect E) → HasFields h text → h.statement ≡ None
+    → IfOk r (λ (d : Effect). effect_view d ≡ calling_at s.definitions s.root text (first_named h.operation s.definitions) (take h.label text) (part text (three_fields text).operand))
+    → IfOk r (λ (d : Effect). IsStatement s text (three_fields text) (effect_view d))
 call_ok s h text (Err e) fields is called = called
 call_ok s h text (Ok d) fields is called =
-    subst (λ (o : Option Statement). IsDoneBy s text (three_fields text) o (deed d)) (sym (fields.statement ∙ is)) (rw (fields.operation, fields.label) called)
+    subst (λ (o : Option Statement). IsDoneBy s text (three_fields text) o (effect_view d)) (sym (fields.statement ∙ is)) (rw (fields.operation, fields.label) called)
 
 short_text : (text : List ℕ) → length text ≤ 255 → nat_lt 255 (length text) ≡ false
 short_text text few = le-ltb 255 (length text) few
 
-pub after_cut : {E : Type 0} (s : Setting) (l : Line) (h : Head) (text rest : List ℕ) (r : Result Deed E) → HasHead h text → length text ≤ 255 → begins_definition s l ≡ false → rest ≡ drop h.sequence text
-    → IfOk r (λ (d : Deed). IsStatement s rest (three_fields rest) (deed d)) → IfOk r (λ (d : Deed). IsShort s l (nat_lt 255 (length text)) text (deed d))
+pub after_cut : {E : Type 0} (s : SymbolSetting) (l : Line) (h : LineHead) (text rest : List ℕ) (r : Result Effect E) → HasHead h text → length text ≤ 255 → begins_definition s l ≡ false → rest ≡ drop h.sequence text
+    → IfOk r (λ (d : Effect). IsStatement s rest (three_fields rest) (effect_view d)) → IfOk r (λ (d : Effect). IsShort s l (nat_lt 255 (length text)) text (effect_view d))
 after_cut s l h text rest (Err e) head few other rest_is statement = statement
 after_cut s l h text rest (Ok d) head few other rest_is statement =
-    subst (λ (b : Bool). IsShort s l b text (deed d)) (sym (short_text text few))
-    (subst (λ (b : Bool). IsAfterText s b text (deed d)) (sym other)
-    (subst (λ (t : List ℕ). IsAfterCut s (is_comment t) t (deed d)) (sym head.cuts)
-    (subst (λ (b : Bool). IsAfterCut s b (drop h.sequence text) (deed d)) (sym head.other) (subst (λ (t : List ℕ). IsStatement s t (three_fields t) (deed d)) rest_is statement))))
+    subst (λ (b : Bool). IsShort s l b text (effect_view d)) (sym (short_text text few))
+    (subst (λ (b : Bool). IsAfterText s b text (effect_view d)) (sym other)
+    (subst (λ (t : List ℕ). IsAfterCut s (is_comment t) t (effect_view d)) (sym head.cuts)
+    (subst (λ (b : Bool). IsAfterCut s b (drop h.sequence text) (effect_view d)) (sym head.other) (subst (λ (t : List ℕ). IsStatement s t (three_fields t) (effect_view d)) rest_is statement))))

@@ -3,60 +3,60 @@ use Rattle.std.proofs.Common.{◌≡◌, ◌≤◌, ℕ, zero, suc, Bool, true, 
 use Rattle.std.specs.Prelude.{Result, Ok, Err, IfOk, nat_lt, slice_get, codes}
 use Rattle.std.proofs.lemmas.Bool.{le-ltb, eqb-true}
 use Rattle.orca_meaning.specs.Line.{Fields, Line, part, three_fields, is_comment}
-use Rattle.macro_meaning.specs.Deed as meaning
-use Rattle.macro_meaning.specs.Deed.{Setting, IsStatement, IsDeed, IsShort, IsAfterText, IsAfterCut, IsWritten, IsWithTexts, begins_definition, cut}
+use Rattle.macro_meaning.specs.Effect as meaning
+use Rattle.macro_meaning.specs.Effect.{SymbolSetting, IsStatement, IsDeed, IsShort, IsAfterText, IsAfterCut, IsWritten, IsWithTexts, begins_definition, without_sequence_symbol}
 use Rattle.macro_meaning.specs.Definition.{operation_is}
 use Rattle.macro_meaning.specs.Statements.{statement_of}
-use Rattle.macro_meaning.specs.Substitution.{naming_at, substituted}
+use Rattle.macro_meaning.specs.Substitution.{naming_at, substituted_from}
 use Rattle.macro_meaning.specs.Symbol.{text_of}
 use Rattle.macro_meaning.specs.Visit.{Program, line_at, body_of}
 use Rattle.macro_meaning.specs.declared.statements.Statement.{Statement}
 use Rattle.orca_symbols.specs.Plain.{plain_len}
-use Rattle.orca_macro.specs.Plan.{known, FitsDone, FitsStatement, FitsLine, IsAlways, IsPlain, Fits, FitsAt, HavePlans}
-use Rattle.orca_macro.specs.DeedView.{deed}
-use Rattle.orca_macro.specs.declared.deed.Deed.{Deed}
-use Rattle.orca_macro.specs.declared.plan.Known.{Known}
-use Rattle.orca_macro.specs.declared.plan.Plan.{Plan}
+use Rattle.orca_macro.specs.Plan.{known_effect, FitsDone, FitsStatement, FitsLine, IsAlways, IsPlain, Fits, FitsAt, HavePlans}
+use Rattle.orca_macro.specs.DeedView.{effect_view}
+use Rattle.orca_macro.specs.declared.effect.Effect.{Effect}
+use Rattle.orca_macro.specs.declared.plan.KnownHead.{KnownHead}
+use Rattle.orca_macro.specs.declared.plan.LinePlan.{LinePlan}
 use Rattle.orca_macro.proofs.Both.{plain_is, statement_is}
 use Rattle.orca_symbols.proofs.Fronts.{plain_text}
 
 -- ---- what is known of a line does it here
 
-pub always : (s : Setting) (l : Line) (said : Option meaning.Deed) (d : meaning.Deed) → FitsLine l said → said ≡ Some d → IsDeed s l d
+pub always : (s : SymbolSetting) (l : Line) (said : Option meaning.Effect) (d : meaning.Effect) → FitsLine l said → said ≡ Some d → IsDeed s l d
 always s l None d fits none = absurd cc
-always s l (Some e) d fits some = subst (λ (x : Option meaning.Deed). of x) some (fits.is s)
+always s l (Some e) d fits some = subst (λ (x : Option meaning.Effect). of x) some (fits.is s)
   where
-    of : Option meaning.Deed → Type 0
+    of : Option meaning.Effect → Type 0
     of None = ⊥
     of (Some x) = IsDeed s l x
 
-pub comment_rests : (s : Setting) (l : Line) → is_comment l.text ≡ true → IsDeed s l meaning.Rests
-comment_rests s l comment = subst (λ (b : Bool). IsWritten s l b meaning.Rests) (sym comment) refl
+pub comment_rests : (s : SymbolSetting) (l : Line) → is_comment l.text ≡ true → IsDeed s l meaning.NoEffect
+comment_rests s l comment = subst (λ (b : Bool). IsWritten s l b meaning.NoEffect) (sym comment) refl
 
 -- a line without `&`
-pub plain_does : {E : Type 0} (s : Setting) (l : Line) (text : List ℕ) (r : Result Deed E) → text ≡ l.text → IsPlain l
-    → IfOk r (λ (d : Deed). IsShort s l (nat_lt 255 (length text)) text (deed d)) → IfOk r (λ (d : Deed). IsDeed s l (deed d))
+pub plain_does : {E : Type 0} (s : SymbolSetting) (l : Line) (text : List ℕ) (r : Result Effect E) → text ≡ l.text → IsPlain l
+    → IfOk r (λ (d : Effect). IsShort s l (nat_lt 255 (length text)) text (effect_view d)) → IfOk r (λ (d : Effect). IsDeed s l (effect_view d))
 plain_does s l text (Err e) same plain short = short
 plain_does s l text (Ok d) same plain short =
-    subst (λ (b : Bool). IsWritten s l b (deed d)) (sym plain.0) (subst (λ (o : Option (List ℕ)). IsWithTexts s l o (deed d)) (sym (shown_is l.text l.fields plain.1 ∙ ap (λ (t : List ℕ). Some t) (sym same))) short)
+    subst (λ (b : Bool). IsWritten s l b (effect_view d)) (sym plain.0) (subst (λ (o : Option (List ℕ)). IsWithTexts s l o (effect_view d)) (sym (shown_is l.text l.fields plain.1 ∙ ap (λ (t : List ℕ). Some t) (sym same))) short)
   where
-    shown_is : (t : List ℕ) (fields : Fields) → plain_len t ≡ length t → substituted (text_of s.values) (naming_at t fields) 0 0 t ≡ Some t
+    shown_is : (t : List ℕ) (fields : Fields) → plain_len t ≡ length t → substituted_from (text_of s.values) (naming_at t fields) 0 0 t ≡ Some t
     shown_is t fields whole = plain_text (text_of s.values) (naming_at t fields) t whole
 
 -- ---- what is known of a line is right
 
-pub statement_fits : {E : Type 0} (text : List ℕ) (fields : Fields) (operation label operand : List ℕ) (found : Statement) (r : Result Known E) → fields ≡ three_fields text
+pub statement_fits : {E : Type 0} (text : List ℕ) (fields : Fields) (operation label operand : List ℕ) (found : Statement) (r : Result KnownHead E) → fields ≡ three_fields text
     → operation ≡ part text fields.operation → label ≡ part text fields.label → operand ≡ part text fields.operand → eqb (length operation) 0 ≡ false → Some found ≡ statement_of operation
-    → IfOk r (λ (p : Known). FitsDone found text label operand (known p)) → IfOk r (λ (p : Known). FitsStatement text (known p))
+    → IfOk r (λ (p : KnownHead). FitsDone found text label operand (known_effect p)) → IfOk r (λ (p : KnownHead). FitsStatement text (known_effect p))
 statement_fits text fields operation label operand found (Err e) fields_are operation_is label_is operand_is some is done = done
-statement_fits text fields operation label operand found (Ok p) fields_are operation_is label_is operand_is some is done = of_deed (known p) done
+statement_fits text fields operation label operand found (Ok p) fields_are operation_is label_is operand_is some is done = of_deed (known_effect p) done
   where
-    of_deed : (o : Option meaning.Deed) → FitsDone found text label operand o → FitsStatement text o
+    of_deed : (o : Option meaning.Effect) → FitsDone found text label operand o → FitsStatement text o
     of_deed None so = tt
     of_deed (Some d) so = record { is = λ s. statement_is s text fields operation label operand found d fields_are operation_is label_is operand_is some is (so.is s.values) }
 
 -- no line of a definition begins there
-none_begins : (s : Setting) (l : Line) → operation_is (codes "MACRO") l ≡ false → begins_definition s l ≡ false
+none_begins : (s : SymbolSetting) (l : Line) → operation_is (codes "MACRO") l ≡ false → begins_definition s l ≡ false
 none_begins s l other = by s.in_source
   where
     by : (b : Bool) → cond b (operation_is (codes "MACRO") l) false ≡ false
@@ -67,40 +67,40 @@ short_text : (text : List ℕ) → length text ≤ 255 → nat_lt 255 (length te
 short_text text few = le-ltb 255 (length text) few
 
 -- what stands behind the sequence symbol of a line without `&`
-pub after_cut : (s : Setting) (l : Line) (text : List ℕ) (d : meaning.Deed) → text ≡ l.text → length text ≤ 255 → is_comment text ≡ false → eqb (plain_len text) (length text) ≡ true
-    → operation_is (codes "MACRO") l ≡ false → IsAfterCut s (is_comment (cut text)) (cut text) d → IsDeed s l d
+pub after_cut : (s : SymbolSetting) (l : Line) (text : List ℕ) (d : meaning.Effect) → text ≡ l.text → length text ≤ 255 → is_comment text ≡ false → eqb (plain_len text) (length text) ≡ true
+    → operation_is (codes "MACRO") l ≡ false → IsAfterCut s (is_comment (without_sequence_symbol text)) (without_sequence_symbol text) d → IsDeed s l d
 after_cut s l text d same few other plain no_macro after =
     plain_is s l text d same other plain
     (subst (λ (b : Bool). IsShort s l b text d) (sym (short_text text few)) (subst (λ (b : Bool). IsAfterText s b text d) (sym (none_begins s l no_macro)) after))
 
 pub rest_fits : (l : Line) (text rest : List ℕ) → text ≡ l.text → length text ≤ 255 → is_comment text ≡ false → eqb (plain_len text) (length text) ≡ true
-    → operation_is (codes "MACRO") l ≡ false → rest ≡ cut text → is_comment rest ≡ true → IsAlways l meaning.Rests
+    → operation_is (codes "MACRO") l ≡ false → rest ≡ without_sequence_symbol text → is_comment rest ≡ true → IsAlways l meaning.NoEffect
 rest_fits l text rest same few other plain no_macro cut_is comment =
-    record { is = λ s. after_cut s l text meaning.Rests same few other plain no_macro (subst (λ (b : Bool). IsAfterCut s b (cut text) meaning.Rests) (sym (ap is_comment (sym cut_is) ∙ comment)) refl) }
+    record { is = λ s. after_cut s l text meaning.NoEffect same few other plain no_macro (subst (λ (b : Bool). IsAfterCut s b (without_sequence_symbol text) meaning.NoEffect) (sym (ap is_comment (sym cut_is) ∙ comment)) refl) }
 
-pub line_fits : {E : Type 0} (l : Line) (text rest : List ℕ) (r : Result Known E) → text ≡ l.text → length text ≤ 255 → is_comment text ≡ false → eqb (plain_len text) (length text) ≡ true
-    → operation_is (codes "MACRO") l ≡ false → rest ≡ cut text → is_comment rest ≡ false → IfOk r (λ (p : Known). FitsStatement rest (known p)) → IfOk r (λ (p : Known). FitsLine l (known p))
+pub line_fits : {E : Type 0} (l : Line) (text rest : List ℕ) (r : Result KnownHead E) → text ≡ l.text → length text ≤ 255 → is_comment text ≡ false → eqb (plain_len text) (length text) ≡ true
+    → operation_is (codes "MACRO") l ≡ false → rest ≡ without_sequence_symbol text → is_comment rest ≡ false → IfOk r (λ (p : KnownHead). FitsStatement rest (known_effect p)) → IfOk r (λ (p : KnownHead). FitsLine l (known_effect p))
 line_fits l text rest (Err e) same few other plain no_macro cut_is statement fits = fits
-line_fits l text rest (Ok p) same few other plain no_macro cut_is statement fits = of_deed (known p) fits
+line_fits l text rest (Ok p) same few other plain no_macro cut_is statement fits = of_deed (known_effect p) fits
   where
-    of_deed : (o : Option meaning.Deed) → FitsStatement rest o → FitsLine l o
+    of_deed : (o : Option meaning.Effect) → FitsStatement rest o → FitsLine l o
     of_deed None so = tt
     of_deed (Some d) so =
         record {
           is = λ s. after_cut s l text d same few other plain no_macro
-              (subst (λ (b : Bool). IsAfterCut s b (cut text) d) (sym (ap is_comment (sym cut_is) ∙ statement)) (subst (λ (t : List ℕ). IsStatement s t (three_fields t) d) cut_is (so.is s)));
+              (subst (λ (b : Bool). IsAfterCut s b (without_sequence_symbol text) d) (sym (ap is_comment (sym cut_is) ∙ statement)) (subst (λ (t : List ℕ). IsStatement s t (three_fields t) d) cut_is (so.is s)));
         }
 
-pub plain_fits : (l : Line) (text : List ℕ) (p : Known) → text ≡ l.text → is_comment text ≡ false → eqb (plain_len text) (length text) ≡ true → FitsLine l (known p) → IsPlain l × FitsLine l (known p)
+pub plain_fits : (l : Line) (text : List ℕ) (p : KnownHead) → text ≡ l.text → is_comment text ≡ false → eqb (plain_len text) (length text) ≡ true → FitsLine l (known_effect p) → IsPlain l × FitsLine l (known_effect p)
 plain_fits l text p same other plain fits =
     ((ap is_comment (sym same) ∙ other, subst (λ (t : List ℕ). plain_len t ≡ length t) same (eqb-true (plain_len text) (length text) plain)), fits)
 
 -- ---- the plans of lines
 
-pub no_plans : (lines : List Line) (plans : List Plan) → plans ≡ [] → HavePlans lines plans
-no_plans lines plans empty = record { at = λ at plan is. none at plan (subst (λ (ps : List Plan). slice_get ps at ≡ Some plan) empty is) }
+pub no_plans : (lines : List Line) (plans : List LinePlan) → plans ≡ [] → HavePlans lines plans
+no_plans lines plans empty = record { at = λ at plan is. none at plan (subst (λ (ps : List LinePlan). slice_get ps at ≡ Some plan) empty is) }
   where
-    none : (at : ℕ) (plan : Plan) → slice_get {X = Plan} [] at ≡ Some plan → FitsAt lines at plan
+    none : (at : ℕ) (plan : LinePlan) → slice_get {X = LinePlan} [] at ≡ Some plan → FitsAt lines at plan
     none at plan is = absurd cc
 
 got : {A : Type 0} → A → Option A → A
@@ -111,23 +111,23 @@ get_some : {A : Type 0} (a b : A) → Some a ≡ Some b → a ≡ b
 unfolding got
 get_some a b e = ap (got a) e
 
-pushed : (P : ℕ → Plan → Type 0) (old : List Plan) (p q : Plan) (i : ℕ) → ((k : ℕ) (r : Plan) → slice_get old k ≡ Some r → P k r) → P (length old) p → slice_get (old ++ p ∷ []) i ≡ Some q → P i q
-pushed P [] p q zero have this is = subst (λ (r : Plan). P 0 r) (get_some p q is) this
+pushed : (P : ℕ → LinePlan → Type 0) (old : List LinePlan) (p q : LinePlan) (i : ℕ) → ((k : ℕ) (r : LinePlan) → slice_get old k ≡ Some r → P k r) → P (length old) p → slice_get (old ++ p ∷ []) i ≡ Some q → P i q
+pushed P [] p q zero have this is = subst (λ (r : LinePlan). P 0 r) (get_some p q is) this
 pushed P [] p q (suc i) have this is = absurd cc
 pushed P (x ∷ old) p q zero have this is = have zero q is
 pushed P (x ∷ old) p q (suc i) have this is = pushed (λ k. P (suc k)) old p q i (λ k r e. have (suc k) r e) this is
 
-fits_there : (lines : List Line) (at : ℕ) (l : Line) (plan : Plan) → slice_get lines at ≡ Some l → Fits l plan → FitsAt lines at plan
+fits_there : (lines : List Line) (at : ℕ) (l : Line) (plan : LinePlan) → slice_get lines at ≡ Some l → Fits l plan → FitsAt lines at plan
 fits_there lines at l plan here fits = record { is = λ other is. subst (λ (x : Line). Fits x plan) (get_some l other (sym here ∙ is)) fits }
 
-pub more_plans : (lines : List Line) (old new : List Plan) (plan : Plan) (l : Line) (at : ℕ) → length old ≡ at → new ≡ old ++ plan ∷ [] → slice_get lines at ≡ Some l → Fits l plan → HavePlans lines old → HavePlans lines new
+pub more_plans : (lines : List Line) (old new : List LinePlan) (plan : LinePlan) (l : Line) (at : ℕ) → length old ≡ at → new ≡ old ++ plan ∷ [] → slice_get lines at ≡ Some l → Fits l plan → HavePlans lines old → HavePlans lines new
 more_plans lines old new plan l at size push here fits have = record {
   at = λ k p is.
-      pushed (FitsAt lines) old plan p k have.at (subst (λ (n : ℕ). FitsAt lines n plan) (sym size) (fits_there lines at l plan here fits)) (subst (λ (ps : List Plan). slice_get ps k ≡ Some p) push is);
+      pushed (FitsAt lines) old plan p k have.at (subst (λ (n : ℕ). FitsAt lines n plan) (sym size) (fits_there lines at l plan here fits)) (subst (λ (ps : List LinePlan). slice_get ps k ≡ Some p) push is);
 }
 
-pub fits_here : (program : Program) (place : Option ℕ) (at : ℕ) (l : Line) (p : Plan) → line_at program place at ≡ Some l → FitsAt (body_of program place).lines at p → Fits l p
+pub fits_here : (program : Program) (place : Option ℕ) (at : ℕ) (l : Line) (p : LinePlan) → line_at program place at ≡ Some l → FitsAt (body_of program place).lines at p → Fits l p
 fits_here program place at l p here fits = fits.is l here
 
-pub plan_there : (lines : List Line) (plans : List Plan) (at : ℕ) (p : Plan) → HavePlans lines plans → slice_get plans at ≡ Some p → FitsAt lines at p
+pub plan_there : (lines : List Line) (plans : List LinePlan) (at : ℕ) (p : LinePlan) → HavePlans lines plans → slice_get plans at ≡ Some p → FitsAt lines at p
 plan_there lines plans at p have is = have.at at p is

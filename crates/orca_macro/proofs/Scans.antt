@@ -8,9 +8,9 @@ use Rattle.macro_meaning.specs.declared.faults.MacroFault.{MacroFault}
 use Rattle.macro_meaning.specs.declared.faults.MacroCause.{MacroCause}
 use Rattle.macro_meaning.specs.declared.faults.MacroCause.TheVariants.{Unclosed, BadArguments}
 use Rattle.macro_meaning.specs.Definition as meaning
-use Rattle.macro_meaning.specs.Definition.{Part, Plain, Closed, Open, Begun, Model, operation_is, parts_of, source_line, definitions_in, definition_of, definition_from, definition_by, counts_behind, first_part_fault, part_fault, model_fault, model_of, listed, or_else}
+use Rattle.macro_meaning.specs.Definition.{DefinitionPart, Plain, Closed, Open, Begun, Model, operation_is, parts_of, source_line, definitions_in, definition_of, definition_from, definition_by, counts_behind, first_part_fault, part_fault, model_fault, model_of, list_of_option, or_else}
 use Rattle.macro_meaning.specs.Expansion.{fault_at, line_fault_of}
-use Rattle.orca_macro.specs.declared.definitions.Definition.{Definition}
+use Rattle.orca_macro.specs.declared.definitions.MacroDefinition.{MacroDefinition}
 use Rattle.orca_macro.specs.Parts.{definition, IsBegun, Judged, IsScanned, open_lines, Scanned}
 use Rattle.orca_symbols.proofs.Parted.{drop_next, drop_all}
 use Rattle.orca_macro.proofs.Targets.{take_next}
@@ -58,7 +58,7 @@ judged_bad behind m e model lines begins mend fault is more none fault_is =
     ap (λ (inner : List Line). line_fault_of (part_fault (Closed m inner e))) (front_line lines begins mend model is more)
     ∙ ap (λ (o : Option Model). line_fault_of (model_fault model o)) none ∙ ap (λ (f : MacroFault). Some f) (sym fault_is)
 
-pub judged_good : (behind : ℕ) (m e model : Line) (lines : List Line) (begins mend : ℕ) (found : Model) (d : Definition) → slice_get lines (begins + 1) ≡ Some model → slice_get lines mend ≡ Some e
+pub judged_good : (behind : ℕ) (m e model : Line) (lines : List Line) (begins mend : ℕ) (found : Model) (d : MacroDefinition) → slice_get lines (begins + 1) ≡ Some model → slice_get lines mend ≡ Some e
     → begins + 1 < mend → mend < length lines → model_of model.text ≡ Some found
     → definition d ≡ record { model = found; behind = behind; body = record { lines = take (mend + 1 - (begins + 2)) (drop (begins + 2) lines); reach = mend - (begins + 2) } }
     → Judged behind m (take (mend - begins - 1) (drop (begins + 1) lines)) e (Ok d)
@@ -71,14 +71,14 @@ judged_good behind m e model lines begins mend found d is end more within some d
     let same : Some (record { model = found; behind = behind; body = record { lines = rest ++ e ∷ []; reach = length rest } }) ≡ Some (definition d) =
     ap (λ (l : List Line). Some (record { model = found; behind = behind; body = record { lines = l; reach = length rest } })) whole
     ∙ ap (λ (k : ℕ). Some (record { model = found; behind = behind; body = record { lines = take (mend + 1 - (begins + 2)) (drop (begins + 2) lines); reach = k } })) size
-    ∙ ap (λ (x : meaning.Definition). Some x) (sym d_is) in (
+    ∙ ap (λ (x : meaning.MacroDefinition). Some x) (sym d_is) in (
       ap (λ (inner : List Line). definition_from behind inner e) front ∙ made ∙ same,
       ap (λ (inner : List Line). part_fault (Closed m inner e)) front ∙ ap (model_fault model) some,
     )
 
 -- ---- parts
 
-fault_push : (ps : List Part) (p : Part) → first_part_fault ps ≡ None → first_part_fault (ps ++ p ∷ []) ≡ part_fault p
+fault_push : (ps : List DefinitionPart) (p : DefinitionPart) → first_part_fault ps ≡ None → first_part_fault (ps ++ p ∷ []) ≡ part_fault p
 unfolding first_part_fault
 fault_push [] p good = last (part_fault p)
   where
@@ -92,7 +92,7 @@ fault_push (q ∷ ps) p good = by_first (part_fault q) good (fault_push ps p)
     by_first None good others = others good
     by_first (Some x) good others = absurd cc
 
-fault_more : (ps more : List Part) → first_part_fault ps ≡ None → first_part_fault (ps ++ more) ≡ first_part_fault more
+fault_more : (ps more : List DefinitionPart) → first_part_fault ps ≡ None → first_part_fault (ps ++ more) ≡ first_part_fault more
 unfolding first_part_fault
 fault_more [] more good = refl
 fault_more (q ∷ ps) more good = by_first (part_fault q) good (fault_more ps more)
@@ -102,10 +102,10 @@ fault_more (q ∷ ps) more good = by_first (part_fault q) good (fault_more ps mo
     by_first None good others = others good
     by_first (Some x) good others = absurd cc
 
-definitions_push : (s : Bool) (ps : List Part) (p : Part) → definitions_in s (ps ++ p ∷ []) ≡ definitions_in s ps ++ listed (definition_of s p)
+definitions_push : (s : Bool) (ps : List DefinitionPart) (p : DefinitionPart) → definitions_in s (ps ++ p ∷ []) ≡ definitions_in s ps ++ list_of_option (definition_of s p)
 unfolding definitions_in
-definitions_push s [] p = append-nil (listed (definition_of s p))
-definitions_push s (q ∷ ps) p = ap (λ (l : List meaning.Definition). listed (definition_of s q) ++ l) (definitions_push s ps p) ∙ sym (append_assoc (listed (definition_of s q)) (definitions_in s ps) (listed (definition_of s p)))
+definitions_push s [] p = append-nil (list_of_option (definition_of s p))
+definitions_push s (q ∷ ps) p = ap (λ (l : List meaning.MacroDefinition). list_of_option (definition_of s q) ++ l) (definitions_push s ps p) ∙ sym (append_assoc (list_of_option (definition_of s q)) (definitions_in s ps) (list_of_option (definition_of s p)))
 
 drop_line : (lines : List Line) (at : ℕ) (l : Line) → slice_get lines at ≡ Some l → drop at lines ≡ l ∷ drop (at + 1) lines
 drop_line lines at l is = drop_next lines at l is
@@ -121,7 +121,7 @@ begun_none lines at (Some x) is = absurd is
 
 -- ---- one more line
 
-module _ (s : Bool) (lines : List Line) (at : ℕ) (l : Line) (plain : List Line) (old new : List meaning.Definition) where
+module _ (s : Bool) (lines : List Line) (at : ℕ) (l : Line) (plain : List Line) (old new : List meaning.MacroDefinition) where
   pub outside_plain : (plain' : List Line) → IsScanned s lines at plain old new None → slice_get lines at ≡ Some l → operation_is (codes "MACRO") l ≡ false → plain' ≡ plain ++ l ∷ []
       → IsScanned s lines (at + 1) plain' old new None
   unfolding parts_of
@@ -134,11 +134,11 @@ module _ (s : Bool) (lines : List Line) (at : ℕ) (l : Line) (plain : List Line
         is_begun = tt;
         within = inside lines at l there;
         goes_on = is.goes_on ∙ ap (λ (b : Begun). is.parts ++ parts_of b (drop at lines)) none ∙ ap (λ (d : List Line). is.parts ++ parts_of None d) (drop_line lines at l there)
-            ∙ ap (λ (p : List Part). is.parts ++ p) rest ∙ sym (append_assoc is.parts (Plain l ∷ []) (parts_of None (drop (at + 1) lines)));
+            ∙ ap (λ (p : List DefinitionPart). is.parts ++ p) rest ∙ sym (append_assoc is.parts (Plain l ∷ []) (parts_of None (drop (at + 1) lines)));
         good = fault_push is.parts (Plain l) is.good;
         plain_is = push ∙ ap (λ (p : List Line). p ++ l ∷ []) (is.plain_is ∙ ap (λ (b : Begun). map source_line is.parts ++ open_lines b) none ∙ append-nil (map source_line is.parts))
             ∙ sym (map-append source_line is.parts (Plain l ∷ [])) ∙ sym (append-nil (map source_line (is.parts ++ Plain l ∷ [])));
-        definitions_are = is.definitions_are ∙ ap (λ (d : List meaning.Definition). old ++ d) (sym (definitions_push s is.parts (Plain l) ∙ append-nil (definitions_in s is.parts)));
+        definitions_are = is.definitions_are ∙ ap (λ (d : List meaning.MacroDefinition). old ++ d) (sym (definitions_push s is.parts (Plain l) ∙ append-nil (definitions_in s is.parts)));
       }
 
   pub outside_macro : (plain' : List Line) → IsScanned s lines at plain old new None → slice_get lines at ≡ Some l → operation_is (codes "MACRO") l ≡ true → plain' ≡ plain ++ l ∷ []
@@ -154,7 +154,7 @@ module _ (s : Bool) (lines : List Line) (at : ℕ) (l : Line) (plain : List Line
         is_begun = (there, omega arith, ap (λ (k : ℕ). take k (drop (at + 1) lines)) (sym empty));
         within = inside lines at l there;
         goes_on = is.goes_on ∙ ap (λ (b : Begun). is.parts ++ parts_of b (drop at lines)) none ∙ ap (λ (d : List Line). is.parts ++ parts_of None d) (drop_line lines at l there)
-            ∙ ap (λ (p : List Part). is.parts ++ p) rest;
+            ∙ ap (λ (p : List DefinitionPart). is.parts ++ p) rest;
         good = is.good;
         plain_is = push ∙ ap (λ (p : List Line). p ++ l ∷ []) (is.plain_is ∙ ap (λ (b : Begun). map source_line is.parts ++ open_lines b) none ∙ append-nil (map source_line is.parts));
         definitions_are = is.definitions_are;
@@ -201,7 +201,7 @@ module _ (s : Bool) (lines : List Line) (at : ℕ) (l : Line) (plain : List Line
         is_begun = (i.there, omega (arith, i.before), longer);
         within = inside lines at l there;
         goes_on = is.goes_on ∙ ap (λ (b : Begun). is.parts ++ parts_of b (drop at lines)) i.is ∙ ap (λ (d : List Line). is.parts ++ parts_of (Some (i.first, i.inner)) d) (drop_line lines at l there)
-            ∙ ap (λ (p : List Part). is.parts ++ p) rest;
+            ∙ ap (λ (p : List DefinitionPart). is.parts ++ p) rest;
         good = is.good;
         plain_is = is.plain_is ∙ ap (λ (b : Begun). map source_line is.parts ++ open_lines b) i.is;
         definitions_are = is.definitions_are;
@@ -218,9 +218,9 @@ module _ (s : Bool) (lines : List Line) (at : ℕ) (l : Line) (plain : List Line
   closes_part begins is there test i =
       let rest : parts_of (Some (i.first, i.inner)) (l ∷ drop (at + 1) lines) ≡ Closed i.first i.inner l ∷ parts_of None (drop (at + 1) lines) = rw test refl in
       is.goes_on ∙ ap (λ (b : Begun). is.parts ++ parts_of b (drop at lines)) i.is ∙ ap (λ (d : List Line). is.parts ++ parts_of (Some (i.first, i.inner)) d) (drop_line lines at l there)
-      ∙ ap (λ (p : List Part). is.parts ++ p) rest
+      ∙ ap (λ (p : List DefinitionPart). is.parts ++ p) rest
 
-  pub inside_end : (begins : ℕ) (m : Line) (d : Definition) (new' : List meaning.Definition) → IsScanned s lines at plain old new (Some begins) → slice_get lines at ≡ Some l → slice_get lines begins ≡ Some m
+  pub inside_end : (begins : ℕ) (m : Line) (d : MacroDefinition) (new' : List meaning.MacroDefinition) → IsScanned s lines at plain old new (Some begins) → slice_get lines at ≡ Some l → slice_get lines begins ≡ Some m
       → operation_is (codes "MEND") l ≡ true → Judged (counts_behind s m) m (take (at - begins - 1) (drop (begins + 1) lines)) l (Ok d) → new' ≡ new ++ definition d ∷ []
       → IsScanned s lines (at + 1) plain old new' None
   inside_end begins m d new' is there first test judged push =
@@ -238,8 +238,8 @@ module _ (s : Bool) (lines : List Line) (at : ℕ) (l : Line) (plain : List Line
         goes_on = closes_part begins is there test i ∙ sym (append_assoc is.parts (p ∷ []) (parts_of None (drop (at + 1) lines)));
         good = fault_push is.parts p is.good ∙ fine;
         plain_is = is.plain_is ∙ ap (λ (b : Begun). map source_line is.parts ++ open_lines b) i.is ∙ sym (map-append source_line is.parts (p ∷ [])) ∙ sym (append-nil (map source_line (is.parts ++ p ∷ [])));
-        definitions_are = push ∙ ap (λ (n : List meaning.Definition). n ++ definition d ∷ []) is.definitions_are ∙ append_assoc old (definitions_in s is.parts) (definition d ∷ [])
-            ∙ ap (λ (n : List meaning.Definition). old ++ n) (ap (λ (o : Option meaning.Definition). definitions_in s is.parts ++ listed o) (sym defined) ∙ sym (definitions_push s is.parts p));
+        definitions_are = push ∙ ap (λ (n : List meaning.MacroDefinition). n ++ definition d ∷ []) is.definitions_are ∙ append_assoc old (definitions_in s is.parts) (definition d ∷ [])
+            ∙ ap (λ (n : List meaning.MacroDefinition). old ++ n) (ap (λ (o : Option meaning.MacroDefinition). definitions_in s is.parts ++ list_of_option o) (sym defined) ∙ sym (definitions_push s is.parts p));
       }
 
   pub inside_bad : (begins : ℕ) (m : Line) (behind : ℕ) (fault : MacroFault) → IsScanned s lines at plain old new (Some begins) → slice_get lines at ≡ Some l → slice_get lines begins ≡ Some m
@@ -249,8 +249,8 @@ module _ (s : Bool) (lines : List Line) (at : ℕ) (l : Line) (plain : List Line
       let i = inside_of begins is.begun is.is_begun in
       let m_is : i.first ≡ m = some_line i.first m (sym i.there ∙ first) in
       let same : Closed i.first i.inner l ≡ Closed m (take (at - begins - 1) (drop (begins + 1) lines)) l = ap (λ (x : Line). Closed x i.inner l) m_is ∙ ap (λ (k : List Line). Closed m k l) i.inner_is in
-      let here : line_fault_of (part_fault (Closed i.first i.inner l)) ≡ Some fault = ap (λ (p : Part). line_fault_of (part_fault p)) same ∙ judged in
-      ap (λ (p : List Part). line_fault_of (first_part_fault p)) (closes_part begins is there test i)
+      let here : line_fault_of (part_fault (Closed i.first i.inner l)) ≡ Some fault = ap (λ (p : DefinitionPart). line_fault_of (part_fault p)) same ∙ judged in
+      ap (λ (p : List DefinitionPart). line_fault_of (first_part_fault p)) (closes_part begins is there test i)
       ∙ ap line_fault_of (fault_more is.parts (Closed i.first i.inner l ∷ parts_of None (drop (at + 1) lines)) is.good)
       ∙ comes_first (part_fault (Closed i.first i.inner l)) (first_part_fault (parts_of None (drop (at + 1) lines))) here
     where
@@ -259,20 +259,20 @@ module _ (s : Bool) (lines : List Line) (at : ℕ) (l : Line) (plain : List Line
       comes_first (Some x) other h = h
 
 -- as the code has it
-pub end_line : (s : Bool) (lines : List Line) (at : ℕ) (l : Line) (plain : List Line) (old new : List meaning.Definition) (opened : Option ℕ) (begins behind : ℕ) (m : Line) (d : Definition) (new' : List meaning.Definition)
+pub end_line : (s : Bool) (lines : List Line) (at : ℕ) (l : Line) (plain : List Line) (old new : List meaning.MacroDefinition) (opened : Option ℕ) (begins behind : ℕ) (m : Line) (d : MacroDefinition) (new' : List meaning.MacroDefinition)
     → opened ≡ Some begins → behind ≡ counts_behind s m → IsScanned s lines at plain old new opened → slice_get lines at ≡ Some l → slice_get lines begins ≡ Some m → operation_is (codes "MEND") l ≡ true
     → Judged behind m (take (at - begins - 1) (drop (begins + 1) lines)) l (Ok d) → new' ≡ new ++ definition d ∷ [] → IsScanned s lines (at + 1) plain old new' None
 end_line s lines at l plain old new opened begins behind m d new' some same is there first test judged push =
     inside_end s lines at l plain old new begins m d new' (subst (λ (o : Option ℕ). IsScanned s lines at plain old new o) some is) there first test
     (subst (λ (k : ℕ). Judged k m (take (at - begins - 1) (drop (begins + 1) lines)) l (Ok d)) same judged) push
 
-pub bad_line : (s : Bool) (lines : List Line) (at : ℕ) (l : Line) (plain : List Line) (old new : List meaning.Definition) (opened : Option ℕ) (begins behind : ℕ) (m : Line) (fault : MacroFault)
+pub bad_line : (s : Bool) (lines : List Line) (at : ℕ) (l : Line) (plain : List Line) (old new : List meaning.MacroDefinition) (opened : Option ℕ) (begins behind : ℕ) (m : Line) (fault : MacroFault)
     → opened ≡ Some begins → IsScanned s lines at plain old new opened → slice_get lines at ≡ Some l → slice_get lines begins ≡ Some m → operation_is (codes "MEND") l ≡ true
     → Judged behind m (take (at - begins - 1) (drop (begins + 1) lines)) l (Err fault) → line_fault_of (first_part_fault (parts_of None lines)) ≡ Some fault
 bad_line s lines at l plain old new opened begins behind m fault some is there first test judged =
     inside_bad s lines at l plain old new begins m behind fault (subst (λ (o : Option ℕ). IsScanned s lines at plain old new o) some is) there first test judged
 
-pub scan_starts : (s : Bool) (lines plain : List Line) (old : List meaning.Definition) → plain ≡ [] → IsScanned s lines 0 plain old old None
+pub scan_starts : (s : Bool) (lines plain : List Line) (old : List meaning.MacroDefinition) → plain ≡ [] → IsScanned s lines 0 plain old old None
 unfolding first_part_fault definitions_in
 scan_starts s lines plain old empty = record {
   parts = [];
@@ -287,7 +287,7 @@ scan_starts s lines plain old empty = record {
 
 -- ---- the end of the file
 
-module _ (s : Bool) (lines plain : List Line) (old new : List meaning.Definition) where
+module _ (s : Bool) (lines plain : List Line) (old new : List meaning.MacroDefinition) where
   pub ended_good : IsScanned s lines (length lines) plain old new None → Scanned s lines old new (Ok plain)
   unfolding parts_of
   ended_good is =
@@ -296,7 +296,7 @@ module _ (s : Bool) (lines plain : List Line) (old new : List meaning.Definition
       is.goes_on ∙ ap (λ (b : Begun). is.parts ++ parts_of b (drop (length lines) lines)) none ∙ ap (λ (d : List Line). is.parts ++ parts_of None d) (drop_all lines (length lines) (omega arith)) ∙ append-nil is.parts in (
         ap first_part_fault all ∙ is.good,
         is.plain_is ∙ ap (λ (b : Begun). map source_line is.parts ++ open_lines b) none ∙ append-nil (map source_line is.parts) ∙ ap (map source_line) (sym all),
-        is.definitions_are ∙ ap (λ (p : List Part). old ++ definitions_in s p) (sym all),
+        is.definitions_are ∙ ap (λ (p : List DefinitionPart). old ++ definitions_in s p) (sym all),
       )
 
   pub ended_open : (begins : ℕ) (m : Line) (fault : MacroFault) → IsScanned s lines (length lines) plain old new (Some begins) → slice_get lines begins ≡ Some m → fault ≡ fault_at m Unclosed
@@ -309,14 +309,14 @@ module _ (s : Bool) (lines plain : List Line) (old new : List meaning.Definition
       by_begun (Some (x, inner)) begun goes =
           let all : parts_of None lines ≡ is.parts ++ Open x inner ∷ [] = goes ∙ ap (λ (d : List Line). is.parts ++ parts_of (Some (x, inner)) d) (drop_all lines (length lines) (omega arith)) in
           let same : x ≡ m = some_line x m (sym begun.0 ∙ first) in
-          ap (λ (p : List Part). line_fault_of (first_part_fault p)) all ∙ ap line_fault_of (fault_more is.parts (Open x inner ∷ []) is.good)
+          ap (λ (p : List DefinitionPart). line_fault_of (first_part_fault p)) all ∙ ap line_fault_of (fault_more is.parts (Open x inner ∷ []) is.good)
           ∙ ap (λ (y : Line). Some (fault_at y Unclosed)) same ∙ ap (λ (f : MacroFault). Some f) (sym fault_is)
 
 -- as the code has them
-pub ended_none : (s : Bool) (lines plain : List Line) (old new : List meaning.Definition) (opened : Option ℕ) → opened ≡ None → IsScanned s lines (length lines) plain old new opened → Scanned s lines old new (Ok plain)
+pub ended_none : (s : Bool) (lines plain : List Line) (old new : List meaning.MacroDefinition) (opened : Option ℕ) → opened ≡ None → IsScanned s lines (length lines) plain old new opened → Scanned s lines old new (Ok plain)
 ended_none s lines plain old new opened none is = ended_good s lines plain old new (subst (λ (o : Option ℕ). IsScanned s lines (length lines) plain old new o) none is)
 
-pub ended_some : (s : Bool) (lines plain : List Line) (old new : List meaning.Definition) (opened : Option ℕ) (begins : ℕ) (m : Line) (fault : MacroFault) → opened ≡ Some begins
+pub ended_some : (s : Bool) (lines plain : List Line) (old new : List meaning.MacroDefinition) (opened : Option ℕ) (begins : ℕ) (m : Line) (fault : MacroFault) → opened ≡ Some begins
     → IsScanned s lines (length lines) plain old new opened → slice_get lines begins ≡ Some m → fault ≡ fault_at m Unclosed → Scanned s lines old new (Err fault)
 ended_some s lines plain old new opened begins m fault some is first fault_is =
     ended_open s lines plain old new begins m fault (subst (λ (o : Option ℕ). IsScanned s lines (length lines) plain old new o) some is) first fault_is
@@ -346,7 +346,7 @@ all_plain (l ∷ lines) none = by (operation_is (codes "MACRO") l) none (all_pla
     by : (b : Bool) → (b || list_any (operation_is (codes "MACRO")) lines) ≡ false → (list_any (operation_is (codes "MACRO")) lines ≡ false → parts_of None lines ≡ map Plain lines)
         → cond b (parts_of (Some (l, [])) lines) (Plain l ∷ parts_of None lines) ≡ Plain l ∷ map Plain lines
     by true none more = absurd cc
-    by false none more = ap (λ (ps : List Part). Plain l ∷ ps) (more none)
+    by false none more = ap (λ (ps : List DefinitionPart). Plain l ∷ ps) (more none)
 
 plain_faultless : (lines : List Line) → first_part_fault (map Plain lines) ≡ None
 unfolding first_part_fault
@@ -362,10 +362,10 @@ unfolding definitions_in
 no_definitions [] = refl
 no_definitions (l ∷ lines) = no_definitions lines
 
-pub none_scanned : (lines : List Line) (old : List meaning.Definition) → list_any (operation_is (codes "MACRO")) lines ≡ false → Scanned true lines old old (Ok lines)
+pub none_scanned : (lines : List Line) (old : List meaning.MacroDefinition) → list_any (operation_is (codes "MACRO")) lines ≡ false → Scanned true lines old old (Ok lines)
 none_scanned lines old none =
     let plain = all_plain lines none in (
       ap first_part_fault plain ∙ plain_faultless lines,
       sym (ap (map source_line) plain ∙ plain_lines lines),
-      sym (ap (λ (ds : List meaning.Definition). old ++ ds) (ap (definitions_in true) plain ∙ no_definitions lines) ∙ append-nil old),
+      sym (ap (λ (ds : List meaning.MacroDefinition). old ++ ds) (ap (definitions_in true) plain ∙ no_definitions lines) ∙ append-nil old),
     )

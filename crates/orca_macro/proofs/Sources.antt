@@ -6,12 +6,12 @@ use Rattle.std.specs.Global.{Vec}
 use Rattle.std.specs.List.{list_any, filter}
 use Rattle.omf_format.specs.Lines.{lines_of}
 use Rattle.orca_meaning.specs.Characters.{folded}
-use Rattle.orca_meaning.specs.Line.{Fields, Line, part, numbered, is_comment}
+use Rattle.orca_meaning.specs.Line.{Fields, Line, part, numbered_lines, is_comment}
 use Rattle.macro_meaning.specs.Call.{no_symbols}
-use Rattle.macro_meaning.specs.Deed as meaning
+use Rattle.macro_meaning.specs.Effect as meaning
 use Rattle.macro_meaning.specs.Definition.{operation_is, first_named}
 use Rattle.macro_meaning.specs.Expansion.{HasVisits, IsExpanded, file_text_fault, first_in}
-use Rattle.macro_meaning.specs.Visit.{Program, Visit, Move, On, Ends, given_by, move_of, next_line, returned, if_line, most_visits, setting_of, IsVisit, IsVisitAt, Follow, no_texts}
+use Rattle.macro_meaning.specs.Visit.{Program, Visit, Move, On, Ends, given_by, move_of, next_line, move_after_expansion, if_line, most_visits, setting_of, IsVisit, IsVisitAt, Follow, no_texts}
 use Rattle.orca_macro.specs.Files.{texts_of_files, lines_from, first_part_in, definitions_of, IsProgram}
 use Rattle.orca_macro.specs.Parts.{HaveOwn}
 use Rattle.orca_macro.specs.Untouched.{IsUntouched, AreUntouched}
@@ -60,24 +60,24 @@ module _ (lines : List Line) (own : HaveOwn lines) (are : AreUntouched lines) wh
       free : (length before == most_visits) ≡ false
       free = ap (λ (k : ℕ). eqb k 1000000) count ∙ ne_eqb place 1000000 (λ e. omega (arith, e, few))
 
-      line_is : given_by l (meaning.Gives l.text) ≡ l ∷ []
+      line_is : given_by l (meaning.Emit l.text) ≡ l ∷ []
       line_is = ap (λ (f : Fields). record { file = l.file; number = l.number; text = l.text; fields = f } ∷ []) (sym (own place l here))
 
       by : (b : Bool) → is_comment l.text ≡ b → IsVisit (plain lines) before (at place) (if_statement b l) (next_line (plain lines) before (at place))
-      by true comment = visit_is (plain lines) before (at place) l meaning.Rests here free (comment_rests (setting_of (plain lines) (at place) l.number) l comment)
+      by true comment = visit_is (plain lines) before (at place) l meaning.NoEffect here free (comment_rests (setting_of (plain lines) (at place) l.number) l comment)
       by false other =
           subst (λ (given : List Line). IsVisit (plain lines) before (at place) given (next_line (plain lines) before (at place))) line_is
-          (visit_is (plain lines) before (at place) l (meaning.Gives l.text) here free
+          (visit_is (plain lines) before (at place) l (meaning.Emit l.text) here free
           (((are.each place l here).given other [] (unnamed (folded (part l.text l.fields.operation)))).is (setting_of (plain lines) (at place) l.number) refl))
 
   -- behind the last line nothing follows
   ends : (before : List Visit) (place : ℕ) → slice_get lines (place + 1) ≡ None → next_line (plain lines) before (at place) ≡ Ends
-  unfolding plain at next_line returned
+  unfolding plain at next_line move_after_expansion
   ends before place none = ap (λ (o : Option Line). if_line o (On (at (place + 1))) Ends) none
 
   goes : (before : List Visit) (place : ℕ) (l : Line) → slice_get lines (place + 1) ≡ Some l → next_line (plain lines) before (at place) ≡ On (at (place + 1))
   unfolding plain at next_line
-  goes before place l some = ap (λ (o : Option Line). if_line o (On (at (place + 1))) (returned (plain lines) before (at place) 0 None)) some
+  goes before place l some = ap (λ (o : Option Line). if_line o (On (at (place + 1))) (move_after_expansion (plain lines) before (at place) 0 None)) some
 
   -- the visits of the lines from a place on
   follow : (before : List Visit) (place : ℕ) (rest : List Line) → length before ≡ place → place + length rest ≤ 1000000 → ((k n : ℕ) → n ≡ place + k → slice_get lines n ≡ slice_get rest k)
@@ -132,7 +132,7 @@ no_files [] none = refl
 no_files (file ∷ macros) none = absurd (omega (arith, none))
 
 -- a source expands to them, without the comments, where there are no macro files
-pub untouched_expand : (source : List ℕ) (macros : List (Vec ℕ)) (lines left : List Line) → length macros ≡ 0 → lines ≡ numbered 0 1 (lines_of source) → file_text_fault 0 source ≡ None → AreUntouched lines
+pub untouched_expand : (source : List ℕ) (macros : List (Vec ℕ)) (lines left : List Line) → length macros ≡ 0 → lines ≡ numbered_lines 0 1 (lines_of source) → file_text_fault 0 source ≡ None → AreUntouched lines
     → left ≡ filter (λ (l : Line). not (is_comment l.text)) lines → IsExpanded source (texts_of_files macros) left
 unfolding lines_from first_in statements
 untouched_expand source macros lines left none lines_are good are left_is =

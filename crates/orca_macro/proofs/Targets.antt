@@ -3,8 +3,8 @@ use Rattle.std.proofs.Common.{◌≡◌, ℕ, zero, suc, ◌+◌, Bool, true, fa
 use Rattle.std.specs.Prelude.{slice_get}
 use Rattle.orca_meaning.specs.Line.{Line}
 use Rattle.macro_meaning.specs.Visit.{places_from, only_one, has_sequence}
-use Rattle.orca_macro.specs.declared.body.Target.{Target}
-use Rattle.orca_macro.specs.declared.body.Target.TheVariants.{Once, Twice}
+use Rattle.orca_macro.specs.declared.body.BranchTarget.{BranchTarget}
+use Rattle.orca_macro.specs.declared.body.BranchTarget.TheVariants.{Once, Twice}
 use Rattle.orca_macro.specs.DefinitionView.{summary, with_place}
 
 -- one more line at the end
@@ -51,10 +51,10 @@ places-more at name lines line = by_test (has_sequence name line) refl
     by_test false is = ap summary (both false at lines is)
 
 -- one more line among the first so many
-pub more_places : (name : List ℕ) (lines : List Line) (line : Line) (at : ℕ) (old new : Option Target) → slice_get lines at ≡ Some line → length (take at lines) ≡ at
+pub more_places : (name : List ℕ) (lines : List Line) (line : Line) (at : ℕ) (old new : Option BranchTarget) → slice_get lines at ≡ Some line → length (take at lines) ≡ at
     → old ≡ summary (places_from 0 name (take at lines)) → new ≡ cond (has_sequence name line) (with_place at old) old → new ≡ summary (places_from 0 name (take (at + 1) lines))
 more_places name lines line at old new is size old_is new_is =
-    new_is ∙ ap (λ (o : Option Target). cond (has_sequence name line) (with_place at o) o) old_is
+    new_is ∙ ap (λ (o : Option BranchTarget). cond (has_sequence name line) (with_place at o) o) old_is
     ∙ ap (λ (k : ℕ). cond (has_sequence name line) (with_place k (summary (places_from 0 name (take at lines)))) (summary (places_from 0 name (take at lines)))) (sym size ∙ plus)
     ∙ sym (places-more 0 name (take at lines) line) ∙ ap (λ (l : List Line). summary (places_from 0 name l)) (sym (take_next lines at line is))
   where
@@ -82,6 +82,6 @@ found_none (p ∷ []) is = absurd cc
 found_none (p ∷ q ∷ ps) is = absurd cc
 
 -- no lines
-pub no_places : (name : List ℕ) (o : Option Target) → o ≡ None → o ≡ summary (places_from 0 name [])
+pub no_places : (name : List ℕ) (o : Option BranchTarget) → o ≡ None → o ≡ summary (places_from 0 name [])
 unfolding places_from
 no_places name o is = is

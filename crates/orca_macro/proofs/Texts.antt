@@ -7,8 +7,8 @@ use Rattle.std.specs.List.{position_or_len}
 use Rattle.std.specs.Prelude.{Ok, Err, ◌||◌, unsigned_abs}
 use Rattle.orca_meaning.specs.Quotes.{quote_behind}
 use Rattle.macro_meaning.specs.declared.faults.MacroCause.TheVariants.{BadSetting}
-use Rattle.macro_meaning.specs.Deed.{middle_from}
-use Rattle.macro_meaning.specs.Pieces.{pieces_from, pieces, parts, open_behind, with_byte, closed_at, quoted_at, quoted, only, joined, appended}
+use Rattle.macro_meaning.specs.Effect.{middle_from}
+use Rattle.macro_meaning.specs.Pieces.{pieces_from, pieces, parts, open_behind, with_byte, closed_at, quoted_at, unquoted_text, whole_quoted_text, joined_texts, appended_texts}
 
 -- how many bytes pieces have
 total : List (List ℕ) → ℕ
@@ -57,31 +57,31 @@ quoted_at_short (quote ∷ behind) x rest is = by_test (eqb quote 0x27 || eqb qu
     by_test true is = omega (arith, closed_short quote behind x rest is)
     by_test false is = absurd cc
 
-quoted_short : (p a : List ℕ) → quoted p ≡ Some a → length a ≤ length p
+quoted_short : (p a : List ℕ) → unquoted_text p ≡ Some a → length a ≤ length p
 quoted_short p a is = by_found (quoted_at p) refl is
   where
-    by_found : (o : Option (List ℕ × List ℕ)) → quoted_at p ≡ o → only o ≡ Some a → length a ≤ length p
+    by_found : (o : Option (List ℕ × List ℕ)) → quoted_at p ≡ o → whole_quoted_text o ≡ Some a → length a ≤ length p
     by_found None found is = absurd cc
     by_found (Some (x, [])) found is = let same : x ≡ a = cc in omega (arith, quoted_at_short p x [] found, ap length same)
     by_found (Some (x, byte ∷ rest)) found is = absurd cc
 
-joined_short : (ps : List (List ℕ)) (out : List ℕ) → joined ps ≡ Some out → length out ≤ total ps
-unfolding joined total
+joined_short : (ps : List (List ℕ)) (out : List ℕ) → joined_texts ps ≡ Some out → length out ≤ total ps
+unfolding joined_texts total
 joined_short [] out is = let same : [] ≡ out = cc in omega (arith, ap length same)
-joined_short (p ∷ ps) out is = by_parts (quoted p) (joined ps) (quoted_short p) (joined_short ps) is
+joined_short (p ∷ ps) out is = by_parts (unquoted_text p) (joined_texts ps) (quoted_short p) (joined_short ps) is
   where
-    by_parts : (a b : Option (List ℕ)) → ((x : List ℕ) → a ≡ Some x → length x ≤ length p) → ((y : List ℕ) → b ≡ Some y → length y ≤ total ps) → appended a b ≡ Some out → length out ≤ length p + total ps
+    by_parts : (a b : Option (List ℕ)) → ((x : List ℕ) → a ≡ Some x → length x ≤ length p) → ((y : List ℕ) → b ≡ Some y → length y ≤ total ps) → appended_texts a b ≡ Some out → length out ≤ length p + total ps
     by_parts (Some x) (Some y) first others is =
         let same : x ++ y ≡ out = cc in
         omega (arith, first x refl, others y refl, ap length same, length-append x y)
     by_parts (Some x) None first others is = absurd cc
     by_parts None b first others is = by_rest b is
       where
-        by_rest : (b : Option (List ℕ)) → appended None b ≡ Some out → length out ≤ length p + total ps
+        by_rest : (b : Option (List ℕ)) → appended_texts None b ≡ Some out → length out ≤ length p + total ps
         by_rest None is = absurd cc
         by_rest (Some y) is = absurd cc
 
-pub joined_fits : (text out : List ℕ) → length text ≤ 255 → joined (pieces 0x2B text) ≡ Some out → length out ≤ 255
+pub joined_fits : (text out : List ℕ) → length text ≤ 255 → joined_texts (pieces 0x2B text) ≡ Some out → length out ≤ 255
 joined_fits text out few is = omega (arith, few, joined_short (pieces 0x2B text) out is, total-pieces 0x2B None 0 text)
 
 -- ---- parts of a text

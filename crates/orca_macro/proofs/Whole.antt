@@ -4,11 +4,11 @@ use Rattle.std.specs.Prelude.{Result, Ok, Err, IfOk, IfErr}
 use Rattle.std.specs.Global.{Vec}
 use Rattle.std.proofs.lemmas.List.{length-map}
 use Rattle.omf_format.specs.Lines.{lines_of}
-use Rattle.orca_meaning.specs.Line.{Line, line_of, numbered, fields_of}
+use Rattle.orca_meaning.specs.Line.{Line, line_of, numbered_lines, fields_of}
 use Rattle.macro_meaning.specs.declared.faults.MacroCause.{MacroCause}
 use Rattle.macro_meaning.specs.declared.faults.MacroCause.TheVariants.{LineTooLong, TooManyLines, NoSuchSymbol, BadSetting, BadArguments, NoSequenceSymbol, Unclosed, Counter, TooNested, Noted, Memory}
 use Rattle.macro_meaning.specs.declared.faults.MacroFault.{MacroFault}
-use Rattle.macro_meaning.specs.Definition.{Definition, Part, parts_of, definitions_in, source_body, source_line, first_part_fault, or_else}
+use Rattle.macro_meaning.specs.Definition.{MacroDefinition, DefinitionPart, parts_of, definitions_in, source_body, source_line, first_part_fault, or_else}
 use Rattle.macro_meaning.specs.Expansion.{line_fault_of, next_file, HasVisits, StopsAt, file_text_fault, file_part_fault, first_in, macros_in, program_of, first_of_files, IsExpanded, IsFirstFault, InDefinition, InVisit, IsFaultFor, IsMacroFault, AreGoodFiles}
 use Rattle.macro_meaning.specs.Visit.{Program, Ends}
 use Rattle.orca_macro.specs.Parts.{HaveOwn}
@@ -22,8 +22,8 @@ use Rattle.orca_macro.specs.Files.{texts_of_files, CanRead, lines_from, AllOwn, 
 
 -- ---- lines
 
-own_numbered : (file number : ℕ) (texts : List (List ℕ)) → HaveOwn (numbered file number texts)
-unfolding numbered
+own_numbered : (file number : ℕ) (texts : List (List ℕ)) → HaveOwn (numbered_lines file number texts)
+unfolding numbered_lines
 own_numbered file number [] k l is = absurd cc
 own_numbered file number (text ∷ texts) zero l is = first l is
   where
@@ -31,7 +31,7 @@ own_numbered file number (text ∷ texts) zero l is = first l is
     first l is = let same : line_of file number text ≡ l = cc in subst (λ (x : Line). x.fields ≡ fields_of x.text) same refl
 own_numbered file number (text ∷ texts) (suc k) l is = own_numbered file (number + 1) texts k l is
 
-pub own_lines : (file : ℕ) (bytes : List ℕ) (lines : List Line) → lines ≡ numbered file 1 (lines_of bytes) → HaveOwn lines
+pub own_lines : (file : ℕ) (bytes : List ℕ) (lines : List Line) → lines ≡ numbered_lines file 1 (lines_of bytes) → HaveOwn lines
 own_lines file bytes lines is = subst HaveOwn (sym is) (own_numbered file 1 (lines_of bytes))
 
 all_own : (file : ℕ) (texts : List (List ℕ)) → AllOwn (lines_from file texts)
@@ -48,7 +48,7 @@ pub lines_start : (out : List (List Line)) (file : ℕ) (texts : List (List ℕ)
 lines_start out file texts empty = ap (λ (o : List (List Line)). o ++ lines_from file texts) empty
 
 pub lines_more : (old new : List (List Line)) (file : ℕ) (bytes : List ℕ) (more texts : List (List ℕ)) (lines : List Line) (whole : List (List Line))
-    → texts ≡ bytes ∷ more → old ++ lines_from file texts ≡ whole → lines ≡ numbered file 1 (lines_of bytes) → new ≡ old ++ lines ∷ []
+    → texts ≡ bytes ∷ more → old ++ lines_from file texts ≡ whole → lines ≡ numbered_lines file 1 (lines_of bytes) → new ≡ old ++ lines ∷ []
     → new ++ lines_from (next_file file) more ≡ whole
 unfolding lines_from
 lines_more old new file bytes more texts lines whole first so is push =
@@ -98,11 +98,11 @@ bad_file file bytes more texts whole fault first so is =
 
 -- ---- definitions of more files
 
-pub scan_more : (old new : List Definition) (lines : List Line) (more left : List (List Line)) (whole : List Definition) → left ≡ lines ∷ more → old ++ definitions_of left ≡ whole
+pub scan_more : (old new : List MacroDefinition) (lines : List Line) (more left : List (List Line)) (whole : List MacroDefinition) → left ≡ lines ∷ more → old ++ definitions_of left ≡ whole
     → new ≡ old ++ definitions_in false (parts_of None lines) → new ++ definitions_of more ≡ whole
 unfolding definitions_of
 scan_more old new lines more left whole first so is =
-    ap (λ (n : List Definition). n ++ definitions_of more) is ∙ append_assoc old (definitions_in false (parts_of None lines)) (definitions_of more)
+    ap (λ (n : List MacroDefinition). n ++ definitions_of more) is ∙ append_assoc old (definitions_in false (parts_of None lines)) (definitions_of more)
     ∙ sym (ap (λ (l : List (List Line)). old ++ definitions_of l) first) ∙ so
 
 pub scan_good : (lines : List Line) (more left : List (List Line)) (whole : Option MacroFault) → left ≡ lines ∷ more → first_part_in left ≡ whole → first_part_fault (parts_of None lines) ≡ None → first_part_in more ≡ whole
@@ -116,7 +116,7 @@ unfolding first_part_in
 scan_bad lines more left whole fault first so bad =
     sym so ∙ ap first_part_in first ∙ comes_first (line_fault_of (first_part_fault (parts_of None lines))) (first_part_in more) fault bad
 
-pub scan_end : (out : List Definition) (macros : List (List Line)) (i : ℕ) (whole : List Definition) → length macros ≤ i → out ++ definitions_of (drop i macros) ≡ whole → out ≡ whole
+pub scan_end : (out : List MacroDefinition) (macros : List (List Line)) (i : ℕ) (whole : List MacroDefinition) → length macros ≤ i → out ++ definitions_of (drop i macros) ≡ whole → out ≡ whole
 unfolding definitions_of
 scan_end out macros i whole end so = sym (append-nil out) ∙ sym (ap (λ (left : List (List Line)). out ++ definitions_of left) (drop_all macros i end)) ∙ so
 
@@ -126,20 +126,20 @@ scan_all_good macros i whole end so = sym so ∙ ap first_part_in (drop_all macr
 
 -- ---- the program
 
-pub program_good : (source : List Line) (macros : List (List Line)) (plain : List Line) (old new : List Definition) (program : Program) → first_part_in macros ≡ None → old ≡ definitions_of macros
+pub program_good : (source : List Line) (macros : List (List Line)) (plain : List Line) (old new : List MacroDefinition) (program : Program) → first_part_in macros ≡ None → old ≡ definitions_of macros
     → first_part_fault (parts_of None source) ≡ None → plain ≡ map source_line (parts_of None source) → new ≡ old ++ definitions_in true (parts_of None source)
     → program ≡ record { source = record { lines = plain; reach = length plain }; definitions = new } → IsProgram source macros (Ok program)
 program_good source macros plain old new program good old_is source_good plain_is new_is is =
     (good, ap line_fault_of source_good, is ∙ same)
   where
-    of_lines : List Line → ℕ → List Definition → Program
+    of_lines : List Line → ℕ → List MacroDefinition → Program
     of_lines lines reach definitions = record { source = record { lines = lines; reach = reach }; definitions = definitions }
 
     same : of_lines plain (length plain) new ≡ of_lines (map source_line (parts_of None source)) (length (parts_of None source)) (definitions_of macros ++ definitions_in true (parts_of None source))
     same =
         ap (λ (k : List Line). of_lines k (length k) new) plain_is
         ∙ ap (λ (n : ℕ). of_lines (map source_line (parts_of None source)) n new) (length-map (parts_of None source) source_line)
-        ∙ ap (λ (d : List Definition). of_lines (map source_line (parts_of None source)) (length (parts_of None source)) d) (new_is ∙ ap (λ (o : List Definition). o ++ definitions_in true (parts_of None source)) old_is)
+        ∙ ap (λ (d : List MacroDefinition). of_lines (map source_line (parts_of None source)) (length (parts_of None source)) d) (new_is ∙ ap (λ (o : List MacroDefinition). o ++ definitions_in true (parts_of None source)) old_is)
 
 pub program_macros_bad : (source : List Line) (macros : List (List Line)) (fault : MacroFault) → first_part_in macros ≡ Some fault → IsProgram source macros (Err fault)
 program_macros_bad source macros fault is = comes_first (first_part_in macros) (line_fault_of (first_part_fault (parts_of None source))) fault is
@@ -157,9 +157,9 @@ parts_as_files file (bytes ∷ more) = ap (or_else (file_part_fault file bytes))
 macros_as_files : (file : ℕ) (texts : List (List ℕ)) → definitions_of (lines_from file texts) ≡ macros_in file texts
 unfolding definitions_of lines_from macros_in
 macros_as_files file [] = refl
-macros_as_files file (bytes ∷ more) = ap (λ (d : List Definition). definitions_in false (parts_of None (numbered file 1 (lines_of bytes))) ++ d) (macros_as_files (next_file file) more)
+macros_as_files file (bytes ∷ more) = ap (λ (d : List MacroDefinition). definitions_in false (parts_of None (numbered_lines file 1 (lines_of bytes))) ++ d) (macros_as_files (next_file file) more)
 
-module _ (source : List ℕ) (macros : List (List ℕ)) (lines : List Line) (files : List (List Line)) (lines_are : lines ≡ numbered 0 1 (lines_of source)) (files_are : files ≡ lines_from 1 macros) where
+module _ (source : List ℕ) (macros : List (List ℕ)) (lines : List Line) (files : List (List Line)) (lines_are : lines ≡ numbered_lines 0 1 (lines_of source)) (files_are : files ≡ lines_from 1 macros) where
   faults_are : or_else (first_part_in files) (line_fault_of (first_part_fault (parts_of None lines))) ≡ first_of_files file_part_fault source macros
   faults_are =
       ap (λ (f : List (List Line)). or_else (first_part_in f) (line_fault_of (first_part_fault (parts_of None lines)))) files_are
@@ -173,10 +173,10 @@ module _ (source : List ℕ) (macros : List (List ℕ)) (lines : List Line) (fil
   program_is program is =
       is.2
       ∙ ap (λ (l : List Line). of_parts (parts_of None l) (definitions_of files)) lines_are
-      ∙ ap (λ (f : List (List Line)). of_parts (parts_of None (numbered 0 1 (lines_of source))) (definitions_of f)) files_are
-      ∙ ap (of_parts (parts_of None (numbered 0 1 (lines_of source)))) (macros_as_files 1 macros)
+      ∙ ap (λ (f : List (List Line)). of_parts (parts_of None (numbered_lines 0 1 (lines_of source))) (definitions_of f)) files_are
+      ∙ ap (of_parts (parts_of None (numbered_lines 0 1 (lines_of source)))) (macros_as_files 1 macros)
     where
-      of_parts : List Part → List Definition → Program
+      of_parts : List DefinitionPart → List MacroDefinition → Program
       of_parts ps definitions = record { source = source_body ps; definitions = definitions ++ definitions_in true ps }
 
 -- no fault of reading
@@ -202,14 +202,14 @@ first_is source macros (Noted n) fault free is = is
 first_is source macros Memory fault free is = absurd (clash free)
 
 -- a definition has a fault
-pub parts_refused : (source : List ℕ) (macros : List (List ℕ)) (lines : List Line) (files : List (List Line)) (fault : MacroFault) → lines ≡ numbered 0 1 (lines_of source) → files ≡ lines_from 1 macros
+pub parts_refused : (source : List ℕ) (macros : List (List ℕ)) (lines : List Line) (files : List (List Line)) (fault : MacroFault) → lines ≡ numbered_lines 0 1 (lines_of source) → files ≡ lines_from 1 macros
     → first_in file_text_fault 1 macros ≡ None → file_text_fault 0 source ≡ None → IsProgram lines files (Err fault) → IsMacroFault source macros fault
 parts_refused source macros lines files fault lines_are files_are good source_good is =
     let first : first_of_files file_part_fault source macros ≡ Some fault = sym (faults_are source macros lines files lines_are files_are) ∙ is in
     first_is source macros fault.cause fault (parts_free source macros fault first) (InDefinition (texts_good source macros good source_good) first)
 
 -- the visits
-module _ (source : List ℕ) (macros : List (List ℕ)) (lines : List Line) (files : List (List Line)) (lines_are : lines ≡ numbered 0 1 (lines_of source)) (files_are : files ≡ lines_from 1 macros)
+module _ (source : List ℕ) (macros : List (List ℕ)) (lines : List Line) (files : List (List Line)) (lines_are : lines ≡ numbered_lines 0 1 (lines_of source)) (files_are : files ≡ lines_from 1 macros)
     (good : first_in file_text_fault 1 macros ≡ None) (source_good : file_text_fault 0 source ≡ None) (program : Program) (is : IsProgram lines files (Ok program)) where
   good_files : AreGoodFiles source macros
   good_files = record { texts = texts_good source macros good source_good; definitions = good_parts source macros lines files lines_are files_are program is }

@@ -1,20 +1,20 @@
 -- How deeds are seen, and where a line stands.
-use Rattle.macro_meaning.specs.Deed as meaning
-use Rattle.orca_macro.specs.declared.deed.Deed.{Deed}
-use Rattle.orca_macro.specs.declared.deed.Deed.TheVariants.{Rests, Gives, Declares, Sets, Goes, Counts, Leaves, Calls, Fails}
+use Rattle.macro_meaning.specs.Effect as meaning
+use Rattle.orca_macro.specs.declared.effect.Effect.{Effect}
+use Rattle.orca_macro.specs.declared.effect.Effect.TheVariants.{NoEffect, Emit, DeclareSymbol, SetSymbol, BranchTo, SetCounter, Exit, CallMacro, Fail}
 use Rattle.orca_macro.specs.declared.visited.Standing.{Standing}
 use Rattle.orca_symbols.specs.View.{symbols_of, values}
 
-abbrev pub deed : Deed → meaning.Deed
-deed Rests = meaning.Rests
-deed (Gives text) = meaning.Gives text
-deed (Declares name declaration) = meaning.Declares name declaration
-deed (Sets name kind text) = meaning.Sets name kind text
-deed (Goes name) = meaning.Goes name
-deed (Counts n) = meaning.Counts n
-deed Leaves = meaning.Leaves
-deed (Calls place symbols) = meaning.Calls place (symbols_of symbols)
-deed (Fails cause) = meaning.Fails cause
+abbrev pub effect_view : Effect → meaning.Effect
+effect_view NoEffect = meaning.NoEffect
+effect_view (Emit text) = meaning.Emit text
+effect_view (DeclareSymbol name declaration) = meaning.DeclareSymbol name declaration
+effect_view (SetSymbol name kind text) = meaning.SetSymbol name kind text
+effect_view (BranchTo name) = meaning.BranchTo name
+effect_view (SetCounter n) = meaning.SetCounter n
+effect_view Exit = meaning.Exit
+effect_view (CallMacro place symbols) = meaning.CallMacro place (symbols_of symbols)
+effect_view (Fail cause) = meaning.Fail cause
 
-abbrev pub where_ : Standing → meaning.Setting
+abbrev pub where_ : Standing → meaning.SymbolSetting
 where_ at = record { definitions = at.program.now.definitions; root = at.root; in_source = at.in_source; values = values at.values }

@@ -4,11 +4,11 @@ use Rattle.std.specs.Global.{Vec}
 use Rattle.omf_format.specs.Lines.{lines_of}
 use Rattle.orca_meaning.specs.declared.lines.TextCause.{TextCause}
 use Rattle.orca_meaning.specs.declared.lines.TextCause.TheVariants as texts
-use Rattle.orca_meaning.specs.Line.{Line, numbered}
+use Rattle.orca_meaning.specs.Line.{Line, numbered_lines}
 use Rattle.macro_meaning.specs.declared.faults.MacroCause.{MacroCause}
 use Rattle.macro_meaning.specs.declared.faults.MacroCause.TheVariants.{LineTooLong, TooManyLines, Memory}
 use Rattle.macro_meaning.specs.declared.faults.MacroFault.{MacroFault}
-use Rattle.macro_meaning.specs.Definition.{Definition, parts_of, definitions_in, source_body, first_part_fault, or_else}
+use Rattle.macro_meaning.specs.Definition.{MacroDefinition, parts_of, definitions_in, source_body, first_part_fault, or_else}
 use Rattle.macro_meaning.specs.Expansion.{line_fault_of, next_file, fault_at, HasVisits, StopsAt}
 use Rattle.macro_meaning.specs.Visit.{Program, Ends}
 use Rattle.orca_macro.specs.Parts.{HaveOwn}
@@ -38,7 +38,7 @@ CanRead texts.Memory = Unit {0}
 -- the lines of files, of which the first has this number
 unfoldable pub lines_from : ℕ → List (List ℕ) → List (List Line)
 lines_from file [] = []
-lines_from file (bytes ∷ more) = numbered file 1 (lines_of bytes) ∷ lines_from (next_file file) more
+lines_from file (bytes ∷ more) = numbered_lines file 1 (lines_of bytes) ∷ lines_from (next_file file) more
 
 -- each line has the fields of its bytes
 abbrev pub AllOwn : List (List Line) → Type 0
@@ -50,7 +50,7 @@ unfoldable pub first_part_in : List (List Line) → Option MacroFault
 first_part_in [] = None
 first_part_in (lines ∷ more) = or_else (line_fault_of (first_part_fault (parts_of None lines))) (first_part_in more)
 
-unfoldable pub definitions_of : List (List Line) → List Definition
+unfoldable pub definitions_of : List (List Line) → List MacroDefinition
 definitions_of [] = []
 definitions_of (lines ∷ more) = definitions_in false (parts_of None lines) ++ definitions_of more
 

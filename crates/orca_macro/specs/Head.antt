@@ -1,14 +1,14 @@
 -- Fronts of lines whose label and operation are known.
 use Rattle.std.specs.Prelude.{◌≡◌, ◌≤◌, ℕ, List, [], ◌++◌, take, drop, length, false, Option, Some, None}
-use Rattle.macro_meaning.specs.Deed.{cut, operation_or_anop}
+use Rattle.macro_meaning.specs.Effect.{without_sequence_symbol, operation_or_anop}
 use Rattle.orca_meaning.specs.Characters.{folded}
 use Rattle.orca_meaning.specs.Line.{part, three_fields, is_comment}
-use Rattle.orca_symbols.specs.Template.{followed}
-use Rattle.orca_macro.specs.declared.head.Head.{Head}
-use Rattle.orca_symbols.specs.declared.template.Part.{Part}
+use Rattle.orca_symbols.specs.Template.{text_before}
+use Rattle.orca_macro.specs.declared.head.LineHead.{LineHead}
+use Rattle.orca_symbols.specs.declared.template.TemplatePart.{TemplatePart}
 
 -- a text behind its sequence symbol has this label and this operation
-pub record HasFields (h : Head) (text : List ℕ) : Type 0 where
+pub record HasFields (h : LineHead) (text : List ℕ) : Type 0 where
   pub within : h.label ≤ length text
   pub label : part text (three_fields text).label ≡ take h.label text
   pub end : (three_fields text).operation.to ≡ h.end
@@ -16,20 +16,20 @@ pub record HasFields (h : Head) (text : List ℕ) : Type 0 where
   pub statement : operation_or_anop (part text (three_fields text).operation) ≡ h.statement
 
 -- a text begins so
-pub record HasHead (h : Head) (text : List ℕ) : Type 0 where
+pub record HasHead (h : LineHead) (text : List ℕ) : Type 0 where
   pub within : h.sequence ≤ length text
-  pub cuts : cut text ≡ drop h.sequence text
+  pub cuts : without_sequence_symbol text ≡ drop h.sequence text
   pub other : is_comment (drop h.sequence text) ≡ false
   pub fields : HasFields h (drop h.sequence text)
 
 -- each text that begins with these bytes begins so
-pub record IsHead (h : Head) (front : List ℕ) : Type 0 where
+pub record IsHead (h : LineHead) (front : List ℕ) : Type 0 where
   pub is : (behind : List ℕ) → HasHead h (front ++ behind)
 
-abbrev pub MayHaveHead : Option Head → List ℕ → Type 0
+abbrev pub MayHaveHead : Option LineHead → List ℕ → Type 0
 MayHaveHead None text = Unit {0}
 MayHaveHead (Some h) text = HasHead h text
 
 -- all that comes of the parts begins so
-pub record BeginsSo (parts : List Part) (head : Option Head) : Type 0 where
-  pub is : (text_of : List ℕ → Option (List ℕ)) (text : List ℕ) → followed text_of parts (Some []) ≡ Some text → MayHaveHead head text
+pub record BeginsSo (parts : List TemplatePart) (head : Option LineHead) : Type 0 where
+  pub is : (text_of : List ℕ → Option (List ℕ)) (text : List ℕ) → text_before text_of parts (Some []) ≡ Some text → MayHaveHead head text

@@ -3,20 +3,20 @@ use Rattle.std.specs.Prelude.{◌≡◌, ℕ, ◌+◌, ◌-◌, ◌≤◌, ◌<�
 use Rattle.orca_meaning.specs.Line.{Line, fields_of}
 use Rattle.macro_meaning.specs.declared.faults.MacroFault.{MacroFault}
 use Rattle.macro_meaning.specs.Definition as meaning
-use Rattle.macro_meaning.specs.Definition.{Part, Closed, Begun, parts_of, source_line, definitions_in, first_part_fault, definition_from, part_fault}
+use Rattle.macro_meaning.specs.Definition.{DefinitionPart, Closed, Begun, parts_of, source_line, definitions_in, first_part_fault, definition_from, part_fault}
 use Rattle.macro_meaning.specs.Expansion.{line_fault_of}
-use Rattle.orca_macro.specs.declared.definitions.Definition.{Definition}
+use Rattle.orca_macro.specs.declared.definitions.MacroDefinition.{MacroDefinition}
 use Rattle.orca_symbols.specs.ModelView.{model}
 
-abbrev pub definition : Definition → meaning.Definition
-definition d = record { model = model d.model; behind = d.behind; body = d.body }
+abbrev pub definition : MacroDefinition → meaning.MacroDefinition
+definition d = record { model = model d.model; visible_after = d.visible_after; body = d.body }
 
 -- each line has the fields of its bytes
 abbrev pub HaveOwn : List Line → Type 0
 HaveOwn lines = (k : ℕ) (l : Line) → slice_get lines k ≡ Some l → l.fields ≡ fields_of l.text
 
 -- the definition from a MACRO line to a MEND line, or what is wrong with it
-abbrev pub Judged : ℕ → Line → List Line → Line → Result Definition MacroFault → Type 0
+abbrev pub Judged : ℕ → Line → List Line → Line → Result MacroDefinition MacroFault → Type 0
 Judged behind begins inner ends (Ok d) = (definition_from behind inner ends ≡ Some (definition d)) × (part_fault (Closed begins inner ends) ≡ None)
 Judged behind begins inner ends (Err fault) = line_fault_of (part_fault (Closed begins inner ends)) ≡ Some fault
 
@@ -34,8 +34,8 @@ open_lines None = []
 open_lines (Some (begins, inner)) = begins ∷ []
 
 -- these parts were found so far, without a fault
-pub record IsScanned (in_source : Bool) (lines : List Line) (at : ℕ) (plain : List Line) (old new : List meaning.Definition) (open_at : Option ℕ) : Type 0 where
-  pub parts : List Part
+pub record IsScanned (in_source : Bool) (lines : List Line) (at : ℕ) (plain : List Line) (old new : List meaning.MacroDefinition) (open_at : Option ℕ) : Type 0 where
+  pub parts : List DefinitionPart
   pub begun : Begun
   pub is_begun : IsBegun lines at open_at begun
   pub within : at ≤ length lines
@@ -45,7 +45,7 @@ pub record IsScanned (in_source : Bool) (lines : List Line) (at : ℕ) (plain : 
   pub definitions_are : new ≡ old ++ definitions_in in_source parts
 
 -- the whole file was gone over: the lines that are visited, or the first fault
-abbrev pub Scanned : Bool → List Line → List meaning.Definition → List meaning.Definition → Result (List Line) MacroFault → Type 0
+abbrev pub Scanned : Bool → List Line → List meaning.MacroDefinition → List meaning.MacroDefinition → Result (List Line) MacroFault → Type 0
 Scanned in_source lines old new (Ok plain) =
     (first_part_fault (parts_of None lines) ≡ None) × (plain ≡ map source_line (parts_of None lines)) × (new ≡ old ++ definitions_in in_source (parts_of None lines))
 Scanned in_source lines old new (Err fault) = line_fault_of (first_part_fault (parts_of None lines)) ≡ Some fault

@@ -1,51 +1,51 @@
 -- What is known of a line before it is visited.
 use Rattle.std.specs.Prelude.{◌≡◌, ℕ, List, Option, Some, None, true, false, length, slice_get}
-use Rattle.macro_meaning.specs.Deed as meaning
-use Rattle.macro_meaning.specs.Definition.{Definition}
-use Rattle.macro_meaning.specs.Deed.{Setting, IsDeed, IsDone, IsStatement}
+use Rattle.macro_meaning.specs.Effect as meaning
+use Rattle.macro_meaning.specs.Definition.{MacroDefinition}
+use Rattle.macro_meaning.specs.Effect.{SymbolSetting, IsDeed, IsDone, IsStatement}
 use Rattle.macro_meaning.specs.Symbol.{Values}
 use Rattle.macro_meaning.specs.declared.statements.Statement.{Statement}
 use Rattle.orca_meaning.specs.Line.{Line, three_fields, is_comment}
 use Rattle.orca_macro.specs.Head.{BeginsSo}
 use Rattle.orca_symbols.specs.Plain.{plain_len}
 use Rattle.orca_symbols.specs.Template.{HasParts}
-use Rattle.orca_macro.specs.declared.plan.Known.{Known}
-use Rattle.orca_macro.specs.declared.plan.Known.TheVariants.{Open, Rests, Goes, Leaves}
-use Rattle.orca_macro.specs.declared.plan.Plan.{Plan}
-use Rattle.orca_macro.specs.declared.plan.Plan.TheVariants.{Comment, Plain, Parts}
+use Rattle.orca_macro.specs.declared.plan.KnownHead.{KnownHead}
+use Rattle.orca_macro.specs.declared.plan.KnownHead.TheVariants.{Open, Rests, Goes, Leaves}
+use Rattle.orca_macro.specs.declared.plan.LinePlan.{LinePlan}
+use Rattle.orca_macro.specs.declared.plan.LinePlan.TheVariants.{Comment, Plain, Parts}
 
 -- what is known that a line does
-abbrev pub known : Known → Option meaning.Deed
-known Open = None
-known Rests = Some meaning.Rests
-known (Goes name) = Some (meaning.Goes name)
-known Leaves = Some meaning.Leaves
+abbrev pub known_effect : KnownHead → Option meaning.Effect
+known_effect Open = None
+known_effect Rests = Some meaning.NoEffect
+known_effect (Goes name) = Some (meaning.BranchTo name)
+known_effect Leaves = Some meaning.Exit
 
 -- a statement does this wherever it stands
-pub record IsAlwaysDone (statement : Statement) (text label operand : List ℕ) (deed : meaning.Deed) : Type 0 where
+pub record IsAlwaysDone (statement : Statement) (text label operand : List ℕ) (deed : meaning.Effect) : Type 0 where
   pub is : (values : Values) → IsDone values statement text label operand deed
 
-abbrev pub FitsDone : Statement → List ℕ → List ℕ → List ℕ → Option meaning.Deed → Type 0
+abbrev pub FitsDone : Statement → List ℕ → List ℕ → List ℕ → Option meaning.Effect → Type 0
 FitsDone statement text label operand None = Unit {0}
 FitsDone statement text label operand (Some deed) = IsAlwaysDone statement text label operand deed
 
 -- a line behind its sequence symbol does this wherever it stands
-pub record IsAlwaysStatement (text : List ℕ) (deed : meaning.Deed) : Type 0 where
-  pub is : (s : Setting) → IsStatement s text (three_fields text) deed
+pub record IsAlwaysStatement (text : List ℕ) (deed : meaning.Effect) : Type 0 where
+  pub is : (s : SymbolSetting) → IsStatement s text (three_fields text) deed
 
-abbrev pub FitsStatement : List ℕ → Option meaning.Deed → Type 0
+abbrev pub FitsStatement : List ℕ → Option meaning.Effect → Type 0
 FitsStatement text None = Unit {0}
 FitsStatement text (Some deed) = IsAlwaysStatement text deed
 
 -- a line does this wherever it stands
-pub record IsAlways (line : Line) (deed : meaning.Deed) : Type 0 where
-  pub is : (s : Setting) → IsDeed s line deed
+pub record IsAlways (line : Line) (deed : meaning.Effect) : Type 0 where
+  pub is : (s : SymbolSetting) → IsDeed s line deed
 
 -- where these are the macros, a line is given as it stands, whatever the symbols are
-pub record IsGiven (definitions : List Definition) (line : Line) : Type 0 where
-  pub is : (s : Setting) → s.definitions ≡ definitions → IsDeed s line (meaning.Gives line.text)
+pub record IsGiven (definitions : List MacroDefinition) (line : Line) : Type 0 where
+  pub is : (s : SymbolSetting) → s.definitions ≡ definitions → IsDeed s line (meaning.Emit line.text)
 
-abbrev pub FitsLine : Line → Option meaning.Deed → Type 0
+abbrev pub FitsLine : Line → Option meaning.Effect → Type 0
 FitsLine line None = Unit {0}
 FitsLine line (Some deed) = IsAlways line deed
 
@@ -54,15 +54,15 @@ abbrev pub IsPlain : Line → Type 0
 IsPlain line = (is_comment line.text ≡ false) × (plain_len line.text ≡ length line.text)
 
 -- the plan is right of a line
-abbrev pub Fits : Line → Plan → Type 0
+abbrev pub Fits : Line → LinePlan → Type 0
 Fits line Comment = is_comment line.text ≡ true
-Fits line (Plain deed) = IsPlain line × FitsLine line (known deed)
+Fits line (Plain deed) = IsPlain line × FitsLine line (known_effect deed)
 Fits line (Parts parts head) = (is_comment line.text ≡ false) × HasParts line parts.items × BeginsSo parts.items head
 
 -- the plan fits the line at a place
-pub record FitsAt (lines : List Line) (at : ℕ) (plan : Plan) : Type 0 where
+pub record FitsAt (lines : List Line) (at : ℕ) (plan : LinePlan) : Type 0 where
   pub is : (line : Line) → slice_get lines at ≡ Some line → Fits line plan
 
 -- each of the plans fits the line at its place
-pub record HavePlans (lines : List Line) (plans : List Plan) : Type 0 where
-  pub at : (at : ℕ) (plan : Plan) → slice_get plans at ≡ Some plan → FitsAt lines at plan
+pub record HavePlans (lines : List Line) (plans : List LinePlan) : Type 0 where
+  pub at : (at : ℕ) (plan : LinePlan) → slice_get plans at ≡ Some plan → FitsAt lines at plan

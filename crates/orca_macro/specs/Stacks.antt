@@ -4,8 +4,8 @@ use Rattle.std.specs.Prelude.{slice_get}
 use Rattle.orca_meaning.specs.Line.{Line}
 use Rattle.macro_meaning.specs.Symbol.{SharedTexts}
 use Rattle.macro_meaning.specs.Visit.{Visit, Move, On, Ends, Stops}
-use Rattle.orca_macro.specs.declared.visits.Outcome.{Outcome}
-use Rattle.orca_macro.specs.declared.visits.Outcome.TheVariants as outcomes
+use Rattle.orca_macro.specs.declared.visits.Flow.{Flow}
+use Rattle.orca_macro.specs.declared.visits.Flow.TheVariants as outcomes
 use Rattle.orca_symbols.specs.Frame.{Frame}
 
 -- the root of a visit counts in an expansion alone
@@ -33,7 +33,7 @@ pub record Stands (before : List Visit) (v : Visit) (f : Frame) (fs : List Frame
   pub callers : Stacks before v.depth v.caller fs
 
 -- what follows on these visits is this: the next one stands here, or it is the end, or the line has a fault
-abbrev pub MovesTo : Move → List Visit → Line → Outcome → Frame → List Frame → SharedTexts → ℕ → Type 0
+abbrev pub MovesTo : Move → List Visit → Line → Flow → Frame → List Frame → SharedTexts → ℕ → Type 0
 MovesTo move before line outcomes.Goes f fs texts calls = (w : Visit) × (move ≡ On w) × Stands before w f fs texts calls
 MovesTo move before line outcomes.Ends f fs texts calls = move ≡ Ends
 MovesTo move before line (outcomes.Stops cause) f fs texts calls = move ≡ Stops line cause

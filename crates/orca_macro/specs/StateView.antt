@@ -2,21 +2,21 @@
 use Rattle.std.specs.Prelude.{◌≡◌, List, [], ◌∷◌, ◌++◌}
 use Rattle.macro_meaning.specs.Visit.{Program, Visit, Move, IsVisit}
 use Rattle.orca_meaning.specs.Line.{Line}
-use Rattle.orca_symbols.specs.declared.frames.State.{State}
-use Rattle.orca_macro.specs.declared.visits.Outcome.{Outcome}
+use Rattle.orca_symbols.specs.declared.frames.ExpansionState.{ExpansionState}
+use Rattle.orca_macro.specs.declared.visits.Flow.{Flow}
 use Rattle.orca_symbols.specs.Frame.{frame, stack_of}
 use Rattle.orca_macro.specs.Stacks.{Stands, MovesTo}
 use Rattle.orca_symbols.specs.View.{texts_of}
 
 -- the visit behind these others stands where the state says
-abbrev pub StandsIn : List Visit → Visit → State → Type 0
+abbrev pub StandsIn : List Visit → Visit → ExpansionState → Type 0
 StandsIn before v s = Stands before v (frame s.scope) (stack_of s.frames) (texts_of s.texts) s.calls
 
-abbrev pub MovesIn : Move → List Visit → Line → Outcome → State → Type 0
+abbrev pub MovesIn : Move → List Visit → Line → Flow → ExpansionState → Type 0
 MovesIn move before line outcome s = MovesTo move before line outcome (frame s.scope) (stack_of s.frames) (texts_of s.texts) s.calls
 
 -- a visit gave these lines, and what follows on it is where the state stands
-pub record Visited (program : Program) (before : List Visit) (v : Visit) (line : Line) (outcome : Outcome) (s : State) (old new : List Line) : Type 0 where
+pub record Visited (program : Program) (before : List Visit) (v : Visit) (line : Line) (outcome : Flow) (s : ExpansionState) (old new : List Line) : Type 0 where
   pub given : List Line
   pub move : Move
   pub is : IsVisit program before v given move

@@ -3,21 +3,21 @@
 ghost use Rattle.std.specs.Prelude.{◌≡◌, ◌≤◌, ◌<◌, ◌+◌, ◌^◌, ◌∷◌, ◌++◌, [], List, ℕ, length, slice_get, take, bytes_eq, Some, None, IfOk, IfSome, OnOk, MatchOption, if◌then◌else◌};
 ghost use Rattle.macro_meaning.specs.Visit.{places_from, target_of, has_sequence};
 ghost use Rattle.orca_meaning.specs.Line.{HaveFields, fields_of, part};
-ghost use Rattle.orca_symbols.specs.Held.{held};
+ghost use Rattle.orca_symbols.specs.Held.{value_of_name};
 ghost use Rattle.orca_macro.specs.DefinitionView.{summary, with_place};
 ghost use Rattle.orca_macro.specs.Plan.{HavePlans, FitsAt};
 ghost use Rattle.orca_text.specs.View.{line};
 
-use crate::plan::{Plan, plan_of};
+use crate::plan::{LinePlan, plan_of};
 use indexmap::IndexMap;
-use orca_symbols::{look, put, sequence_name};
+use orca_symbols::{get_by_name, insert_by_name, sequence_name};
 use orca_text::{Lines, SourceLine};
 use std::alloc::{AllocError, Global};
 use std::marker::Model;
 
 /// The place of a sequence symbol.
 #[derive(Clone, Copy, Drop)]
-pub(crate) enum Target {
+pub(crate) enum BranchTarget {
     /// The only line that has it.
     Once(u32),
     /// Two lines or more have it.
@@ -30,15 +30,15 @@ pub(crate) enum Target {
 pub(crate) struct Body {
     lines: Lines,
     reach: u32,
-    targets: IndexMap<Vec<u8>, Target>,
-    plans: Vec<Plan>,
+    targets: IndexMap<Vec<u8>, BranchTarget>,
+    plans: Vec<LinePlan>,
 }
 
 impl Model for Body {
     ghost use Rattle.std.specs.Prelude.{◌≡◌, ◌≤◌, ℕ, List, length, take};
     ghost use Rattle.macro_meaning.specs.Definition as meaning;
     ghost use Rattle.macro_meaning.specs.Visit.{places_from};
-    ghost use Rattle.orca_symbols.specs.Held.{held};
+    ghost use Rattle.orca_symbols.specs.Held.{value_of_name};
     ghost use Rattle.orca_macro.specs.DefinitionView.{summary};
     ghost use Rattle.orca_macro.specs.Plan.{HavePlans};
 
@@ -46,34 +46,34 @@ impl Model for Body {
 
     ghost view = { λ body. record { lines = body.lines; reach = body.reach } };
 
-    ghost invariant = { λ body. ((q : List ℕ) → held body.targets q ≡ summary (places_from 0 q (take body.reach body.lines))) × HavePlans body.lines body.plans.items };
+    ghost invariant = { λ body. ((q : List ℕ) → value_of_name body.targets q ≡ summary (places_from 0 q (take body.reach body.lines))) × HavePlans body.lines body.plans.items };
 }
 
 /// One more line with this sequence symbol.
 fn add(
     alloc: Global,
-    targets: &mut IndexMap<Vec<u8>, Target>,
+    targets: &mut IndexMap<Vec<u8>, BranchTarget>,
     name: &[u8],
     at: u32,
 ) -> Result<(), AllocError>
-    ensures { OnOk result ((q : List ℕ) → held targets.new q ≡ (if bytes_eq name.now q then with_place at (held targets.old q) else held targets.old q)) }
+    ensures { OnOk result ((q : List ℕ) → value_of_name targets.new q ≡ (if bytes_eq name.now q then with_place at (value_of_name targets.old q) else value_of_name targets.old q)) }
 {
-    let place = match look(targets, name) {
-        Some(_) => Target::Twice,
-        None => Target::Once(at),
+    let place = match get_by_name(targets, name) {
+        Some(_) => BranchTarget::Twice,
+        None => BranchTarget::Once(at),
     };
-    put(alloc, targets, name, place)
+    insert_by_name(alloc, targets, name, place)
 }
 
 /// The sequence symbol of a line, if it has one.
 fn add_line(
     alloc: Global,
-    targets: &mut IndexMap<Vec<u8>, Target>,
+    targets: &mut IndexMap<Vec<u8>, BranchTarget>,
     of: &SourceLine,
     at: u32,
 ) -> Result<(), AllocError>
     requires { HaveFields of.now.text (line of.now).fields }
-    ensures { OnOk result ((q : List ℕ) → held targets.new q ≡ (if has_sequence q (line of.now) then with_place at (held targets.old q) else held targets.old q)) }
+    ensures { OnOk result ((q : List ℕ) → value_of_name targets.new q ≡ (if has_sequence q (line of.now) then with_place at (value_of_name targets.old q) else value_of_name targets.old q)) }
 {
     match sequence_name(alloc, of.part(of.label))? {
         Some(name) => add(alloc, targets, name.bytes(), at),
@@ -86,9 +86,9 @@ fn targets_of(
     alloc: Global,
     lines: &Lines,
     reach: u32,
-) -> Result<IndexMap<Vec<u8>, Target>, AllocError>
+) -> Result<IndexMap<Vec<u8>, BranchTarget>, AllocError>
     requires { reach ≤ length lines.now }
-    ensures { IfOk result (λ targets. (q : List ℕ) → held targets q ≡ summary (places_from 0 q (take reach lines.now))) }
+    ensures { IfOk result (λ targets. (q : List ℕ) → value_of_name targets q ≡ summary (places_from 0 q (take reach lines.now))) }
 {
     let mut targets = IndexMap::new(alloc);
     let mut at = 0;
@@ -104,7 +104,7 @@ fn targets_of(
 
 /// What is known of each line.
 #[tactic(auto, using(crate::proofs::Plans::no_plans, crate::proofs::Plans::more_plans))]
-fn plans_of(alloc: Global, lines: &Lines) -> Result<Vec<Plan>, AllocError>
+fn plans_of(alloc: Global, lines: &Lines) -> Result<Vec<LinePlan>, AllocError>
     ensures { IfOk result (λ plans. HavePlans lines.now plans.items) }
 {
     let mut plans = Vec::with_capacity(alloc, lines.count() as usize)?;
@@ -121,7 +121,7 @@ fn plans_of(alloc: Global, lines: &Lines) -> Result<Vec<Plan>, AllocError>
 }
 
 /// The plan at a place.
-fn plan_at(plans: &[Plan], at: usize) -> Option<&Plan>
+fn plan_at(plans: &[LinePlan], at: usize) -> Option<&LinePlan>
     ensures { MatchOption result (length plans.now ≤ at) (λ plan. slice_get plans.now at ≡ Some plan.now) }
 {
     plans.get(at)
@@ -175,7 +175,7 @@ impl Body {
 
     /// What is known of the line at a place.
     #[tactic(auto, using(crate::proofs::Plans::plan_there))]
-    pub(crate) fn plan(&self, place: u32) -> Option<&Plan>
+    pub(crate) fn plan(&self, place: u32) -> Option<&LinePlan>
         ensures { IfSome result (λ plan. FitsAt self.now.lines place plan.now) }
     {
         plan_at(self.plans.as_slice(), place as usize)
@@ -186,9 +186,9 @@ impl Body {
     pub(crate) fn target(&self, name: &[u8]) -> Option<u32>
         ensures { result ≡ target_of self.now name.now }
     {
-        match look(&self.targets, name) {
-            Some(Target::Once(place)) => Some(*place),
-            Some(Target::Twice) => None,
+        match get_by_name(&self.targets, name) {
+            Some(BranchTarget::Once(place)) => Some(*place),
+            Some(BranchTarget::Twice) => None,
             None => None,
         }
     }

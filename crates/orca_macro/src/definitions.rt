@@ -20,11 +20,11 @@ use std::alloc::{AllocError, Global};
 
 /// A macro.
 #[derive(Drop)]
-pub(crate) struct Definition {
+pub(crate) struct MacroDefinition {
     /// What its model line says.
     pub(crate) model: ModelLine,
     /// It counts in expansions that began behind this line of the source, in all where that is 0.
-    pub(crate) behind: u32,
+    pub(crate) visible_after: u32,
     /// The lines behind the model line, with the MEND line, to which no branch goes.
     pub(crate) body: Body,
 }
@@ -77,35 +77,35 @@ fn closed_with(
     lines: &Lines,
     from: u32,
     mend: u32,
-) -> Result<Definition, AllocError>
+) -> Result<MacroDefinition, AllocError>
     requires own { HaveOwn lines.now }
     requires order { from ≤ mend }
     requires within { mend < length lines.now }
     requires bound { length lines.now < 2 ^ 32 }
     ensures { IfOk result (λ d. definition d ≡ record {
       model = model said;
-      behind = behind;
+      visible_after = behind;
       body = record { lines = take (mend + 1 - from) (drop from lines.now); reach = mend - from };
     }) }
 {
     let inner = copy_range(alloc, lines, from, mend + 1)?;
     let body = Body::of_macro(alloc, inner, mend - from)?;
-    Ok(Definition {
+    Ok(MacroDefinition {
         model: said,
-        behind,
+        visible_after: behind,
         body,
     })
 }
 
 /// The definition from a MACRO line to a MEND line, or what is wrong with it.
 #[tactic(auto, using(crate::proofs::Scans::judged_empty, crate::proofs::Scans::judged_bad, crate::proofs::Scans::judged_good))]
-fn closed(
+fn close_definition(
     alloc: Global,
     behind: u32,
     lines: &Lines,
     begins: u32,
     mend: u32,
-) -> Result<Result<Definition, MacroFault>, AllocError>
+) -> Result<Result<MacroDefinition, MacroFault>, AllocError>
     requires own { HaveOwn lines.now }
     requires order { begins < mend }
     requires within { mend < length lines.now }
@@ -170,7 +170,7 @@ fn take_line(
     lines: &Lines,
     at: u32,
     scan: &mut Scan,
-    definitions: &mut Vec<Definition>,
+    definitions: &mut Vec<MacroDefinition>,
 ) -> Result<Option<MacroFault>, AllocError>
     requires own { HaveOwn lines.now }
     requires within { at < length lines.now }
@@ -179,7 +179,7 @@ fn take_line(
     requires opened { IfSome scan.old.begun (λ begins. begins < at) }
     ensures few { IfOk result (λ found. length scan.new.plain ≤ at + 1) }
     ensures opened { IfOk result (λ found. IfSome scan.new.begun (λ begins. begins < at + 1)) }
-    ensures ok { IfOk result (λ found. (old : List macros.Definition)
+    ensures ok { IfOk result (λ found. (old : List macros.MacroDefinition)
         → IsScanned in_source lines.now at scan.old.plain old (map definition definitions.old.items) scan.old.begun
         → MatchOption found (IsScanned in_source lines.now (at + 1) scan.new.plain old (map definition definitions.new.items) scan.new.begun)
         (λ fault. line_fault_of (first_part_fault (parts_of None lines.now)) ≡ Some fault)) }
@@ -197,7 +197,7 @@ fn take_line(
     let Some(first) = lines.get(begins) else {
         return Ok(None);
     };
-    match closed(alloc, counts_behind(in_source, first), lines, begins, at)? {
+    match close_definition(alloc, counts_behind(in_source, first), lines, begins, at)? {
         Ok(d) => {
             definitions.push(d)?;
             scan.begun = None;
@@ -209,9 +209,9 @@ fn take_line(
 
 /// What the end of a file leaves: the lines that are visited, unless a definition is open.
 #[tactic(auto, using(crate::proofs::Scans::ended_good, crate::proofs::Scans::ended_open))]
-fn ended(lines: &Lines, scan: Scan) -> Result<Lines, MacroFault>
+fn end_of_file(lines: &Lines, scan: Scan) -> Result<Lines, MacroFault>
     requires { IfSome scan.begun (λ begins. begins < length lines.now) }
-    ensures { (in_source : Bool) (old new : List macros.Definition)
+    ensures { (in_source : Bool) (old new : List macros.MacroDefinition)
         → IsScanned in_source lines.now (length lines.now) scan.plain old new scan.begun → Scanned in_source lines.now old new result }
 {
     match scan.begun {
@@ -229,7 +229,7 @@ pub(crate) fn scan_file(
     alloc: Global,
     in_source: bool,
     lines: &Lines,
-    definitions: &mut Vec<Definition>,
+    definitions: &mut Vec<MacroDefinition>,
 ) -> Result<Result<Lines, MacroFault>, AllocError>
     requires own { HaveOwn lines.now }
     ensures { IfOk result (λ found. Scanned in_source lines.now (map definition definitions.old.items) (map definition definitions.new.items) found) }
@@ -245,7 +245,7 @@ pub(crate) fn scan_file(
             None => at += 1,
         }
     }
-    Ok(ended(lines, scan))
+    Ok(end_of_file(lines, scan))
 }
 
 /// Whether a definition begins at one of the lines.
@@ -270,7 +270,7 @@ fn begins_any(lines: &Lines) -> bool
 pub(crate) fn scan_source(
     alloc: Global,
     lines: Lines,
-    definitions: &mut Vec<Definition>,
+    definitions: &mut Vec<MacroDefinition>,
 ) -> Result<Result<Lines, MacroFault>, AllocError>
     requires own { HaveOwn lines }
     ensures { IfOk result (λ found. Scanned true lines (map definition definitions.old.items) (map definition definitions.new.items) found) }

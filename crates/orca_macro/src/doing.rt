@@ -1,18 +1,18 @@
 //! What the statements of conditional assembly do (ORCA/M reference manual, "Conditional assembly directives").
 
 ghost use Rattle.std.specs.Prelude.{◌≡◌, ◌==◌, ◌≤◌, ◌<◌, [], length, take, drop, Some, None, Ok, Err, IfOk, IsTrue, false};
-ghost use Rattle.macro_meaning.specs.Deed.{earlier, both, or_bad, first_time, declaring, settable, setting, printed, printed_answer, middle_from, middle_of, going, going_to, counting, noted, noting, IsBranchIf, IsMiddle, IsNote, IsSetting, IsDone, resting};
-ghost use Rattle.macro_meaning.specs.Pieces.{pieces, quoted, joined};
+ghost use Rattle.macro_meaning.specs.Effect.{earlier, pair_or_earlier_fault, or_bad, first_time, declaring, settable, setting, printed_number, printed_answer, middle_from, middle_of, going, going_to, counting, note_effect, noting, IsBranchIf, IsMiddle, IsNote, IsSetting, IsDone, resting};
+ghost use Rattle.macro_meaning.specs.Pieces.{pieces, unquoted_text, joined_texts};
 ghost use Rattle.orca_symbols.specs.View.{values, texts_of};
-ghost use Rattle.orca_macro.specs.DeedView.{deed};
+ghost use Rattle.orca_macro.specs.DeedView.{effect_view};
 ghost use Rattle.macro_meaning.specs.Condition.{Answer, IsCondition};
 
-use crate::deed::Deed;
+use crate::effect::Effect;
 use macro_meaning::{Declaration, Kind, MacroCause, Statement};
 use orca_symbols::{
-    Piece, Text, Texts, Values, Word, condition, declaration_of, is_count, is_declaration, is_kind,
-    is_target, joined, kind_of, number, pieces, quoted, signed_decimal, symbol_word, target_word,
-    two_pieces,
+    OperandPiece, SymbolText, Texts, Values, Word, condition, declaration_of, is_count,
+    is_declaration, is_kind, is_target, join_quoted, kind_of, number, pieces, signed_decimal,
+    symbol_word, target_word, two_pieces, unquote,
 };
 use orca_text::LinePart;
 use std::alloc::{AllocError, Global};
@@ -29,11 +29,11 @@ fn earlier(cause: MacroCause, other: MacroCause) -> MacroCause
 
 /// Two answers, or the earlier of their faults.
 #[inline(always)]
-fn both<A: Drop, B: Drop>(
+fn pair_or_earlier_fault<A: Drop, B: Drop>(
     a: Result<A, MacroCause>,
     b: Result<B, MacroCause>,
 ) -> Result<(A, B), MacroCause>
-    ensures { result ≡ both a b }
+    ensures { result ≡ pair_or_earlier_fault a b }
 {
     match a {
         Ok(first) => match b {
@@ -58,47 +58,47 @@ fn or_bad<A: Drop>(found: Option<A>) -> Result<A, MacroCause>
 }
 
 /// The first declaration of a name in its expansion.
-fn first_time<'a>(texts: &Texts, declaration: Declaration, name: Word<'a>) -> Deed<'a>
-    ensures { deed result ≡ first_time name.entry declaration (texts_of texts.now name.entry) }
+fn first_time<'a>(texts: &Texts, declaration: Declaration, name: Word<'a>) -> Effect<'a>
+    ensures { effect_view result ≡ first_time name.entry declaration (texts_of texts.now name.entry) }
 {
     match declaration {
-        Declaration::Local(_) => Deed::Declares(name, declaration),
+        Declaration::Local(_) => Effect::DeclareSymbol(name, declaration),
         Declaration::Shared(kind) => match texts.get(name.bytes()) {
-            None => Deed::Declares(name, declaration),
+            None => Effect::DeclareSymbol(name, declaration),
             Some(other) => {
                 if is_kind(kind, other.kind) {
-                    return Deed::Declares(name, declaration);
+                    return Effect::DeclareSymbol(name, declaration);
                 }
-                Deed::Fails(MacroCause::BadSetting)
+                Effect::Fail(MacroCause::BadSetting)
             }
         },
     }
 }
 
 /// A declaration of a symbol.
-#[tactic(auto, unfolding(macro_meaning::specs::Deed::declaring))]
-fn declaring<'a>(of: Values<'_>, declaration: Declaration, named: Option<Word<'a>>) -> Deed<'a>
-    ensures { deed result ≡ declaring (values of.entry) declaration named.entry }
+#[tactic(auto, unfolding(macro_meaning::specs::Effect::declaring))]
+fn declaring<'a>(of: Values<'_>, declaration: Declaration, named: Option<Word<'a>>) -> Effect<'a>
+    ensures { effect_view result ≡ declaring (values of.entry) declaration named.entry }
 {
     let Some(name) = named else {
-        return Deed::Fails(MacroCause::BadSetting);
+        return Effect::Fail(MacroCause::BadSetting);
     };
     if is_count(name.bytes()) {
-        return Deed::Fails(MacroCause::BadSetting);
+        return Effect::Fail(MacroCause::BadSetting);
     }
     match of.symbols.get(name.bytes()) {
         Some(found) => {
             if is_declaration(declaration, declaration_of(found)) {
-                return Deed::Rests;
+                return Effect::NoEffect;
             }
-            Deed::Fails(MacroCause::BadSetting)
+            Effect::Fail(MacroCause::BadSetting)
         }
         None => first_time(of.texts, declaration, name),
     }
 }
 
 /// The symbol of this kind that a label names.
-#[tactic(auto, unfolding(macro_meaning::specs::Deed::settable))]
+#[tactic(auto, unfolding(macro_meaning::specs::Effect::settable))]
 #[inline(always)]
 fn settable<'a>(of: Values<'_>, kind: Kind, named: Option<Word<'a>>) -> Result<Word<'a>, MacroCause>
     ensures { result ≡ settable (values of.entry) kind named.entry }
@@ -121,34 +121,34 @@ fn settable<'a>(of: Values<'_>, kind: Kind, named: Option<Word<'a>>) -> Result<W
 }
 
 /// The symbol in the label is set to a text.
-#[tactic(auto, unfolding(macro_meaning::specs::Deed::setting))]
+#[tactic(auto, unfolding(macro_meaning::specs::Effect::setting))]
 #[inline(always)]
 fn setting<'a>(
     alloc: Global,
     of: Values<'_>,
     kind: Kind,
     label: LinePart<'a>,
-    text: Result<Text, MacroCause>,
-) -> Result<Deed<'a>, AllocError>
-    ensures { IfOk result (λ d. deed d ≡ setting (values of.entry) kind label.entry.bytes.now text) }
+    text: Result<SymbolText, MacroCause>,
+) -> Result<Effect<'a>, AllocError>
+    ensures { IfOk result (λ d. effect_view d ≡ setting (values of.entry) kind label.entry.bytes.now text) }
 {
     let named = symbol_word(alloc, label)?;
-    match both(settable(of, kind, named), text) {
-        Ok((name, text)) => Ok(Deed::Sets(name, kind, text)),
-        Err(cause) => Ok(Deed::Fails(cause)),
+    match pair_or_earlier_fault(settable(of, kind, named), text) {
+        Ok((name, text)) => Ok(Effect::SetSymbol(name, kind, text)),
+        Err(cause) => Ok(Effect::Fail(cause)),
     }
 }
 
 /// A number as SETA and SETB print it.
-fn printed(alloc: Global, kind: Kind, n: u32) -> Result<Text, AllocError>
-    ensures { IfOk result (λ v. v ≡ printed kind n) }
+fn printed_number(alloc: Global, kind: Kind, n: u32) -> Result<SymbolText, AllocError>
+    ensures { IfOk result (λ v. v ≡ printed_number kind n) }
 {
     match kind {
         Kind::Flag => {
             if n == 0 {
-                return Text::of(alloc, LinePart { bytes: b"0" });
+                return SymbolText::of(alloc, LinePart { bytes: b"0" });
             }
-            Text::of(alloc, LinePart { bytes: b"1" })
+            SymbolText::of(alloc, LinePart { bytes: b"1" })
         }
         Kind::Number => signed_decimal(alloc, n.cast_signed()),
         Kind::Text => signed_decimal(alloc, n.cast_signed()),
@@ -160,12 +160,12 @@ fn printed_answer(
     alloc: Global,
     kind: Kind,
     answer: Result<u32, MacroCause>,
-) -> Result<Result<Text, MacroCause>, AllocError>
+) -> Result<Result<SymbolText, MacroCause>, AllocError>
     ensures { IfOk result (λ v. v ≡ printed_answer kind answer) }
 {
     match answer {
         Ok(n) => {
-            let text = printed(alloc, kind, n)?;
+            let text = printed_number(alloc, kind, n)?;
             Ok(Ok(text))
         }
         Err(cause) => Ok(Err(cause)),
@@ -173,14 +173,14 @@ fn printed_answer(
 }
 
 /// SETA, SETB or SETC.
-fn set<'a>(
+fn effect_of_set<'a>(
     alloc: Global,
     of: Values<'_>,
     kind: Kind,
     label: LinePart<'a>,
     operand: LinePart<'_>,
-) -> Result<Deed<'a>, AllocError>
-    ensures { IfOk result (λ d. IsSetting (values of.entry) kind label.entry.bytes.now operand.entry.bytes.now (deed d)) }
+) -> Result<Effect<'a>, AllocError>
+    ensures { IfOk result (λ d. IsSetting (values of.entry) kind label.entry.bytes.now operand.entry.bytes.now (effect_view d)) }
 {
     match kind {
         Kind::Number => set_number(alloc, of, Kind::Number, label, operand),
@@ -200,10 +200,10 @@ fn set_number<'a>(
     kind: Kind,
     label: LinePart<'a>,
     operand: LinePart<'_>,
-) -> Result<Deed<'a>, AllocError>
+) -> Result<Effect<'a>, AllocError>
     ensures { IfOk result (λ d. (answer : Answer)
         × IsCondition (values of.entry) operand.entry.bytes.now answer
-        × (deed d ≡ setting (values of.entry) kind label.entry.bytes.now (printed_answer kind answer))) }
+        × (effect_view d ≡ setting (values of.entry) kind label.entry.bytes.now (printed_answer kind answer))) }
 {
     let answer = condition(alloc, of, operand)?;
     let text = printed_answer(alloc, kind, answer)?;
@@ -212,12 +212,15 @@ fn set_number<'a>(
 
 /// Texts in quotes, joined.
 #[tactic(auto, using(crate::proofs::Texts::joined_fits))]
-fn joined_text(alloc: Global, operand: LinePart<'_>) -> Result<Result<Text, MacroCause>, AllocError>
-    ensures { IfOk result (λ text. text ≡ or_bad (joined (pieces 0x2B operand.entry.bytes.now))) }
+fn joined_text(
+    alloc: Global,
+    operand: LinePart<'_>,
+) -> Result<Result<SymbolText, MacroCause>, AllocError>
+    ensures { IfOk result (λ text. text ≡ or_bad (joined_texts (pieces 0x2B operand.entry.bytes.now))) }
 {
     let found = pieces(alloc, b'+', operand)?;
-    match joined(alloc, found.as_slice())? {
-        Some(text) => Ok(Ok(Text::from_vec(text))),
+    match join_quoted(alloc, found.as_slice())? {
+        Some(text) => Ok(Ok(SymbolText::from_vec(text))),
         None => Ok(Err(MacroCause::BadSetting)),
     }
 }
@@ -255,7 +258,7 @@ fn middle_from(
     text: LinePart<'_>,
     start: i32,
     count: i32,
-) -> Result<Result<Text, MacroCause>, AllocError>
+) -> Result<Result<SymbolText, MacroCause>, AllocError>
     ensures { IfOk result (λ found. found ≡ middle_from text.entry.bytes.now start count) }
 {
     if start < 1 {
@@ -268,7 +271,7 @@ fn middle_from(
     let middle = LinePart {
         bytes: front_of(behind, count.unsigned_abs() as usize),
     };
-    let found = Text::of(alloc, middle)?;
+    let found = SymbolText::of(alloc, middle)?;
     Ok(Ok(found))
 }
 
@@ -280,11 +283,11 @@ fn middle_with<'a>(
     label: LinePart<'a>,
     text: LinePart<'_>,
     numbers: Result<(u32, u32), MacroCause>,
-) -> Result<Deed<'a>, AllocError>
-    ensures { IfOk result (λ d. deed d ≡ setting (values of.entry) Kind.Text label.entry.bytes.now (middle_of (both (or_bad (quoted text.entry.bytes.now)) numbers))) }
+) -> Result<Effect<'a>, AllocError>
+    ensures { IfOk result (λ d. effect_view d ≡ setting (values of.entry) Kind.Text label.entry.bytes.now (middle_of (pair_or_earlier_fault (or_bad (unquoted_text text.entry.bytes.now)) numbers))) }
 {
     match numbers {
-        Ok((start, count)) => match quoted(text.bytes) {
+        Ok((start, count)) => match unquote(text.bytes) {
             Some(inside) => {
                 let inside = LinePart { bytes: inside };
                 let found = middle_from(alloc, inside, start.cast_signed(), count.cast_signed())?;
@@ -297,19 +300,25 @@ fn middle_with<'a>(
 }
 
 /// AMID.
-fn middle<'a>(
+fn effect_of_amid<'a>(
     alloc: Global,
     of: Values<'_>,
     label: LinePart<'a>,
-    operands: &[Piece<'_>],
-) -> Result<Deed<'a>, AllocError>
-    ensures { IfOk result (λ d. IsMiddle (values of.entry) label.entry.bytes.now operands.now (deed d)) }
+    operands: &[OperandPiece<'_>],
+) -> Result<Effect<'a>, AllocError>
+    ensures { IfOk result (λ d. IsMiddle (values of.entry) label.entry.bytes.now operands.now (effect_view d)) }
 {
     match operands {
         [text, start, count] => {
             let start = number(alloc, of, start.part())?;
             let count = number(alloc, of, count.part())?;
-            middle_with(alloc, of, label, text.part(), both(start, count))
+            middle_with(
+                alloc,
+                of,
+                label,
+                text.part(),
+                pair_or_earlier_fault(start, count),
+            )
         }
         _ => setting(alloc, of, Kind::Text, label, Err(MacroCause::BadSetting)),
     }
@@ -331,124 +340,128 @@ fn branch_if<'a>(
     alloc: Global,
     of: Values<'_>,
     operand: LinePart<'a>,
-) -> Result<Deed<'a>, AllocError>
-    ensures { IfOk result (λ d. IsBranchIf (values of.entry) (pieces 0x2C operand.entry.bytes.now) (deed d)) }
+) -> Result<Effect<'a>, AllocError>
+    ensures { IfOk result (λ d. IsBranchIf (values of.entry) (pieces 0x2C operand.entry.bytes.now) (effect_view d)) }
 {
     let Some((asked, target)) = two_pieces(b',', operand) else {
-        return Ok(Deed::Fails(MacroCause::BadSetting));
+        return Ok(Effect::Fail(MacroCause::BadSetting));
     };
     let answer = condition(alloc, of, asked)?;
     if is_zero(answer) {
         if is_target(target.bytes) {
-            return Ok(Deed::Rests);
+            return Ok(Effect::NoEffect);
         }
     }
     let target = target_word(alloc, target)?;
-    Ok(going(both(answer, or_bad(target))))
+    Ok(going(pair_or_earlier_fault(answer, or_bad(target))))
 }
 
 /// A branch where the value isn't 0.
-fn going<'a>(asked: Result<(u32, Word<'a>), MacroCause>) -> Deed<'a>
-    ensures { deed result ≡ going asked.entry }
+fn going<'a>(asked: Result<(u32, Word<'a>), MacroCause>) -> Effect<'a>
+    ensures { effect_view result ≡ going asked.entry }
 {
     match asked {
         Ok((n, name)) => {
             if n == 0 {
-                return Deed::Rests;
+                return Effect::NoEffect;
             }
-            Deed::Goes(name)
+            Effect::BranchTo(name)
         }
-        Err(cause) => Deed::Fails(cause),
+        Err(cause) => Effect::Fail(cause),
     }
 }
 
 /// A branch.
-fn going_to<'a>(target: Option<Word<'a>>) -> Deed<'a>
-    ensures { deed result ≡ going_to target.entry }
+fn going_to<'a>(target: Option<Word<'a>>) -> Effect<'a>
+    ensures { effect_view result ≡ going_to target.entry }
 {
     match target {
-        Some(name) => Deed::Goes(name),
-        None => Deed::Fails(MacroCause::BadSetting),
+        Some(name) => Effect::BranchTo(name),
+        None => Effect::Fail(MacroCause::BadSetting),
     }
 }
 
 /// ACTR.
-fn counting<'a>(answer: Result<u32, MacroCause>) -> Deed<'a>
-    ensures { deed result ≡ counting answer }
+fn counting<'a>(answer: Result<u32, MacroCause>) -> Effect<'a>
+    ensures { effect_view result ≡ counting answer }
 {
     match answer {
-        Ok(n) => Deed::Counts(n),
-        Err(cause) => Deed::Fails(cause),
+        Ok(n) => Effect::SetCounter(n),
+        Err(cause) => Effect::Fail(cause),
     }
 }
 
 /// A note of this severity.
-fn noted<'a>(n: u32) -> Deed<'a>
-    ensures { deed result ≡ noted n }
+fn effect_of_note<'a>(n: u32) -> Effect<'a>
+    ensures { effect_view result ≡ note_effect n }
 {
     if n.cast_signed() >= 8 {
-        return Deed::Fails(MacroCause::Noted(n));
+        return Effect::Fail(MacroCause::Noted(n));
     }
-    Deed::Rests
+    Effect::NoEffect
 }
 
 /// MNOTE of a text and a severity.
 #[tactic(auto, using(crate::proofs::Both::second_fault))]
-fn noting<'a>(text: &[u8], answer: Result<u32, MacroCause>) -> Deed<'a>
-    ensures { deed result ≡ noting (both (or_bad (quoted text.now)) answer) }
+fn noting<'a>(text: &[u8], answer: Result<u32, MacroCause>) -> Effect<'a>
+    ensures { effect_view result ≡ noting (pair_or_earlier_fault (or_bad (unquoted_text text.now)) answer) }
 {
     match answer {
-        Ok(n) => match quoted(text) {
-            Some(_) => noted(n),
-            None => Deed::Fails(MacroCause::BadSetting),
+        Ok(n) => match unquote(text) {
+            Some(_) => effect_of_note(n),
+            None => Effect::Fail(MacroCause::BadSetting),
         },
-        Err(cause) => Deed::Fails(cause),
+        Err(cause) => Effect::Fail(cause),
     }
 }
 
 /// MNOTE.
-fn note<'a>(alloc: Global, of: Values<'_>, operands: &[Piece<'_>]) -> Result<Deed<'a>, AllocError>
-    ensures { IfOk result (λ d. IsNote (values of.entry) operands.now (deed d)) }
+fn note<'a>(
+    alloc: Global,
+    of: Values<'_>,
+    operands: &[OperandPiece<'_>],
+) -> Result<Effect<'a>, AllocError>
+    ensures { IfOk result (λ d. IsNote (values of.entry) operands.now (effect_view d)) }
 {
     match operands {
         [text, severity] => {
             let answer = number(alloc, of, severity.part())?;
             Ok(noting(text.part().bytes, answer))
         }
-        _ => Ok(Deed::Fails(MacroCause::BadSetting)),
+        _ => Ok(Effect::Fail(MacroCause::BadSetting)),
     }
 }
 
 /// ANOP, or no operation.
-fn resting<'a>(label: &[u8], text: LinePart<'a>) -> Deed<'a>
-    ensures { deed result ≡ resting label.now text.entry.bytes.now }
+fn resting<'a>(label: &[u8], text: LinePart<'a>) -> Effect<'a>
+    ensures { effect_view result ≡ resting label.now text.entry.bytes.now }
 {
     if label.is_empty() {
-        return Deed::Rests;
+        return Effect::NoEffect;
     }
-    Deed::Gives(Word::lent(text))
+    Effect::Emit(Word::borrowed(text))
 }
 
 /// A statement of conditional assembly.
-pub(crate) fn done<'a>(
+pub(crate) fn effect_of_statement<'a>(
     alloc: Global,
     of: Values<'_>,
     statement: Statement,
     text: LinePart<'a>,
     label: LinePart<'a>,
     operand: LinePart<'a>,
-) -> Result<Deed<'a>, AllocError>
-    ensures { IfOk result (λ d. IsDone (values of.entry) statement text.entry.bytes.now label.entry.bytes.now operand.entry.bytes.now (deed d)) }
+) -> Result<Effect<'a>, AllocError>
+    ensures { IfOk result (λ d. IsDone (values of.entry) statement text.entry.bytes.now label.entry.bytes.now operand.entry.bytes.now (effect_view d)) }
 {
     match statement {
         Statement::Declare(declaration) => {
             let named = symbol_word(alloc, operand)?;
             Ok(declaring(of, declaration, named))
         }
-        Statement::Set(kind) => set(alloc, of, kind, label, operand),
+        Statement::Set(kind) => effect_of_set(alloc, of, kind, label, operand),
         Statement::Middle => {
             let operands = pieces(alloc, b',', operand)?;
-            middle(alloc, of, label, operands.as_slice())
+            effect_of_amid(alloc, of, label, operands.as_slice())
         }
         Statement::BranchIf => branch_if(alloc, of, operand),
         Statement::Branch => {
@@ -460,11 +473,11 @@ pub(crate) fn done<'a>(
             Ok(counting(answer))
         }
         Statement::Nothing => Ok(resting(label.bytes, text)),
-        Statement::Leave => Ok(Deed::Leaves),
+        Statement::Leave => Ok(Effect::Exit),
         Statement::Note => {
             let operands = pieces(alloc, b',', operand)?;
             note(alloc, of, operands.as_slice())
         }
-        Statement::Define => Ok(Deed::Gives(Word::lent(text))),
+        Statement::Define => Ok(Effect::Emit(Word::borrowed(text))),
     }
 }

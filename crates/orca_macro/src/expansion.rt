@@ -3,12 +3,12 @@
 ghost use Rattle.std.specs.Prelude.{◌≡◌, ◌≤◌, ◌<◌, ◌+◌, ◌++◌, ◌^◌, ◌==◌, [], List, ℕ, map, length, false, Some, None, IfOk, IfErr, IfSome, OnOk, MatchOption};
 ghost use Rattle.std.specs.Prelude.{IfNone, Ok, Err};
 ghost use Rattle.macro_meaning.specs.Call.{no_symbols};
-ghost use Rattle.macro_meaning.specs.Deed as deeds;
+ghost use Rattle.macro_meaning.specs.Effect as deeds;
 ghost use Rattle.macro_meaning.specs.Expansion.{IsExpanded, IsMacroFault, fault_at, file_text_fault, first_in};
 ghost use Rattle.macro_meaning.specs.Visit.{Visit, no_texts, line_at, given_by, root_by, setting_of, most_visits};
 ghost use Rattle.omf_format.specs.Lines.{lines_of};
-ghost use Rattle.orca_meaning.specs.Line.{HaveFields, fields_of, numbered};
-ghost use Rattle.orca_macro.specs.DeedView.{deed};
+ghost use Rattle.orca_meaning.specs.Line.{HaveFields, fields_of, numbered_lines};
+ghost use Rattle.orca_macro.specs.DeedView.{effect_view};
 ghost use Rattle.orca_macro.specs.Files.{texts_of_files, CanRead, lines_from, IsTextFault, AllOwn, first_part_in, definitions_of, IsProgram, HasVisited};
 ghost use Rattle.orca_macro.specs.Parts.{definition, HaveOwn};
 ghost use Rattle.orca_macro.specs.Plan.{Fits, IsGiven};
@@ -19,15 +19,15 @@ ghost use Rattle.orca_text.specs.Refusals.{IsRefused};
 ghost use Rattle.orca_text.specs.View.{line};
 
 use crate::body::Body;
-use crate::deed::Deed;
-use crate::definitions::{Definition, fault_at, scan_file, scan_source};
-use crate::plan::Plan;
+use crate::definitions::{MacroDefinition, fault_at, scan_file, scan_source};
+use crate::effect::Effect;
+use crate::plan::LinePlan;
 use crate::program::Program;
 use crate::untouched::are_untouched;
-use crate::visited::{Standing, deed_of, is_given, planned};
-use crate::visits::{MOST_VISITS, Outcome, onward, step};
+use crate::visited::{Standing, effect_of, effect_of_template, is_given};
+use crate::visits::{Flow, MOST_VISITS, advance, step};
 use macro_meaning::{MacroCause, MacroFault};
-use orca_symbols::{State, Symbols, Values};
+use orca_symbols::{ExpansionState, Symbols, Values};
 use orca_text::{LinePart, Lines, SourceLine, TextCause, TextFault, read_lines};
 use std::alloc::{AllocError, Global};
 
@@ -68,7 +68,7 @@ fn text_fault(fault: TextFault) -> MacroFault
 /// The lines of a file.
 #[tactic(auto, using(crate::proofs::Whole::can_read))]
 fn read_file(alloc: Global, file: u32, bytes: &[u8]) -> Result<Lines, MacroFault>
-    ensures lines { IfOk result (λ lines. lines ≡ numbered file 1 (lines_of bytes.now)) }
+    ensures lines { IfOk result (λ lines. lines ≡ numbered_lines file 1 (lines_of bytes.now)) }
     ensures good { IfOk result (λ lines. file_text_fault file bytes.now ≡ None) }
     ensures refused { IfErr result (λ fault. IsTextFault (file_text_fault file bytes.now) fault) }
 {
@@ -103,7 +103,7 @@ fn read_all(alloc: Global, macros: &[Vec<u8>]) -> Result<Vec<Lines>, MacroFault>
 fn scan_all(
     alloc: Global,
     macros: &[Lines],
-    definitions: &mut Vec<Definition>,
+    definitions: &mut Vec<MacroDefinition>,
 ) -> Result<Option<MacroFault>, AllocError>
     requires { AllOwn macros.now }
     ensures { IfOk result (λ found. MatchOption found
@@ -120,7 +120,11 @@ fn scan_all(
 }
 
 /// The program of these lines and macros.
-fn built(alloc: Global, plain: Lines, definitions: Vec<Definition>) -> Result<Program, AllocError>
+fn built(
+    alloc: Global,
+    plain: Lines,
+    definitions: Vec<MacroDefinition>,
+) -> Result<Program, AllocError>
     ensures { IfOk result (λ program. program ≡ record { source = record { lines = plain; reach = length plain }; definitions = map definition definitions.items }) }
 {
     let body = Body::of_source(alloc, plain)?;
@@ -138,7 +142,7 @@ fn program_of(
     requires macros { AllOwn macros.now }
     ensures { IfOk result (λ found. IsProgram source macros.now found) }
 {
-    let mut definitions: Vec<Definition> = Vec::new(alloc);
+    let mut definitions: Vec<MacroDefinition> = Vec::new(alloc);
     match scan_all(alloc, macros, &mut definitions)? {
         Some(fault) => return Ok(Err(fault)),
         None => {}
@@ -154,7 +158,7 @@ fn program_of(
 
 /// The line of the source at which the outermost expansion of a line began.
 #[inline(always)]
-fn root_of(state: &State, number: u32) -> u32
+fn root_of(state: &ExpansionState, number: u32) -> u32
     ensures { (before : List Visit) (v : Visit) → StandsIn before v state.now → result ≡ root_by v.caller v.root number }
 {
     if state.frames.count() == 0 {
@@ -167,17 +171,17 @@ fn root_of(state: &State, number: u32) -> u32
 fn deed_at<'a>(
     alloc: Global,
     program: &Program,
-    state: &State,
+    state: &ExpansionState,
     root: u32,
     of: &'a SourceLine,
-    plan: Option<&'a Plan>,
+    plan: Option<&'a LinePlan>,
     buffer: &'a mut Vec<u8>,
     spare: &mut Symbols,
-) -> Result<Deed<'a>, AllocError>
+) -> Result<Effect<'a>, AllocError>
     requires fields { HaveFields of.now.text (line of.now).fields }
     requires plan { IfSome plan (λ p. Fits (line of.now) p.now) }
     ensures { IfOk result (λ d. (before : List Visit) (v : Visit) → StandsIn before v state.now → root ≡ root_by v.caller v.root (line of.now).number
-        → deeds.IsDeed (setting_of program.now v (line of.now).number) (line of.now) (deed d)) }
+        → deeds.IsDeed (setting_of program.now v (line of.now).number) (line of.now) (effect_view d)) }
 {
     let at = Standing {
         program,
@@ -190,32 +194,37 @@ fn deed_at<'a>(
         },
     };
     match plan {
-        Some(plan) => planned(alloc, at, of, plan, buffer, spare),
-        None => deed_of(alloc, at, of, buffer, spare),
+        Some(plan) => effect_of_template(alloc, at, of, plan, buffer, spare),
+        None => effect_of(alloc, at, of, buffer, spare),
     }
 }
 
 /// The line that a deed gives, behind others.
-fn give(alloc: Global, out: &mut Lines, of: &SourceLine, given: &Deed<'_>) -> Result<(), AllocError>
+fn give(
+    alloc: Global,
+    out: &mut Lines,
+    of: &SourceLine,
+    given: &Effect<'_>,
+) -> Result<(), AllocError>
     requires { length out.old + 1 < 2 ^ 32 }
-    ensures lines { OnOk result (out.new ≡ out.old ++ given_by (line of.now) (deed given.now)) }
+    ensures lines { OnOk result (out.new ≡ out.old ++ given_by (line of.now) (effect_view given.now)) }
     ensures few { OnOk result (length out.new ≤ length out.old + 1) }
 {
     match given {
-        Deed::Gives(text) => {
+        Effect::Emit(text) => {
             let text = LinePart {
                 bytes: text.bytes(),
             };
             out.push(alloc, of.file, of.line, text)
         }
-        Deed::Rests => Ok(()),
-        Deed::Declares(_, _) => Ok(()),
-        Deed::Sets(_, _, _) => Ok(()),
-        Deed::Goes(_) => Ok(()),
-        Deed::Counts(_) => Ok(()),
-        Deed::Leaves => Ok(()),
-        Deed::Calls(_, _) => Ok(()),
-        Deed::Fails(_) => Ok(()),
+        Effect::NoEffect => Ok(()),
+        Effect::DeclareSymbol(_, _) => Ok(()),
+        Effect::SetSymbol(_, _, _) => Ok(()),
+        Effect::BranchTo(_) => Ok(()),
+        Effect::SetCounter(_) => Ok(()),
+        Effect::Exit => Ok(()),
+        Effect::CallMacro(_, _) => Ok(()),
+        Effect::Fail(_) => Ok(()),
     }
 }
 
@@ -224,11 +233,11 @@ fn give(alloc: Global, out: &mut Lines, of: &SourceLine, given: &Deed<'_>) -> Re
 fn pass_on(
     alloc: Global,
     program: &Program,
-    state: &mut State,
+    state: &mut ExpansionState,
     of: &SourceLine,
     spare: &mut Symbols,
     out: &mut Lines,
-) -> Result<Outcome, AllocError>
+) -> Result<Flow, AllocError>
     requires own { (line of.now).fields ≡ fields_of of.now.text }
     requires given { IsGiven program.now.definitions (line of.now) }
     requires line { state.old.scope.line + 1 < 2 ^ 32 }
@@ -239,20 +248,20 @@ fn pass_on(
     ensures few { IfOk result (λ outcome. length out.new ≤ length out.old + 1) }
 {
     out.copy(alloc, of)?;
-    Ok(onward(program, &mut state.scope, &mut state.frames, spare))
+    Ok(advance(program, &mut state.scope, &mut state.frames, spare))
 }
 
 /// Does what a visited line says.
 fn carry_out(
     alloc: Global,
     program: &Program,
-    state: &mut State,
+    state: &mut ExpansionState,
     of: &SourceLine,
-    plan: Option<&Plan>,
+    plan: Option<&LinePlan>,
     buffer: &mut Vec<u8>,
     spare: &mut Symbols,
     out: &mut Lines,
-) -> Result<Outcome, AllocError>
+) -> Result<Flow, AllocError>
     requires fields { HaveFields of.now.text (line of.now).fields }
     requires plan { IfSome plan (λ p. Fits (line of.now) p.now) }
     requires line { state.old.scope.line + 1 < 2 ^ 32 }
@@ -280,13 +289,13 @@ fn carry_out(
 fn visit(
     alloc: Global,
     program: &Program,
-    state: &mut State,
+    state: &mut ExpansionState,
     of: &SourceLine,
-    plan: Option<&Plan>,
+    plan: Option<&LinePlan>,
     buffer: &mut Vec<u8>,
     spare: &mut Symbols,
     out: &mut Lines,
-) -> Result<Outcome, AllocError>
+) -> Result<Flow, AllocError>
     requires fields { HaveFields of.now.text (line of.now).fields }
     requires own { (line of.now).fields ≡ fields_of of.now.text }
     requires plan { IfSome plan (λ p. Fits (line of.now) p.now) }
@@ -311,7 +320,7 @@ fn visit(
 fn visits(
     alloc: Global,
     program: &Program,
-    state: &mut State,
+    state: &mut ExpansionState,
     buffer: &mut Vec<u8>,
     spare: &mut Symbols,
     out: &mut Lines,
@@ -333,9 +342,9 @@ fn visits(
             return Ok(Some(fault_at(line, MacroCause::TooManyLines)));
         }
         match visit(alloc, program, state, line, plan, buffer, spare, out)? {
-            Outcome::Goes => {}
-            Outcome::Ends => return Ok(None),
-            Outcome::Stops(cause) => return Ok(Some(fault_at(line, cause))),
+            Flow::Goes => {}
+            Flow::Ends => return Ok(None),
+            Flow::Stops(cause) => return Ok(Some(fault_at(line, cause))),
         }
         count += 1;
     }
@@ -345,7 +354,7 @@ fn visits(
 fn visit_all(alloc: Global, program: &Program) -> Result<Result<Lines, MacroFault>, AllocError>
     ensures { IfOk result (λ found. HasVisited program.now found) }
 {
-    let mut state = State::new(alloc)?;
+    let mut state = ExpansionState::new(alloc)?;
     let mut buffer = Vec::new(alloc);
     let mut spare = Symbols::new(alloc);
     let mut out = Lines::new(alloc);

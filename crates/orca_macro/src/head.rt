@@ -5,13 +5,13 @@ ghost use Rattle.orca_macro.specs.Head.{IsHead};
 
 use macro_meaning::Statement;
 use omf_base::Name;
-use orca_symbols::{cut, statement_of};
+use orca_symbols::{skip_sequence_symbol, statement_of};
 use orca_text::{LinePart, folded, is_comment, part, three_fields};
 use std::alloc::{AllocError, Global};
 
 /// The front of a line, with a blank behind its operation.
 #[derive(Drop)]
-pub(crate) struct Head {
+pub(crate) struct LineHead {
     /// How many bytes the sequence symbol in column 1 has, which is cut off.
     pub(crate) sequence: usize,
     /// Where the label ends behind the sequence symbol.
@@ -24,7 +24,7 @@ pub(crate) struct Head {
     pub(crate) statement: Option<Statement>,
 }
 
-impl Head {
+impl LineHead {
     /// What stands behind the sequence symbol.
     pub(crate) fn behind_sequence<'a>(&self, text: LinePart<'a>) -> LinePart<'a>
         requires { self.now.sequence ≤ length text.bytes.now }
@@ -48,10 +48,10 @@ impl Head {
 
 /// The head that these bytes are, if they are one.
 #[tactic(auto, using(crate::proofs::Heads::head_is))]
-pub(crate) fn head_of(alloc: Global, front: LinePart<'_>) -> Result<Option<Head>, AllocError>
+pub(crate) fn head_of(alloc: Global, front: LinePart<'_>) -> Result<Option<LineHead>, AllocError>
     ensures { IfOk result (λ head. IfSome head (λ h. IsHead h front.entry.bytes.now)) }
 {
-    let text = cut(front);
+    let text = skip_sequence_symbol(front);
     let fields = three_fields(text);
     let operation = part(text, fields.operation);
     if is_comment(text.bytes)
@@ -60,7 +60,7 @@ pub(crate) fn head_of(alloc: Global, front: LinePart<'_>) -> Result<Option<Head>
     {
         return Ok(None);
     }
-    Ok(Some(Head {
+    Ok(Some(LineHead {
         sequence: front.bytes.len() - text.bytes.len(),
         label: fields.label.to as usize,
         end: fields.operation.to as usize,

@@ -2,9 +2,9 @@
 #![tactic(auto)]
 
 mod body;
-mod deed;
 mod definitions;
 mod doing;
+mod effect;
 mod expansion;
 mod head;
 mod plan;

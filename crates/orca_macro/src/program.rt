@@ -4,16 +4,16 @@ ghost use Rattle.std.specs.Prelude.{◌≡◌, ◌≤◌, ◌<◌, ◌+◌, ◌^
 ghost use Rattle.macro_meaning.specs.Definition.{first_named, or_else};
 ghost use Rattle.macro_meaning.specs.Visit.{line_at, body_of, no_body, target_of};
 ghost use Rattle.orca_meaning.specs.Line.{HaveFields, fields_of};
-ghost use Rattle.orca_symbols.specs.Held.{held};
+ghost use Rattle.orca_symbols.specs.Held.{value_of_name};
 ghost use Rattle.orca_macro.specs.Parts.{definition};
 ghost use Rattle.orca_macro.specs.Plan.{Fits};
 ghost use Rattle.orca_text.specs.View.{line};
 
 use crate::body::Body;
-use crate::definitions::Definition;
-use crate::plan::Plan;
+use crate::definitions::MacroDefinition;
+use crate::plan::LinePlan;
 use indexmap::IndexMap;
-use orca_symbols::{look, put};
+use orca_symbols::{get_by_name, insert_by_name};
 use orca_text::SourceLine;
 use std::alloc::{AllocError, Global};
 use std::marker::Model;
@@ -22,7 +22,7 @@ use std::marker::Model;
 #[derive(Drop)]
 pub(crate) struct Program {
     source: Body,
-    definitions: Vec<Definition>,
+    definitions: Vec<MacroDefinition>,
     names: IndexMap<Vec<u8>, usize>,
 }
 
@@ -30,18 +30,18 @@ impl Model for Program {
     ghost use Rattle.std.specs.Prelude.{◌≡◌, ℕ, List, map};
     ghost use Rattle.macro_meaning.specs.Visit as meaning;
     ghost use Rattle.macro_meaning.specs.Definition.{first_named};
-    ghost use Rattle.orca_symbols.specs.Held.{held};
+    ghost use Rattle.orca_symbols.specs.Held.{value_of_name};
     ghost use Rattle.orca_macro.specs.Parts.{definition};
 
     ghost Value = { meaning.Program };
 
     ghost view = { λ program. record { source = program.source; definitions = map definition program.definitions.items } };
 
-    ghost invariant = { λ program. (q : List ℕ) → held program.names q ≡ first_named q (map definition program.definitions.items) };
+    ghost invariant = { λ program. (q : List ℕ) → value_of_name program.names q ≡ first_named q (map definition program.definitions.items) };
 }
 
 /// The definition at a place.
-fn definition_at(definitions: &[Definition], at: usize) -> Option<&Definition>
+fn definition_at(definitions: &[MacroDefinition], at: usize) -> Option<&MacroDefinition>
     ensures { MatchOption result (length definitions.now ≤ at) (λ d. slice_get (map definition definitions.now) at ≡ Some (definition d.now)) }
 {
     definitions.get(at)
@@ -55,21 +55,21 @@ fn add_name(
     name: &[u8],
     at: usize,
 ) -> Result<(), AllocError>
-    ensures { OnOk result ((q : List ℕ) → held names.new q ≡ or_else (held names.old q) (if bytes_eq name.now q then Some at else None)) }
+    ensures { OnOk result ((q : List ℕ) → value_of_name names.new q ≡ or_else (value_of_name names.old q) (if bytes_eq name.now q then Some at else None)) }
 {
-    if let Some(_) = look(names, name) {
+    if let Some(_) = get_by_name(names, name) {
         return Ok(());
     }
-    put(alloc, names, name, at)
+    insert_by_name(alloc, names, name, at)
 }
 
 /// The place of each name's first definition.
 #[tactic(auto, using(crate::proofs::Firsts::next_name, crate::proofs::Firsts::all_names))]
 fn names_of(
     alloc: Global,
-    definitions: &[Definition],
+    definitions: &[MacroDefinition],
 ) -> Result<IndexMap<Vec<u8>, usize>, AllocError>
-    ensures { IfOk result (λ names. (q : List ℕ) → held names q ≡ first_named q (map definition definitions.now)) }
+    ensures { IfOk result (λ names. (q : List ℕ) → value_of_name names q ≡ first_named q (map definition definitions.now)) }
 {
     let mut names = IndexMap::new(alloc);
     let mut at = 0;
@@ -89,7 +89,7 @@ impl Program {
     pub(crate) fn of(
         alloc: Global,
         source: Body,
-        definitions: Vec<Definition>,
+        definitions: Vec<MacroDefinition>,
     ) -> Result<Program, AllocError>
         ensures { IfOk result (λ program. program ≡ record { source = source; definitions = map definition definitions.items }) }
     {
@@ -103,11 +103,11 @@ impl Program {
 
     /// The first macro of a name, with its place.
     #[tactic(auto, using(crate::proofs::Firsts::within))]
-    pub(crate) fn named(&self, name: &[u8]) -> Option<(usize, &Definition)>
+    pub(crate) fn named(&self, name: &[u8]) -> Option<(usize, &MacroDefinition)>
         ensures { MatchOption result (first_named name.now self.now.definitions ≡ None)
             (λ x. (first_named name.now self.now.definitions ≡ Some x.0) × (slice_get self.now.definitions x.0 ≡ Some (definition x.1.now))) }
     {
-        let Some(place) = look(&self.names, name) else {
+        let Some(place) = get_by_name(&self.names, name) else {
             return None;
         };
         match definition_at(self.definitions.as_slice(), *place) {
@@ -147,7 +147,7 @@ impl Program {
         &self,
         place: Option<usize>,
         at: u32,
-    ) -> Option<(&SourceLine, Option<&Plan>)>
+    ) -> Option<(&SourceLine, Option<&LinePlan>)>
         ensures line { MatchOption result (line_at self.now place at ≡ None) (λ found. line_at self.now place at ≡ Some (line found.0.now)) }
         ensures fields { IfSome result (λ found. HaveFields found.0.now.text (line found.0.now).fields) }
         ensures own { IfSome result (λ found. (line found.0.now).fields ≡ fields_of found.0.now.text) }

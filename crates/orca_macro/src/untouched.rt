@@ -1,7 +1,7 @@
 //! Lines that no macro and no statement of conditional assembly concerns.
 
 ghost use Rattle.std.specs.Prelude.{IsTrue, ◌≡◌, ◌==◌, not, length};
-ghost use Rattle.macro_meaning.specs.Deed.{operation_or_anop};
+ghost use Rattle.macro_meaning.specs.Effect.{operation_or_anop};
 ghost use Rattle.orca_meaning.specs.Line.{HaveFields, fields_of, part};
 ghost use Rattle.orca_macro.specs.Untouched.{IsUntouched, AreUntouched};
 ghost use Rattle.orca_text.specs.View.{line};

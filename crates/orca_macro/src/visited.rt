@@ -1,12 +1,12 @@
 //! What a visited line does (ORCA/M reference manual, "Conditional assembly directives").
 
 ghost use Rattle.std.specs.Prelude.{IsTrue, ◌≡◌, ◌==◌, ◌<◌, nat_lt, length, take, slice_get, Some, None, Ok, IfOk, MatchOption, false};
-ghost use Rattle.macro_meaning.specs.Deed.{calling_if, calling_at, begins_definition, IsDeed, IsStatement, IsShort, cut};
+ghost use Rattle.macro_meaning.specs.Effect.{calling_if, calling_at, begins_definition, IsDeed, IsStatement, IsShort, without_sequence_symbol};
 ghost use Rattle.macro_meaning.specs.Substitution.{first_passes};
 ghost use Rattle.orca_symbols.specs.View.{values};
-ghost use Rattle.orca_macro.specs.DeedView.{deed, where_};
+ghost use Rattle.orca_macro.specs.DeedView.{effect_view, where_};
 ghost use Rattle.orca_macro.specs.Parts.{definition};
-ghost use Rattle.orca_macro.specs.Plan.{Fits, FitsLine, IsGiven, IsPlain, known};
+ghost use Rattle.orca_macro.specs.Plan.{Fits, FitsLine, IsGiven, IsPlain, known_effect};
 ghost use Rattle.orca_macro.specs.Head.{HasFields, HasHead, MayHaveHead, BeginsSo};
 ghost use Rattle.orca_symbols.specs.Template.{HasParts};
 ghost use Rattle.orca_meaning.specs.Line.{HaveFields, fields_of, part, three_fields, is_comment};
@@ -14,17 +14,17 @@ ghost use Rattle.orca_meaning.specs.Characters.{folded};
 ghost use Rattle.macro_meaning.specs.Definition.{first_named};
 ghost use Rattle.orca_text.specs.View.{line};
 
-use crate::deed::Deed;
-use crate::definitions::Definition;
-use crate::doing::done;
-use crate::head::Head;
-use crate::plan::{Known, Plan};
+use crate::definitions::MacroDefinition;
+use crate::doing::effect_of_statement;
+use crate::effect::Effect;
+use crate::head::LineHead;
+use crate::plan::{KnownHead, LinePlan};
 use crate::program::Program;
 use crate::untouched::is_untouched;
 use macro_meaning::{MacroCause, Statement};
 use orca_symbols::{
-    Part, Symbols, Values, Word, bound, cut, fill, is_folded, is_operation, is_plain, names_count,
-    shown, statement_of,
+    Symbols, TemplatePart, Values, Word, bind_arguments, instantiate, is_folded, is_operation,
+    is_plain, names_count, skip_sequence_symbol, statement_of, substitute,
 };
 use orca_text::{LinePart, SourceLine, folded, is_comment, operand_behind, part, three_fields};
 use std::alloc::{AllocError, Global};
@@ -41,11 +41,11 @@ pub(crate) struct Standing<'a> {
 }
 
 /// The first macro that an operation names, with its place.
-fn named<'a>(
+fn macro_of_operation<'a>(
     alloc: Global,
     program: &'a Program,
     operation: LinePart<'_>,
-) -> Result<Option<(usize, &'a Definition)>, AllocError>
+) -> Result<Option<(usize, &'a MacroDefinition)>, AllocError>
     ensures { IfOk result (λ found. MatchOption found (first_named (folded operation.entry.bytes.now) program.now.definitions ≡ None)
         (λ x. (first_named (folded operation.entry.bytes.now) program.now.definitions ≡ Some x.0) × (slice_get program.now.definitions x.0 ≡ Some (definition x.1.now)))) }
 {
@@ -57,28 +57,28 @@ fn named<'a>(
 }
 
 /// A call of this macro, or a line that is given, where it doesn't count yet.
-fn called<'a>(
+fn effect_of_call<'a>(
     alloc: Global,
     at: Standing<'_>,
     text: LinePart<'a>,
     place: usize,
-    found: &Definition,
+    found: &MacroDefinition,
     label: LinePart<'_>,
     operand: LinePart<'_>,
     spare: &mut Symbols,
-) -> Result<Deed<'a>, AllocError>
-    ensures { IfOk result (λ d. deed d ≡ calling_if (where_ at.entry).root text.entry.bytes.now place (Some (definition found.now)) label.entry.bytes.now operand.entry.bytes.now) }
+) -> Result<Effect<'a>, AllocError>
+    ensures { IfOk result (λ d. effect_view d ≡ calling_if (where_ at.entry).root text.entry.bytes.now place (Some (definition found.now)) label.entry.bytes.now operand.entry.bytes.now) }
 {
-    if found.behind >= at.root {
-        return Ok(Deed::Gives(Word::lent(text)));
+    if found.visible_after >= at.root {
+        return Ok(Effect::Emit(Word::borrowed(text)));
     }
     if names_count(&found.model) {
-        return Ok(Deed::Fails(MacroCause::BadSetting));
+        return Ok(Effect::Fail(MacroCause::BadSetting));
     }
     let taken = std::mem::replace(spare, Symbols::new(alloc));
-    match bound(alloc, &found.model, label, operand, taken)? {
-        Some(symbols) => Ok(Deed::Calls(place, symbols)),
-        None => Ok(Deed::Fails(MacroCause::BadArguments)),
+    match bind_arguments(alloc, &found.model, label, operand, taken)? {
+        Some(symbols) => Ok(Effect::CallMacro(place, symbols)),
+        None => Ok(Effect::Fail(MacroCause::BadArguments)),
     }
 }
 
@@ -91,34 +91,36 @@ fn calling<'a>(
     label: LinePart<'_>,
     operand: LinePart<'_>,
     spare: &mut Symbols,
-) -> Result<Deed<'a>, AllocError>
-    ensures { IfOk result (λ d. deed d ≡ calling_at (where_ at.entry).definitions (where_ at.entry).root text.entry.bytes.now
+) -> Result<Effect<'a>, AllocError>
+    ensures { IfOk result (λ d. effect_view d ≡ calling_at (where_ at.entry).definitions (where_ at.entry).root text.entry.bytes.now
         (first_named (folded operation.entry.bytes.now) (where_ at.entry).definitions) label.entry.bytes.now operand.entry.bytes.now) }
 {
-    match named(alloc, at.program, operation)? {
-        Some((place, found)) => called(alloc, at, text, place, found, label, operand, spare),
-        None => Ok(Deed::Gives(Word::lent(text))),
+    match macro_of_operation(alloc, at.program, operation)? {
+        Some((place, found)) => effect_of_call(
+            alloc, at, text, place, found, label, operand, spare,
+        ),
+        None => Ok(Effect::Emit(Word::borrowed(text))),
     }
 }
 
 /// A line with the texts in place, behind its sequence symbol, that isn't a comment.
-fn statement<'a>(
+fn effect_of_statement_text<'a>(
     alloc: Global,
     at: Standing<'_>,
     text: LinePart<'a>,
     spare: &mut Symbols,
-) -> Result<Deed<'a>, AllocError>
-    ensures { IfOk result (λ d. IsStatement (where_ at.entry) text.entry.bytes.now (three_fields text.entry.bytes.now) (deed d)) }
+) -> Result<Effect<'a>, AllocError>
+    ensures { IfOk result (λ d. IsStatement (where_ at.entry) text.entry.bytes.now (three_fields text.entry.bytes.now) (effect_view d)) }
 {
     let fields = three_fields(text);
     let operation = part(text, fields.operation);
     let label = part(text, fields.label);
     let operand = part(text, fields.operand);
     if operation.bytes.is_empty() {
-        return done(alloc, at.values, Statement::Nothing, text, label, operand);
+        return effect_of_statement(alloc, at.values, Statement::Nothing, text, label, operand);
     }
     match statement_of(operation.bytes) {
-        Some(found) => done(alloc, at.values, found, text, label, operand),
+        Some(found) => effect_of_statement(alloc, at.values, found, text, label, operand),
         None => calling(alloc, at, text, operation, label, operand, spare),
     }
 }
@@ -132,27 +134,27 @@ fn begins_definition(at: Standing<'_>, of: &SourceLine) -> bool
 }
 
 /// What a line does, with the texts in place.
-fn written<'a>(
+fn effect_of_text<'a>(
     alloc: Global,
     at: Standing<'_>,
     of: &SourceLine,
     text: &'a [u8],
     spare: &mut Symbols,
-) -> Result<Deed<'a>, AllocError>
+) -> Result<Effect<'a>, AllocError>
     requires { HaveFields of.now.text (line of.now).fields }
-    ensures { IfOk result (λ d. IsShort (where_ at.entry) (line of.now) (nat_lt 255 (length text.now)) text.now (deed d)) }
+    ensures { IfOk result (λ d. IsShort (where_ at.entry) (line of.now) (nat_lt 255 (length text.now)) text.now (effect_view d)) }
 {
     if text.len() > 255 {
-        return Ok(Deed::Fails(MacroCause::LineTooLong));
+        return Ok(Effect::Fail(MacroCause::LineTooLong));
     }
     if begins_definition(at, of) {
-        return Ok(Deed::Rests);
+        return Ok(Effect::NoEffect);
     }
-    let rest = cut(LinePart { bytes: text });
+    let rest = skip_sequence_symbol(LinePart { bytes: text });
     if is_comment(rest.bytes) {
-        return Ok(Deed::Rests);
+        return Ok(Effect::NoEffect);
     }
-    statement(alloc, at, rest, spare)
+    effect_of_statement_text(alloc, at, rest, spare)
 }
 
 /// Whether a line is given as it stands, whatever the symbols are: it is no comment, it is untouched, and its operation isn't
@@ -173,7 +175,7 @@ pub(crate) fn is_given(
     if !is_untouched(of) {
         return Ok(false);
     }
-    match named(alloc, program, of.part(of.operation))? {
+    match macro_of_operation(alloc, program, of.part(of.operation))? {
         Some(_) => Ok(false),
         None => Ok(true),
     }
@@ -184,17 +186,17 @@ fn headed_call<'a>(
     alloc: Global,
     at: Standing<'_>,
     text: LinePart<'a>,
-    head: &Head,
+    head: &LineHead,
     spare: &mut Symbols,
-) -> Result<Deed<'a>, AllocError>
+) -> Result<Effect<'a>, AllocError>
     requires { HasFields head.now text.bytes.now }
-    ensures { IfOk result (λ d. deed d ≡ calling_at (where_ at.entry).definitions (where_ at.entry).root text.entry.bytes.now
+    ensures { IfOk result (λ d. effect_view d ≡ calling_at (where_ at.entry).definitions (where_ at.entry).root text.entry.bytes.now
         (first_named head.now.operation (where_ at.entry).definitions) (take head.now.label text.entry.bytes.now) (part text.entry.bytes.now (three_fields text.entry.bytes.now).operand)) }
 {
     match at.program.named(head.operation.bytes()) {
         Some((place, found)) => {
             let operand = operand_behind(text, head.end);
-            called(
+            effect_of_call(
                 alloc,
                 at,
                 text,
@@ -205,7 +207,7 @@ fn headed_call<'a>(
                 spare,
             )
         }
-        None => Ok(Deed::Gives(Word::lent(text))),
+        None => Ok(Effect::Emit(Word::borrowed(text))),
     }
 }
 
@@ -215,16 +217,16 @@ fn headed_statement<'a>(
     alloc: Global,
     at: Standing<'_>,
     text: LinePart<'a>,
-    head: &Head,
+    head: &LineHead,
     spare: &mut Symbols,
-) -> Result<Deed<'a>, AllocError>
+) -> Result<Effect<'a>, AllocError>
     requires { HasFields head.now text.bytes.now }
-    ensures { IfOk result (λ d. IsStatement (where_ at.entry) text.entry.bytes.now (three_fields text.entry.bytes.now) (deed d)) }
+    ensures { IfOk result (λ d. IsStatement (where_ at.entry) text.entry.bytes.now (three_fields text.entry.bytes.now) (effect_view d)) }
 {
     match head.statement {
         Some(statement) => {
             let operand = operand_behind(text, head.end);
-            done(
+            effect_of_statement(
                 alloc,
                 at.values,
                 statement,
@@ -239,80 +241,80 @@ fn headed_statement<'a>(
 
 /// What a line does that has a head.
 #[tactic(auto, using(crate::proofs::Heads::after_cut, crate::proofs::Heads::behind_has))]
-fn headed<'a>(
+fn effect_of_head<'a>(
     alloc: Global,
     at: Standing<'_>,
     of: &SourceLine,
     text: &'a [u8],
-    head: &Head,
+    head: &LineHead,
     spare: &mut Symbols,
-) -> Result<Deed<'a>, AllocError>
+) -> Result<Effect<'a>, AllocError>
     requires fields { HaveFields of.now.text (line of.now).fields }
     requires head { HasHead head.now text.now }
-    ensures { IfOk result (λ d. IsShort (where_ at.entry) (line of.now) (nat_lt 255 (length text.now)) text.now (deed d)) }
+    ensures { IfOk result (λ d. IsShort (where_ at.entry) (line of.now) (nat_lt 255 (length text.now)) text.now (effect_view d)) }
 {
     if text.len() > 255 {
-        return Ok(Deed::Fails(MacroCause::LineTooLong));
+        return Ok(Effect::Fail(MacroCause::LineTooLong));
     }
     if begins_definition(at, of) {
-        return Ok(Deed::Rests);
+        return Ok(Effect::NoEffect);
     }
     let behind = head.behind_sequence(LinePart { bytes: text });
     headed_statement(alloc, at, behind, head, spare)
 }
 
 /// What a visited line does. The buffer takes its text, so that not each line takes memory anew.
-pub(crate) fn deed_of<'a>(
+pub(crate) fn effect_of<'a>(
     alloc: Global,
     at: Standing<'_>,
     of: &'a SourceLine,
     buffer: &'a mut Vec<u8>,
     spare: &mut Symbols,
-) -> Result<Deed<'a>, AllocError>
+) -> Result<Effect<'a>, AllocError>
     requires { HaveFields of.now.text (line of.now).fields }
-    ensures { IfOk result (λ d. IsDeed (where_ at.entry) (line of.now) (deed d)) }
+    ensures { IfOk result (λ d. IsDeed (where_ at.entry) (line of.now) (effect_view d)) }
 {
     let text = of.text.bytes();
     if is_comment(text) {
-        return Ok(Deed::Rests);
+        return Ok(Effect::NoEffect);
     }
     if is_plain(text) {
-        return written(alloc, at, of, text, spare);
+        return effect_of_text(alloc, at, of, text, spare);
     }
     let taken = std::mem::replace(buffer, Vec::new(alloc));
-    match shown(alloc, at.values, of, taken)? {
+    match substitute(alloc, at.values, of, taken)? {
         Some(text) => {
             *buffer = text;
-            written(alloc, at, of, buffer.as_slice(), spare)
+            effect_of_text(alloc, at, of, buffer.as_slice(), spare)
         }
-        None => Ok(Deed::Fails(MacroCause::NoSuchSymbol)),
+        None => Ok(Effect::Fail(MacroCause::NoSuchSymbol)),
     }
 }
 
 /// What a line without `&` does.
 #[tactic(auto, using(crate::proofs::Plans::always))]
-fn known_deed<'a>(
+fn effect_of_known<'a>(
     alloc: Global,
     at: Standing<'_>,
     of: &'a SourceLine,
-    said: &'a Known,
+    said: &'a KnownHead,
     spare: &mut Symbols,
-) -> Result<Deed<'a>, AllocError>
+) -> Result<Effect<'a>, AllocError>
     requires fields { HaveFields of.now.text (line of.now).fields }
     requires plain { IsPlain (line of.now) }
-    requires known { FitsLine (line of.now) (known said.now) }
-    ensures { IfOk result (λ d. IsDeed (where_ at.entry) (line of.now) (deed d)) }
+    requires known_effect { FitsLine (line of.now) (known_effect said.now) }
+    ensures { IfOk result (λ d. IsDeed (where_ at.entry) (line of.now) (effect_view d)) }
 {
     match said {
-        Known::Rests => Ok(Deed::Rests),
-        Known::Leaves => Ok(Deed::Leaves),
-        Known::Goes(target) => {
+        KnownHead::Rests => Ok(Effect::NoEffect),
+        KnownHead::Leaves => Ok(Effect::Exit),
+        KnownHead::Goes(target) => {
             let name = LinePart {
                 bytes: target.bytes(),
             };
-            Ok(Deed::Goes(Word::lent(name)))
+            Ok(Effect::BranchTo(Word::borrowed(name)))
         }
-        Known::Open => written(alloc, at, of, of.text.bytes(), spare),
+        KnownHead::Open => effect_of_text(alloc, at, of, of.text.bytes(), spare),
     }
 }
 
@@ -322,59 +324,67 @@ fn with_head<'a>(
     at: Standing<'_>,
     of: &SourceLine,
     text: &'a [u8],
-    head: &Option<Head>,
+    head: &Option<LineHead>,
     spare: &mut Symbols,
-) -> Result<Deed<'a>, AllocError>
+) -> Result<Effect<'a>, AllocError>
     requires fields { HaveFields of.now.text (line of.now).fields }
     requires head { MayHaveHead head.now text.now }
-    ensures { IfOk result (λ d. IsShort (where_ at.entry) (line of.now) (nat_lt 255 (length text.now)) text.now (deed d)) }
+    ensures { IfOk result (λ d. IsShort (where_ at.entry) (line of.now) (nat_lt 255 (length text.now)) text.now (effect_view d)) }
 {
     match head {
-        Some(head) => headed(alloc, at, of, text, head, spare),
-        None => written(alloc, at, of, text, spare),
+        Some(head) => effect_of_head(alloc, at, of, text, head, spare),
+        None => effect_of_text(alloc, at, of, text, spare),
     }
 }
 
 /// What a line with these parts does. The buffer takes its text, so that not each line takes memory anew.
 #[tactic(auto, using(crate::proofs::Heads::begins_so))]
-fn parted<'a>(
+fn effect_of_fields<'a>(
     alloc: Global,
     at: Standing<'_>,
     of: &SourceLine,
-    parts: &[Part],
-    head: &Option<Head>,
+    parts: &[TemplatePart],
+    head: &Option<LineHead>,
     buffer: &'a mut Vec<u8>,
     spare: &mut Symbols,
-) -> Result<Deed<'a>, AllocError>
+) -> Result<Effect<'a>, AllocError>
     requires fields { HaveFields of.now.text (line of.now).fields }
     requires other { is_comment of.now.text ≡ false }
     requires parts { HasParts (line of.now) parts.now }
     requires head { BeginsSo parts.now head.now }
-    ensures { IfOk result (λ d. IsDeed (where_ at.entry) (line of.now) (deed d)) }
+    ensures { IfOk result (λ d. IsDeed (where_ at.entry) (line of.now) (effect_view d)) }
 {
-    if !fill(at.values, parts, buffer)? {
-        return Ok(Deed::Fails(MacroCause::NoSuchSymbol));
+    if !instantiate(at.values, parts, buffer)? {
+        return Ok(Effect::Fail(MacroCause::NoSuchSymbol));
     }
     with_head(alloc, at, of, buffer.as_slice(), head, spare)
 }
 
 /// What a visited line does, of which something is known.
 #[tactic(auto, using(crate::proofs::Plans::comment_rests))]
-pub(crate) fn planned<'a>(
+pub(crate) fn effect_of_template<'a>(
     alloc: Global,
     at: Standing<'_>,
     of: &'a SourceLine,
-    plan: &'a Plan,
+    plan: &'a LinePlan,
     buffer: &'a mut Vec<u8>,
     spare: &mut Symbols,
-) -> Result<Deed<'a>, AllocError>
+) -> Result<Effect<'a>, AllocError>
     requires fields { HaveFields of.now.text (line of.now).fields }
     requires plan { Fits (line of.now) plan.now }
-    ensures { IfOk result (λ d. IsDeed (where_ at.entry) (line of.now) (deed d)) }
+    ensures { IfOk result (λ d. IsDeed (where_ at.entry) (line of.now) (effect_view d)) }
 {
     match plan {
-        Plan::Comment => Ok(Deed::Rests),
-        Plan::Plain(said) => known_deed(alloc, at, of, said, spare),
-        Plan::Parts(parts, head) => parted(alloc, at, of, parts.as_slice(), head, buffer, spare),
+        LinePlan::Comment => Ok(Effect::NoEffect),
+        LinePlan::Plain(said) => effect_of_known(alloc, at, of, said, spare),
+        LinePlan::Parts(parts, head) => effect_of_fields(
+            alloc,
+            at,
+            of,
+            parts.as_slice(),
+            head,
+            buffer,
+            spare,
+        ),
     }
 }

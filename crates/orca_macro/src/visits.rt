@@ -2,28 +2,29 @@
 
 ghost use Rattle.std.specs.Prelude.{◌≡◌, ◌≤◌, ◌<◌, ◌+◌, ◌^◌, ◌∷◌, ◌++◌, [], List, ℕ, Option, length, Some, None, IfOk, OnOk, IfSome, MatchOption};
 ghost use Rattle.macro_meaning.specs.Symbol.{SharedTexts};
-ghost use Rattle.macro_meaning.specs.Visit.{Visit, On, Ends, Program, returned, next_line, line_at, root_by, branch_to, call_of, target_of, body_of, move_of, shared_first};
-ghost use Rattle.macro_meaning.specs.Deed as deeds;
+ghost use Rattle.macro_meaning.specs.Visit.{Visit, On, Ends, Program, move_after_expansion, next_line, line_at, root_by, branch_to, call_of, target_of, body_of, move_of, shared_first};
+ghost use Rattle.macro_meaning.specs.Effect as deeds;
 ghost use Rattle.orca_meaning.specs.Line as meaning;
 ghost use Rattle.orca_symbols.specs.Changes.{IsDeclared, IsAssigned};
-ghost use Rattle.orca_macro.specs.DeedView.{deed};
+ghost use Rattle.orca_macro.specs.DeedView.{effect_view};
 ghost use Rattle.orca_symbols.specs.Frame.{Frame, frame, stack_of};
 ghost use Rattle.orca_macro.specs.Stacks.{Stacks, Stands, IsBack, MovesTo};
 ghost use Rattle.orca_macro.specs.StateView.{StandsIn, MovesIn};
 ghost use Rattle.orca_symbols.specs.View.{symbols_of, texts_of};
 
-use crate::deed::Deed;
+use crate::effect::Effect;
 use crate::program::Program;
 use macro_meaning::{Declaration, Kind, MacroCause};
 use orca_symbols::{
-    Calls, Frames, Scope, SharedText, State, Symbol, Symbols, Text, Texts, first_text,
+    CallScope, Calls, ExpansionState, Frames, SharedText, Symbol, SymbolText, Symbols, Texts,
+    first_text,
 };
 use orca_text::SourceLine;
 use std::alloc::{AllocError, Global};
 
 /// How the visits go on.
 #[derive(Clone, Copy)]
-pub(crate) enum Outcome {
+pub(crate) enum Flow {
     Goes,
     Ends,
     Stops(MacroCause),
@@ -81,7 +82,7 @@ fn assign(
     texts: &mut Texts,
     name: &[u8],
     kind: Kind,
-    text: Text,
+    text: SymbolText,
 ) -> Result<(), AllocError>
     ensures { OnOk result (IsAssigned name.now kind text (symbols_of symbols.old name.now) (symbols_of symbols.old) (symbols_of symbols.new) (texts_of texts.old) (texts_of texts.new)) }
 {
@@ -93,10 +94,10 @@ fn assign(
 
 /// The line behind the calls that are under way, or none where the source has ended.
 #[tactic(auto, using(crate::proofs::Returns::ended, crate::proofs::Returns::ended_so))]
-fn returned(program: &Program, frames: &mut Frames) -> Option<Scope>
+fn return_from_calls(program: &Program, frames: &mut Frames) -> Option<CallScope>
     ensures { (before : List Visit) (last : Visit) (depth : ℕ) (caller : Option ℕ) → Stacks before depth caller (stack_of frames.old) → MatchOption result
-        (returned program.now before last depth caller ≡ Ends)
-        (λ scope. (w : Visit) × (returned program.now before last depth caller ≡ On w) × IsBack before last w (frame scope) (stack_of frames.new)) }
+        (move_after_expansion program.now before last depth caller ≡ Ends)
+        (λ scope. (w : Visit) × (move_after_expansion program.now before last depth caller ≡ On w) × IsBack before last w (frame scope) (stack_of frames.new)) }
 {
     'frames: while let Some(scope) = frames.pop() {
         match program.line(scope.place, scope.line) {
@@ -108,27 +109,27 @@ fn returned(program: &Program, frames: &mut Frames) -> Option<Scope>
 }
 
 /// What is behind an expansion. Its symbols become the spare ones.
-fn leave(program: &Program, now: &mut Scope, frames: &mut Frames, spare: &mut Symbols) -> Outcome
+fn leave(program: &Program, now: &mut CallScope, frames: &mut Frames, spare: &mut Symbols) -> Flow
     ensures { (before : List Visit) (v last : Visit) (line : meaning.Line) (texts : SharedTexts) (calls : ℕ) → Stands before v (frame now.old) (stack_of frames.old) texts calls
-        → MovesTo (returned program.now before v v.depth v.caller) (before ++ last ∷ []) line result (frame now.new) (stack_of frames.new) texts calls }
+        → MovesTo (move_after_expansion program.now before v v.depth v.caller) (before ++ last ∷ []) line result (frame now.new) (stack_of frames.new) texts calls }
 {
-    match returned(program, frames) {
+    match return_from_calls(program, frames) {
         Some(scope) => {
             let gone = std::mem::replace(now, scope);
             *spare = gone.symbols;
-            Outcome::Goes
+            Flow::Goes
         }
-        None => Outcome::Ends,
+        None => Flow::Ends,
     }
 }
 
 /// The next line, or what is behind the expansion.
-pub(crate) fn onward(
+pub(crate) fn advance(
     program: &Program,
-    now: &mut Scope,
+    now: &mut CallScope,
     frames: &mut Frames,
     spare: &mut Symbols,
-) -> Outcome
+) -> Flow
     requires { now.old.line + 1 < 2 ^ 32 }
     ensures { (before : List Visit) (v last : Visit) (line : meaning.Line) (texts : SharedTexts) (calls : ℕ) → Stands before v (frame now.old) (stack_of frames.old) texts calls
         → MovesTo (next_line program.now before v) (before ++ last ∷ []) line result (frame now.new) (stack_of frames.new) texts calls }
@@ -136,30 +137,30 @@ pub(crate) fn onward(
     match program.line(now.place, now.line + 1) {
         Some(_) => {
             now.line += 1;
-            Outcome::Goes
+            Flow::Goes
         }
         None => leave(program, now, frames, spare),
     }
 }
 
 /// A branch to a sequence symbol.
-fn branch(program: &Program, now: &mut Scope, name: &[u8]) -> Outcome
+fn branch(program: &Program, now: &mut CallScope, name: &[u8]) -> Flow
     ensures { (before : List Visit) (v : Visit) (line : meaning.Line) (fs : List Frame) (texts : SharedTexts) (calls : ℕ) → Stands before v (frame now.old) fs texts calls
         → MovesTo (branch_to v line (target_of (body_of program.now v.macro) name.now)) (before ++ v ∷ []) line result (frame now.new) fs texts calls }
 {
     let Some(line) = program.target(now.place, name) else {
-        return Outcome::Stops(MacroCause::NoSequenceSymbol);
+        return Flow::Stops(MacroCause::NoSequenceSymbol);
     };
     if now.counter == 0 {
-        return Outcome::Stops(MacroCause::Counter);
+        return Flow::Stops(MacroCause::Counter);
     }
     now.line = line;
     now.counter -= 1;
-    Outcome::Goes
+    Flow::Goes
 }
 
 /// Puts an expansion onto the stack, at the line behind its call.
-fn suspend(frames: &mut Frames, scope: Scope) -> Result<(), AllocError>
+fn suspend(frames: &mut Frames, scope: CallScope) -> Result<(), AllocError>
     requires { scope.line + 1 < 2 ^ 32 }
     ensures { OnOk result ((stack_of frames.new) ≡ record (frame scope) { line = scope.line + 1 } ∷ (stack_of frames.old)) }
 {
@@ -172,22 +173,22 @@ fn suspend(frames: &mut Frames, scope: Scope) -> Result<(), AllocError>
 fn call(
     alloc: Global,
     program: &Program,
-    state: &mut State,
+    state: &mut ExpansionState,
     root: u32,
     place: usize,
     symbols: Symbols,
-) -> Result<Outcome, AllocError>
+) -> Result<Flow, AllocError>
     requires line { state.old.scope.line + 1 < 2 ^ 32 }
     requires calls { state.old.calls + 1 < 2 ^ 32 }
     ensures moves { IfOk result (λ outcome. (before : List Visit) (v : Visit) (line : meaning.Line) → StandsIn before v state.old → root ≡ root_by v.caller v.root line.number
-        → MovesIn (move_of program.now before v line (deeds.Calls place (symbols_of symbols))) (before ++ v ∷ []) line outcome state.new) }
+        → MovesIn (move_of program.now before v line (deeds.CallMacro place (symbols_of symbols))) (before ++ v ∷ []) line outcome state.new) }
     ensures calls { IfOk result (λ outcome. state.new.calls ≤ state.old.calls + 1) }
 {
     if state.frames.count() == MOST_NESTED {
-        return Ok(Outcome::Stops(MacroCause::TooNested));
+        return Ok(Flow::Stops(MacroCause::TooNested));
     }
     state.calls.rise(alloc)?;
-    let begun = Scope {
+    let begun = CallScope {
         place: Some(place),
         line: 0,
         root,
@@ -196,21 +197,21 @@ fn call(
     };
     let caller = std::mem::replace(&mut state.scope, begun);
     suspend(&mut state.frames, caller)?;
-    Ok(Outcome::Goes)
+    Ok(Flow::Goes)
 }
 
 /// A declaration, and the next line.
-fn declared(
+fn declare_symbol(
     alloc: Global,
     program: &Program,
-    state: &mut State,
+    state: &mut ExpansionState,
     name: &[u8],
     declaration: Declaration,
     spare: &mut Symbols,
-) -> Result<Outcome, AllocError>
+) -> Result<Flow, AllocError>
     requires { state.old.scope.line + 1 < 2 ^ 32 }
     ensures moves { IfOk result (λ outcome. (before : List Visit) (v : Visit) (line : meaning.Line) → StandsIn before v state.old
-        → MovesIn (move_of program.now before v line (deeds.Declares name.now declaration)) (before ++ v ∷ []) line outcome state.new) }
+        → MovesIn (move_of program.now before v line (deeds.DeclareSymbol name.now declaration)) (before ++ v ∷ []) line outcome state.new) }
     ensures calls { IfOk result (λ outcome. state.new.calls ≤ state.old.calls + 1) }
 {
     declare(
@@ -220,22 +221,22 @@ fn declared(
         name,
         declaration,
     )?;
-    Ok(onward(program, &mut state.scope, &mut state.frames, spare))
+    Ok(advance(program, &mut state.scope, &mut state.frames, spare))
 }
 
 /// A setting, and the next line.
-fn assigned(
+fn assign_symbol(
     alloc: Global,
     program: &Program,
-    state: &mut State,
+    state: &mut ExpansionState,
     name: &[u8],
     kind: Kind,
-    text: Text,
+    text: SymbolText,
     spare: &mut Symbols,
-) -> Result<Outcome, AllocError>
+) -> Result<Flow, AllocError>
     requires { state.old.scope.line + 1 < 2 ^ 32 }
     ensures moves { IfOk result (λ outcome. (before : List Visit) (v : Visit) (line : meaning.Line) → StandsIn before v state.old
-        → MovesIn (move_of program.now before v line (deeds.Sets name.now kind text)) (before ++ v ∷ []) line outcome state.new) }
+        → MovesIn (move_of program.now before v line (deeds.SetSymbol name.now kind text)) (before ++ v ∷ []) line outcome state.new) }
     ensures calls { IfOk result (λ outcome. state.new.calls ≤ state.old.calls + 1) }
 {
     assign(
@@ -246,31 +247,31 @@ fn assigned(
         kind,
         text,
     )?;
-    Ok(onward(program, &mut state.scope, &mut state.frames, spare))
+    Ok(advance(program, &mut state.scope, &mut state.frames, spare))
 }
 
 /// Carries out what a line does.
 pub(crate) fn step(
     alloc: Global,
     program: &Program,
-    state: &mut State,
+    state: &mut ExpansionState,
     root: u32,
-    of: Deed<'_>,
+    of: Effect<'_>,
     spare: &mut Symbols,
-) -> Result<Outcome, AllocError>
+) -> Result<Flow, AllocError>
     requires line { state.old.scope.line + 1 < 2 ^ 32 }
     requires calls { state.old.calls + 1 < 2 ^ 32 }
     ensures moves { IfOk result (λ outcome. (before : List Visit) (v : Visit) (line : meaning.Line) → StandsIn before v state.old → root ≡ root_by v.caller v.root line.number
-        → MovesIn (move_of program.now before v line (deed of.entry)) (before ++ v ∷ []) line outcome state.new) }
+        → MovesIn (move_of program.now before v line (effect_view of.entry)) (before ++ v ∷ []) line outcome state.new) }
     ensures calls { IfOk result (λ outcome. state.new.calls ≤ state.old.calls + 1) }
 {
     match of {
-        Deed::Rests => Ok(onward(program, &mut state.scope, &mut state.frames, spare)),
-        Deed::Gives(_) => Ok(onward(program, &mut state.scope, &mut state.frames, spare)),
-        Deed::Declares(name, declaration) => {
-            declared(alloc, program, state, name.bytes(), declaration, spare)
+        Effect::NoEffect => Ok(advance(program, &mut state.scope, &mut state.frames, spare)),
+        Effect::Emit(_) => Ok(advance(program, &mut state.scope, &mut state.frames, spare)),
+        Effect::DeclareSymbol(name, declaration) => {
+            declare_symbol(alloc, program, state, name.bytes(), declaration, spare)
         }
-        Deed::Sets(name, kind, text) => assigned(
+        Effect::SetSymbol(name, kind, text) => assign_symbol(
             alloc,
             program,
             state,
@@ -279,13 +280,13 @@ pub(crate) fn step(
             text,
             spare,
         ),
-        Deed::Goes(name) => Ok(branch(program, &mut state.scope, name.bytes())),
-        Deed::Counts(n) => {
+        Effect::BranchTo(name) => Ok(branch(program, &mut state.scope, name.bytes())),
+        Effect::SetCounter(n) => {
             state.scope.counter = n;
-            Ok(onward(program, &mut state.scope, &mut state.frames, spare))
+            Ok(advance(program, &mut state.scope, &mut state.frames, spare))
         }
-        Deed::Leaves => Ok(leave(program, &mut state.scope, &mut state.frames, spare)),
-        Deed::Calls(place, symbols) => call(alloc, program, state, root, place, symbols),
-        Deed::Fails(cause) => Ok(Outcome::Stops(cause)),
+        Effect::Exit => Ok(leave(program, &mut state.scope, &mut state.frames, spare)),
+        Effect::CallMacro(place, symbols) => call(alloc, program, state, root, place, symbols),
+        Effect::Fail(cause) => Ok(Flow::Stops(cause)),
     }
 }

@@ -121,14 +121,14 @@ pending here (expression.Unary code operand) = pending here operand
 pending here (expression.Binary code left right) = max (pending here left) (pending here right + 1)
 
 -- the expression with the location counter less a number in place of each location counter, as instructions have it
-abbrev pub placed : ℕ → expression.Tree → expression.Tree
-placed back (expression.Leaf (expression.Operator code)) = expression.Leaf (expression.Operator code)
-placed back (expression.Leaf expression.Location) = expression.Binary 0x02 (expression.Leaf expression.Location) (expression.Leaf (expression.Constant back))
-placed back (expression.Leaf (expression.Constant n)) = expression.Leaf (expression.Constant n)
-placed back (expression.Leaf (expression.Named code name)) = expression.Leaf (expression.Named code name)
-placed back (expression.Leaf (expression.Offset n)) = expression.Leaf (expression.Offset n)
-placed back (expression.Unary code operand) = expression.Unary code (placed back operand)
-placed back (expression.Binary code left right) = expression.Binary code (placed back left) (placed back right)
+abbrev pub with_location_less : ℕ → expression.Tree → expression.Tree
+with_location_less back (expression.Leaf (expression.Operator code)) = expression.Leaf (expression.Operator code)
+with_location_less back (expression.Leaf expression.Location) = expression.Binary 0x02 (expression.Leaf expression.Location) (expression.Leaf (expression.Constant back))
+with_location_less back (expression.Leaf (expression.Constant n)) = expression.Leaf (expression.Constant n)
+with_location_less back (expression.Leaf (expression.Named code name)) = expression.Leaf (expression.Named code name)
+with_location_less back (expression.Leaf (expression.Offset n)) = expression.Leaf (expression.Offset n)
+with_location_less back (expression.Unary code operand) = expression.Unary code (with_location_less back operand)
+with_location_less back (expression.Binary code left right) = expression.Binary code (with_location_less back left) (with_location_less back right)
 
 -- a number above 4,294,967,295
 abbrev pub is_large : expression.Term → Bool

@@ -87,9 +87,9 @@ abbrev pub line_of : ℕ → ℕ → List ℕ → Line
 line_of file number text = record { file = file; number = number; text = text; fields = fields_of text }
 
 -- these lines, of which the first has this number
-unfoldable pub numbered : ℕ → ℕ → List (List ℕ) → List Line
-numbered file number [] = []
-numbered file number (text ∷ texts) = line_of file number text ∷ numbered file (number + 1) texts
+unfoldable pub numbered_lines : ℕ → ℕ → List (List ℕ) → List Line
+numbered_lines file number [] = []
+numbered_lines file number (text ∷ texts) = line_of file number text ∷ numbered_lines file (number + 1) texts
 
 -- a line has at most 255 bytes, and a source at most 65,536 lines
 abbrev pub line_fault : ℕ → List ℕ → Option TextCause

@@ -40,13 +40,13 @@ mnemonics =
     (codes "XBA", Xba) ∷ (codes "XCE", Xce) ∷ []
 
 -- what stands beside a spelling in a table
-unfoldable pub beside : {A : Type 0} → List ℕ → List (List ℕ × A) → Option A
-beside word [] = None
-beside word (row ∷ rows) = if bytes_eq row.0 word then Some row.1 else beside word rows
+unfoldable pub value_of_spelling : {A : Type 0} → List ℕ → List (List ℕ × A) → Option A
+value_of_spelling word [] = None
+value_of_spelling word (row ∷ rows) = if bytes_eq row.0 word then Some row.1 else value_of_spelling word rows
 
 -- the mnemonic that an operation is, in upper or lower case
 unfoldable pub mnemonic_of : List ℕ → Option Mnemonic
-mnemonic_of operation = beside (folded operation) mnemonics
+mnemonic_of operation = value_of_spelling (folded operation) mnemonics
 
 abbrev pub has_mode : Mnemonic → Mode → Bool
 has_mode mnemonic mode = is_some (opcode_of mnemonic mode)

@@ -6,7 +6,7 @@ use Rattle.orca_meaning.specs.declared.mnemonics.Mnemonic.{Mnemonic}
 use Rattle.orca_meaning.specs.declared.operators.Operands.{Operands}
 use Rattle.orca_meaning.specs.Quotes.{is_closed, outside_from, quote_after}
 use Rattle.orca_meaning.specs.Line.{three_fields, fields_of, HaveFields, AreParted}
-use Rattle.orca_meaning.specs.Formula.{MeansAt, pending, placed, has_large}
+use Rattle.orca_meaning.specs.Formula.{MeansAt, pending, with_location_less, has_large}
 use Rattle.orca_meaning.specs.Operand.{Meaning, IsOperand}
 
 -- ---- lines
@@ -60,7 +60,7 @@ PendingIsDepth = (tree : Tree) → pending 1 tree ≡ depth tree
 
 -- where it counts two, they are those of the expression that has the location counter less a number in its place
 abbrev pub PendingIsWrittenDepth : Type 0
-PendingIsWrittenDepth = (back : ℕ) (tree : Tree) → pending 2 tree ≡ depth (placed back tree)
+PendingIsWrittenDepth = (back : ℕ) (tree : Tree) → pending 2 tree ≡ depth (with_location_less back tree)
 
 -- ---- operands
 

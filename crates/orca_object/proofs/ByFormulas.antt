@@ -16,7 +16,7 @@ use Rattle.asm_meaning.specs.declared.faults.AsmCause.TheVariants.{BadMode}
 use Rattle.asm_meaning.specs.Answer.{Answer}
 use Rattle.asm_meaning.specs.Constant as meaning
 use Rattle.asm_meaning.specs.Constant.{Constants, amount}
-use Rattle.asm_meaning.specs.Instruction.{Widths, operand_bytes, with_number, with_amount, without_amount, in_modes, offered, instruction}
+use Rattle.asm_meaning.specs.Instruction.{Widths, operand_bytes, with_number, with_amount, without_amount, in_modes, modes_of_form, instruction}
 use Rattle.asm_meaning.specs.Pieces.{Piece}
 use Rattle.orca_text.specs.declared.operand.Operand.{Operand}
 use Rattle.orca_text.specs.OperandView.{IsWritten, first_terms, second_terms}
@@ -73,10 +73,10 @@ modes_is cs w m p first rest [] = refl
 modes_is cs w m p first rest (t ∷ []) = bound_same (amount cs t) (with_amount w m p first rest) (chosen_amount w m p first (first ∷ rest)) (with_is w m p first rest)
 modes_is cs w m p first rest (s ∷ d ∷ trees) = refl
 
-pub first_is : (cs : Constants) (w : Widths) (m : Mnemonic) (mn : Meaning) (first : Mode) (r : Answer (List Piece)) → find (λ x. true) (offered m mn.form mn.prefix) ≡ Some first
-    → r ≡ by_trees cs w m mn.prefix first (offered m mn.form mn.prefix) mn.trees → r ≡ instruction cs w m mn
+pub first_is : (cs : Constants) (w : Widths) (m : Mnemonic) (mn : Meaning) (first : Mode) (r : Answer (List Piece)) → find (λ x. true) (modes_of_form m mn.form mn.prefix) ≡ Some first
+    → r ≡ by_trees cs w m mn.prefix first (modes_of_form m mn.form mn.prefix) mn.trees → r ≡ instruction cs w m mn
 unfolding instruction
-first_is cs w m mn first r found is = by_modes (offered m mn.form mn.prefix) found is
+first_is cs w m mn first r found is = by_modes (modes_of_form m mn.form mn.prefix) found is
   where
     same : (x y : Mode) → Some x ≡ Some y → x ≡ y
     same x y e = cc
@@ -87,9 +87,9 @@ first_is cs w m mn first r found is = by_modes (offered m mn.form mn.prefix) fou
         let one : x ≡ first = same x first e in
         is ∙ ap (λ (y : Mode). by_trees cs w m mn.prefix y (x ∷ rest) mn.trees) (sym one) ∙ sym (modes_is cs w m mn.prefix x rest mn.trees)
 
-pub none_is : (cs : Constants) (w : Widths) (m : Mnemonic) (mn : Meaning) → find (λ x. true) (offered m mn.form mn.prefix) ≡ None → refused BadMode ≡ instruction cs w m mn
+pub none_is : (cs : Constants) (w : Widths) (m : Mnemonic) (mn : Meaning) → find (λ x. true) (modes_of_form m mn.form mn.prefix) ≡ None → refused BadMode ≡ instruction cs w m mn
 unfolding instruction
-none_is cs w m mn none' = by_modes (offered m mn.form mn.prefix) none'
+none_is cs w m mn none' = by_modes (modes_of_form m mn.form mn.prefix) none'
   where
     by_modes : (modes : List Mode) → find (λ x. true) modes ≡ None → refused BadMode ≡ in_modes cs w m mn.prefix mn.trees modes
     by_modes [] e = refl
@@ -100,9 +100,9 @@ empty_list [] none = refl
 empty_list (x ∷ l) none = let zero_is : length (x ∷ l) ≡ 0 = eqb-true (length (x ∷ l)) 0 none in absurd (omega (arith, zero_is))
 
 -- the search for the first mode goes by the operand's form and prefix, which are those that are meant
-pub first_for : (m : Mnemonic) (o : Operand) (mn : Meaning) (r s : Option Mode) → IsWritten o mn → r ≡ find (λ x. true) (offered m o.form o.prefix) → r ≡ s → find (λ x. true) (offered m mn.form mn.prefix) ≡ s
+pub first_for : (m : Mnemonic) (o : Operand) (mn : Meaning) (r s : Option Mode) → IsWritten o mn → r ≡ find (λ x. true) (modes_of_form m o.form o.prefix) → r ≡ s → find (λ x. true) (modes_of_form m mn.form mn.prefix) ≡ s
 first_for m o mn r s written is found =
-    sym (ap (λ (f : Form). find (λ x. true) (offered m f o.prefix)) written.form_is ∙ ap (λ (p : Prefix). find (λ x. true) (offered m mn.form p)) written.prefix_is) ∙ sym is ∙ found
+    sym (ap (λ (f : Form). find (λ x. true) (modes_of_form m f o.prefix)) written.form_is ∙ ap (λ (p : Prefix). find (λ x. true) (modes_of_form m mn.form p)) written.prefix_is) ∙ sym is ∙ found
 
 abbrev bytes_answer : Mnemonic → Mode → ℕ → Answer (List Piece)
 bytes_answer m first width = Ok (with_number m first Bare width 0)

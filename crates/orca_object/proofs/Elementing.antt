@@ -13,7 +13,7 @@ use Rattle.asm_meaning.specs.Pieces.{Piece, Bytes}
 use Rattle.asm_meaning.specs.laws.StatementLaws.{same_found, repeat_once}
 use Rattle.orca_object.specs.declared.element.ElementKind as kinds
 use Rattle.orca_object.specs.declared.element.ElementKind.TheVariants as kind_names
-use Rattle.orca_object.specs.DcView.{HasNumbers, HasCount, HasValue, HasNoValue, HasElement, repeated}
+use Rattle.orca_object.specs.DcView.{HasNumbers, HasCount, HasValue, HasNoValue, HasElement, repeated_pieces}
 use Rattle.orca_object.specs.ElementView.{element_kind, HasWidth}
 
 -- ---- values
@@ -76,7 +76,7 @@ inner_short cs text behind quote inner kind count short h is parts =
     omega (arith, short, repeat-le (behind_parenthesis text) (digits_at 10 text) text h.repeat behind refl refl h.is, (kind_is behind (element_kind kind) quote is).1, ap length parts)
 
 pub has_element : (cs : Constants) (msb : Bool) (text behind quote inner rest : List ℕ) (kind : kinds.ElementKind) (count : Answer ℕ) (value part : Answer (List Piece)) → HasCount cs text count behind
-    → kind_at behind ≡ Some (element_kind kind, quote) → quote ≡ 0x27 ∷ inner → HasValue cs msb (element_kind kind) inner value rest → part ≡ repeated count value → HasElement cs msb text part rest
+    → kind_at behind ≡ Some (element_kind kind, quote) → quote ≡ 0x27 ∷ inner → HasValue cs msb (element_kind kind) inner value rest → part ≡ repeated_pieces count value → HasElement cs msb text part rest
 unfolding element_pieces
 has_element cs msb text behind quote inner rest kind count value part h kind_is' parts v is = record {
   element = record { repeat = h.repeat; value = v.value };
@@ -88,7 +88,7 @@ has_element cs msb text behind quote inner rest kind count value part h kind_is'
     of_kind = kind_is' ∙ ap (λ (q : List ℕ). found (element_kind kind) q) parts;
     value = v.is;
   };
-  gives = is ∙ ap (λ (n : Answer ℕ). repeated n value) h.gives ∙ ap (repeated _) v.gives;
+  gives = is ∙ ap (λ (n : Answer ℕ). repeated_pieces n value) h.gives ∙ ap (repeated_pieces _) v.gives;
 }
   where
     found : Kind → List ℕ → Option (Kind × List ℕ)

@@ -6,9 +6,9 @@ use Rattle.asm_meaning.specs.Constant as meaning
 use Rattle.asm_meaning.specs.Constant.{tree_of_amount}
 use Rattle.asm_meaning.specs.Formulas.{expression_text}
 use Rattle.orca_object.specs.AmountView as view
-use Rattle.orca_object.specs.AmountView.{Kept, kept_of}
+use Rattle.orca_object.specs.AmountView.{AmountBytes, kept_of}
 
-abbrev number : ℕ → Kept
+abbrev number : ℕ → AmountBytes
 number n = view.Number n
 
 -- a number's expression is that of the amount that it is

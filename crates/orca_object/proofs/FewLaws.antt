@@ -6,12 +6,12 @@ use Rattle.byteorder.specs.Endian.{little_bytes}
 use Rattle.omf_format.specs.Record.{Const, Formula, spelling}
 use Rattle.asm_meaning.specs.Object.{records_text}
 use Rattle.asm_meaning.specs.Pieces.{constant_records, records_behind}
-use Rattle.orca_object.specs.declared.few.Few.{Few}
-use Rattle.orca_object.specs.declared.given.Given.{Given}
-use Rattle.orca_object.specs.declared.given.Given.TheVariants.{Bytes, Operand}
+use Rattle.orca_object.specs.declared.short_bytes.ShortBytes.{ShortBytes}
+use Rattle.orca_object.specs.declared.encoding.Encoding.{Encoding}
+use Rattle.orca_object.specs.declared.encoding.Encoding.TheVariants.{Bytes, Operand}
 use Rattle.orca_object.specs.FewView.{few_bytes}
 use Rattle.orca_object.specs.GivenView.{given_records}
-use Rattle.orca_object.specs.TextView.{limited}
+use Rattle.orca_object.specs.TextView.{text_within_limit}
 use Rattle.orca_object.proofs.Putting.{Grows}
 
 -- an opcode, and the lowest bytes of a number
@@ -34,7 +34,7 @@ few_record (suc (suc (suc (suc (suc count))))) a b c d some few = absurd (omega 
 
 -- an opcode and its operand, in two texts
 pub two_grow : (old one two : Option (List ℕ)) (front expr whole : List ℕ) → Grows old one front → Grows one two expr → front ++ expr ≡ whole → Grows old two whole
-two_grow old one two front expr whole first second same text is = second (text ++ front) (first text is) ∙ ap limited (append_assoc text front expr ∙ ap (λ (l : List ℕ). text ++ l) same)
+two_grow old one two front expr whole first second same text is = second (text ++ front) (first text is) ∙ ap text_within_limit (append_assoc text front expr ∙ ap (λ (l : List ℕ). text ++ l) same)
 
 abbrev front_of : ℕ → ℕ → ℕ → List ℕ → List ℕ
 front_of opcode code count more = 1 ∷ opcode ∷ code ∷ count ∷ more
@@ -60,11 +60,11 @@ near_text opcode code count n expr other = by_code (eqb code 0xEE) refl ∙ oper
     by_code false e = ap (front_of opcode code count) (sym (append-nil expr))
 
 -- the records of what an instruction gives
-pub given_few : (g : Given) (few : Few) → g ≡ Bytes few → records_text (constant_records (few_bytes few)) ≡ records_text (given_records g)
+pub given_few : (g : Encoding) (few : ShortBytes) → g ≡ Bytes few → records_text (constant_records (few_bytes few)) ≡ records_text (given_records g)
 unfolding records_behind
-given_few g few is = ap (λ (x : Given). records_text (given_records x)) (sym is)
+given_few g few is = ap (λ (x : Encoding). records_text (given_records x)) (sym is)
 
-pub given_operand : (g : Given) (opcode code count n : ℕ) (expr : Vec ℕ) (e : List ℕ) → g ≡ Operand opcode code count n expr → e ≡ expr.items
+pub given_operand : (g : Encoding) (opcode code count n : ℕ) (expr : Vec ℕ) (e : List ℕ) → g ≡ Operand opcode code count n expr → e ≡ expr.items
     → records_text (Const (opcode ∷ []) ∷ Formula code count n e ∷ []) ≡ records_text (given_records g)
 unfolding records_behind
-given_operand g opcode code count n expr e is same = ap (operand_text opcode code count n) same ∙ ap (λ (x : Given). records_text (given_records x)) (sym is)
+given_operand g opcode code count n expr e is same = ap (operand_text opcode code count n) same ∙ ap (λ (x : Encoding). records_text (given_records x)) (sym is)

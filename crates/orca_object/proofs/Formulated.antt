@@ -17,12 +17,12 @@ use Rattle.asm_meaning.specs.laws.AmountLaws.{AreSmall, tree-with_values, pendin
 use Rattle.asm_meaning.specs.Answer.{Answer}
 use Rattle.orca_object.specs.FineView.{IsFineAmount}
 use Rattle.asm_meaning.specs.Constant as meaning
-use Rattle.asm_meaning.specs.Constant.{Constants, with_values, worth, needed, amount, amount_by}
-use Rattle.asm_meaning.specs.Formulas.{judged, formula_of}
+use Rattle.asm_meaning.specs.Constant.{Constants, with_values, known_value, required_number, amount, amount_by}
+use Rattle.asm_meaning.specs.Formulas.{checked_formula, formula_of}
 use Rattle.orca_object.specs.declared.amount.Amount.{Amount}
 use Rattle.orca_object.specs.declared.amount.Amount.TheVariants as amounts
 use Rattle.orca_object.specs.AmountView as view
-use Rattle.orca_object.specs.AmountView.{IsFormulaOf, Kept, kept_answer, amount_view}
+use Rattle.orca_object.specs.AmountView.{IsFormulaOf, AmountBytes, kept_answer, amount_view}
 use Rattle.orca_object.proofs.ByFormulas.{empty_list}
 use Rattle.orca_object.specs.NumberView.{IsTerms, HasAmount, HasNumber}
 
@@ -46,7 +46,7 @@ whole text rest terms large none f = subst (IsFormulaAt Labels text terms large)
 
 -- too deep
 pub too_deep : (text rest : List ℕ) (terms : List Term) (large : Bool) → eqb (length rest) 0 ≡ true → IsFormulaAt Labels text terms large rest → 64 < peak 1 0 0 terms → IsTerms text (Err BadOperand)
-unfolding judged
+unfolding checked_formula
 too_deep text rest terms large none f0 deep =
     let f = whole text rest terms large none f0 in
     let p : pending 1 f.tree ≡ peak 1 0 0 terms = sym (peak_is 1 text terms large [] f) in
@@ -62,7 +62,7 @@ shallow text terms large f few = by_test (ltb 64 (pending 1 f.tree)) refl
 
 -- a number is too large
 pub too_large : (text rest : List ℕ) (terms : List Term) (large : Bool) → eqb (length rest) 0 ≡ true → IsFormulaAt Labels text terms large rest → (64 < peak 1 0 0 terms → ⊥) → large ≡ true → IsTerms text (Err BadNumber)
-unfolding judged
+unfolding checked_formula
 too_large text rest terms large none f0 few is =
     let f = whole text rest terms large none f0 in
     record {
@@ -75,7 +75,7 @@ too_large text rest terms large none f0 few is =
 -- a formula
 pub good_formula : (text rest : List ℕ) (terms : List Term) (large : Bool) → length text ≤ 255 → eqb (length rest) 0 ≡ true → IsFormulaAt Labels text terms large rest → (64 < peak 1 0 0 terms → ⊥) → large ≡ false
     → IsTerms text (Ok terms)
-unfolding judged
+unfolding checked_formula
 good_formula text rest terms large short none f0 few small =
     let f = whole text rest terms large none f0 in
     let no_large : has_large f.tree ≡ false = sym f.large_is ∙ small in
@@ -96,13 +96,13 @@ terms_formed text terms is = subst (AreTerms 0) (sym is.terms.2.terms_are) (tree
 
 -- ---- amounts
 
-abbrev kept_number : ℕ → Answer Kept
+abbrev kept_number : ℕ → Answer AmountBytes
 kept_number n = Ok (view.Number n)
 
-abbrev kept_text : List ℕ → Answer Kept
+abbrev kept_text : List ℕ → Answer AmountBytes
 kept_text text = Ok (view.Text text)
 
-abbrev kept_fault : AsmCause → Answer Kept
+abbrev kept_fault : AsmCause → Answer AmountBytes
 kept_fault cause = Err cause
 
 abbrev number_fault : AsmCause → Answer ℕ
@@ -114,7 +114,7 @@ pub amount_fine : (constants : Constants) (text : List ℕ) (terms : List Term) 
 unfolding amount
 amount_fine constants text terms (Err cause) small is meant = tt
 amount_fine constants text terms (Ok (amounts.Known n)) small is meant = tt
-amount_fine constants text terms (Ok (amounts.Written v)) small is meant = by_worth (worth constants tree) (meant tree is.terms.2)
+amount_fine constants text terms (Ok (amounts.Written v)) small is meant = by_worth (known_value constants tree) (meant tree is.terms.2)
   where
     tree : Tree
     tree = is.terms.0
@@ -122,7 +122,7 @@ amount_fine constants text terms (Ok (amounts.Written v)) small is meant = by_wo
     same : (x y : List ℕ) → kept_text x ≡ kept_text y → x ≡ y
     same x y e = cc
 
-    by_worth : (w : meaning.Worth) → kept_text v.items ≡ kept_answer 0 (amount_by (with_values constants tree) w) → IsFineAmount (amounts.Written v)
+    by_worth : (w : meaning.KnownValue) → kept_text v.items ≡ kept_answer 0 (amount_by (with_values constants tree) w) → IsFineAmount (amounts.Written v)
     by_worth (meaning.Number n) e = absurd cc
     by_worth meaning.Open e = (
       with_values constants tree,
@@ -135,29 +135,29 @@ amount_fine constants text terms (Ok (amounts.Written v)) small is meant = by_wo
 -- ---- numbers
 
 -- what a worth amounts to tells the number
-known_number : (tree : Tree) (w : meaning.Worth) (n : ℕ) → kept_number n ≡ kept_answer 0 (amount_by tree w) → needed w ≡ Ok n
+known_number : (tree : Tree) (w : meaning.KnownValue) (n : ℕ) → kept_number n ≡ kept_answer 0 (amount_by tree w) → required_number w ≡ Ok n
 known_number tree (meaning.Number m) n e = same m n e
   where
-    same : (x y : ℕ) → kept_number y ≡ kept_number x → needed (meaning.Number x) ≡ Ok y
+    same : (x y : ℕ) → kept_number y ≡ kept_number x → required_number (meaning.Number x) ≡ Ok y
     same x y e = cc
 known_number tree meaning.Open n e = absurd cc
 known_number tree meaning.Divided n e = absurd cc
 
-open_number : (tree : Tree) (w : meaning.Worth) (text : List ℕ) → kept_text text ≡ kept_answer 0 (amount_by tree w) → needed w ≡ Err UnknownConstant
+open_number : (tree : Tree) (w : meaning.KnownValue) (text : List ℕ) → kept_text text ≡ kept_answer 0 (amount_by tree w) → required_number w ≡ Err UnknownConstant
 open_number tree (meaning.Number m) text e = absurd cc
 open_number tree meaning.Open text e = refl
 open_number tree meaning.Divided text e = absurd cc
 
-bad_number : (tree : Tree) (w : meaning.Worth) (cause : AsmCause) → kept_fault cause ≡ kept_answer 0 (amount_by tree w) → needed w ≡ Err cause
+bad_number : (tree : Tree) (w : meaning.KnownValue) (cause : AsmCause) → kept_fault cause ≡ kept_answer 0 (amount_by tree w) → required_number w ≡ Err cause
 bad_number tree (meaning.Number m) cause e = absurd cc
 bad_number tree meaning.Open cause e = absurd cc
 bad_number tree meaning.Divided cause e = same cause e
   where
-    same : (x : AsmCause) → kept_fault x ≡ kept_fault DivideByZero → needed meaning.Divided ≡ Err x
+    same : (x : AsmCause) → kept_fault x ≡ kept_fault DivideByZero → required_number meaning.Divided ≡ Err x
     same x e = cc
 
-by_formula : (constants : Constants) (kept : Answer Kept) (number : Answer ℕ) (formula : Answer Tree) → ((tree : Tree) → kept ≡ kept_answer 0 (amount constants tree) → needed (worth constants tree) ≡ number)
-    → ((cause : AsmCause) → kept ≡ kept_fault cause → number ≡ Err cause) → kept ≡ kept_answer 0 (formula >>= amount constants) → number ≡ (formula >>= λ tree. needed (worth constants tree))
+by_formula : (constants : Constants) (kept : Answer AmountBytes) (number : Answer ℕ) (formula : Answer Tree) → ((tree : Tree) → kept ≡ kept_answer 0 (amount constants tree) → required_number (known_value constants tree) ≡ number)
+    → ((cause : AsmCause) → kept ≡ kept_fault cause → number ≡ Err cause) → kept ≡ kept_answer 0 (formula >>= amount constants) → number ≡ (formula >>= λ tree. required_number (known_value constants tree))
 by_formula constants kept number (Ok tree) good wrong e = sym (good tree e)
 by_formula constants kept number (Err cause) good wrong e = wrong cause e
 
@@ -166,7 +166,7 @@ unfolding amount
 number_known constants text n is = record {
   found = is.found;
   formula = is.formula;
-  number = by_formula constants (kept_number n) (Ok n) (formula_of is.found) (λ tree e. known_number (with_values constants tree) (worth constants tree) n e) (λ cause e. absurd cc) is.amount';
+  number = by_formula constants (kept_number n) (Ok n) (formula_of is.found) (λ tree e. known_number (with_values constants tree) (known_value constants tree) n e) (λ cause e. absurd cc) is.amount';
 }
 
 pub number_open : (constants : Constants) (text : List ℕ) (v : Rattle.std.specs.Global.Vec ℕ) → HasAmount constants text (Ok (amounts.Written v)) → HasNumber constants text (Err UnknownConstant)
@@ -174,7 +174,7 @@ unfolding amount
 number_open constants text v is = record {
   found = is.found;
   formula = is.formula;
-  number = by_formula constants (kept_text v.items) (Err UnknownConstant) (formula_of is.found) (λ tree e. open_number (with_values constants tree) (worth constants tree) v.items e) (λ cause e. absurd cc) is.amount';
+  number = by_formula constants (kept_text v.items) (Err UnknownConstant) (formula_of is.found) (λ tree e. open_number (with_values constants tree) (known_value constants tree) v.items e) (λ cause e. absurd cc) is.amount';
 }
 
 pub number_bad : (constants : Constants) (text : List ℕ) (cause : AsmCause) → HasAmount constants text (Err cause) → HasNumber constants text (Err cause)
@@ -182,7 +182,7 @@ unfolding amount
 number_bad constants text cause is = record {
   found = is.found;
   formula = is.formula;
-  number = by_formula constants (kept_fault cause) (Err cause) (formula_of is.found) (λ tree e. bad_number (with_values constants tree) (worth constants tree) cause e) (λ other e. same other e) is.amount';
+  number = by_formula constants (kept_fault cause) (Err cause) (formula_of is.found) (λ tree e. bad_number (with_values constants tree) (known_value constants tree) cause e) (λ other e. same other e) is.amount';
 }
   where
     same : (other : AsmCause) → kept_fault cause ≡ kept_fault other → number_fault cause ≡ number_fault other

@@ -4,8 +4,8 @@ use Rattle.std.specs.Prelude.{Result}
 use Rattle.std.proofs.lemmas.Bool.{ltb-true, ltb-false, lt-ltb, le-ltb}
 use Rattle.std.proofs.lemmas.List.{map-append}
 use Rattle.asm_meaning.specs.declared.faults.AsmCause.{AsmCause}
-use Rattle.asm_meaning.specs.Answer.{Answer, rank, earlier, both, with_first, all_of}
-use Rattle.orca_object.specs.DcView.{mapped, fault_behind, all_behind, all_or}
+use Rattle.asm_meaning.specs.Answer.{Answer, rank, earlier, pair_or_earlier_fault, with_first, all_of}
+use Rattle.orca_object.specs.DcView.{map_answer, fault_behind, all_behind, all_or}
 
 -- ---- the earliest fault
 
@@ -41,7 +41,7 @@ bad cause = Err cause
 
 -- one more answer
 pub rest_more : {T B : Type 0} (v : T → B) (fault : Option AsmCause) (out : List T) (r : Result T AsmCause) (more : Answer (List B))
-    → with_rest (fault_behind fault r) (map v (all_behind out r)) more ≡ with_rest fault (map v out) (with_first (both (mapped v r) more))
+    → with_rest (fault_behind fault r) (map v (all_behind out r)) more ≡ with_rest fault (map v out) (with_first (pair_or_earlier_fault (map_answer v r) more))
 unfolding with_rest
 rest_more v None out (Ok x) (Ok bs) = ap list (ap (λ l. l ++ bs) (map-append v out (x ∷ [])) ∙ append_assoc (map v out) (v x ∷ []) bs)
 rest_more v None out (Ok x) (Err cause) = refl
@@ -95,7 +95,7 @@ same_behind r s e = cc
 
 -- one more
 pub gathers_more : {A B T : Type 0} (At : List ℕ → A → List ℕ → Type 0) (f : A → Answer B) (v : T → B) (once : IsOnce At) (text : List ℕ) (fault fault' : Option AsmCause) (out new : List T) (r : Result T AsmCause) (left rest behind : List ℕ) (a : A)
-    → Gathers At f text fault (map v out) left → At left a rest → mapped v r ≡ f a → fault' ≡ fault_behind fault r → new ≡ all_behind out r → rest ≡ 0x2C ∷ behind → length behind < length left
+    → Gathers At f text fault (map v out) left → At left a rest → map_answer v r ≡ f a → fault' ≡ fault_behind fault r → new ≡ all_behind out r → rest ≡ 0x2C ∷ behind → length behind < length left
     → Gathers At f text fault' (map v new) behind
 gathers_more {A = A} {B = B} {T = T} At f v once text fault fault' out new r left rest behind a g is answer told all' comma less =
     let here : At left a (0x2C ∷ behind) = subst (At left a) comma is in
@@ -105,10 +105,10 @@ gathers_more {A = A} {B = B} {T = T} At f v once text fault fault' out new r lef
       short = omega (arith, less, g.short);
     }
   where
-    step : (more : Answer (List B)) → with_rest fault' (map v new) more ≡ with_rest fault (map v out) (with_first (both (f a) more))
+    step : (more : Answer (List B)) → with_rest fault' (map v new) more ≡ with_rest fault (map v out) (with_first (pair_or_earlier_fault (f a) more))
     step more =
         ap (λ (x : Option AsmCause). with_rest x (map v new) more) told ∙ ap (λ (l : List T). with_rest (fault_behind fault r) (map v l) more) all'
-        ∙ rest_more v fault out r more ∙ ap (λ (x : Answer B). with_rest fault (map v out) (with_first (both x more))) answer
+        ∙ rest_more v fault out r more ∙ ap (λ (x : Answer B). with_rest fault (map v out) (with_first (pair_or_earlier_fault x more))) answer
 
     next : At left a (0x2C ∷ behind) → (b : A) (bs : List A) → AreItems At behind (b ∷ bs) → ((all : List A) × AreItems At text all × (with_rest fault (map v out) (all_of f (a ∷ b ∷ bs)) ≡ all_of f all))
         → (all : List A) × AreItems At text all × (with_rest fault' (map v new) (all_of f (b ∷ bs)) ≡ all_of f all)
@@ -129,7 +129,7 @@ pub record GathersAll {A B : Type 0} (At : List ℕ → A → List ℕ → Type 
 
 -- the last
 pub gathers_last : {A B T : Type 0} (At : List ℕ → A → List ℕ → Type 0) (f : A → Answer B) (v : T → B) (text : List ℕ) (fault fault' : Option AsmCause) (out new : List T) (r : Result T AsmCause) (left rest : List ℕ) (a : A)
-    → Gathers At f text fault (map v out) left → At left a rest → mapped v r ≡ f a → fault' ≡ fault_behind fault r → new ≡ all_behind out r → rest ≡ []
+    → Gathers At f text fault (map v out) left → At left a rest → map_answer v r ≡ f a → fault' ≡ fault_behind fault r → new ≡ all_behind out r → rest ≡ []
     → GathersAll At f text (all_or fault' (map v new))
 gathers_last {B = B} {T = T} At f v text fault fault' out new r left rest a g is answer told all' end =
     let found = g.makes a [] (subst (At left a) end is) in
@@ -138,7 +138,7 @@ gathers_last {B = B} {T = T} At f v text fault fault' out new r left rest a g is
       are = found.1;
       gives =
           sym (all_mapped v fault' new) ∙ ap (λ (x : Option AsmCause). with_rest x (map v new) (Ok [])) told ∙ ap (λ (l : List T). with_rest (fault_behind fault r) (map v l) (Ok [])) all'
-          ∙ rest_more v fault out r (Ok []) ∙ ap (λ (x : Answer B). with_rest fault (map v out) (with_first (both x (Ok [])))) answer ∙ found.2;
+          ∙ rest_more v fault out r (Ok []) ∙ ap (λ (x : Answer B). with_rest fault (map v out) (with_first (pair_or_earlier_fault x (Ok [])))) answer ∙ found.2;
     }
 
 -- none

@@ -2,10 +2,10 @@
 use Rattle.std.proofs.Common.{◌≡◌, ℕ, Bool, true, cond, List, [], ◌∷◌, Ok, Err, sym, ap, ◌∙◌}
 use Rattle.omf_format.specs.Expression.{Leaf, Constant}
 use Rattle.asm_meaning.specs.Constant as meaning
-use Rattle.orca_object.specs.AmountView.{Kept, Number, Text, kept_of}
+use Rattle.orca_object.specs.AmountView.{AmountBytes, Number, Text, kept_of}
 use Rattle.omf_format.specs.Field.{◌>>=◌}
 use Rattle.asm_meaning.specs.declared.faults.AsmCause.{AsmCause}
-use Rattle.asm_meaning.specs.Answer.{Answer, both, earlier}
+use Rattle.asm_meaning.specs.Answer.{Answer, pair_or_earlier_fault, earlier}
 use Rattle.orca_object.specs.AmountView.{kept_answer}
 use Rattle.orca_meaning.specs.declared.forms.Prefix.{Prefix}
 use Rattle.orca_meaning.specs.declared.mnemonics.Mnemonic.{Mnemonic}
@@ -41,33 +41,33 @@ given pieces = Ok pieces
 abbrev pub refused : AsmCause → Answer (List Piece)
 refused cause = Err cause
 
-abbrev kept : Kept → Answer Kept
+abbrev kept : AmountBytes → Answer AmountBytes
 kept k = Ok k
 
-abbrev bad : AsmCause → Answer Kept
+abbrev bad : AsmCause → Answer AmountBytes
 bad cause = Err cause
 
-same_kept : (x y : Kept) → kept x ≡ kept y → x ≡ y
+same_kept : (x y : AmountBytes) → kept x ≡ kept y → x ≡ y
 same_kept x y e = cc
 
 same_bad : (x y : AsmCause) → bad x ≡ bad y → x ≡ y
 same_bad x y e = cc
 
 abbrev moved_by : ℕ → Answer meaning.Amount → Answer meaning.Amount → Answer (List Piece)
-moved_by opcode x y = both x y >>= λ banks. given (banks_written opcode banks.0 banks.1)
+moved_by opcode x y = pair_or_earlier_fault x y >>= λ banks. given (banks_written opcode banks.0 banks.1)
 
-pub both_banks : (opcode : ℕ) (x y : Answer meaning.Amount) (a b : Kept) (r : List Piece) → kept a ≡ kept_answer 2 x → kept b ≡ kept_answer 1 y
+pub both_banks : (opcode : ℕ) (x y : Answer meaning.Amount) (a b : AmountBytes) (r : List Piece) → kept a ≡ kept_answer 2 x → kept b ≡ kept_answer 1 y
     → ((s d : meaning.Amount) → a ≡ kept_of 2 s → b ≡ kept_of 1 d → r ≡ banks_written opcode s d) → given r ≡ moved_by opcode x y
 both_banks opcode (Ok s) (Ok d) a b r p q is = ap given (is s d (same_kept a (kept_of 2 s) p) (same_kept b (kept_of 1 d) q))
 both_banks opcode (Ok s) (Err cause) a b r p q is = absurd cc
 both_banks opcode (Err cause) y a b r p q is = absurd cc
 
-pub first_bank : (opcode : ℕ) (x y : Answer meaning.Amount) (c : AsmCause) (b : Kept) → bad c ≡ kept_answer 2 x → kept b ≡ kept_answer 1 y → refused c ≡ moved_by opcode x y
+pub first_bank : (opcode : ℕ) (x y : Answer meaning.Amount) (c : AsmCause) (b : AmountBytes) → bad c ≡ kept_answer 2 x → kept b ≡ kept_answer 1 y → refused c ≡ moved_by opcode x y
 first_bank opcode (Ok s) y c b p q = absurd cc
 first_bank opcode (Err cause) (Ok d) c b p q = ap refused (same_bad c cause p)
 first_bank opcode (Err cause) (Err other) c b p q = absurd cc
 
-pub second_bank : (opcode : ℕ) (x y : Answer meaning.Amount) (c : AsmCause) (a : Kept) → kept a ≡ kept_answer 2 x → bad c ≡ kept_answer 1 y → refused c ≡ moved_by opcode x y
+pub second_bank : (opcode : ℕ) (x y : Answer meaning.Amount) (c : AsmCause) (a : AmountBytes) → kept a ≡ kept_answer 2 x → bad c ≡ kept_answer 1 y → refused c ≡ moved_by opcode x y
 second_bank opcode (Ok s) (Ok d) c a p q = absurd cc
 second_bank opcode (Ok s) (Err cause) c a p q = ap refused (same_bad c cause q)
 second_bank opcode (Err cause) y c a p q = absurd cc

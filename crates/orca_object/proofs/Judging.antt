@@ -15,11 +15,11 @@ use Rattle.asm_meaning.specs.declared.faults.AsmCause.{AsmCause}
 use Rattle.asm_meaning.specs.declared.faults.AsmCause.TheVariants.{BadOperand, BadNumber, UnknownConstant}
 use Rattle.asm_meaning.specs.Answer.{Answer}
 use Rattle.asm_meaning.specs.Constant as meaning
-use Rattle.asm_meaning.specs.Constant.{Constants, Known, Written, Number, Open, Divided, Worth, worth, amount, amount_by, needed, with_values}
-use Rattle.asm_meaning.specs.Elements.{number_piece, numbered}
-use Rattle.asm_meaning.specs.Formulas.{AreFormulas, judged, number_of}
+use Rattle.asm_meaning.specs.Constant.{Constants, Known, Written, Number, Open, Divided, KnownValue, known_value, amount, amount_by, required_number, with_values}
+use Rattle.asm_meaning.specs.Elements.{number_piece, piece_of_number}
+use Rattle.asm_meaning.specs.Formulas.{AreFormulas, checked_formula, number_of}
 use Rattle.asm_meaning.specs.Pieces.{Piece}
-use Rattle.orca_object.specs.AmountView.{IsFormulaOf, Kept, kept_of, kept_answer}
+use Rattle.orca_object.specs.AmountView.{IsFormulaOf, AmountBytes, kept_of, kept_answer}
 use Rattle.orca_object.specs.DcView.{IsKeptOf, HasNumbers, all_or}
 use Rattle.orca_object.specs.PieceView.{piece, pieces_answer}
 use Rattle.orca_object.specs.declared.piece.Piece as piece_type
@@ -40,19 +40,19 @@ fine_terms text terms large rest short f is =
     let small : has_large f.tree ≡ false = sym f.large_is ∙ is in
     subst (AreTerms 0) (sym (terms_are text terms large rest f is)) (tree_has_terms 0 f.tree (formed Labels text f.tree rest short f.means small))
 
-judged_deep : (tree : Tree) → 64 < pending 1 tree → judged tree ≡ Err BadOperand
-unfolding judged
+judged_deep : (tree : Tree) → 64 < pending 1 tree → checked_formula tree ≡ Err BadOperand
+unfolding checked_formula
 judged_deep tree much = let test : ltb 64 (pending 1 tree) ≡ true = lt-ltb 64 (pending 1 tree) much in rw test refl
 
-judged_large : (tree : Tree) → pending 1 tree ≤ 64 → has_large tree ≡ true → judged tree ≡ Err BadNumber
-unfolding judged
+judged_large : (tree : Tree) → pending 1 tree ≤ 64 → has_large tree ≡ true → checked_formula tree ≡ Err BadNumber
+unfolding checked_formula
 judged_large tree few large = let test : ltb 64 (pending 1 tree) ≡ false = le-ltb 64 (pending 1 tree) few in rw (test, large) refl
 
-judged_good : (tree : Tree) → pending 1 tree ≤ 64 → has_large tree ≡ false → judged tree ≡ Ok tree
-unfolding judged
+judged_good : (tree : Tree) → pending 1 tree ≤ 64 → has_large tree ≡ false → checked_formula tree ≡ Ok tree
+unfolding checked_formula
 judged_good tree few small = let test : ltb 64 (pending 1 tree) ≡ false = le-ltb 64 (pending 1 tree) few in rw (test, small) refl
 
-abbrev refused : AsmCause → Answer Kept
+abbrev refused : AsmCause → Answer AmountBytes
 refused cause = Err cause
 
 peak_of : (terms : List Term) (large : Bool) (tree : Tree) → IsKeptOf terms large tree → peak 1 0 0 terms ≡ pending 1 tree
@@ -67,7 +67,7 @@ pub too_large : (cs : Constants) (terms : List Term) (large : Bool) (tree : Tree
 too_large cs terms large tree few is k =
     sym (ap (λ (j : Answer Tree). kept_answer 0 (j >>= amount cs)) (judged_large tree (subst (λ (n : ℕ). n ≤ 64) (peak_of terms large tree k) few) (sym k.large_is ∙ is)))
 
-pub well_judged : (cs : Constants) (terms : List Term) (large : Bool) (tree : Tree) (a : Answer Kept) → peak 1 0 0 terms ≤ 64 → large ≡ false
+pub well_judged : (cs : Constants) (terms : List Term) (large : Bool) (tree : Tree) (a : Answer AmountBytes) → peak 1 0 0 terms ≤ 64 → large ≡ false
     → ((t : Tree) → IsFormulaOf terms t → a ≡ kept_answer 0 (amount cs t)) → IsKeptOf terms large tree → a ≡ kept_answer 0 (judged_amount cs tree)
 unfolding formula_from
 well_judged cs terms large tree a few is amount_is k =
@@ -101,34 +101,34 @@ needed_of (Ok (Known n)) = Ok n
 needed_of (Ok (Written tree)) = Err UnknownConstant
 needed_of (Err cause) = Err cause
 
-needed_amount : (cs : Constants) (tree : Tree) → needed (worth cs tree) ≡ needed_of (amount cs tree)
+needed_amount : (cs : Constants) (tree : Tree) → required_number (known_value cs tree) ≡ needed_of (amount cs tree)
 unfolding amount needed_of
-needed_amount cs tree = by_worth (worth cs tree)
+needed_amount cs tree = by_worth (known_value cs tree)
   where
-    by_worth : (w : Worth) → needed w ≡ needed_of (amount_by (with_values cs tree) w)
+    by_worth : (w : KnownValue) → required_number w ≡ needed_of (amount_by (with_values cs tree) w)
     by_worth (Number n) = refl
     by_worth Open = refl
     by_worth Divided = refl
 
 number_is : (cs : Constants) (tree : Tree) → number_of cs tree ≡ needed_of (judged_amount cs tree)
 unfolding needed_of
-number_is cs tree = by_judged (judged tree)
+number_is cs tree = by_judged (checked_formula tree)
   where
-    by_judged : (j : Answer Tree) → (j >>= λ t. needed (worth cs t)) ≡ needed_of (j >>= amount cs)
+    by_judged : (j : Answer Tree) → (j >>= λ t. required_number (known_value cs t)) ≡ needed_of (j >>= amount cs)
     by_judged (Ok t) = needed_amount cs t
     by_judged (Err cause) = refl
 
 abbrev no_number : AsmCause → Answer ℕ
 no_number cause = Err cause
 
-abbrev kept : Kept → Answer Kept
+abbrev kept : AmountBytes → Answer AmountBytes
 kept k = Ok k
 
-kept_by : (k : Kept) (a : Answer meaning.Amount) → kept k ≡ kept_answer 0 a → needed_kept k ≡ needed_of a
+kept_by : (k : AmountBytes) (a : Answer meaning.Amount) → kept k ≡ kept_answer 0 a → needed_kept k ≡ needed_of a
 unfolding needed_of
 kept_by k (Ok meant) e = ap needed_kept (same k (kept_of 0 meant) e) ∙ by_amount meant
   where
-    same : (x y : Kept) → kept x ≡ kept y → x ≡ y
+    same : (x y : AmountBytes) → kept x ≡ kept y → x ≡ y
     same x y e = cc
 
     by_amount : (m : meaning.Amount) → needed_kept (kept_of 0 m) ≡ needed_of (Ok m)
@@ -144,7 +144,7 @@ refused_by cause (Err other) e = ap no_number (same cause other e)
     same : (x y : AsmCause) → refused x ≡ refused y → x ≡ y
     same x y e = cc
 
-pub kept_number : (cs : Constants) (k : Kept) (r : Answer ℕ) (tree : Tree) → kept k ≡ kept_answer 0 (judged_amount cs tree) → r ≡ needed_kept k → r ≡ number_of cs tree
+pub kept_number : (cs : Constants) (k : AmountBytes) (r : Answer ℕ) (tree : Tree) → kept k ≡ kept_answer 0 (judged_amount cs tree) → r ≡ needed_kept k → r ≡ number_of cs tree
 kept_number cs k r tree e is = is ∙ kept_by k (judged_amount cs tree) e ∙ sym (number_is cs tree)
 
 pub refused_number : (cs : Constants) (cause : AsmCause) (tree : Tree) → refused cause ≡ kept_answer 0 (judged_amount cs tree) → no_number cause ≡ number_of cs tree
@@ -152,8 +152,8 @@ refused_number cs cause tree e = refused_by cause (judged_amount cs tree) e ∙ 
 
 -- ---- numbers of so many bytes
 
-numbered_is : (cs : Constants) (width : ℕ) (tree : Tree) → numbered cs width tree ≡ (judged_amount cs tree >>= λ a. Ok (number_piece width a))
-numbered_is cs width tree = by_judged (judged tree)
+numbered_is : (cs : Constants) (width : ℕ) (tree : Tree) → piece_of_number cs width tree ≡ (judged_amount cs tree >>= λ a. Ok (number_piece width a))
+numbered_is cs width tree = by_judged (checked_formula tree)
   where
     by_judged : (j : Answer Tree) → (j >>= λ t. amount cs t >>= λ a. Ok (number_piece width a)) ≡ ((j >>= amount cs) >>= λ a. Ok (number_piece width a))
     by_judged (Ok t) = refl
@@ -165,16 +165,16 @@ one p = Ok p
 abbrev none : AsmCause → Answer Piece
 none cause = Err cause
 
-given_by : (width : ℕ) (k : Kept) (p : Piece) (a : Answer meaning.Amount) → kept k ≡ kept_answer 0 a → ((meant : meaning.Amount) → k ≡ kept_of 0 meant → p ≡ number_piece width meant)
+given_by : (width : ℕ) (k : AmountBytes) (p : Piece) (a : Answer meaning.Amount) → kept k ≡ kept_answer 0 a → ((meant : meaning.Amount) → k ≡ kept_of 0 meant → p ≡ number_piece width meant)
     → one p ≡ (a >>= λ x. Ok (number_piece width x))
 given_by width k p (Ok meant) e is = ap one (is meant (same k (kept_of 0 meant) e))
   where
-    same : (x y : Kept) → kept x ≡ kept y → x ≡ y
+    same : (x y : AmountBytes) → kept x ≡ kept y → x ≡ y
     same x y e = cc
 given_by width k p (Err cause) e is = absurd cc
 
-pub numbered_good : (cs : Constants) (width : ℕ) (k : Kept) (p : Piece) (tree : Tree) → kept k ≡ kept_answer 0 (judged_amount cs tree) → ((meant : meaning.Amount) → k ≡ kept_of 0 meant → p ≡ number_piece width meant)
-    → one p ≡ numbered cs width tree
+pub numbered_good : (cs : Constants) (width : ℕ) (k : AmountBytes) (p : Piece) (tree : Tree) → kept k ≡ kept_answer 0 (judged_amount cs tree) → ((meant : meaning.Amount) → k ≡ kept_of 0 meant → p ≡ number_piece width meant)
+    → one p ≡ piece_of_number cs width tree
 numbered_good cs width k p tree e is = given_by width k p (judged_amount cs tree) e is ∙ sym (numbered_is cs width tree)
 
 fault_by : (width : ℕ) (cause : AsmCause) (a : Answer meaning.Amount) → refused cause ≡ kept_answer 0 a → none cause ≡ (a >>= λ x. Ok (number_piece width x))
@@ -184,7 +184,7 @@ fault_by width cause (Err other) e = ap none (same cause other e)
     same : (x y : AsmCause) → refused x ≡ refused y → x ≡ y
     same x y e = cc
 
-pub numbered_fault : (cs : Constants) (width : ℕ) (cause : AsmCause) (tree : Tree) → refused cause ≡ kept_answer 0 (judged_amount cs tree) → none cause ≡ numbered cs width tree
+pub numbered_fault : (cs : Constants) (width : ℕ) (cause : AsmCause) (tree : Tree) → refused cause ≡ kept_answer 0 (judged_amount cs tree) → none cause ≡ piece_of_number cs width tree
 numbered_fault cs width cause tree e = fault_by width cause (judged_amount cs tree) e ∙ sym (numbered_is cs width tree)
 
 -- ---- formulas that commas part
@@ -205,7 +205,7 @@ are_formulas text [] are = are
 are_formulas text (t ∷ []) are = are
 are_formulas text (t ∷ next ∷ trees) are = (are.0, are.1, are_formulas are.0 (next ∷ trees) are.2)
 
-pub has_numbers : (cs : Constants) (width : ℕ) (text : List ℕ) (answer : Answer (List Piece)) → GathersAll FormulaStands (numbered cs width) text answer → HasNumbers cs width text answer
+pub has_numbers : (cs : Constants) (width : ℕ) (text : List ℕ) (answer : Answer (List Piece)) → GathersAll FormulaStands (piece_of_number cs width) text answer → HasNumbers cs width text answer
 has_numbers cs width text answer g = record { trees = g.all; are = formulas_are text g.all g.are; gives = g.gives }
 
 pub no_formulas : (text : List ℕ) → ((trees : List Tree) → AreItems FormulaStands text trees → ⊥) → (trees : List Tree) → AreFormulas text trees → ⊥

@@ -18,8 +18,8 @@ use Rattle.asm_meaning.specs.laws.PieceLaws.{ArePlainPieces}
 use Rattle.asm_meaning.specs.Pieces.{Piece, records_of}
 use Rattle.asm_meaning.specs.State.{State}
 use Rattle.asm_meaning.specs.Statement.{IsDone, IsOperandOf, Good, Bad, Large, constants_of, marking}
-use Rattle.orca_object.specs.declared.given.Given.{Given}
-use Rattle.orca_object.specs.declared.state.Kept.{Kept}
+use Rattle.orca_object.specs.declared.encoding.Encoding.{Encoding}
+use Rattle.orca_object.specs.declared.state.AsmState.{AsmState}
 use Rattle.orca_object.specs.GivenBy.{IsByInstruction, IsByList}
 use Rattle.orca_object.specs.GivenView.{given_pieces, given_answer}
 use Rattle.orca_object.specs.MarkView.{giving, IsPlainAnswer}
@@ -32,11 +32,11 @@ no_fault : (pieces : List Piece) (cause : AsmCause) → pieces_ok pieces ≡ Err
 no_fault pieces cause e = absurd cc
 
 -- what they give can be written
-pub constants_plain : (cs : Constants) (msb : Bool) (text : List ℕ) (given : Result Given AsmCause) → AreSmall cs → length text ≤ 255 → IsByList cs msb text (given_answer given) → IsPlainAnswer given
+pub constants_plain : (cs : Constants) (msb : Bool) (text : List ℕ) (given : Result Encoding AsmCause) → AreSmall cs → length text ≤ 255 → IsByList cs msb text (given_answer given) → IsPlainAnswer given
 constants_plain cs msb text (Ok g) small short by = list_plain cs msb text by.found (given_pieces g) small short by.is (sym by.gives)
 constants_plain cs msb text (Err cause) small short by = tt
 
-pub instruct_plain : (cs : Constants) (widths : Widths) (m : Mnemonic) (text : List ℕ) (given : Result Given AsmCause) → AreSmall cs → length text ≤ 255 → IsByInstruction cs widths m text (given_answer given) → IsPlainAnswer given
+pub instruct_plain : (cs : Constants) (widths : Widths) (m : Mnemonic) (text : List ℕ) (given : Result Encoding AsmCause) → AreSmall cs → length text ≤ 255 → IsByInstruction cs widths m text (given_answer given) → IsPlainAnswer given
 instruct_plain cs widths m text (Ok g) small short by = by_operand by.operand by.is by.gives
   where
     by_operand : (operand : Answer Meaning) → IsOperandOf m text operand → pieces_ok (given_pieces g) ≡ (operand >>= instruction cs widths m) → ArePlainPieces (given_pieces g)
@@ -47,7 +47,7 @@ instruct_plain cs widths m text (Ok g) small short by = by_operand by.operand by
 instruct_plain cs widths m text (Err cause) small short by = tt
 
 -- what they leave, as the definition says it
-pub constants_left : {U : Type 0} (state : State) (line : Line) (cs : Constants) (msb : Bool) (label : Answer (List ℕ)) (text : List ℕ) (given : Result Given AsmCause) (done : Result U AsmCause) (k : Kept) → IsByList cs msb text (given_answer given)
+pub constants_left : {U : Type 0} (state : State) (line : Line) (cs : Constants) (msb : Bool) (label : Answer (List ℕ)) (text : List ℕ) (given : Result Encoding AsmCause) (done : Result U AsmCause) (k : AsmState) → IsByList cs msb text (given_answer given)
     → cs ≡ constants_of state → msb ≡ state.msb → Leaves done k (giving state 0x4E label given) → IsLeft state line (Direct directives.Constants) label text done k
 unfolding IsDone
 constants_left state line cs msb label text given done k by same same_msb leaves = record {
@@ -57,7 +57,7 @@ constants_left state line cs msb label text given done k by same same_msb leaves
       (by.gives ∙ ap (λ (c : Constants). list_pieces c msb by.found) same ∙ ap (λ (b : Bool). list_pieces (constants_of state) b by.found) same_msb) leaves;
 }
 
-pub instruct_left : {U : Type 0} (state : State) (line : Line) (cs : Constants) (widths : Widths) (m : Mnemonic) (label : Answer (List ℕ)) (text : List ℕ) (given : Result Given AsmCause) (done : Result U AsmCause) (k : Kept)
+pub instruct_left : {U : Type 0} (state : State) (line : Line) (cs : Constants) (widths : Widths) (m : Mnemonic) (label : Answer (List ℕ)) (text : List ℕ) (given : Result Encoding AsmCause) (done : Result U AsmCause) (k : AsmState)
     → IsByInstruction cs widths m text (given_answer given) → cs ≡ constants_of state → widths ≡ state.widths → Leaves done k (giving state 0x4D label given) → IsLeft state line (Instruct m) label text done k
 unfolding IsDone
 instruct_left state line cs widths m label text given done k by same same_widths leaves = record {

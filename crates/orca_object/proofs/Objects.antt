@@ -8,8 +8,8 @@ use Rattle.omf_format.specs.Header.{Fields, header_bytes}
 use Rattle.omf_format.specs.laws.WrittenHeaderLaws.{length-header}
 use Rattle.asm_meaning.specs.Object.{records_text, segment_text, object_text, most_bytes}
 use Rattle.asm_meaning.specs.State.{Ended}
-use Rattle.orca_object.specs.declared.text.Text.{Text}
-use Rattle.orca_object.specs.TextView.{limited, kept_text, kept_by}
+use Rattle.orca_object.specs.declared.record_bytes.RecordBytes.{RecordBytes}
+use Rattle.orca_object.specs.TextView.{text_within_limit, kept_text, kept_by}
 use Rattle.orca_object.proofs.Limited.{is_limited, is_too_long, long_text, same_text}
 
 pub object_more : (segments : List Ended) (e : Ended) → object_text (segments ++ e ∷ []) ≡ object_text segments ++ segment_text e
@@ -33,24 +33,24 @@ same_length e ten =
 abbrev has_ten : (e : Ended) (f : Fields) → e.header ≡ f → length f.load_name ≡ 10 → length e.header.load_name ≡ 10
 has_ten e f is ten = ap (λ (h : Fields). length h.load_name) is ∙ ten
 
-is_bytes : (t : Text) (text : List ℕ) → t.long ≡ false → kept_text t ≡ limited text → text ≡ t.bytes.items
+is_bytes : (t : RecordBytes) (text : List ℕ) → t.long ≡ false → kept_text t ≡ text_within_limit text → text ≡ t.bytes.items
 is_bytes t text short e = same_text text t.bytes.items (sym (ap (λ (b : Bool). kept_by b t.bytes.items) short) ∙ e)
 
 -- it was too long before
-pub long_closed : (t : Text) (e : Ended) (f : Fields) → e.header ≡ f → length f.load_name ≡ 10 → t.long ≡ true → kept_text t ≡ limited (open_text e) → kept_text t ≡ limited (segment_text e)
+pub long_closed : (t : RecordBytes) (e : Ended) (f : Fields) → e.header ≡ f → length f.load_name ≡ 10 → t.long ≡ true → kept_text t ≡ text_within_limit (open_text e) → kept_text t ≡ text_within_limit (segment_text e)
 long_closed t e f is ten long shows =
     let none = ap (λ (b : Bool). kept_by b t.bytes.items) long in
     none ∙ sym (is_too_long (segment_text e) (omega (arith, same_length e (has_ten e f is ten), long_text (open_text e) (sym none ∙ shows))))
 
 -- it has more bytes than a file
-pub many_closed : (t new : Text) (e : Ended) (f : Fields) → e.header ≡ f → length f.load_name ≡ 10 → t.long ≡ false → kept_text t ≡ limited (open_text e) → most_bytes < length t.bytes.items → kept_text new ≡ None
-    → kept_text new ≡ limited (segment_text e)
+pub many_closed : (t new : RecordBytes) (e : Ended) (f : Fields) → e.header ≡ f → length f.load_name ≡ 10 → t.long ≡ false → kept_text t ≡ text_within_limit (open_text e) → most_bytes < length t.bytes.items → kept_text new ≡ None
+    → kept_text new ≡ text_within_limit (segment_text e)
 many_closed t new e f is ten short shows many none =
     none ∙ sym (is_too_long (segment_text e) (omega (arith, same_length e (has_ten e f is ten), ap length (is_bytes t (open_text e) short shows), many)))
 
 -- the header in the place of the room
-pub put_closed : (t : Text) (e : Ended) (f : Fields) (count : ℕ) (front new : List ℕ) → e.header ≡ f → length f.load_name ≡ 10 → t.long ≡ false → kept_text t ≡ limited (open_text e) → length t.bytes.items ≤ most_bytes
-    → count + (0x37 + length f.name) ≡ length t.bytes.items → front ≡ header_bytes f count → new ≡ front ++ drop (length front) t.bytes.items → kept_by t.long new ≡ limited (segment_text e)
+pub put_closed : (t : RecordBytes) (e : Ended) (f : Fields) (count : ℕ) (front new : List ℕ) → e.header ≡ f → length f.load_name ≡ 10 → t.long ≡ false → kept_text t ≡ text_within_limit (open_text e) → length t.bytes.items ≤ most_bytes
+    → count + (0x37 + length f.name) ≡ length t.bytes.items → front ≡ header_bytes f count → new ≡ front ++ drop (length front) t.bytes.items → kept_by t.long new ≡ text_within_limit (segment_text e)
 unfolding segment_text
 put_closed t e f count front new is ten short shows few n written put =
     let records = records_text e.body in
@@ -67,5 +67,5 @@ put_closed t e f count front new is ten short shows few n written put =
     ∙ sym (is_limited (segment_text e) (omega (arith, same_length e (has_ten e f is ten), ap length bytes, few)))
 
 -- behind those that have ended
-pub one_behind : (segments : List Ended) (e : Ended) → limited (object_text segments ++ segment_text e) ≡ limited (object_text (segments ++ e ∷ []))
-one_behind segments e = ap limited (sym (object_more segments e))
+pub one_behind : (segments : List Ended) (e : Ended) → text_within_limit (object_text segments ++ segment_text e) ≡ text_within_limit (object_text (segments ++ e ∷ []))
+one_behind segments e = ap text_within_limit (sym (object_more segments e))

@@ -9,7 +9,7 @@ use Rattle.orca_object.proofs.Quoted.{neq-eqb}
 use Rattle.std.proofs.lemmas.Int.Digits.{digits_value-lt}
 use Rattle.std.proofs.lemmas.List.{take-replicate, length-take, length-append, length-drop}
 use Rattle.std.proofs.lemmas.List.Folds.{list_all-append}
-use Rattle.asm_meaning.specs.Elements.{packed, packed_digits, without_spaces}
+use Rattle.asm_meaning.specs.Elements.{bytes_of_group_digits, packed_digits, without_spaces}
 use Rattle.orca_object.specs.DigitsView.{are_digits, groups}
 
 -- ---- padding
@@ -113,11 +113,11 @@ digits_drop base (suc k) (c ∷ l) is = digits_drop base k l (and_parts (is_digi
 
 -- these bytes were packed, and these digits are left
 pub record PackedLeft (base each : ℕ) (digits out left : List ℕ) : Type 0 where
-  pub text : out ++ packed base each (groups each left) left ≡ packed base each (groups each digits) digits
+  pub text : out ++ bytes_of_group_digits base each (groups each left) left ≡ bytes_of_group_digits base each (groups each digits) digits
   pub fine : are_digits base left ≡ true
 
-one_more : (base each n : ℕ) (l : List ℕ) → packed base each (suc n) l ≡ digits_value base (take each (l ++ zeros each)) ∷ packed base each n (drop each l)
-unfolding packed
+one_more : (base each n : ℕ) (l : List ℕ) → bytes_of_group_digits base each (suc n) l ≡ digits_value base (take each (l ++ zeros each)) ∷ bytes_of_group_digits base each n (drop each l)
+unfolding bytes_of_group_digits
 one_more base each n l = refl
 
 pub packed_more : (base each : ℕ) (digits out new left rest : List ℕ) (byte : ℕ) → (each ≡ 2) ⊎ (each ≡ 8) → PackedLeft base each digits out left → 1 ≤ length left
@@ -126,12 +126,12 @@ packed_more base each digits out new left rest byte each_is p some byte_is rest_
     subst (λ (r : List ℕ). PackedLeft base each digits new r) (sym rest_is) (record {
       text =
           ap (λ (o : List ℕ). o ++ more) push ∙ append_assoc out (byte ∷ []) more ∙ ap (λ (b : ℕ). out ++ b ∷ more) byte_is
-          ∙ ap (λ (l : List ℕ). out ++ l) (sym (ap (λ (n : ℕ). packed base each n left) (groups_more each left each_is some) ∙ one_more base each (groups each (drop each left)) left)) ∙ p.text;
+          ∙ ap (λ (l : List ℕ). out ++ l) (sym (ap (λ (n : ℕ). bytes_of_group_digits base each n left) (groups_more each left each_is some) ∙ one_more base each (groups each (drop each left)) left)) ∙ p.text;
       fine = digits_drop base each left p.fine;
     })
   where
     more : List ℕ
-    more = packed base each (groups each (drop each left)) (drop each left)
+    more = bytes_of_group_digits base each (groups each (drop each left)) (drop each left)
 
 -- ---- digits with spaces between them
 

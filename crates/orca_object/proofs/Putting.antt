@@ -12,18 +12,18 @@ use Rattle.asm_meaning.specs.laws.PieceLaws.{IsPlainPiece, ArePlainPieces}
 use Rattle.asm_meaning.specs.Pieces.{Piece, Bytes, Whole, constant_records, records_behind, copies}
 use Rattle.std.specs.Global.{Vec}
 use Rattle.omf_format.specs.Record as record_
-use Rattle.orca_object.specs.declared.given.Part.{Part}
+use Rattle.orca_object.specs.declared.encoding.RepeatedPieces.{RepeatedPieces}
 use Rattle.orca_object.specs.declared.piece.Piece as piece_type
 use Rattle.orca_object.specs.declared.piece.Piece.TheVariants as kept_names
 use Rattle.orca_object.specs.PieceView.{piece}
 use Rattle.orca_object.specs.GivenView.{part_pieces, all_pieces}
 use Rattle.orca_object.specs.PutView.{Wrote}
-use Rattle.orca_object.specs.TextView.{limited}
+use Rattle.orca_object.specs.TextView.{text_within_limit}
 use Rattle.orca_object.proofs.Listed.{next_is}
 
 -- what a text is where bytes were appended to it
 abbrev pub Grows : Option (List ℕ) → Option (List ℕ) → List ℕ → Type 0
-Grows old new more = (text : List ℕ) → old ≡ limited text → new ≡ limited (text ++ more)
+Grows old new more = (text : List ℕ) → old ≡ text_within_limit text → new ≡ text_within_limit (text ++ more)
 
 one_text : (r : Record) → records_text (r ∷ []) ≡ spelling written_layout r
 unfolding records_text
@@ -47,7 +47,7 @@ pub put_short : (bytes : List ℕ) (old new : Option (List ℕ)) → 1 ≤ lengt
 put_short [] old new some few grows text is = absurd (omega (arith, some))
 put_short (byte ∷ bytes) old new some few grows text is =
     let short : leb (length (byte ∷ bytes)) 223 ≡ true = le-leb (length (byte ∷ bytes)) 223 few in
-    grows text is ∙ ap (λ (l : List ℕ). limited (text ++ l)) (sym (ap (λ (b : Bool). records_text (cond b (Const (byte ∷ bytes)) (LongConst (byte ∷ bytes)) ∷ [])) short ∙ one_text (Const (byte ∷ bytes))))
+    grows text is ∙ ap (λ (l : List ℕ). text_within_limit (text ++ l)) (sym (ap (λ (b : Bool). records_text (cond b (Const (byte ∷ bytes)) (LongConst (byte ∷ bytes)) ∷ [])) short ∙ one_text (Const (byte ∷ bytes))))
 
 long_text : (bytes : List ℕ) → 223 < length bytes → records_text (constant_records bytes) ≡ spelling written_layout (LongConst bytes)
 long_text [] many = absurd (omega (arith, many))
@@ -56,9 +56,9 @@ long_text (byte ∷ bytes) many =
     ap (λ (b : Bool). records_text (cond b (Const (byte ∷ bytes)) (LongConst (byte ∷ bytes)) ∷ [])) long ∙ one_text (LongConst (byte ∷ bytes))
 
 pub put_long : (bytes : List ℕ) (old new : Option (List ℕ)) → 223 < length bytes → Grows old new (spelling written_layout (LongConst bytes)) → Grows old new (records_text (constant_records bytes))
-put_long bytes old new many grows text is = grows text is ∙ ap (λ (l : List ℕ). limited (text ++ l)) (sym (long_text bytes many))
+put_long bytes old new many grows text is = grows text is ∙ ap (λ (l : List ℕ). text_within_limit (text ++ l)) (sym (long_text bytes many))
 
-is_too_long : (text : List ℕ) → most_bytes < length text → limited text ≡ None
+is_too_long : (text : List ℕ) → most_bytes < length text → text_within_limit text ≡ None
 is_too_long text many = by_size (leb (length text) most_bytes) refl
   where
     by_size : (b : Bool) → leb (length text) most_bytes ≡ b → cond b (Some text) None ≡ None
@@ -77,7 +77,7 @@ put_too_long bytes old new many none text is =
 
 pub flush_nothing : (pending : List ℕ) (old : Option (List ℕ)) → pending ≡ [] → Grows old old (records_text (constant_records pending))
 flush_nothing pending old none text is =
-    is ∙ ap limited (sym (append-nil text)) ∙ ap (λ (l : List ℕ). limited (text ++ l)) (sym (ap (λ (p : List ℕ). records_text (constant_records p)) none ∙ text_none))
+    is ∙ ap text_within_limit (sym (append-nil text)) ∙ ap (λ (l : List ℕ). text_within_limit (text ++ l)) (sym (ap (λ (p : List ℕ). records_text (constant_records p)) none ∙ text_none))
 
 -- ---- pieces
 
@@ -104,11 +104,11 @@ wrote_record whole kept one two pending new r rest first second none w =
       whole_is = append_assoc (w.text ++ front) spelled behind ∙ append_assoc w.text front (spelled ++ behind) ∙ ap (λ (l : List ℕ). w.text ++ l) (sym parts) ∙ w.whole_is;
     })
 
-pub wrote_end : (whole : List ℕ) (kept new : Option (List ℕ)) (pending : List ℕ) → Grows kept new (records_text (constant_records pending)) → Wrote whole kept pending [] → new ≡ limited whole
+pub wrote_end : (whole : List ℕ) (kept new : Option (List ℕ)) (pending : List ℕ) → Grows kept new (records_text (constant_records pending)) → Wrote whole kept pending [] → new ≡ text_within_limit whole
 unfolding records_behind
-wrote_end whole kept new pending grows w = grows w.text w.kept_is ∙ ap limited w.whole_is
+wrote_end whole kept new pending grows w = grows w.text w.kept_is ∙ ap text_within_limit w.whole_is
 
-pub wrote_start : (text : List ℕ) (kept : Option (List ℕ)) (pending : List ℕ) (rest : List Piece) → kept ≡ limited text → pending ≡ [] → Wrote (text ++ records_text (records_behind [] rest)) kept pending rest
+pub wrote_start : (text : List ℕ) (kept : Option (List ℕ)) (pending : List ℕ) (rest : List Piece) → kept ≡ text_within_limit text → pending ≡ [] → Wrote (text ++ records_text (records_behind [] rest)) kept pending rest
 wrote_start text kept pending rest is none =
     record { text = text; kept_is = is; whole_is = ap (λ (p : List ℕ). text ++ records_text (records_behind p rest)) none }
 
@@ -126,10 +126,10 @@ pub copies_next : (count less : ℕ) (l : List Piece) → count ≡ less + 1 →
 copies_next count less l is = let next : count ≡ suc less = omega (arith, is) in ap (λ (n : ℕ). copies n l) next
 
 -- the next part of those that are left
-pub parts_next : (parts : List Part) (i : ℕ) (part : Part) → i < length parts → part ≡ get_or parts i part → all_pieces (drop i parts) ≡ part_pieces part ++ all_pieces (drop (i + 1) parts)
+pub parts_next : (parts : List RepeatedPieces) (i : ℕ) (part : RepeatedPieces) → i < length parts → part ≡ get_or parts i part → all_pieces (drop i parts) ≡ part_pieces part ++ all_pieces (drop (i + 1) parts)
 parts_next parts i part less is = next_is all_pieces parts i part less is ∙ flat_map-cons part_pieces part (drop (i + 1) parts)
 
-pub plain_part : (parts : List Part) (i : ℕ) (part : Part) → i < length parts → part ≡ get_or parts i part → ArePlainPieces (all_pieces (drop i parts)) → ArePlainPieces (part_pieces part)
+pub plain_part : (parts : List RepeatedPieces) (i : ℕ) (part : RepeatedPieces) → i < length parts → part ≡ get_or parts i part → ArePlainPieces (all_pieces (drop i parts)) → ArePlainPieces (part_pieces part)
 plain_part parts i part less is plain = (plain_append (part_pieces part) (all_pieces (drop (i + 1) parts)) (subst ArePlainPieces (parts_next parts i part less is) plain)).0
 
 pub repeat_one : (count byte : ℕ) → replicate count byte ≡ repeat count (byte ∷ [])
@@ -173,8 +173,8 @@ left_more old now new pending waits more all left a others l parts step = record
   plain = (plain_append a others (subst ArePlainPieces parts l.plain)).1;
 }
 
-pub put_all : (text : List ℕ) (old mid new : Option (List ℕ)) (pending waits : List ℕ) (pieces : List Piece) → Puts old pending pieces mid waits → Grows mid new (records_text (constant_records waits)) → pending ≡ [] → old ≡ limited text
-    → new ≡ limited (text ++ records_text (records_behind [] pieces))
+pub put_all : (text : List ℕ) (old mid new : Option (List ℕ)) (pending waits : List ℕ) (pieces : List Piece) → Puts old pending pieces mid waits → Grows mid new (records_text (constant_records waits)) → pending ≡ [] → old ≡ text_within_limit text
+    → new ≡ text_within_limit (text ++ records_text (records_behind [] pieces))
 put_all text old mid new pending waits pieces puts grows none is =
     let whole = text ++ records_text (records_behind [] pieces) in
     let start : Wrote whole old pending (pieces ++ []) = subst (λ (l : List Piece). Wrote whole old pending l) (sym (append-nil pieces)) (wrote_start text old pending pieces is none) in

@@ -5,8 +5,8 @@ use Rattle.std.proofs.lemmas.List.{length-append}
 use Rattle.omf_format.specs.Expression.{Term, Operator, Location, Constant, Named, Offset, Tree, Leaf, Unary, Binary, terms_of, terms_text}
 use Rattle.asm_meaning.specs.Answer.{Answer}
 use Rattle.asm_meaning.specs.Constant as meaning
-use Rattle.asm_meaning.specs.Constant.{Constants, number_or, number_or_open, worth, amount}
-use Rattle.orca_object.specs.AmountView.{written_term, written_terms, is_number_term, IsFormulaOf, Kept, Number, Text, kept_answer}
+use Rattle.asm_meaning.specs.Constant.{Constants, number_or, number_or_open, known_value, amount}
+use Rattle.orca_object.specs.AmountView.{written_term, written_terms, is_number_term, IsFormulaOf, AmountBytes, Number, Text, kept_answer}
 use Rattle.orca_object.proofs.Values.{one_written}
 use Rattle.orca_object.proofs.Written.{amount_open, number_is}
 
@@ -51,16 +51,16 @@ by_leaf t (Binary code a b) P is p =
     let size : 1 ≡ length (terms_of a ++ (terms_of b ++ Operator code ∷ [])) = ap length is in
     absurd (some_terms a (omega (arith, size, length-append (terms_of a) (terms_of b ++ Operator code ∷ []), length-append (terms_of b) (Operator code ∷ []))))
 
-abbrev number_answer : ℕ → Answer Kept
+abbrev number_answer : ℕ → Answer AmountBytes
 number_answer n = Ok (Number n)
 
-abbrev text_answer : List ℕ → Answer Kept
+abbrev text_answer : List ℕ → Answer AmountBytes
 text_answer bytes = Ok (Text bytes)
 
 pub number_alone : (constants : Constants) (back n : ℕ) (t : Term) → Constant n ≡ written_term constants t → (tree : Tree) → IsFormulaOf (t ∷ []) tree → number_answer n ≡ kept_answer back (amount constants tree)
-unfolding worth
+unfolding known_value
 number_alone constants back n t is tree formula =
-    number_is constants back n tree (by_leaf t tree (λ (x : Tree). meaning.Number n ≡ worth constants x) formula.terms_are (number_term constants t n is))
+    number_is constants back n tree (by_leaf t tree (λ (x : Tree). meaning.Number n ≡ known_value constants x) formula.terms_are (number_term constants t n is))
 
 -- no number
 pub open_alone : (constants : Constants) (back : ℕ) (t : Term) (out : List ℕ) → is_number_term (written_term constants t) ≡ false → out ≡ [] ++ terms_text 0 (written_terms back (written_term constants t))

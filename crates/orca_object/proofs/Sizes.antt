@@ -8,11 +8,11 @@ use Rattle.asm_meaning.specs.laws.PieceLaws.{place_behind-append}
 use Rattle.asm_meaning.specs.Pieces as meaning
 use Rattle.asm_meaning.specs.Pieces.{constant_records, records_behind, copies, place_behind, length_at}
 use Rattle.std.specs.Global.{Vec}
-use Rattle.orca_object.specs.declared.few.Few.{Few}
+use Rattle.orca_object.specs.declared.short_bytes.ShortBytes.{ShortBytes}
 use Rattle.orca_object.specs.FewView.{few_bytes}
-use Rattle.orca_object.specs.declared.given.Given.{Given}
-use Rattle.orca_object.specs.declared.given.Given.TheVariants as given_names
-use Rattle.orca_object.specs.declared.given.Part.{Part}
+use Rattle.orca_object.specs.declared.encoding.Encoding.{Encoding}
+use Rattle.orca_object.specs.declared.encoding.Encoding.TheVariants as given_names
+use Rattle.orca_object.specs.declared.encoding.RepeatedPieces.{RepeatedPieces}
 use Rattle.orca_object.specs.declared.piece.Piece.{Piece}
 use Rattle.orca_object.specs.declared.piece.Piece.TheVariants.{Bytes, Formula, Strong}
 use Rattle.orca_object.specs.GivenView.{part_pieces, all_pieces, given_records}
@@ -48,7 +48,7 @@ kept_copies : ℕ → List Piece → List Piece
 kept_copies zero l = []
 kept_copies (suc n) l = l ++ kept_copies n l
 
-kept_pieces : List Part → List Piece
+kept_pieces : List RepeatedPieces → List Piece
 kept_pieces [] = []
 kept_pieces (p ∷ parts) = kept_copies p.count p.pieces.items ++ kept_pieces parts
 
@@ -57,7 +57,7 @@ unfolding kept_copies
 copies_are zero l = refl
 copies_are (suc n) l = ap (λ (x : List meaning.Piece). map piece l ++ x) (copies_are n l) ∙ sym (map-append piece l (kept_copies n l))
 
-pieces_are : (parts : List Part) → all_pieces parts ≡ map piece (kept_pieces parts)
+pieces_are : (parts : List RepeatedPieces) → all_pieces parts ≡ map piece (kept_pieces parts)
 unfolding kept_pieces
 pieces_are [] = refl
 pieces_are (p ∷ parts) =
@@ -76,12 +76,12 @@ unfolding kept_copies
 size_copies zero l = omega arith
 size_copies (suc n) l = size_append l (kept_copies n l) ∙ ap (λ (k : ℕ). pieces_size l + k) (size_copies n l) ∙ sym (next_product n (pieces_size l))
 
-size_parts : (parts : List Part) → pieces_size (kept_pieces parts) ≡ parts_size parts
+size_parts : (parts : List RepeatedPieces) → pieces_size (kept_pieces parts) ≡ parts_size parts
 unfolding kept_pieces
 size_parts [] = refl
 size_parts (p ∷ parts) = omega (arith, size_append (kept_copies p.count p.pieces.items) (kept_pieces parts), size_copies p.count p.pieces.items, size_parts parts)
 
-length_is : (at : ℕ) (parts : List Part) → length_at at (records_behind [] (all_pieces parts)) ≡ parts_size parts
+length_is : (at : ℕ) (parts : List RepeatedPieces) → length_at at (records_behind [] (all_pieces parts)) ≡ parts_size parts
 unfolding length_at
 length_is at parts =
     let place : place_behind at (records_behind [] (all_pieces parts)) ≡ at + 0 + pieces_size (kept_pieces parts) =
@@ -89,9 +89,9 @@ length_is at parts =
     omega (arith, place, size_parts parts)
 
 -- parts
-pub cells_are : (at n : ℕ) (g : Given) (v : Vec Part) (parts : List Part) → g ≡ given_names.Parts v → parts ≡ v.items → n ≡ min (parts_size parts) 0x1000000 → n ≡ min (length_at at (given_records g)) 0x1000000
+pub cells_are : (at n : ℕ) (g : Encoding) (v : Vec RepeatedPieces) (parts : List RepeatedPieces) → g ≡ given_names.Parts v → parts ≡ v.items → n ≡ min (parts_size parts) 0x1000000 → n ≡ min (length_at at (given_records g)) 0x1000000
 cells_are at n g v parts g_is same is =
-    is ∙ ap (λ (l : List Part). min (parts_size l) 0x1000000) same ∙ ap (λ (k : ℕ). min k 0x1000000) (sym (length_is at v.items)) ∙ ap (λ (x : Given). min (length_at at (given_records x)) 0x1000000) (sym g_is)
+    is ∙ ap (λ (l : List RepeatedPieces). min (parts_size l) 0x1000000) same ∙ ap (λ (k : ℕ). min k 0x1000000) (sym (length_is at v.items)) ∙ ap (λ (x : Encoding). min (length_at at (given_records x)) 0x1000000) (sym g_is)
 
 few_size : (count a b c d : ℕ) → count ≤ 4 → length (take count (a ∷ b ∷ c ∷ d ∷ [])) ≡ count
 few_size zero a b c d few = refl
@@ -102,20 +102,20 @@ few_size (suc (suc (suc (suc zero)))) a b c d few = refl
 few_size (suc (suc (suc (suc (suc count))))) a b c d few = absurd (omega (arith, few))
 
 -- few bytes
-pub cells_few : (at n : ℕ) (g : Given) (few : Few) → g ≡ given_names.Bytes few → n ≡ few.count → n ≡ min (length_at at (given_records g)) 0x1000000
+pub cells_few : (at n : ℕ) (g : Encoding) (few : ShortBytes) → g ≡ given_names.Bytes few → n ≡ few.count → n ≡ min (length_at at (given_records g)) 0x1000000
 unfolding length_at records_behind
 cells_few at n g few g_is is =
     let place = place_constant at (few_bytes few) in
     let size : length (few_bytes few) ≡ few.count = few_size few.count few.first few.second few.third few.fourth few.few in
     let length_is : n ≡ min (length_at at (given_records (given_names.Bytes few))) 0x1000000 = omega (arith, place, size, few.few, is) in
-    length_is ∙ ap (λ (x : Given). min (length_at at (given_records x)) 0x1000000) (sym g_is)
+    length_is ∙ ap (λ (x : Encoding). min (length_at at (given_records x)) 0x1000000) (sym g_is)
 
 -- an opcode and its operand
-pub cells_operand : (at n opcode code count distance : ℕ) (g : Given) (expr : Vec ℕ) → g ≡ given_names.Operand opcode code count distance expr → count < 2 ^ 8 → n ≡ count + 1 → n ≡ min (length_at at (given_records g)) 0x1000000
+pub cells_operand : (at n opcode code count distance : ℕ) (g : Encoding) (expr : Vec ℕ) → g ≡ given_names.Operand opcode code count distance expr → count < 2 ^ 8 → n ≡ count + 1 → n ≡ min (length_at at (given_records g)) 0x1000000
 unfolding length_at place_behind records_behind
 cells_operand at n opcode code count distance g expr g_is small is =
     let length_is : n ≡ min (length_at at (given_records (given_names.Operand opcode code count distance expr))) 0x1000000 = omega (arith, small, is) in
-    length_is ∙ ap (λ (x : Given). min (length_at at (given_records x)) 0x1000000) (sym g_is)
+    length_is ∙ ap (λ (x : Encoding). min (length_at at (given_records x)) 0x1000000) (sym g_is)
 
 -- ---- counting up to a limit
 

@@ -4,9 +4,9 @@ use Rattle.std.specs.Prelude.{option_copied}
 use Rattle.std.specs.Option.{option_or}
 use Rattle.asm_meaning.specs.laws.AmountLaws.{AreSmall}
 use Rattle.asm_meaning.specs.Statement.{value_in}
-use Rattle.orca_object.specs.declared.names.Names.{Names}
-use Rattle.orca_object.specs.declared.names.Outside.{Outside}
-use Rattle.orca_object.specs.declared.names.Known.{Known}
+use Rattle.orca_object.specs.declared.names.DefinedNames.{DefinedNames}
+use Rattle.orca_object.specs.declared.names.OutsideConstants.{OutsideConstants}
+use Rattle.orca_object.specs.declared.names.KnownConstants.{KnownConstants}
 use Rattle.orca_object.specs.NamesView.{names_of, outside_of, value_in_names, constants}
 
 abbrev number : ℕ → Option ℕ
@@ -20,9 +20,9 @@ by_value (Some (Some m)) other n small fits e = small n (same m n e)
     same : (x y : ℕ) → number x ≡ number y → Some (number x) ≡ Some (Some y)
     same x y e = cc
 
-by_names : (names : Option Names) (outside : Outside) (name : List ℕ) (n : ℕ) → option_or (value_in_names names name) (outside_of outside name) ≡ Some n → n < 2 ^ 32
+by_names : (names : Option DefinedNames) (outside : OutsideConstants) (name : List ℕ) (n : ℕ) → option_or (value_in_names names name) (outside_of outside name) ≡ Some n → n < 2 ^ 32
 by_names None outside name n e = outside.small name n e
 by_names (Some names) outside name n e = by_value (names_of names name) (outside_of outside name) n (names.small name) (outside.small name) e
 
-pub known_small : (known : Known) → AreSmall (constants known)
+pub known_small : (known : KnownConstants) → AreSmall (constants known)
 known_small known name n e = by_names (option_copied known.names) known.outside.now name n e

@@ -9,18 +9,18 @@ use Rattle.asm_meaning.specs.declared.directives.Class.{Class}
 use Rattle.asm_meaning.specs.Formulas.{expression_text}
 use Rattle.asm_meaning.specs.Object.{records_text, object_text}
 use Rattle.asm_meaning.specs.Pieces.{place_behind}
-use Rattle.asm_meaning.specs.State.{Segment, Ended, State, start, no_constants, kind_of, bank_size_of, header_of, closed, ended_of, cells_of, in_segment}
+use Rattle.asm_meaning.specs.State.{Segment, Ended, State, start, no_constants, kind_of, bank_size_of, header_of, state_after_end, ended_of, cells_of, in_segment}
 use Rattle.std.specs.Option.{option_map}
 use Rattle.std.proofs.lemmas.List.{length-append}
 use Rattle.asm_meaning.specs.Statement.{equate}
-use Rattle.orca_object.specs.declared.names.Outside.{Outside}
-use Rattle.orca_object.specs.declared.text.Text.{Text}
+use Rattle.orca_object.specs.declared.names.OutsideConstants.{OutsideConstants}
+use Rattle.orca_object.specs.declared.record_bytes.RecordBytes.{RecordBytes}
 use Rattle.orca_object.specs.EquateView.{with_constant}
 use Rattle.orca_object.specs.NamesView.{outside_of}
 use Rattle.orca_object.specs.StateView.{ShowsState, ShowsOption, ShowsSegment, header_view}
 use Rattle.orca_object.specs.EndView.{ended_header}
-use Rattle.orca_object.specs.declared.state.Open.{Open}
-use Rattle.orca_object.specs.TextView.{limited, kept_text}
+use Rattle.orca_object.specs.declared.state.OpenSegment.{OpenSegment}
+use Rattle.orca_object.specs.TextView.{text_within_limit, kept_text}
 use Rattle.orca_object.proofs.Bodies.{records_text-one, cells-one}
 
 abbrev header_with : Class → List ℕ → List ℕ → ℕ → ℕ → ℕ → ℕ → Fields
@@ -42,11 +42,11 @@ header_with class name load_name kind org align number = record {
   name = name;
 }
 
-pub no_records : limited (records_text []) ≡ limited []
+pub no_records : text_within_limit (records_text []) ≡ text_within_limit []
 unfolding records_text
 no_records = refl
 
-no_object : limited (object_text []) ≡ limited []
+no_object : text_within_limit (object_text []) ≡ text_within_limit []
 unfolding object_text
 no_object = refl
 
@@ -54,7 +54,7 @@ pub no_cells : place_behind 0 [] ≡ 0
 unfolding place_behind
 no_cells = refl
 
-pub shows_start : (outside : Outside) (front object : Text) → outside_of outside ≡ no_constants → kept_text front ≡ limited [] → kept_text object ≡ limited []
+pub shows_start : (outside : OutsideConstants) (front object : RecordBytes) → outside_of outside ≡ no_constants → kept_text front ≡ text_within_limit [] → kept_text object ≡ text_within_limit []
     → ShowsState start (record { widths = record { long_a = true; long_i = true }; msb = false; outside = outside; org = 0; align = 0; front = front; segment = None; number = 1; object = object })
 shows_start outside front object none first all = record {
   widths = refl;
@@ -71,12 +71,12 @@ shows_start outside front object none first all = record {
 
 -- ---- a constant from outside
 
-pub constant_more : (state : State) (old new : Text) (name : List ℕ) (n : ℕ) (expr : List ℕ) → expr ≡ expression_text (Leaf (Constant n)) → kept_text old ≡ limited (records_text state.front)
-    → ((text : List ℕ) → kept_text old ≡ limited text → kept_text new ≡ limited (text ++ spelling written_layout (Equate true name 0 0x4E 0 expr)))
-    → kept_text new ≡ limited (records_text (with_constant name n state).front)
+pub constant_more : (state : State) (old new : RecordBytes) (name : List ℕ) (n : ℕ) (expr : List ℕ) → expr ≡ expression_text (Leaf (Constant n)) → kept_text old ≡ text_within_limit (records_text state.front)
+    → ((text : List ℕ) → kept_text old ≡ text_within_limit text → kept_text new ≡ text_within_limit (text ++ spelling written_layout (Equate true name 0 0x4E 0 expr)))
+    → kept_text new ≡ text_within_limit (records_text (with_constant name n state).front)
 constant_more state old new name n expr is shows put =
-    put (records_text state.front) shows ∙ ap (λ (e : List ℕ). limited (records_text state.front ++ spelling written_layout (Equate true name 0 0x4E 0 e))) is
-    ∙ ap limited (sym (records_text-one state.front (equate true name (Leaf (Constant n)))))
+    put (records_text state.front) shows ∙ ap (λ (e : List ℕ). text_within_limit (records_text state.front ++ spelling written_layout (Equate true name 0 0x4E 0 e))) is
+    ∙ ap text_within_limit (sym (records_text-one state.front (equate true name (Leaf (Constant n)))))
 
 pub constant_waits : (state : State) (name : List ℕ) (n : ℕ) → place_behind 0 state.front ≡ 0 → place_behind 0 (with_constant name n state).front ≡ 0
 constant_waits state name n none = omega (arith, cells-one 0 state.front (equate true name (Leaf (Constant n))), none)
@@ -91,18 +91,18 @@ header_begun state class name load_name kind org align number k o a n =
 
 -- ---- a segment ends
 
-pub ended_shows : (state : State) (change : Segment → Segment) (k : Option Open) (o last : Open) (number next : ℕ) (object new text : Text) (f : Fields) → ShowsOption state.segment k → k ≡ Some o
+pub ended_shows : (state : State) (change : Segment → Segment) (k : Option OpenSegment) (o last : OpenSegment) (number next : ℕ) (object new text : RecordBytes) (f : Fields) → ShowsOption state.segment k → k ≡ Some o
     → ((s : Segment) → ShowsSegment s o → ShowsSegment (change s) last) → f ≡ ended_header last → text ≡ last.body.writer.text
-    → ((segments : List Ended) (e : Ended) → e.header ≡ f → kept_text text ≡ limited (replicate (0x37 + length e.header.name) 0 ++ records_text e.body) → kept_text object ≡ limited (object_text segments) → kept_text new ≡ limited (object_text (segments ++ e ∷ [])))
-    → kept_text object ≡ limited (object_text state.ended) → number ≡ (length state.ended + 1) % 0x10000 → next ≡ (number + 1) % 0x10000
-    → (next ≡ (length (closed (in_segment change state)).ended + 1) % 0x10000) × (kept_text new ≡ limited (object_text (closed (in_segment change state)).ended))
+    → ((segments : List Ended) (e : Ended) → e.header ≡ f → kept_text text ≡ text_within_limit (replicate (0x37 + length e.header.name) 0 ++ records_text e.body) → kept_text object ≡ text_within_limit (object_text segments) → kept_text new ≡ text_within_limit (object_text (segments ++ e ∷ [])))
+    → kept_text object ≡ text_within_limit (object_text state.ended) → number ≡ (length state.ended + 1) % 0x10000 → next ≡ (number + 1) % 0x10000
+    → (next ≡ (length (state_after_end (in_segment change state)).ended + 1) % 0x10000) × (kept_text new ≡ text_within_limit (object_text (state_after_end (in_segment change state)).ended))
 ended_shows state change k o last number next object new text f shown is changes header same put before n m = by_segment state.segment (subst (ShowsOption state.segment) is shown)
   where
     ended : Segment → Ended
     ended s = record { header = record (change s).header { length = cells_of (change s) }; body = (change s).body }
 
     by_segment : (found : Option Segment) → ShowsOption found (Some o)
-        → (next ≡ (length (state.ended ++ ended_of (option_map change found)) + 1) % 0x10000) × (kept_text new ≡ limited (object_text (state.ended ++ ended_of (option_map change found))))
+        → (next ≡ (length (state.ended ++ ended_of (option_map change found)) + 1) % 0x10000) × (kept_text new ≡ text_within_limit (object_text (state.ended ++ ended_of (option_map change found))))
     by_segment None shows = absurd shows
     by_segment (Some s) shows =
         let then = changes s shows in

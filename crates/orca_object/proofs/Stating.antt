@@ -22,14 +22,14 @@ use Rattle.asm_meaning.specs.declared.faults.AsmCause.{AsmCause}
 use Rattle.asm_meaning.specs.declared.faults.AsmCause.TheVariants.{BadOperand, BadNumber}
 use Rattle.asm_meaning.specs.Answer.{Answer}
 use Rattle.asm_meaning.specs.Constant.{Constants}
-use Rattle.asm_meaning.specs.Elements.{Element, IsElementAt, AreElements, joined, element_pieces}
+use Rattle.asm_meaning.specs.Elements.{Element, IsElementAt, AreElements, joined_pieces, element_pieces}
 use Rattle.asm_meaning.specs.laws.GivenLaws.{fine_operand}
 use Rattle.asm_meaning.specs.Instruction.{Widths, instruction}
 use Rattle.asm_meaning.specs.laws.InstructionLaws.{AreFineTrees}
 use Rattle.asm_meaning.specs.Pieces.{Piece}
 use Rattle.asm_meaning.specs.Statement.{Good, Bad, Large}
 use Rattle.asm_meaning.specs.laws.StatementLaws.{element_once}
-use Rattle.orca_object.specs.declared.given.Part.{Part}
+use Rattle.orca_object.specs.declared.encoding.RepeatedPieces.{RepeatedPieces}
 use Rattle.orca_object.specs.Chosen.{AreGoodTrees}
 use Rattle.orca_object.specs.DcView.{all_or}
 use Rattle.orca_object.specs.GivenBy.{IsByInstruction, IsByList, HasElements}
@@ -126,7 +126,7 @@ has_elements cs msb text answer g = record { elements = g.all; are = elements_ar
 pub no_elements : (text : List ℕ) → ((elements : List Element) → AreItems IsElementAt text elements → ⊥) → (elements : List Element) → AreElements text elements → ⊥
 no_elements text none elements are = none elements (are_elements text elements are)
 
-pub all_parts : (fault : Option AsmCause) (v : Vec Part) (r : Result (Vec Part) AsmCause) → r ≡ all_or fault v → parts_answer r ≡ all_or fault (map part_pieces v.items)
+pub all_parts : (fault : Option AsmCause) (v : Vec RepeatedPieces) (r : Result (Vec RepeatedPieces) AsmCause) → r ≡ all_or fault v → parts_answer r ≡ all_or fault (map part_pieces v.items)
 all_parts fault v r is = ap parts_answer is ∙ by_fault fault
   where
     by_fault : (f : Option AsmCause) → parts_answer (all_or f v) ≡ all_or f (map part_pieces v.items)
@@ -135,7 +135,7 @@ all_parts fault v r is = ap parts_answer is ∙ by_fault fault
 
 -- ---- the list
 
-joined_is : (parts : List Part) → joined (map part_pieces parts) ≡ flat_map part_pieces parts
+joined_is : (parts : List RepeatedPieces) → joined_pieces (map part_pieces parts) ≡ flat_map part_pieces parts
 joined_is [] = refl
 joined_is (p ∷ parts) =
     flat_map-cons (λ (ps : List Piece). ps) (part_pieces p) (map part_pieces parts) ∙ ap (λ (l : List Piece). part_pieces p ++ l) (joined_is parts) ∙ sym (flat_map-cons part_pieces p parts)
@@ -147,9 +147,9 @@ abbrev no_lists : AsmCause → Answer (List (List Piece))
 no_lists cause = Err cause
 
 abbrev all_joined : Answer (List (List Piece)) → Answer (List Piece)
-all_joined x = x >>= λ found. Ok (joined found)
+all_joined x = x >>= λ found. Ok (joined_pieces found)
 
-pub by_parts : (cs : Constants) (msb : Bool) (text : List ℕ) (parts : List Part) → HasElements cs msb text (lists (map part_pieces parts)) → IsByList cs msb text (Ok (flat_map part_pieces parts))
+pub by_parts : (cs : Constants) (msb : Bool) (text : List ℕ) (parts : List RepeatedPieces) → HasElements cs msb text (lists (map part_pieces parts)) → IsByList cs msb text (Ok (flat_map part_pieces parts))
 by_parts cs msb text parts h = record { found = Some h.elements; is = h.are; gives = ap given (sym (joined_is parts)) ∙ ap all_joined h.gives }
 
 pub by_fault : (cs : Constants) (msb : Bool) (text : List ℕ) (cause : AsmCause) → HasElements cs msb text (no_lists cause) → IsByList cs msb text (Err cause)
@@ -158,5 +158,5 @@ by_fault cs msb text cause h = record { found = Some h.elements; is = h.are; giv
 pub by_nothing : (cs : Constants) (msb : Bool) (text : List ℕ) → ((elements : List Element) → AreElements text elements → ⊥) → IsByList cs msb text (Err BadOperand)
 by_nothing cs msb text none = record { found = None; is = none; gives = refl }
 
-pub with_answer : (cs : Constants) (msb : Bool) (text : List ℕ) (r s : Result (Vec Part) AsmCause) → HasElements cs msb text (parts_answer r) → r ≡ s → HasElements cs msb text (parts_answer s)
-with_answer cs msb text r s h is = subst (λ (x : Result (Vec Part) AsmCause). HasElements cs msb text (parts_answer x)) is h
+pub with_answer : (cs : Constants) (msb : Bool) (text : List ℕ) (r s : Result (Vec RepeatedPieces) AsmCause) → HasElements cs msb text (parts_answer r) → r ≡ s → HasElements cs msb text (parts_answer s)
+with_answer cs msb text r s h is = subst (λ (x : Result (Vec RepeatedPieces) AsmCause). HasElements cs msb text (parts_answer x)) is h

@@ -5,7 +5,7 @@ use Rattle.orca_meaning.specs.Line.{Line, part}
 use Rattle.std.specs.Prelude.{is_some}
 use Rattle.std.specs.Option.{option_map, option_or}
 use Rattle.orca_meaning.specs.Characters.{folded}
-use Rattle.orca_meaning.specs.Operation.{mnemonic_of, beside}
+use Rattle.orca_meaning.specs.Operation.{mnemonic_of, value_of_spelling}
 use Rattle.asm_meaning.specs.declared.directives.Directive.{Directive}
 use Rattle.asm_meaning.specs.declared.directives.Directive.TheVariants as directives
 use Rattle.asm_meaning.specs.declared.directives.Operation.{Operation}
@@ -15,14 +15,14 @@ use Rattle.asm_meaning.specs.Answer.{Answer}
 use Rattle.asm_meaning.specs.Operations.{operation_of, directives}
 use Rattle.asm_meaning.specs.State.{State, Segment}
 use Rattle.asm_meaning.specs.Statement.{IsDone, IsKnown, IsPlaced, IsStep, label_of, is_misplaced, equating, equating_global}
-use Rattle.orca_object.specs.declared.state.Kept.{Kept}
+use Rattle.orca_object.specs.declared.state.AsmState.{AsmState}
 use Rattle.orca_object.specs.DoingView.{IsEquated, IsConstant}
 use Rattle.orca_object.specs.StateView.{Leaves, IsLeft}
 use Rattle.orca_object.specs.StepView.{IsJudged, IsPlacedAs, Steps}
 
 -- ---- EQU and GEQU
 
-pub equ_left : {U : Type 0} (state : State) (line : Line) (label : Answer (List ℕ)) (text : List ℕ) (done : Result U AsmCause) (k : Kept) → IsEquated state false label text done k → IsLeft state line (Direct directives.Equ) label text done k
+pub equ_left : {U : Type 0} (state : State) (line : Line) (label : Answer (List ℕ)) (text : List ℕ) (done : Result U AsmCause) (k : AsmState) → IsEquated state false label text done k → IsLeft state line (Direct directives.Equ) label text done k
 unfolding IsDone
 equ_left state line label text done k is = record { left = equating state false label is.found; is = (is.found, is.formula, refl); leaves = is.leaves }
 
@@ -34,7 +34,7 @@ none_of : (found : Option Segment) (b : Bool) → b ≡ is_some found → b ≡ 
 none_of None b is e = refl
 none_of (Some s) b is e = absurd cc
 
-pub gequ_inside : {U : Type 0} (state : State) (line : Line) (label : Answer (List ℕ)) (text : List ℕ) (done : Result U AsmCause) (k : Kept) (inside : Bool) → inside ≡ is_some state.segment → inside ≡ true
+pub gequ_inside : {U : Type 0} (state : State) (line : Line) (label : Answer (List ℕ)) (text : List ℕ) (done : Result U AsmCause) (k : AsmState) (inside : Bool) → inside ≡ is_some state.segment → inside ≡ true
     → IsEquated state true label text done k → IsLeft state line (Direct directives.Gequ) label text done k
 unfolding IsDone
 gequ_inside state line label text done k inside test is_in is =
@@ -45,7 +45,7 @@ gequ_inside state line label text done k inside test is_in is =
       leaves = subst (λ (o : Option Segment). Leaves done k (equating_global state o label is.found)) (sym some.1) is.leaves;
     }
 
-pub gequ_outside : {U : Type 0} (state : State) (line : Line) (label : Answer (List ℕ)) (text : List ℕ) (done : Result U AsmCause) (k : Kept) (inside : Bool) → inside ≡ is_some state.segment → inside ≡ false
+pub gequ_outside : {U : Type 0} (state : State) (line : Line) (label : Answer (List ℕ)) (text : List ℕ) (done : Result U AsmCause) (k : AsmState) (inside : Bool) → inside ≡ is_some state.segment → inside ≡ false
     → IsConstant state label text done k → IsLeft state line (Direct directives.Gequ) label text done k
 unfolding IsDone
 gequ_outside state line label text done k inside test is_out is = record {
@@ -59,7 +59,7 @@ gequ_outside state line label text done k inside test is_out is = record {
 pub instruct_is : (text : List ℕ) (m : Mnemonic) → operation_of text ≡ Some (Instruct m) → mnemonic_of text ≡ Some m
 unfolding operation_of
 instruct_is [] m e = absurd cc
-instruct_is (byte ∷ text) m e = by_mnemonic (mnemonic_of (byte ∷ text)) (beside (folded (byte ∷ text)) directives) e
+instruct_is (byte ∷ text) m e = by_mnemonic (mnemonic_of (byte ∷ text)) (value_of_spelling (folded (byte ∷ text)) directives) e
   where
     same : (a b : Mnemonic) → Some (Instruct a) ≡ Some (Instruct b) → Some a ≡ Some b
     same a b e = cc
@@ -87,7 +87,7 @@ judged_step state line operation label answer is right same judged =
     (subst (λ (b : Bool). IsPlaced state line operation (part line.text line.fields.label) (part line.text line.fields.operand) b answer) (sym right)
     (subst (λ (l : Answer (List ℕ)). IsJudged state line operation l (part line.text line.fields.operand) answer) same judged))
 
-pub placed_step : {U : Type 0} (state : State) (line : Line) (operation : Operation) (label : Answer (List ℕ)) (done : Result U AsmCause) (k : Kept) → operation_of (part line.text line.fields.operation) ≡ Some operation
+pub placed_step : {U : Type 0} (state : State) (line : Line) (operation : Operation) (label : Answer (List ℕ)) (done : Result U AsmCause) (k : AsmState) → operation_of (part line.text line.fields.operation) ≡ Some operation
     → is_misplaced state.segment operation (part line.text line.fields.label) (part line.text line.fields.operand) ≡ false → label ≡ label_of state operation (part line.text line.fields.label)
     → IsPlacedAs state line operation label (part line.text line.fields.operand) done k → Steps state line done k
 placed_step state line operation label (Ok u) k is right same placed = (placed.0, judged_step state line operation label (Ok placed.0) is right same placed.1, placed.2)

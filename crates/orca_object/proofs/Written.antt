@@ -4,20 +4,20 @@ use Rattle.std.proofs.lemmas.Bool.{and_parts}
 use Rattle.std.proofs.lemmas.List.{map-append}
 use Rattle.omf_format.specs.Expression.{Term, Operator, Location, Constant, Named, Offset, Tree, Leaf, Unary, Binary, IsTree, IsTerm, AreTerms, terms_of, terms_text, depth, Spells}
 use Rattle.omf_format.specs.Value.{value}
-use Rattle.orca_meaning.specs.Formula.{placed}
+use Rattle.orca_meaning.specs.Formula.{with_location_less}
 use Rattle.orca_meaning.specs.laws.FormulaLaws.{pending-one}
 use Rattle.asm_meaning.specs.declared.faults.AsmCause.TheVariants.{DivideByZero}
 use Rattle.asm_meaning.specs.Answer.{Answer}
 use Rattle.asm_meaning.specs.laws.AmountLaws.{pending-with_values}
 use Rattle.asm_meaning.specs.Constant as meaning
-use Rattle.asm_meaning.specs.Constant.{Constants, number_or, with_values, worth, amount, amount_by}
-use Rattle.orca_object.specs.AmountView.{written_term, written_terms, with_terms, all_written, is_number_term, are_numbers, worth_of_value, nowhere, placed_by, IsFormulaOf, Kept, Number, Text, kept_answer}
+use Rattle.asm_meaning.specs.Constant.{Constants, number_or, with_values, known_value, amount, amount_by}
+use Rattle.orca_object.specs.AmountView.{written_term, written_terms, with_terms, all_written, is_number_term, are_numbers, worth_of_value, no_environment, placed_by, IsFormulaOf, AmountBytes, Number, Text, kept_answer}
 use Rattle.orca_object.proofs.Values.{numbers_append, written_append, one_written, worth_is_value, worth_is_open}
 
 -- ---- the terms
 
 abbrev tree_by : Bool → ℕ → Tree → Tree
-tree_by b back t = cond b t (placed back t)
+tree_by b back t = cond b t (with_location_less back t)
 
 name_written : (back code : ℕ) (name : List ℕ) (o : Option ℕ) (b : Bool) → written_terms back (number_or (Named code name) o) ≡ terms_of (tree_by b back (Leaf (number_or (Named code name) o)))
 name_written back code name None true = refl
@@ -75,18 +75,18 @@ pub all_written-tree : (constants : Constants) (back : ℕ) (t : Tree) → all_w
 all_written-tree constants back t = written_by constants back (eqb back 0) refl t
 
 -- a formula of numbers alone has no location counter
-name_placed : (back code : ℕ) (name : List ℕ) (o : Option ℕ) → is_number_term (number_or (Named code name) o) ≡ true → placed back (Leaf (number_or (Named code name) o)) ≡ Leaf (number_or (Named code name) o)
+name_placed : (back code : ℕ) (name : List ℕ) (o : Option ℕ) → is_number_term (number_or (Named code name) o) ≡ true → with_location_less back (Leaf (number_or (Named code name) o)) ≡ Leaf (number_or (Named code name) o)
 name_placed back code name None is = absurd cc
 name_placed back code name (Some n) is = refl
 
-numbers_placed : (constants : Constants) (back : ℕ) (t : Tree) → are_numbers constants (terms_of t) ≡ true → placed back (with_values constants t) ≡ with_values constants t
+numbers_placed : (constants : Constants) (back : ℕ) (t : Tree) → are_numbers constants (terms_of t) ≡ true → with_location_less back (with_values constants t) ≡ with_values constants t
 numbers_placed constants back (Leaf (Operator code)) all = refl
 numbers_placed constants back (Leaf Location) all = absurd cc
 numbers_placed constants back (Leaf (Constant n)) all = refl
 numbers_placed constants back (Leaf (Named code name)) all = by_code (eqb code 0x83) (and_parts _ true all).0
   where
     by_code : (b : Bool) → is_number_term (cond b (number_or (Named code name) (constants name)) (Named code name)) ≡ true
-        → placed back (Leaf (cond b (number_or (Named code name) (constants name)) (Named code name))) ≡ Leaf (cond b (number_or (Named code name) (constants name)) (Named code name))
+        → with_location_less back (Leaf (cond b (number_or (Named code name) (constants name)) (Named code name))) ≡ Leaf (cond b (number_or (Named code name) (constants name)) (Named code name))
     by_code true is = name_placed back code name (constants name) is
     by_code false is = absurd cc
 numbers_placed constants back (Leaf (Offset n)) all = absurd cc
@@ -96,7 +96,7 @@ numbers_placed constants back (Unary code a) all =
 numbers_placed constants back (Binary code a b) all =
     let parts = and_parts (are_numbers constants (terms_of a)) _ (sym (numbers_append constants (terms_of a) (terms_of b ++ Operator code ∷ [])) ∙ all) in
     let others = and_parts (are_numbers constants (terms_of b)) _ (sym (numbers_append constants (terms_of b) (Operator code ∷ [])) ∙ parts.1) in
-    ap (λ (x : Tree). Binary code x (placed back (with_values constants b))) (numbers_placed constants back a parts.0)
+    ap (λ (x : Tree). Binary code x (with_location_less back (with_values constants b))) (numbers_placed constants back a parts.0)
     ∙ ap (λ (x : Tree). Binary code (with_values constants a) x) (numbers_placed constants back b others.0)
 
 numbers_placed_by : (constants : Constants) (back : ℕ) (t : Tree) → are_numbers constants (terms_of t) ≡ true → placed_by back (with_values constants t) ≡ with_values constants t
@@ -142,15 +142,15 @@ depth-with_values constants t = sym (pending-one (with_values constants t)) ∙ 
 
 -- ---- amounts
 
-abbrev text_answer : List ℕ → Answer Kept
+abbrev text_answer : List ℕ → Answer AmountBytes
 text_answer bytes = Ok (Text bytes)
 
-open_answer : (constants : Constants) (back : ℕ) (terms : List Term) (tree : Tree) → IsFormulaOf terms tree → worth constants tree ≡ meaning.Open
+open_answer : (constants : Constants) (back : ℕ) (terms : List Term) (tree : Tree) → IsFormulaOf terms tree → known_value constants tree ≡ meaning.Open
     → text_answer (terms_text 0 (all_written constants back terms)) ≡ kept_answer back (amount constants tree)
 unfolding amount
 open_answer constants back terms tree is none =
     ap (λ (l : List Term). text_answer (terms_text 0 l)) (ap (all_written constants back) is.terms_are ∙ all_written-tree constants back tree)
-    ∙ ap (λ (w : meaning.Worth). kept_answer back (amount_by (with_values constants tree) w)) (sym none)
+    ∙ ap (λ (w : meaning.KnownValue). kept_answer back (amount_by (with_values constants tree) w)) (sym none)
 
 -- where not all terms are numbers
 pub amount_open : (constants : Constants) (back : ℕ) (terms : List Term) (out : List ℕ) → out ≡ [] ++ terms_text 0 (all_written constants back terms) → are_numbers constants terms ≡ false
@@ -171,29 +171,29 @@ spells_whole constants back terms out tree text all fine is =
       spelled = ap (λ (l : List ℕ). l ++ 0x00 ∷ []) (text ∙ ap (terms_text 0) written);
     }
 
-pub worth_there : (constants : Constants) (back : ℕ) (terms : List Term) (out : List ℕ) (w : meaning.Worth) (tree : Tree) → out ≡ [] ++ terms_text 0 (all_written constants back terms)
-    → are_numbers constants terms ≡ true → AreTerms 0 (with_terms constants terms) → ((t : Tree) → Spells 0 (out ++ 0x00 ∷ []) t → w ≡ worth_of_value (value nowhere 0 0 t))
-    → IsFormulaOf terms tree → w ≡ worth constants tree
+pub worth_there : (constants : Constants) (back : ℕ) (terms : List Term) (out : List ℕ) (w : meaning.KnownValue) (tree : Tree) → out ≡ [] ++ terms_text 0 (all_written constants back terms)
+    → are_numbers constants terms ≡ true → AreTerms 0 (with_terms constants terms) → ((t : Tree) → Spells 0 (out ++ 0x00 ∷ []) t → w ≡ worth_of_value (value no_environment 0 0 t))
+    → IsFormulaOf terms tree → w ≡ known_value constants tree
 worth_there constants back terms out w tree text all fine value_is is =
     value_is (with_values constants tree) (spells_whole constants back terms out tree text all fine is)
     ∙ worth_is_value constants tree is.formed (ap (are_numbers constants) (sym is.terms_are) ∙ all)
 
-abbrev number_answer : ℕ → Answer Kept
+abbrev number_answer : ℕ → Answer AmountBytes
 number_answer n = Ok (Number n)
 
-abbrev divided_answer : Answer Kept
+abbrev divided_answer : Answer AmountBytes
 divided_answer = Err DivideByZero
 
-pub number_is : (constants : Constants) (back n : ℕ) (tree : Tree) → meaning.Number n ≡ worth constants tree → number_answer n ≡ kept_answer back (amount constants tree)
+pub number_is : (constants : Constants) (back n : ℕ) (tree : Tree) → meaning.Number n ≡ known_value constants tree → number_answer n ≡ kept_answer back (amount constants tree)
 unfolding amount
-number_is constants back n tree is = ap (λ (w : meaning.Worth). kept_answer back (amount_by (with_values constants tree) w)) is
+number_is constants back n tree is = ap (λ (w : meaning.KnownValue). kept_answer back (amount_by (with_values constants tree) w)) is
 
-pub divided_is : (constants : Constants) (back : ℕ) (tree : Tree) → meaning.Divided ≡ worth constants tree → divided_answer ≡ kept_answer back (amount constants tree)
+pub divided_is : (constants : Constants) (back : ℕ) (tree : Tree) → meaning.Divided ≡ known_value constants tree → divided_answer ≡ kept_answer back (amount constants tree)
 unfolding amount
-divided_is constants back tree is = ap (λ (w : meaning.Worth). kept_answer back (amount_by (with_values constants tree) w)) is
+divided_is constants back tree is = ap (λ (w : meaning.KnownValue). kept_answer back (amount_by (with_values constants tree) w)) is
 
 pub open_is : (constants : Constants) (back : ℕ) (terms : List Term) (out new : List ℕ) (tree : Tree) → out ≡ [] ++ terms_text 0 (all_written constants back terms) → new ≡ out → IsFormulaOf terms tree
-    → meaning.Open ≡ worth constants tree → text_answer new ≡ kept_answer back (amount constants tree)
+    → meaning.Open ≡ known_value constants tree → text_answer new ≡ kept_answer back (amount constants tree)
 open_is constants back terms out new tree text same is w = ap text_answer (same ∙ text) ∙ open_answer constants back terms tree is (sym w)
 
 -- a text that began empty

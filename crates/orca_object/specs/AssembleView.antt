@@ -8,7 +8,7 @@ use Rattle.asm_meaning.specs.Object.{AreSteps, object_text, most_bytes}
 use Rattle.asm_meaning.specs.declared.faults.AsmCause.TheVariants.{Unclosed, TooLong}
 use Rattle.asm_meaning.specs.State.{State, Segment, start}
 use Rattle.asm_meaning.specs.Statement.{IsStep}
-use Rattle.orca_object.specs.declared.state.Kept.{Kept}
+use Rattle.orca_object.specs.declared.state.AsmState.{AsmState}
 use Rattle.orca_object.specs.StateView.{ShowsState}
 
 -- a line with a fault, behind lines that have none
@@ -24,12 +24,12 @@ pub record Stops (lines : List Line) (fault : AsmFault) : Type 0 where
   pub fault_is : fault ≡ record { cause = cause; file = line.file; line = line.number }
 
 -- all lines have left this
-pub record Ends (lines : List Line) (k : Kept) : Type 0 where
+pub record Ends (lines : List Line) (k : AsmState) : Type 0 where
   pub last : State
   pub steps : AreSteps start lines last
   pub shows : ShowsState last k
 
-abbrev pub HasStepped : List Line → Result Kept AsmFault → Type 0
+abbrev pub HasStepped : List Line → Result AsmState AsmFault → Type 0
 HasStepped lines (Ok k) = Ends lines k
 HasStepped lines (Err fault) = Stops lines fault
 

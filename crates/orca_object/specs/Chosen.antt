@@ -8,7 +8,7 @@ use Rattle.orca_meaning.specs.declared.mnemonics.Mnemonic.{Mnemonic}
 use Rattle.orca_meaning.specs.declared.modes.Mode.{Mode}
 use Rattle.asm_meaning.specs.Answer.{Answer}
 use Rattle.asm_meaning.specs.Constant.{Constants, Amount, Known, Written, amount}
-use Rattle.asm_meaning.specs.Instruction.{Widths, operand_bytes, mode_of_number, or_first, with_known, with_tree, bank, without_amount, moved}
+use Rattle.asm_meaning.specs.Instruction.{Widths, operand_bytes, mode_of_number, or_first, with_known, with_tree, bank, without_amount, block_move_pieces}
 use Rattle.asm_meaning.specs.Pieces.{Piece}
 use Rattle.orca_object.specs.declared.amount.Amount as amount_type
 use Rattle.orca_object.specs.declared.amount.Amount.TheVariants as amounts
@@ -25,14 +25,14 @@ IsByteAmount (amounts.Known n) = n < 256
 IsByteAmount (amounts.Written text) = Unit {0}
 
 -- a bank of an amount
-abbrev pub banked : Answer Amount → Answer Amount
-banked meant = meant >>= bank
+abbrev pub bank_of_amount : Answer Amount → Answer Amount
+bank_of_amount meant = meant >>= bank
 
 -- what the formulas of an operand give, where these modes are offered, and this one first
 abbrev pub by_trees : Constants → Widths → Mnemonic → Prefix → Mode → List Mode → List Tree → Answer (List Piece)
 by_trees constants widths mnemonic prefix first modes [] = without_amount widths mnemonic first
 by_trees constants widths mnemonic prefix first modes (tree ∷ []) = amount constants tree >>= chosen_amount widths mnemonic prefix first modes
-by_trees constants widths mnemonic prefix first modes (source ∷ destination ∷ trees) = moved constants mnemonic first source destination
+by_trees constants widths mnemonic prefix first modes (source ∷ destination ∷ trees) = block_move_pieces constants mnemonic first source destination
 
 -- the formulas of an operand can be written
 abbrev pub AreGoodTrees : List Tree → Type 0

@@ -8,22 +8,22 @@ use Rattle.orca_meaning.specs.Token.{digits_at}
 use Rattle.orca_text.specs.Kept.{kept_terms}
 use Rattle.asm_meaning.specs.declared.faults.AsmCause.{AsmCause}
 use Rattle.asm_meaning.specs.declared.faults.AsmCause.TheVariants.{BadNumber}
-use Rattle.asm_meaning.specs.Answer.{Answer, both, earlier, all_of}
+use Rattle.asm_meaning.specs.Answer.{Answer, pair_or_earlier_fault, earlier, all_of}
 use Rattle.asm_meaning.specs.Constant.{Constants}
 use Rattle.asm_meaning.specs.Elements as meaning
-use Rattle.asm_meaning.specs.Elements.{Repeat, Digits, Value, Element, IsRepeatAt, IsValueAt, IsElementAt, in_range, count_of, numbered, value_pieces, element_pieces}
+use Rattle.asm_meaning.specs.Elements.{Repeat, Digits, Value, Element, IsRepeatAt, IsValueAt, IsElementAt, in_range, count_of, piece_of_number, value_pieces, element_pieces}
 use Rattle.asm_meaning.specs.Formulas.{AreFormulas, number_of}
 use Rattle.asm_meaning.specs.Pieces.{Piece, copies}
-use Rattle.orca_object.specs.declared.given.Part.{Part}
+use Rattle.orca_object.specs.declared.encoding.RepeatedPieces.{RepeatedPieces}
 use Rattle.orca_object.specs.declared.piece.Piece as piece_type
 use Rattle.orca_object.specs.GivenView.{part_pieces}
 use Rattle.orca_object.specs.PieceView.{piece}
 
 -- ---- one answer behind another
 
-abbrev pub mapped : {T B : Type 0} → (T → B) → Result T AsmCause → Answer B
-mapped v (Ok x) = Ok (v x)
-mapped v (Err cause) = Err cause
+abbrev pub map_answer : {T B : Type 0} → (T → B) → Result T AsmCause → Answer B
+map_answer v (Ok x) = Ok (v x)
+map_answer v (Err cause) = Err cause
 
 -- the fault that is told behind one more answer
 abbrev pub fault_behind : {T : Type 0} → Option AsmCause → Result T AsmCause → Option AsmCause
@@ -54,13 +54,13 @@ pub record IsKeptOf (terms : List Term) (large : Bool) (tree : Tree) : Type 0 wh
   pub large_is : large ≡ has_large tree
 
 abbrev pub piece_answer : Result piece_type.Piece AsmCause → Answer Piece
-piece_answer answer = mapped piece answer
+piece_answer answer = map_answer piece answer
 
 -- the formulas of a text, and the numbers of so many bytes that they give
 pub record HasNumbers (constants : Constants) (width : ℕ) (text : List ℕ) (answer : Answer (List Piece)) : Type 0 where
   pub trees : List Tree
   pub are : AreFormulas text trees
-  pub gives : answer ≡ all_of (numbered constants width) trees
+  pub gives : answer ≡ all_of (piece_of_number constants width) trees
 
 -- ---- counts
 
@@ -83,8 +83,8 @@ pub record HasCount (constants : Constants) (text : List ℕ) (answer : Answer �
   pub gives : answer ≡ count_of constants repeat
 
 -- a count, which is 1 to 65,535
-abbrev pub ranged : Answer ℕ → Answer ℕ
-ranged n = n >>= in_range
+abbrev pub checked_count : Answer ℕ → Answer ℕ
+checked_count n = n >>= in_range
 
 -- a count of digits, of which none is too large a number
 abbrev pub count_by : Option ℕ → Answer ℕ
@@ -107,8 +107,8 @@ pub record HasElement (constants : Constants) (msb : Bool) (text : List ℕ) (an
   pub gives : answer ≡ element_pieces constants msb element
 
 -- the pieces so often
-abbrev pub repeated : Answer ℕ → Answer (List Piece) → Answer (List Piece)
-repeated count pieces = both count pieces >>= λ found. Ok (copies found.0 found.1)
+abbrev pub repeated_pieces : Answer ℕ → Answer (List Piece) → Answer (List Piece)
+repeated_pieces count pieces = pair_or_earlier_fault count pieces >>= λ found. Ok (copies found.0 found.1)
 
-abbrev pub part_answer : Result Part AsmCause → Answer (List Piece)
-part_answer answer = mapped part_pieces answer
+abbrev pub part_answer : Result RepeatedPieces AsmCause → Answer (List Piece)
+part_answer answer = map_answer part_pieces answer

@@ -2,9 +2,9 @@
 use Rattle.std.specs.Prelude.{ℕ, ◌≤◌, length, List, [], ◌∷◌, Ok, Err}
 use Rattle.omf_format.specs.Field.{◌>>=◌}
 use Rattle.omf_format.specs.Record.{Space, Using}
-use Rattle.asm_meaning.specs.Answer.{Answer, both}
-use Rattle.asm_meaning.specs.State.{State, in_segment, marked}
-use Rattle.asm_meaning.specs.Statement.{marking, alignment_in, aligned, distance_in, moved, listed_kind, with_kind}
+use Rattle.asm_meaning.specs.Answer.{Answer, pair_or_earlier_fault}
+use Rattle.asm_meaning.specs.State.{State, in_segment, with_local_record}
+use Rattle.asm_meaning.specs.Statement.{marking, alignment_in, state_after_align, distance_in, state_after_org, listed_kind, with_kind}
 
 -- a name that isn't empty
 abbrev pub IsSome : Answer (List ℕ) → Type 0
@@ -15,13 +15,13 @@ abbrev pub using_by : State → Answer (List ℕ) → Answer (List ℕ) → Answ
 using_by state label found = marking state 0x4E label (found >>= λ name. Ok (Using name ∷ []))
 
 abbrev pub spaced_by : State → Answer (List ℕ) → Answer ℕ → Answer State
-spaced_by state label number = both label number >>= λ (name, n). Ok (in_segment (marked name 0x4E (Space n ∷ [])) state)
+spaced_by state label number = pair_or_earlier_fault label number >>= λ (name, n). Ok (in_segment (with_local_record name 0x4E (Space n ∷ [])) state)
 
 abbrev pub aligned_by : State → Answer (List ℕ) → Answer ℕ → Answer State
-aligned_by state label number = both label (number >>= alignment_in state) >>= λ (name, n). Ok (aligned state state.segment name n)
+aligned_by state label number = pair_or_earlier_fault label (number >>= alignment_in state) >>= λ (name, n). Ok (state_after_align state state.segment name n)
 
 abbrev pub moved_by : State → Answer (List ℕ) → Answer ℕ → Answer State
-moved_by state label number = both label (number >>= distance_in state.segment) >>= λ (name, n). Ok (moved state state.segment name n)
+moved_by state label number = pair_or_earlier_fault label (number >>= distance_in state.segment) >>= λ (name, n). Ok (state_after_org state state.segment name n)
 
 abbrev pub kinded_by : State → Answer (List ℕ) → Answer ℕ → Answer State
-kinded_by state label number = both label (number >>= listed_kind) >>= λ (name, n). Ok (in_segment (λ s. with_kind n (marked name 0x4E [] s)) state)
+kinded_by state label number = pair_or_earlier_fault label (number >>= listed_kind) >>= λ (name, n). Ok (in_segment (λ s. with_kind n (with_local_record name 0x4E [] s)) state)

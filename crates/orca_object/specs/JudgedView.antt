@@ -5,13 +5,13 @@ use Rattle.omf_format.specs.Field.{◌>>=◌}
 use Rattle.asm_meaning.specs.Answer.{Answer}
 use Rattle.asm_meaning.specs.Constant.{Constants, Amount, amount}
 use Rattle.asm_meaning.specs.declared.faults.AsmCause.TheVariants.{UnknownConstant}
-use Rattle.asm_meaning.specs.Formulas.{judged}
-use Rattle.orca_object.specs.AmountView.{Kept, Number, Text}
+use Rattle.asm_meaning.specs.Formulas.{checked_formula}
+use Rattle.orca_object.specs.AmountView.{AmountBytes, Number, Text}
 
 abbrev pub judged_amount : Constants → Tree → Answer Amount
-judged_amount constants tree = judged tree >>= amount constants
+judged_amount constants tree = checked_formula tree >>= amount constants
 
 -- the number, where one is needed
-abbrev pub needed_kept : Kept → Answer ℕ
+abbrev pub needed_kept : AmountBytes → Answer ℕ
 needed_kept (Number n) = Ok n
 needed_kept (Text bytes) = Err UnknownConstant

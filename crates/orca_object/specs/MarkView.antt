@@ -7,12 +7,12 @@ use Rattle.asm_meaning.specs.laws.PieceLaws.{ArePlainPieces}
 use Rattle.asm_meaning.specs.Pieces.{records_of}
 use Rattle.asm_meaning.specs.State.{State}
 use Rattle.asm_meaning.specs.Statement.{marking}
-use Rattle.orca_object.specs.declared.given.Given.{Given}
+use Rattle.orca_object.specs.declared.encoding.Encoding.{Encoding}
 use Rattle.orca_object.specs.GivenView.{given_pieces, given_answer}
 
-abbrev pub giving : State → ℕ → Answer (List ℕ) → Result Given AsmCause → Answer State
+abbrev pub giving : State → ℕ → Answer (List ℕ) → Result Encoding AsmCause → Answer State
 giving state form label given = marking state form label (given_answer given >>= λ pieces. Ok (records_of pieces))
 
-abbrev pub IsPlainAnswer : Result Given AsmCause → Type 0
+abbrev pub IsPlainAnswer : Result Encoding AsmCause → Type 0
 IsPlainAnswer (Ok given) = ArePlainPieces (given_pieces given)
 IsPlainAnswer (Err cause) = Unit {0}

@@ -25,7 +25,7 @@ abbrev pub offered_test : Mnemonic → Prefix → Mode → Bool
 offered_test mnemonic prefix m = has_mode mnemonic m && meaning.is_asked prefix (meaning.kind_of m)
 
 abbrev pub number_test : meaning.Widths → Mnemonic → Prefix → ℕ → Mode → Bool
-number_test widths mnemonic prefix n m = meaning.holds prefix (meaning.kind_of m) (meaning.operand_bytes widths mnemonic m) n
+number_test widths mnemonic prefix n m = meaning.is_operand_of_width prefix (meaning.kind_of m) (meaning.operand_bytes widths mnemonic m) n
 
 abbrev pub two_test : Mode → Bool
 two_test m = meaning.is_address 2 (meaning.kind_of m)

@@ -4,21 +4,21 @@ use Rattle.std.specs.Option.{option_or}
 use Rattle.asm_meaning.specs.Constant as meaning
 use Rattle.asm_meaning.specs.State as state
 use Rattle.asm_meaning.specs.Statement.{value_in}
-use Rattle.orca_object.specs.Held.{held}
-use Rattle.orca_object.specs.declared.names.Names.{Names}
-use Rattle.orca_object.specs.declared.names.Outside.{Outside}
-use Rattle.orca_object.specs.declared.names.Known.{Known}
+use Rattle.orca_object.specs.Held.{value_of_name}
+use Rattle.orca_object.specs.declared.names.DefinedNames.{DefinedNames}
+use Rattle.orca_object.specs.declared.names.OutsideConstants.{OutsideConstants}
+use Rattle.orca_object.specs.declared.names.KnownConstants.{KnownConstants}
 
-abbrev pub names_of : Names → state.Names
-names_of names name = held names.map name
+abbrev pub names_of : DefinedNames → state.Names
+names_of names name = value_of_name names.map name
 
-abbrev pub outside_of : Outside → meaning.Constants
-outside_of outside name = held outside.map name
+abbrev pub outside_of : OutsideConstants → meaning.Constants
+outside_of outside name = value_of_name outside.map name
 
-abbrev pub value_in_names : Option Names → meaning.Constants
+abbrev pub value_in_names : Option DefinedNames → meaning.Constants
 value_in_names None name = None
 value_in_names (Some names) name = value_in (names_of names name)
 
 -- those of the segment, and else those from outside
-abbrev pub constants : Known → meaning.Constants
+abbrev pub constants : KnownConstants → meaning.Constants
 constants known name = option_or (value_in_names (option_copied known.names) name) (outside_of known.outside.now name)

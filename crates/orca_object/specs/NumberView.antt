@@ -5,7 +5,7 @@ use Rattle.omf_format.specs.Expression.{Term, Tree}
 use Rattle.asm_meaning.specs.declared.faults.AsmCause.{AsmCause}
 use Rattle.asm_meaning.specs.Answer.{Answer}
 use Rattle.asm_meaning.specs.Constant as meaning
-use Rattle.asm_meaning.specs.Constant.{Constants, worth, needed, amount}
+use Rattle.asm_meaning.specs.Constant.{Constants, known_value, required_number, amount}
 use Rattle.asm_meaning.specs.Formulas.{IsFormula, formula_of}
 use Rattle.orca_object.specs.declared.amount.Amount.{Amount}
 use Rattle.orca_object.specs.AmountView.{IsFormulaOf, amount_view, kept_answer}
@@ -32,7 +32,7 @@ pub record HasAmount (constants : Constants) (text : List ℕ) (answer : Result 
 
 -- the number that it is
 abbrev pub number_found : Constants → Option Tree → Answer ℕ
-number_found constants found = formula_of found >>= λ tree. needed (worth constants tree)
+number_found constants found = formula_of found >>= λ tree. required_number (known_value constants tree)
 
 pub record HasNumber (constants : Constants) (text : List ℕ) (answer : Answer ℕ) : Type 0 where
   pub found : Option Tree

@@ -3,11 +3,11 @@ use Rattle.std.specs.Prelude.{◌≡◌, ℕ, ◌+◌, ◌*◌, List, [], ◌∷
 use Rattle.asm_meaning.specs.Object.{records_text}
 use Rattle.asm_meaning.specs.Pieces as meaning
 use Rattle.asm_meaning.specs.Pieces.{records_behind}
-use Rattle.orca_object.specs.declared.given.Part.{Part}
+use Rattle.orca_object.specs.declared.encoding.RepeatedPieces.{RepeatedPieces}
 use Rattle.orca_object.specs.declared.piece.Piece as piece_type
 use Rattle.orca_object.specs.declared.piece.Piece.TheVariants.{Bytes, Formula, Strong}
 use Rattle.orca_object.specs.declared.writer.Writer.{Writer}
-use Rattle.orca_object.specs.TextView.{limited, kept_text}
+use Rattle.orca_object.specs.TextView.{text_within_limit, kept_text}
 
 -- how many cells a piece gives
 abbrev pub piece_size : piece_type.Piece → ℕ
@@ -19,14 +19,14 @@ abbrev pub pieces_size : List piece_type.Piece → ℕ
 pieces_size [] = 0
 pieces_size (p ∷ ps) = piece_size p + pieces_size ps
 
-abbrev pub parts_size : List Part → ℕ
+abbrev pub parts_size : List RepeatedPieces → ℕ
 parts_size [] = 0
 parts_size (p ∷ ps) = p.count * pieces_size p.pieces.items + parts_size ps
 
 -- some bytes were written, where constant bytes wait for their record and these pieces stand behind
 pub record Wrote (whole : List ℕ) (kept : Option (List ℕ)) (pending : List ℕ) (rest : List meaning.Piece) : Type 0 where
   pub text : List ℕ
-  pub kept_is : kept ≡ limited text
+  pub kept_is : kept ≡ text_within_limit text
   pub whole_is : text ++ records_text (records_behind pending rest) ≡ whole
 
 -- the same of a writer

@@ -12,15 +12,15 @@ use Rattle.orca_meaning.specs.Line.{Line}
 use Rattle.asm_meaning.specs.declared.directives.Operation.{Operation}
 use Rattle.asm_meaning.specs.State.{Segment, State, bank_size_of, cells_of, with_label, local_of, within_length}
 use Rattle.asm_meaning.specs.Statement.{IsDone}
-use Rattle.orca_object.specs.declared.state.Open.{Open}
-use Rattle.orca_object.specs.declared.state.Kept.{Kept}
+use Rattle.orca_object.specs.declared.state.OpenSegment.{OpenSegment}
+use Rattle.orca_object.specs.declared.state.AsmState.{AsmState}
 use Rattle.orca_object.specs.ModeView.{widths}
 use Rattle.orca_object.specs.NamesView.{names_of, outside_of}
-use Rattle.orca_object.specs.TextView.{limited, kept_text}
+use Rattle.orca_object.specs.TextView.{text_within_limit, kept_text}
 use Rattle.orca_object.specs.BodyView.{ShowsBody}
 
 -- the header that a segment has so far
-abbrev pub header_view : Open → Fields
+abbrev pub header_view : OpenSegment → Fields
 header_view o = record {
   byte_count = 0;
   res_spc = 0;
@@ -40,7 +40,7 @@ header_view o = record {
 }
 
 -- a segment that hasn't ended is kept so
-pub record ShowsSegment (s : Segment) (o : Open) : Type 0 where
+pub record ShowsSegment (s : Segment) (o : OpenSegment) : Type 0 where
   pub file : o.file ≡ s.begun.file
   pub line : o.line ≡ s.begun.number
   pub class : o.class ≡ s.class
@@ -48,53 +48,53 @@ pub record ShowsSegment (s : Segment) (o : Open) : Type 0 where
   pub names : names_of o.names ≡ s.names
   pub body : ShowsBody (0x37 + length s.header.name) s.body o.body
 
-abbrev pub ShowsOption : Option Segment → Option Open → Type 0
+abbrev pub ShowsOption : Option Segment → Option OpenSegment → Type 0
 ShowsOption None None = Unit {0}
 ShowsOption None (Some o) = ⊥
 ShowsOption (Some s) None = ⊥
 ShowsOption (Some s) (Some o) = ShowsSegment s o
 
 -- what lines leave is kept so
-pub record ShowsState (state : State) (k : Kept) : Type 0 where
+pub record ShowsState (state : State) (k : AsmState) : Type 0 where
   pub widths : widths k.widths ≡ state.widths
   pub msb : k.msb ≡ state.msb
   pub outside : outside_of k.outside ≡ state.outside
   pub org : k.org ≡ state.org
   pub align : k.align ≡ state.align
-  pub front : kept_text k.front ≡ limited (records_text state.front)
+  pub front : kept_text k.front ≡ text_within_limit (records_text state.front)
   pub waiting : place_behind 0 state.front ≡ 0
   pub segment : ShowsOption state.segment k.segment
   pub number : k.number ≡ (length state.ended + 1) % 0x10000
-  pub object : kept_text k.object ≡ limited (object_text state.ended)
+  pub object : kept_text k.object ≡ text_within_limit (object_text state.ended)
 
 -- ---- changes of a segment
 
 -- one more name
-abbrev pub named : List ℕ → Option ℕ → Segment → Segment
-named label value s = record s { names = with_label label value s.names }
+abbrev pub with_defined_name : List ℕ → Option ℕ → Segment → Segment
+with_defined_name label value s = record s { names = with_label label value s.names }
 
 -- more records
 abbrev pub with_records : List Record → Segment → Segment
 with_records contents s = record s { body = s.body ++ contents }
 
 -- a label, with its LOCAL
-abbrev pub labelled : List ℕ → ℕ → ℕ → Segment → Segment
-labelled label form size s = with_records (local_of label form size) (named label None s)
+abbrev pub with_local_label : List ℕ → ℕ → ℕ → Segment → Segment
+with_local_label label form size s = with_records (local_of label form size) (with_defined_name label None s)
 
 -- ---- answers
 
 -- a segment is kept so, or is longer than a segment of any class may be
-abbrev pub ShowsGrown : {U : Type 0} → Result U AsmCause → Segment → Open → Type 0
+abbrev pub ShowsGrown : {U : Type 0} → Result U AsmCause → Segment → OpenSegment → Type 0
 ShowsGrown (Ok done) s o = ShowsSegment s o
 ShowsGrown (Err cause) s o = (cause ≡ SegmentTooLong) × (0xFFFFFF < cells_of s)
 
 -- a statement leaves this, or has this fault, which may be that its segment is then too long
-abbrev pub Leaves : {U : Type 0} → Result U AsmCause → Kept → Answer State → Type 0
+abbrev pub Leaves : {U : Type 0} → Result U AsmCause → AsmState → Answer State → Type 0
 Leaves (Ok done) k answer = (next : State) × (answer ≡ Ok next) × ShowsState next k
 Leaves (Err cause) k answer = (answer >>= within_length) ≡ Err cause
 
 -- what an operation leaves
-pub record IsLeft {U : Type 0} (state : State) (line : Line) (operation : Operation) (label : Answer (List ℕ)) (text : List ℕ) (done : Result U AsmCause) (k : Kept) : Type 0 where
+pub record IsLeft {U : Type 0} (state : State) (line : Line) (operation : Operation) (label : Answer (List ℕ)) (text : List ℕ) (done : Result U AsmCause) (k : AsmState) : Type 0 where
   pub left : Answer State
   pub is : IsDone state line operation label text left
   pub leaves : Leaves done k left

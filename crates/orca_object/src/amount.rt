@@ -5,13 +5,13 @@ ghost use Rattle.omf_format.specs.Expression.{AreTerms, IsTerm, term_text, terms
 ghost use Rattle.omf_format.specs.Value.{value};
 ghost use Rattle.omf_expr.specs.View.{view};
 ghost use Rattle.asm_meaning.specs.Constant.{amount};
-ghost use Rattle.orca_object.specs.AmountView.{with_terms, IsFormulaOf, kept_view, amount_view, kept_answer, less_location, written_term, written_terms, all_written, is_number_term, are_numbers, worth_of_value, nowhere, worth_view};
+ghost use Rattle.orca_object.specs.AmountView.{with_terms, IsFormulaOf, kept_view, amount_view, kept_answer, less_location, written_term, written_terms, all_written, is_number_term, are_numbers, worth_of_value, no_environment, worth_view};
 ghost use Rattle.orca_object.specs.NamesView.{constants};
 ghost use Rattle.orca_text.specs.View.{term};
 ghost use Rattle.orca_object.specs.FineView.{IsFineAmount};
 ghost use Rattle.orca_object.specs.NumberView.{IsTerms, HasAmount, HasNumber};
 
-use crate::names::Known;
+use crate::names::KnownConstants;
 use asm_meaning::AsmCause;
 use omf_expr::{Env, Expr, Term, Value, ValueFault, evaluate, put_term};
 use orca_text::{Formula, FormulaTerm, LinePart, Operands, formula_at, is_too_deep};
@@ -19,7 +19,7 @@ use std::alloc::{AllocError, Global};
 
 /// What a formula is worth.
 #[derive(Clone, Copy)]
-pub(crate) enum Worth {
+pub(crate) enum KnownValue {
     /// A number.
     Number(u32),
     /// None: the location counter, an attribute or a name that is no known constant stands in it.
@@ -33,9 +33,9 @@ pub(crate) enum Worth {
 struct Nowhere;
 
 impl Env for Nowhere {
-    ghost use Rattle.orca_object.specs.AmountView.{nowhere};
+    ghost use Rattle.orca_object.specs.AmountView.{no_environment};
 
-    ghost meaning = { λ _. nowhere };
+    ghost meaning = { λ _. no_environment };
 
     fn label(&self, _: &[u8], _: bool) -> Option<Value> {
         None
@@ -56,7 +56,7 @@ impl Env for Nowhere {
 
 /// A term of an expression, with the value of a known constant in place of its name.
 #[inline(always)]
-fn with_value<'a>(known: Known<'_>, of: &'a FormulaTerm) -> Term<'a>
+fn with_value<'a>(known: KnownConstants<'_>, of: &'a FormulaTerm) -> Term<'a>
     ensures value { view result ≡ written_term (constants known.entry) (term of.now) }
     ensures fine { IsTerm 0 (term of.now) → IsTerm 0 (view result) }
 {
@@ -91,7 +91,7 @@ fn is_number_term(of: Term<'_>) -> bool
 }
 
 /// Appends a term, or nothing.
-fn put(out: &mut Vec<u8>, of: Term<'_>) -> Result<(), AllocError>
+fn append_term(out: &mut Vec<u8>, of: Term<'_>) -> Result<(), AllocError>
     requires { IsTerm 0 (view of) }
     ensures { OnOk result (out.new.items ≡ out.old.items ++ term_text 0 (view of.entry)) }
 {
@@ -112,7 +112,7 @@ fn put_placed(out: &mut Vec<u8>, back: u8, of: Term<'_>) -> Result<(), AllocErro
             return put_location(out, back);
         }
     }
-    put(out, of)
+    append_term(out, of)
 }
 
 /// Appends the location counter less a number.
@@ -120,16 +120,16 @@ fn put_placed(out: &mut Vec<u8>, back: u8, of: Term<'_>) -> Result<(), AllocErro
 fn put_location(out: &mut Vec<u8>, back: u8) -> Result<(), AllocError>
     ensures { OnOk result (out.new.items ≡ out.old.items ++ terms_text 0 (less_location back)) }
 {
-    put(out, Term::Location)?;
-    put(out, Term::Constant(u32::from(back)))?;
-    put(out, Term::Operator(0x02))
+    append_term(out, Term::Location)?;
+    append_term(out, Term::Constant(u32::from(back)))?;
+    append_term(out, Term::Operator(0x02))
 }
 
 /// Appends what is written for the terms of a formula, and answers whether all of them are numbers and operators.
 #[tactic(auto, using(crate::proofs::Amounts::terms_put, crate::proofs::Amounts::terms_end))]
 fn put_terms(
     out: &mut Vec<u8>,
-    known: Known<'_>,
+    known: KnownConstants<'_>,
     back: u8,
     terms: &[FormulaTerm],
 ) -> Result<bool, AllocError>
@@ -150,26 +150,26 @@ fn put_terms(
 }
 
 /// The value of bytes that spell an expression without names and places.
-fn value_of(bytes: &[u8]) -> Worth
-    ensures { (tree : Tree) → Spells 0 bytes.now tree → worth_view result ≡ worth_of_value (value nowhere 0 0 tree) }
+fn value_of(bytes: &[u8]) -> KnownValue
+    ensures { (tree : Tree) → Spells 0 bytes.now tree → worth_view result ≡ worth_of_value (value no_environment 0 0 tree) }
 {
     match Expr::of(bytes, 0) {
         Ok(expr) => number_of(evaluate(&expr, &Nowhere)),
-        Err(_) => Worth::Open,
+        Err(_) => KnownValue::Open,
     }
 }
 
 /// What a value is worth.
 #[inline(always)]
-fn number_of(of: Result<Value, ValueFault>) -> Worth
+fn number_of(of: Result<Value, ValueFault>) -> KnownValue
     ensures { worth_view result ≡ worth_of_value of }
 {
     match of {
-        Ok(Value::Fixed(n)) => Worth::Number(n),
-        Ok(Value::At { .. }) => Worth::Open,
-        Err(ValueFault::DivideByZero) => Worth::Divided,
-        Err(ValueFault::NotRelocatable) => Worth::Open,
-        Err(ValueFault::Unknown(_)) => Worth::Open,
+        Ok(Value::Fixed(n)) => KnownValue::Number(n),
+        Ok(Value::At { .. }) => KnownValue::Open,
+        Err(ValueFault::DivideByZero) => KnownValue::Divided,
+        Err(ValueFault::NotRelocatable) => KnownValue::Open,
+        Err(ValueFault::Unknown(_)) => KnownValue::Open,
     }
 }
 
@@ -183,9 +183,9 @@ pub(crate) enum Amount {
 }
 
 /// The value of terms that all are numbers and operators, whose text stands there. The end is put behind them and taken away again.
-fn value_behind(out: &mut Vec<u8>) -> Result<Worth, AllocError>
+fn value_behind(out: &mut Vec<u8>) -> Result<KnownValue, AllocError>
     ensures text { OnOk result (out.new.items ≡ out.old.items) }
-    ensures value { IfOk result (λ w. (tree : Tree) → Spells 0 (out.old.items ++ 0x00 ∷ []) tree → worth_view w ≡ worth_of_value (value nowhere 0 0 tree)) }
+    ensures value { IfOk result (λ w. (tree : Tree) → Spells 0 (out.old.items ++ 0x00 ∷ []) tree → worth_view w ≡ worth_of_value (value no_environment 0 0 tree)) }
 {
     out.push(0)?;
     let worth = value_of(out.as_slice());
@@ -198,7 +198,7 @@ fn value_behind(out: &mut Vec<u8>) -> Result<Worth, AllocError>
 #[inline(always)]
 fn amount_of_one(
     alloc: Global,
-    known: Known<'_>,
+    known: KnownConstants<'_>,
     back: u8,
     only: &FormulaTerm,
 ) -> Result<Option<Amount>, AllocError>
@@ -221,7 +221,7 @@ fn amount_of_one(
 /// number, and elsewhere as it is (0).
 pub(crate) fn amount_of(
     alloc: Global,
-    known: Known<'_>,
+    known: KnownConstants<'_>,
     back: u8,
     terms: &[FormulaTerm],
 ) -> Result<Result<Amount, AsmCause>, AllocError>
@@ -240,9 +240,9 @@ pub(crate) fn amount_of(
     }
     let worth = value_behind(&mut out)?;
     match worth {
-        Worth::Number(n) => Ok(Ok(Amount::Known(n))),
-        Worth::Divided => Ok(Err(AsmCause::DivideByZero)),
-        Worth::Open => Ok(Ok(Amount::Written(out))),
+        KnownValue::Number(n) => Ok(Ok(Amount::Known(n))),
+        KnownValue::Divided => Ok(Err(AsmCause::DivideByZero)),
+        KnownValue::Open => Ok(Ok(Amount::Written(out))),
     }
 }
 
@@ -268,7 +268,7 @@ fn formula_in(alloc: Global, text: LinePart<'_>) -> Result<Result<Formula, AsmCa
 /// What the formula amounts to that a text is.
 pub(crate) fn amount_in(
     alloc: Global,
-    known: Known<'_>,
+    known: KnownConstants<'_>,
     text: LinePart<'_>,
 ) -> Result<Result<Amount, AsmCause>, AllocError>
     ensures amount { IfOk result (HasAmount (constants known.entry) text.entry.bytes.now) }
@@ -276,7 +276,7 @@ pub(crate) fn amount_in(
 {
     match formula_in(alloc, text)? {
         Ok(formula) => {
-            known.know_small();
+            known.recall_small();
             amount_of(alloc, known, 0, formula.terms())
         }
         Err(cause) => Ok(Err(cause)),
@@ -286,7 +286,7 @@ pub(crate) fn amount_in(
 /// The number that a text is, where it has to be a constant.
 pub(crate) fn number_in(
     alloc: Global,
-    known: Known<'_>,
+    known: KnownConstants<'_>,
     text: LinePart<'_>,
 ) -> Result<Result<u32, AsmCause>, AllocError>
     ensures { IfOk result (HasNumber (constants known.entry) text.entry.bytes.now) }

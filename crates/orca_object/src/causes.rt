@@ -1,7 +1,7 @@
 //! Which of several faults is told.
 
 ghost use Rattle.std.specs.Prelude.{◌≡◌, Err, OnOk, Some};
-ghost use Rattle.asm_meaning.specs.Answer.{rank, earlier, both};
+ghost use Rattle.asm_meaning.specs.Answer.{rank, earlier, pair_or_earlier_fault};
 ghost use Rattle.orca_object.specs.DcView.{fault_behind, all_behind, all_or};
 
 use asm_meaning::AsmCause;
@@ -49,11 +49,11 @@ pub(crate) fn earlier(cause: AsmCause, other: AsmCause) -> AsmCause
 }
 
 /// Both of two answers, or the earlier of their faults.
-pub(crate) fn both<A: Drop, B: Drop>(
+pub(crate) fn pair_or_earlier_fault<A: Drop, B: Drop>(
     first: Result<A, AsmCause>,
     second: Result<B, AsmCause>,
 ) -> Result<(A, B), AsmCause>
-    ensures { result ≡ both first second }
+    ensures { result ≡ pair_or_earlier_fault first second }
 {
     match first {
         Ok(a) => match second {
@@ -68,7 +68,7 @@ pub(crate) fn both<A: Drop, B: Drop>(
 }
 
 /// Keeps what an answer gives, or its fault if none comes before it.
-pub(crate) fn gather<T: Drop>(
+pub(crate) fn gather_answer<T: Drop>(
     out: &mut Vec<T>,
     fault: &mut Option<AsmCause>,
     answer: Result<T, AsmCause>,
@@ -99,7 +99,7 @@ fn first_of(before: Option<AsmCause>, cause: AsmCause) -> AsmCause
 }
 
 /// All that was given, unless there is a fault.
-pub(crate) fn gathered<T: Drop>(fault: Option<AsmCause>, out: T) -> Result<T, AsmCause>
+pub(crate) fn answer_or_fault<T: Drop>(fault: Option<AsmCause>, out: T) -> Result<T, AsmCause>
     ensures { result ≡ all_or fault out }
 {
     match fault {

@@ -6,19 +6,19 @@ ghost use Rattle.orca_meaning.specs.declared.operators.Operands.TheVariants.{Lab
 ghost use Rattle.orca_meaning.specs.Formula.{MeansAt};
 ghost use Rattle.orca_meaning.specs.Token.{digits_at};
 ghost use Rattle.asm_meaning.specs.Elements.{Repeat, IsRepeatAt, in_range};
-ghost use Rattle.orca_object.specs.DcView.{IsKeptOf, IsComputed, IsCounted, HasCount, ranged};
+ghost use Rattle.orca_object.specs.DcView.{IsKeptOf, IsComputed, IsCounted, HasCount, checked_count};
 ghost use Rattle.orca_object.specs.NamesView.{constants};
 
 use crate::element::{behind_parenthesis, in_range};
-use crate::names::Known;
+use crate::names::KnownConstants;
 use crate::numbers::number_of;
 use asm_meaning::AsmCause;
 use orca_text::{LinePart, Operands, behind_byte, digits_at, formula_at};
 use std::alloc::{AllocError, Global};
 
 /// A count, which is 1 to 65,535.
-fn ranged(n: Result<u32, AsmCause>) -> Result<u32, AsmCause>
-    ensures { result ≡ ranged n }
+fn check_count(n: Result<u32, AsmCause>) -> Result<u32, AsmCause>
+    ensures { result ≡ checked_count n }
 {
     match n {
         Ok(n) => in_range(n),
@@ -29,7 +29,7 @@ fn ranged(n: Result<u32, AsmCause>) -> Result<u32, AsmCause>
 /// The count that a formula in parentheses is, behind the first of them.
 fn computed_count<'a>(
     alloc: Global,
-    known: Known<'_>,
+    known: KnownConstants<'_>,
     behind: LinePart<'a>,
 ) -> Result<Option<(Result<u32, AsmCause>, &'a [u8])>, AllocError>
     ensures found { IfOk result (λ found. IfSome found (λ x. IsComputed (constants known.entry) behind.entry.bytes.now x.0 x.1.now)) }
@@ -42,7 +42,7 @@ fn computed_count<'a>(
         return Ok(None);
     };
     let n = number_of(alloc, known, &found.formula, found.large)?;
-    Ok(Some((ranged(n), rest)))
+    Ok(Some((check_count(n), rest)))
 }
 
 /// The count that decimal digits are.
@@ -68,7 +68,7 @@ fn count_by(found: Option<u32>) -> Result<u32, AsmCause>
 /// How often an element stands, which is said at the front of a text, and what stands behind that.
 pub(crate) fn count_at<'a>(
     alloc: Global,
-    known: Known<'_>,
+    known: KnownConstants<'_>,
     text: LinePart<'a>,
 ) -> Result<Option<(Result<u32, AsmCause>, &'a [u8])>, AllocError>
     ensures found { IfOk result (λ found. IfSome found (λ x. HasCount (constants known.entry) text.entry.bytes.now x.0 x.1.now)) }

@@ -14,9 +14,9 @@ ghost use Rattle.orca_object.specs.DoneView.{spaced_by};
 ghost use Rattle.asm_meaning.specs.declared.directives.Directive.TheVariants as directives;
 
 use crate::amount::number_in;
-use crate::causes::both;
-use crate::given::{Given, labelled};
-use crate::state::{Kept, Open};
+use crate::causes::pair_or_earlier_fault;
+use crate::encoding::{Encoding, label_and_encoding};
+use crate::state::{AsmState, OpenSegment};
 use crate::statement::{constants_given, instruction_given};
 use asm_meaning::AsmCause;
 use omf_base::Name;
@@ -24,11 +24,11 @@ use omf_records::Rec;
 use orca_text::{LinePart, Mnemonic, SourceLine};
 use std::alloc::{AllocError, Global};
 
-impl Open {
+impl OpenSegment {
     ghost use Rattle.std.specs.Prelude.{◌≡◌, ℕ, min, IfOk};
     ghost use Rattle.orca_object.specs.GivenView.{given_pieces, given_records};
     ghost use Rattle.asm_meaning.specs.laws.PieceLaws.{ArePlainPieces};
-    ghost use Rattle.asm_meaning.specs.State.{Segment, marked};
+    ghost use Rattle.asm_meaning.specs.State.{Segment, with_local_record};
     ghost use Rattle.orca_object.specs.StateView.{ShowsSegment, ShowsGrown};
 
     /// The records of a statement with its label.
@@ -37,10 +37,10 @@ impl Open {
         alloc: Global,
         label: &Name,
         form: u8,
-        given: &Given,
+        given: &Encoding,
     ) -> Result<Result<(), AsmCause>, AllocError>
         requires plain { ArePlainPieces (given_pieces given.now) }
-        ensures { IfOk result (λ done. (s : Segment) → ShowsSegment s self.old → ShowsGrown done (marked label.now form (given_records given.now) s) self.new) }
+        ensures { IfOk result (λ done. (s : Segment) → ShowsSegment s self.old → ShowsGrown done (with_local_record label.now form (given_records given.now) s) self.new) }
     {
         let size = u64::from(given.cells());
         self.mark(alloc, label, form, size)?;
@@ -54,10 +54,10 @@ impl Open {
     }
 }
 
-impl Kept {
+impl AsmState {
     ghost use Rattle.std.specs.Prelude.{◌≡◌, ◌∷◌, [], IfOk, Ok};
     ghost use Rattle.omf_format.specs.Record.{Space};
-    ghost use Rattle.asm_meaning.specs.State.{State, in_segment, marked};
+    ghost use Rattle.asm_meaning.specs.State.{State, in_segment, with_local_record};
     ghost use Rattle.orca_object.specs.GivenView.{given_pieces, given_records};
     ghost use Rattle.orca_object.specs.StateView.{ShowsState, Leaves};
     ghost use Rattle.asm_meaning.specs.laws.PieceLaws.{ArePlainPieces};
@@ -68,10 +68,10 @@ impl Kept {
         alloc: Global,
         label: &Name,
         form: u8,
-        given: &Given,
+        given: &Encoding,
     ) -> Result<Result<(), AsmCause>, AllocError>
         requires plain { ArePlainPieces (given_pieces given.now) }
-        ensures { IfOk result (λ done. (state : State) → ShowsState state self.old → Leaves done self.new (Ok (in_segment (marked label.now form (given_records given.now)) state))) }
+        ensures { IfOk result (λ done. (state : State) → ShowsState state self.old → Leaves done self.new (Ok (in_segment (with_local_record label.now form (given_records given.now)) state))) }
     {
         if let Some(open) = &mut self.segment {
             return open.mark_given(alloc, label, form, given);
@@ -86,7 +86,7 @@ impl Kept {
         label: &Name,
         n: u32,
     ) -> Result<Result<(), AsmCause>, AllocError>
-        ensures { IfOk result (λ done. (state : State) → ShowsState state self.old → Leaves done self.new (Ok (in_segment (marked label.now 0x4E (Space n ∷ [])) state))) }
+        ensures { IfOk result (λ done. (state : State) → ShowsState state self.old → Leaves done self.new (Ok (in_segment (with_local_record label.now 0x4E (Space n ∷ [])) state))) }
     {
         if let Some(open) = &mut self.segment {
             return open.give_record(alloc, label, &Rec::Space { n }, u64::from(n));
@@ -99,15 +99,15 @@ impl Kept {
 #[inline(always)]
 fn give_statement(
     alloc: Global,
-    kept: &mut Kept,
+    kept: &mut AsmState,
     form: u8,
     label: Result<Name, AsmCause>,
-    given: Result<Given, AsmCause>,
+    given: Result<Encoding, AsmCause>,
 ) -> Result<Result<(), AsmCause>, AllocError>
     requires plain { IsPlainAnswer given }
     ensures { IfOk result (λ done. (state : State) → ShowsState state kept.old → Leaves done kept.new (giving state form label given)) }
 {
-    match labelled(label, given) {
+    match label_and_encoding(label, given) {
         Ok((name, given)) => kept.mark_given(alloc, &name, form, &given),
         Err(cause) => Ok(Err(cause)),
     }
@@ -116,7 +116,7 @@ fn give_statement(
 /// An instruction.
 pub(crate) fn do_instruct(
     alloc: Global,
-    kept: &mut Kept,
+    kept: &mut AsmState,
     mnemonic: Mnemonic,
     label: Result<Name, AsmCause>,
     line: &SourceLine,
@@ -133,22 +133,22 @@ pub(crate) fn do_instruct(
 /// DC.
 pub(crate) fn do_constants(
     alloc: Global,
-    kept: &mut Kept,
+    kept: &mut AsmState,
     label: Result<Name, AsmCause>,
     text: LinePart<'_>,
 ) -> Result<Result<(), AsmCause>, AllocError>
     ensures { IfOk result (λ done. (state : State) (l : Line) → ShowsState state kept.old → IsLeft state l (Direct Constants) label text.entry.bytes.now done kept.new) }
 {
     let known = kept.known();
-    known.know_small();
+    known.recall_small();
     let given = constants_given(alloc, known, kept.msb, text)?;
     give_statement(alloc, kept, 0x4E, label, given)
 }
 
 /// ANOP, and the directives without effect.
-pub(crate) fn rest(
+pub(crate) fn do_anop(
     alloc: Global,
-    kept: &mut Kept,
+    kept: &mut AsmState,
     label: Result<Name, AsmCause>,
 ) -> Result<Result<(), AsmCause>, AllocError>
     ensures { IfOk result (λ done. (state : State) → ShowsState state kept.old → Leaves done kept.new (marking state 0x4E label (Ok []))) }
@@ -165,13 +165,13 @@ pub(crate) fn rest(
 /// DS, by its number.
 fn space(
     alloc: Global,
-    kept: &mut Kept,
+    kept: &mut AsmState,
     label: Result<Name, AsmCause>,
     number: Result<u32, AsmCause>,
 ) -> Result<Result<(), AsmCause>, AllocError>
     ensures { IfOk result (λ done. (state : State) → ShowsState state kept.old → Leaves done kept.new (spaced_by state label number)) }
 {
-    match both(label, number) {
+    match pair_or_earlier_fault(label, number) {
         Ok((name, n)) => kept.space(alloc, &name, n),
         Err(cause) => Ok(Err(cause)),
     }
@@ -180,7 +180,7 @@ fn space(
 /// DS.
 pub(crate) fn do_space(
     alloc: Global,
-    kept: &mut Kept,
+    kept: &mut AsmState,
     label: Result<Name, AsmCause>,
     text: LinePart<'_>,
 ) -> Result<Result<(), AsmCause>, AllocError>

@@ -8,7 +8,7 @@ ghost use Rattle.asm_meaning.specs.Pieces.{Bytes};
 ghost use Rattle.asm_meaning.specs.Formulas.{expression_text};
 ghost use Rattle.omf_format.specs.Expression.{Leaf};
 ghost use Rattle.omf_format.specs.Expression as expression;
-ghost use Rattle.orca_object.specs.DcView.{HasValue, HasNoValue, HasElement, repeated, part_answer};
+ghost use Rattle.orca_object.specs.DcView.{HasValue, HasNoValue, HasElement, repeated_pieces, part_answer};
 ghost use Rattle.orca_object.specs.ElementView.{element_kind, HasWidth};
 ghost use Rattle.orca_object.specs.NamesView.{constants};
 ghost use Rattle.orca_object.specs.PieceView.{piece, pieces_answer};
@@ -19,9 +19,9 @@ use crate::causes::earlier;
 use crate::count::count_at;
 use crate::digits::bytes_of_digits;
 use crate::element::{ElementKind, closed_at, kind_at, text_at, text_byte};
-use crate::given::Part;
+use crate::encoding::RepeatedPieces;
 use crate::lists::names_in;
-use crate::names::Known;
+use crate::names::KnownConstants;
 use crate::numbers::numbers_in;
 use crate::piece::Piece;
 use asm_meaning::AsmCause;
@@ -42,7 +42,7 @@ fn one_piece(alloc: Global, bytes: Vec<u8>) -> Result<Vec<Piece>, AllocError>
 /// Numbers of so many bytes.
 fn number_value<'a>(
     alloc: Global,
-    known: Known<'_>,
+    known: KnownConstants<'_>,
     width: u8,
     text: LinePart<'a>,
 ) -> Result<Option<(Result<Vec<Piece>, AsmCause>, &'a [u8])>, AllocError>
@@ -233,7 +233,7 @@ fn weak_value<'a>(
 /// The value of a type, behind its opening quote, and what stands behind its closing one.
 fn value_at<'a>(
     alloc: Global,
-    known: Known<'_>,
+    known: KnownConstants<'_>,
     msb: bool,
     kind: ElementKind,
     text: LinePart<'a>,
@@ -274,12 +274,12 @@ fn value_at<'a>(
 fn part_of(
     count: Result<u32, AsmCause>,
     value: Result<Vec<Piece>, AsmCause>,
-) -> Result<Part, AsmCause>
-    ensures { part_answer result ≡ repeated count (pieces_answer value) }
+) -> Result<RepeatedPieces, AsmCause>
+    ensures { part_answer result ≡ repeated_pieces count (pieces_answer value) }
 {
     match count {
         Ok(count) => match value {
-            Ok(pieces) => Ok(Part { count, pieces }),
+            Ok(pieces) => Ok(RepeatedPieces { count, pieces }),
             Err(cause) => Err(cause),
         },
         Err(cause) => match value {
@@ -292,10 +292,10 @@ fn part_of(
 /// What the element at the front gives, and what stands behind it.
 pub(crate) fn element_at<'a>(
     alloc: Global,
-    known: Known<'_>,
+    known: KnownConstants<'_>,
     msb: bool,
     text: LinePart<'a>,
-) -> Result<Option<(Result<Part, AsmCause>, &'a [u8])>, AllocError>
+) -> Result<Option<(Result<RepeatedPieces, AsmCause>, &'a [u8])>, AllocError>
     ensures found { IfOk result (λ found. IfSome found (λ x. HasElement (constants known.entry) msb text.entry.bytes.now (part_answer x.0) x.1.now)) }
     ensures none { IfOk result (λ found. IfNone found ((element : Element) (rest : List ℕ) → IsElementAt text.entry.bytes.now element rest → ⊥)) }
 {

@@ -4,7 +4,7 @@ ghost use Rattle.std.specs.Prelude.{◌≡◌, ◌≤◌, ◌<◌, ◌+◌, ◌-
 ghost use Rattle.std.specs.Char.{is_digit, digit_value};
 ghost use Rattle.std.specs.List.{list_all};
 ghost use Rattle.std.specs.Str.Parse.{digits_value};
-ghost use Rattle.asm_meaning.specs.Elements.{packed, packed_digits, without_spaces, bytes_of_digits};
+ghost use Rattle.asm_meaning.specs.Elements.{bytes_of_group_digits, packed_digits, without_spaces, bytes_of_digits};
 ghost use Rattle.orca_object.specs.DigitsView.{are_digits, groups};
 
 use orca_text::digit;
@@ -73,12 +73,12 @@ fn group(base: u32, each: u32, digits: &[u8]) -> (u8, &[u8])
 
 /// The bytes that digits write, so many a byte.
 #[tactic(auto, unfolding(asm_meaning::specs::Elements::packed))]
-fn packed(alloc: Global, base: u32, each: u32, digits: &[u8]) -> Result<Vec<u8>, AllocError>
+fn pack_digits(alloc: Global, base: u32, each: u32, digits: &[u8]) -> Result<Vec<u8>, AllocError>
     requires base { (2 ≤ base) × (base ≤ 36) }
     requires each { (each ≡ 2) ⊎ (each ≡ 8) }
     requires whole { base ^ each ≡ 256 }
     requires digits { are_digits base digits.now ≡ true }
-    ensures { IfOk result (λ v. v.items ≡ packed base each (groups each digits.now) digits.now) }
+    ensures { IfOk result (λ v. v.items ≡ bytes_of_group_digits base each (groups each digits.now) digits.now) }
 {
     let mut out = Vec::new(alloc);
     let mut left = digits;
@@ -106,7 +106,7 @@ pub(crate) fn bytes_of_digits(
 {
     match digits_in(alloc, base, text)? {
         Some(digits) => {
-            let bytes = packed(alloc, base, each, digits.as_slice())?;
+            let bytes = pack_digits(alloc, base, each, digits.as_slice())?;
             Ok(Some(bytes))
         }
         None => Ok(None),

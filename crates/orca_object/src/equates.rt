@@ -17,9 +17,9 @@ ghost use Rattle.orca_object.specs.DoneView.{IsSome};
 ghost use Rattle.orca_object.specs.DoingView.{IsEquated, IsConstant};
 
 use crate::amount::{Amount, amount_in, number_in};
-use crate::causes::both;
-use crate::piece::{ended, number_text};
-use crate::state::Kept;
+use crate::causes::pair_or_earlier_fault;
+use crate::piece::{number_text, shift_and_end};
+use crate::state::AsmState;
 use asm_meaning::AsmCause;
 use omf_base::Name;
 use omf_records::Rec;
@@ -33,7 +33,7 @@ fn number_expression(alloc: Global, n: u32) -> Result<Vec<u8>, AllocError>
     ensures fine { IfOk result (λ v. IsExpression 0 v.items) }
 {
     let text = number_text(alloc, n)?;
-    ended(text, 0)
+    shift_and_end(text, 0)
 }
 
 /// The expression of an amount.
@@ -44,7 +44,7 @@ fn expression_of(alloc: Global, amount: Amount) -> Result<Vec<u8>, AllocError>
 {
     match amount {
         Amount::Known(n) => number_expression(alloc, n),
-        Amount::Written(text) => ended(text, 0),
+        Amount::Written(text) => shift_and_end(text, 0),
     }
 }
 
@@ -58,13 +58,13 @@ fn value_of(amount: &Amount) -> Option<u32>
     }
 }
 
-impl Kept {
+impl AsmState {
     ghost use Rattle.std.specs.Prelude.{◌≡◌, ◌≤◌, length, OnOk};
     ghost use Rattle.asm_meaning.specs.Constant as meaning;
     ghost use Rattle.orca_object.specs.AmountView.{kept_view, kept_of};
     ghost use Rattle.orca_object.specs.FineView.{IsFineAmount};
     ghost use Rattle.asm_meaning.specs.State.{State, in_segment};
-    ghost use Rattle.asm_meaning.specs.Statement.{equated};
+    ghost use Rattle.asm_meaning.specs.Statement.{with_equate};
     ghost use Rattle.orca_object.specs.StateView.{ShowsState};
     ghost use Rattle.orca_object.specs.EquateView.{with_constant};
 
@@ -78,7 +78,7 @@ impl Kept {
     ) -> Result<(), AllocError>
         requires some { 1 ≤ length label.now }
         requires fine { IsFineAmount amount }
-        ensures { OnOk result ((state : State) (meant : meaning.Amount) → ShowsState state self.old → kept_view amount ≡ kept_of 0 meant → ShowsState (in_segment (equated global label.now meant) state) self.new) }
+        ensures { OnOk result ((state : State) (meant : meaning.Amount) → ShowsState state self.old → kept_view amount ≡ kept_of 0 meant → ShowsState (in_segment (with_equate global label.now meant) state) self.new) }
     {
         let value = value_of(&amount);
         let expr = expression_of(alloc, amount)?;
@@ -121,7 +121,7 @@ impl Kept {
 /// EQU, and GEQU in a segment.
 fn do_equate(
     alloc: Global,
-    kept: &mut Kept,
+    kept: &mut AsmState,
     global: bool,
     label: Result<Name, AsmCause>,
     text: LinePart<'_>,
@@ -130,7 +130,7 @@ fn do_equate(
     ensures { IfOk result (λ done. (state : State) → ShowsState state kept.old → IsEquated state global label text.entry.bytes.now done kept.new) }
 {
     let amount = amount_in(alloc, kept.known(), text)?;
-    match both(label, amount) {
+    match pair_or_earlier_fault(label, amount) {
         Ok((name, amount)) => {
             kept.equate(alloc, global, &name, amount)?;
             Ok(Ok(()))
@@ -142,7 +142,7 @@ fn do_equate(
 /// GEQU outside segments.
 fn do_constant(
     alloc: Global,
-    kept: &mut Kept,
+    kept: &mut AsmState,
     label: Result<Name, AsmCause>,
     text: LinePart<'_>,
 ) -> Result<Result<(), AsmCause>, AllocError>
@@ -150,7 +150,7 @@ fn do_constant(
     ensures { IfOk result (λ done. (state : State) → ShowsState state kept.old → IsConstant state label text.entry.bytes.now done kept.new) }
 {
     let number = number_in(alloc, kept.known(), text)?;
-    match both(label, number) {
+    match pair_or_earlier_fault(label, number) {
         Ok((name, n)) => {
             kept.equate_outside(alloc, &name, n)?;
             Ok(Ok(()))
@@ -162,7 +162,7 @@ fn do_constant(
 /// EQU.
 pub(crate) fn do_equ(
     alloc: Global,
-    kept: &mut Kept,
+    kept: &mut AsmState,
     label: Result<Name, AsmCause>,
     text: LinePart<'_>,
 ) -> Result<Result<(), AsmCause>, AllocError>
@@ -175,7 +175,7 @@ pub(crate) fn do_equ(
 /// GEQU.
 pub(crate) fn do_gequ(
     alloc: Global,
-    kept: &mut Kept,
+    kept: &mut AsmState,
     label: Result<Name, AsmCause>,
     text: LinePart<'_>,
 ) -> Result<Result<(), AsmCause>, AllocError>

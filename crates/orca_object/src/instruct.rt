@@ -6,32 +6,32 @@ ghost use Rattle.orca_object.specs.AmountView.{IsFormulaOf};
 ghost use Rattle.orca_object.specs.NamesView.{constants};
 ghost use Rattle.orca_text.specs.View.{term};
 ghost use Rattle.omf_format.specs.Expression as expression;
-ghost use Rattle.orca_meaning.specs.Formula.{placed};
+ghost use Rattle.orca_meaning.specs.Formula.{with_location_less};
 ghost use Rattle.orca_meaning.specs.Matrix.{opcode_of};
 ghost use Rattle.asm_meaning.specs.Formulas.{expression_text};
 ghost use Rattle.asm_meaning.specs.Pieces.{Bytes, Whole};
 ghost use Rattle.asm_meaning.specs.Constant as meaning;
 ghost use Rattle.asm_meaning.specs.Constant.{tree_of_amount};
 ghost use Rattle.orca_object.specs.AmountView.{kept_view, kept_of, amount_view, kept_answer};
-ghost use Rattle.orca_object.specs.Chosen.{chosen_amount, IsByteAmount, banked, by_trees, AreGoodTrees};
+ghost use Rattle.orca_object.specs.Chosen.{chosen_amount, IsByteAmount, bank_of_amount, by_trees, AreGoodTrees};
 ghost use Rattle.orca_meaning.specs.Operand.{Meaning};
 ghost use Rattle.orca_text.specs.OperandView.{IsWritten};
 ghost use Rattle.asm_meaning.specs.Answer.{Answer};
-ghost use Rattle.asm_meaning.specs.Instruction.{opcode_in, address_code, is_long_jump, operand_record, with_number, with_tree, with_known, kind_of, offered, bank, bank_record, banks_written, moved, instruction};
+ghost use Rattle.asm_meaning.specs.Instruction.{opcode_in, address_code, is_long_jump, operand_record, with_number, with_tree, with_known, kind_of, modes_of_form, bank, bank_record, banks_written, block_move_pieces, instruction};
 ghost use Rattle.orca_object.specs.ModeView.{widths, kind};
 ghost use Rattle.orca_object.specs.GivenView.{given_pieces, given_answer};
 ghost use Rattle.orca_object.specs.PieceView.{piece};
 
 use crate::amount::{Amount, amount_of};
 use crate::causes::earlier;
-use crate::few::Few;
-use crate::given::{Given, given_once};
+use crate::encoding::{Encoding, given_once};
 use crate::mode::{
     Kind, Widths, first_mode, is_distance, kind_of, mode_of_number, mode_of_tree, operand_bytes,
     shift_in,
 };
-use crate::names::Known;
-use crate::piece::{Piece, ended, number_text};
+use crate::names::KnownConstants;
+use crate::piece::{Piece, number_text, shift_and_end};
+use crate::short_bytes::ShortBytes;
 use asm_meaning::AsmCause;
 use orca_meaning::{Form, Mnemonic, Mode, Prefix};
 use orca_text::{FormulaTerm, Operand};
@@ -78,25 +78,25 @@ fn address_code(mnemonic: Mnemonic, bytes: u8) -> u8
 
 /// An opcode, and the record of an operand of so many bytes with this expression.
 #[inline(always)]
-fn with_record(opcode: u8, mnemonic: Mnemonic, of: Kind, width: u8, expr: Vec<u8>) -> Given
+fn with_record(opcode: u8, mnemonic: Mnemonic, of: Kind, width: u8, expr: Vec<u8>) -> Encoding
     ensures { (tree : Tree) → expr.items ≡ expression_text tree → given_pieces result ≡ Bytes (opcode ∷ []) ∷ Whole (operand_record mnemonic (kind of) width tree) ∷ [] }
 {
     match of {
-        Kind::Address(bytes) => Given::Operand {
+        Kind::Address(bytes) => Encoding::Operand {
             opcode,
             code: address_code(mnemonic, bytes),
             count: width,
             n: 0,
             expr,
         },
-        Kind::Distance(_) => Given::Operand {
+        Kind::Distance(_) => Encoding::Operand {
             opcode,
             code: 0xEE,
             count: width,
             n: u32::from(width),
             expr,
         },
-        Kind::Missing | Kind::Value | Kind::Banks | Kind::Sign => Given::Operand {
+        Kind::Missing | Kind::Value | Kind::Banks | Kind::Sign => Encoding::Operand {
             opcode,
             code: 0xEB,
             count: width,
@@ -108,12 +108,12 @@ fn with_record(opcode: u8, mnemonic: Mnemonic, of: Kind, width: u8, expr: Vec<u8
 
 /// All bytes of an instruction whose operand is this number.
 #[inline(always)]
-fn with_number(mnemonic: Mnemonic, mode: Mode, prefix: Prefix, width: u8, n: u32) -> Given
+fn with_number(mnemonic: Mnemonic, mode: Mode, prefix: Prefix, width: u8, n: u32) -> Encoding
     requires { width ≤ 3 }
     ensures { given_pieces result ≡ with_number mnemonic mode prefix width n }
 {
     let shift = shift_in(kind_of(mode), prefix);
-    Given::Bytes(Few::of_number(opcode_in(mnemonic, mode), width, n >> shift))
+    Encoding::Bytes(ShortBytes::of_number(opcode_in(mnemonic, mode), width, n >> shift))
 }
 
 /// The opcode, and the record of an operand with these terms.
@@ -124,11 +124,11 @@ fn with_tree(
     prefix: Prefix,
     width: u8,
     text: Vec<u8>,
-) -> Result<Given, AllocError>
-    ensures { IfOk result (λ given. (tree : Tree) → text.items ≡ terms_text 0 (terms_of (placed 1 tree)) → given_pieces given ≡ with_tree mnemonic mode prefix width tree) }
+) -> Result<Encoding, AllocError>
+    ensures { IfOk result (λ given. (tree : Tree) → text.items ≡ terms_text 0 (terms_of (with_location_less 1 tree)) → given_pieces given ≡ with_tree mnemonic mode prefix width tree) }
 {
     let of = kind_of(mode);
-    let expr = ended(text, shift_in(of, prefix))?;
+    let expr = shift_and_end(text, shift_in(of, prefix))?;
     Ok(with_record(opcode_in(mnemonic, mode), mnemonic, of, width, expr))
 }
 
@@ -141,7 +141,7 @@ fn with_known(
     prefix: Prefix,
     n: u32,
     mode: Mode,
-) -> Result<Given, AllocError>
+) -> Result<Encoding, AllocError>
     ensures { IfOk result (λ given. given_pieces given ≡ with_known (widths of) mnemonic prefix n mode) }
 {
     let width = operand_bytes(of, mnemonic, mode);
@@ -163,9 +163,9 @@ fn with_amount(
     prefix: Prefix,
     first: Mode,
     amount: Amount,
-) -> Result<Result<Given, AsmCause>, AllocError>
-    requires { find (λ m. true) (offered mnemonic form prefix) ≡ Some first }
-    ensures { IfOk result (λ answer. (meant : meaning.Amount) → kept_view amount ≡ kept_of 1 meant → given_answer answer ≡ chosen_amount (widths of) mnemonic prefix first (offered mnemonic form prefix) meant) }
+) -> Result<Result<Encoding, AsmCause>, AllocError>
+    requires { find (λ m. true) (modes_of_form mnemonic form prefix) ≡ Some first }
+    ensures { IfOk result (λ answer. (meant : meaning.Amount) → kept_view amount ≡ kept_of 1 meant → given_answer answer ≡ chosen_amount (widths of) mnemonic prefix first (modes_of_form mnemonic form prefix) meant) }
 {
     match amount {
         Amount::Known(n) => match mode_of_number(of, mnemonic, form, prefix, first, n) {
@@ -202,7 +202,7 @@ fn bank(amount: Amount) -> Result<Amount, AsmCause>
 
 /// The terms of a bank's expression.
 fn bank_text(alloc: Global, amount: Amount) -> Result<Vec<u8>, AllocError>
-    ensures { IfOk result (λ v. (meant : meaning.Amount) (back : ℕ) → 0 < back → kept_view amount ≡ kept_of back meant → v.items ≡ terms_text 0 (terms_of (placed back (tree_of_amount meant)))) }
+    ensures { IfOk result (λ v. (meant : meaning.Amount) (back : ℕ) → 0 < back → kept_view amount ≡ kept_of back meant → v.items ≡ terms_text 0 (terms_of (with_location_less back (tree_of_amount meant)))) }
 {
     match amount {
         Amount::Known(n) => {
@@ -218,7 +218,7 @@ fn bank_record(alloc: Global, amount: Amount) -> Result<Piece, AllocError>
     ensures { IfOk result (λ p. (meant : meaning.Amount) (back : ℕ) → 0 < back → kept_view amount ≡ kept_of back meant → piece p ≡ Whole (bank_record back meant)) }
 {
     let text = bank_text(alloc, amount)?;
-    let expr = ended(text, 0)?;
+    let expr = shift_and_end(text, 0)?;
     Ok(Piece::Formula {
         code: 0xEB,
         count: 1,
@@ -228,10 +228,10 @@ fn bank_record(alloc: Global, amount: Amount) -> Result<Piece, AllocError>
 }
 
 /// A block move between banks that are bytes.
-fn known_banks(opcode: u8, source: u8, destination: u8) -> Given
+fn known_banks(opcode: u8, source: u8, destination: u8) -> Encoding
     ensures { given_pieces result ≡ Bytes (opcode ∷ destination ∷ source ∷ []) ∷ [] }
 {
-    Given::Bytes(Few::of_two(opcode, destination, source))
+    Encoding::Bytes(ShortBytes::of_two(opcode, destination, source))
 }
 
 /// A block move between banks of which one isn't known.
@@ -240,7 +240,7 @@ fn written_banks(
     opcode: u8,
     source: Amount,
     destination: Amount,
-) -> Result<Given, AllocError>
+) -> Result<Encoding, AllocError>
     ensures { IfOk result (λ given. (s d : meaning.Amount) → kept_view source ≡ kept_of 2 s → kept_view destination ≡ kept_of 1 d
         → given_pieces given ≡ Bytes (opcode ∷ []) ∷ Whole (bank_record 1 d) ∷ Whole (bank_record 2 s) ∷ []) }
 {
@@ -260,7 +260,7 @@ fn banks_written(
     opcode: u8,
     source: Amount,
     destination: Amount,
-) -> Result<Given, AllocError>
+) -> Result<Encoding, AllocError>
     requires source { IsByteAmount source }
     requires destination { IsByteAmount destination }
     ensures { IfOk result (λ given. (s d : meaning.Amount) → kept_view source ≡ kept_of 2 s → kept_view destination ≡ kept_of 1 d → given_pieces given ≡ banks_written opcode s d) }
@@ -282,7 +282,7 @@ fn banks_written(
 
 /// A bank, or what is wrong with it.
 fn and_bank(amount: Result<Amount, AsmCause>) -> Result<Amount, AsmCause>
-    ensures bank { (meant : Answer meaning.Amount) (back : ℕ) → amount_view amount ≡ kept_answer back meant → amount_view result ≡ kept_answer back (banked meant) }
+    ensures bank { (meant : Answer meaning.Amount) (back : ℕ) → amount_view amount ≡ kept_answer back meant → amount_view result ≡ kept_answer back (bank_of_amount meant) }
     ensures small { IfOk result IsByteAmount }
 {
     match amount {
@@ -292,18 +292,18 @@ fn and_bank(amount: Result<Amount, AsmCause>) -> Result<Amount, AsmCause>
 }
 
 /// A block move: its formulas as they are written, the source first.
-fn moved(
+fn block_move(
     alloc: Global,
-    known: Known<'_>,
+    known: KnownConstants<'_>,
     mnemonic: Mnemonic,
     mode: Mode,
     source: &[FormulaTerm],
     destination: &[FormulaTerm],
-) -> Result<Result<Given, AsmCause>, AllocError>
+) -> Result<Result<Encoding, AsmCause>, AllocError>
     requires source { AreTerms 0 (map term source.now) }
     requires destination { AreTerms 0 (map term destination.now) }
     ensures { IfOk result (λ answer. (s d : Tree) → IsFormulaOf (map term source.now) s → IsFormulaOf (map term destination.now) d
-        → given_answer answer ≡ moved (constants known.entry) mnemonic mode s d) }
+        → given_answer answer ≡ block_move_pieces (constants known.entry) mnemonic mode s d) }
 {
     let first = amount_of(alloc, known, 2, source)?;
     let second = amount_of(alloc, known, 1, destination)?;
@@ -325,20 +325,20 @@ fn moved(
 /// What the formulas of an operand give: without one, by its mode alone.
 fn by_formulas(
     alloc: Global,
-    known: Known<'_>,
+    known: KnownConstants<'_>,
     of: Widths,
     mnemonic: Mnemonic,
     operand: &Operand,
     first: Mode,
-) -> Result<Result<Given, AsmCause>, AllocError>
+) -> Result<Result<Encoding, AsmCause>, AllocError>
     requires first { AreTerms 0 operand.now.first }
     requires second { IfSome operand.now.second (λ terms. AreTerms 0 terms) }
-    requires mode { find (λ m. true) (offered mnemonic operand.now.form operand.now.prefix) ≡ Some first }
+    requires mode { find (λ m. true) (modes_of_form mnemonic operand.now.form operand.now.prefix) ≡ Some first }
     ensures { IfOk result (λ answer. (operand_is : Meaning) → IsWritten operand.now operand_is → AreGoodTrees operand_is.trees
-        → given_answer answer ≡ by_trees (constants known.entry) (widths of) mnemonic operand_is.prefix first (offered mnemonic operand_is.form operand_is.prefix) operand_is.trees) }
+        → given_answer answer ≡ by_trees (constants known.entry) (widths of) mnemonic operand_is.prefix first (modes_of_form mnemonic operand_is.form operand_is.prefix) operand_is.trees) }
 {
     if let Some(second) = &operand.second {
-        let answer = moved(
+        let answer = block_move(
             alloc,
             known,
             mnemonic,
@@ -373,11 +373,11 @@ fn by_formulas(
 /// What an instruction with this operand gives, or its fault.
 pub(crate) fn instruct(
     alloc: Global,
-    known: Known<'_>,
+    known: KnownConstants<'_>,
     of: Widths,
     mnemonic: Mnemonic,
     operand: &Operand,
-) -> Result<Result<Given, AsmCause>, AllocError>
+) -> Result<Result<Encoding, AsmCause>, AllocError>
     requires first { AreTerms 0 operand.now.first }
     requires second { IfSome operand.now.second (λ terms. AreTerms 0 terms) }
     ensures { IfOk result (λ answer. (operand_is : Meaning) → IsWritten operand.now operand_is → AreGoodTrees operand_is.trees

@@ -3,7 +3,7 @@
 ghost use Rattle.std.specs.Prelude.{◌≡◌, ◌+◌, ◌-◌, ◌^◌, ◌≤◌, ◌<◌, ◌==◌, ◌&&◌, true, map, filter, find, length, nat_lt, nat_le, ◌/◌, Some, None, Ok, Err};
 ghost use Rattle.orca_meaning.specs.Length.{length_of};
 ghost use Rattle.orca_meaning.specs.Operation.{has_mode};
-ghost use Rattle.asm_meaning.specs.Instruction.{operand_bytes, modes_of, kind_of, is_address, is_value, is_asked, offered, value_shift, is_bare, fits_value, holds, or_fault, or_first, mode_of_number, mode_of_tree, shift_in, is_distance};
+ghost use Rattle.asm_meaning.specs.Instruction.{operand_bytes, modes_of, kind_of, is_address, is_value, is_asked, modes_of_form, value_shift, is_bare, fits_value, is_operand_of_width, or_fault, or_first, mode_of_number, mode_of_tree, shift_in, is_distance};
 ghost use Rattle.orca_object.specs.ModeView.{widths, kind, offered_test, number_test, two_test};
 
 use asm_meaning::AsmCause;
@@ -238,7 +238,7 @@ pub(crate) fn shift_in(of: Kind, prefix: Prefix) -> u8
 
 /// Whether a number fits so many bytes as an unsigned one.
 #[inline(always)]
-fn fits(n: u32, width: u8) -> bool
+fn fits_width(n: u32, width: u8) -> bool
     requires { width ≤ 3 }
     ensures { result ≡ nat_lt n (256 ^ width) }
 {
@@ -283,24 +283,24 @@ fn fits_value(prefix: Prefix, width: u8, n: u32) -> bool
     ensures { result ≡ fits_value prefix width n }
 {
     if is_bare(prefix) {
-        return fits(n, width) || is_negative(n, width);
+        return fits_width(n, width) || is_negative(n, width);
     }
     true
 }
 
 /// Whether the operand can be this number in so many bytes.
 #[inline(always)]
-fn holds(prefix: Prefix, of: Kind, width: u8, n: u32) -> bool
+fn is_operand_of_width(prefix: Prefix, of: Kind, width: u8, n: u32) -> bool
     requires { width ≤ 3 }
-    ensures { result ≡ holds prefix (kind of) width n }
+    ensures { result ≡ is_operand_of_width prefix (kind of) width n }
 {
     match of {
         Kind::Missing => false,
         Kind::Value => fits_value(prefix, width, n),
-        Kind::Address(_) => fits(n, width),
+        Kind::Address(_) => fits_width(n, width),
         Kind::Distance(_) => true,
         Kind::Banks => n < 256,
-        Kind::Sign => fits(n, width),
+        Kind::Sign => fits_width(n, width),
     }
 }
 
@@ -318,7 +318,7 @@ fn first_holding(
     'modes: for mode in modes {
         if is_offered(mnemonic, prefix, *mode) {
             let width = operand_bytes(of, mnemonic, *mode);
-            if holds(prefix, kind_of(*mode), width, n) {
+            if is_operand_of_width(prefix, kind_of(*mode), width, n) {
                 return Some(*mode);
             }
         }
@@ -357,7 +357,7 @@ fn first_of_two(mnemonic: Mnemonic, prefix: Prefix, modes: &[Mode]) -> Option<Mo
 /// The first mode that a mnemonic offers for a form and a prefix, or BadMode.
 #[tactic(auto, unfolding(asm_meaning::specs::Instruction::offered))]
 pub(crate) fn first_mode(mnemonic: Mnemonic, form: Form, prefix: Prefix) -> Option<Mode>
-    ensures { result ≡ find (λ m. true) (offered mnemonic form prefix) }
+    ensures { result ≡ find (λ m. true) (modes_of_form mnemonic form prefix) }
 {
     first_offered(mnemonic, prefix, modes_of(form))
 }
@@ -372,11 +372,11 @@ pub(crate) fn mode_of_number(
     first: Mode,
     n: u32,
 ) -> Result<Mode, AsmCause>
-    requires { find (λ m. true) (offered mnemonic form prefix) ≡ Some first }
-    ensures { result ≡ mode_of_number (widths of) mnemonic prefix n (offered mnemonic form prefix) }
+    requires { find (λ m. true) (modes_of_form mnemonic form prefix) ≡ Some first }
+    ensures { result ≡ mode_of_number (widths of) mnemonic prefix n (modes_of_form mnemonic form prefix) }
 {
     let width = operand_bytes(of, mnemonic, first);
-    if holds(prefix, kind_of(first), width, n) {
+    if is_operand_of_width(prefix, kind_of(first), width, n) {
         return Ok(first);
     }
     match first_holding(of, mnemonic, prefix, modes_of(form), n) {
@@ -388,7 +388,7 @@ pub(crate) fn mode_of_number(
 /// The mode of an operand that is no constant, where the first one that is offered is this.
 #[tactic(auto, unfolding(asm_meaning::specs::Instruction::offered))]
 pub(crate) fn mode_of_tree(mnemonic: Mnemonic, form: Form, prefix: Prefix, first: Mode) -> Mode
-    ensures { result ≡ or_first first (find two_test (offered mnemonic form prefix)) }
+    ensures { result ≡ or_first first (find two_test (modes_of_form mnemonic form prefix)) }
 {
     match first_of_two(mnemonic, prefix, modes_of(form)) {
         Some(mode) => mode,

@@ -1,35 +1,35 @@
 //! The names that a segment defines, and the constants from outside segments.
 
 ghost use Rattle.std.specs.Prelude.{◌≡◌, ◌<◌, ◌^◌, List, ℕ, Some};
-ghost use Rattle.orca_object.specs.Held.{held};
+ghost use Rattle.orca_object.specs.Held.{value_of_name};
 
-use crate::held::{look, put};
+use crate::name_map::{get_by_name, insert_by_name};
 use indexmap::IndexMap;
 use std::alloc::{AllocError, Global};
 
 /// The names that a segment defines, each with its value where it is a constant.
 #[derive(Drop)]
-pub(crate) struct Names {
+pub(crate) struct DefinedNames {
     pub(crate) map: IndexMap<Vec<u8>, Option<u32>>,
-    ghost small: { (name : List ℕ) (n : ℕ) → held map name ≡ Some (Some n) → n < 2 ^ 32 },
+    ghost small: { (name : List ℕ) (n : ℕ) → value_of_name map name ≡ Some (Some n) → n < 2 ^ 32 },
 }
 
 /// The constants from outside segments.
 #[derive(Drop)]
-pub(crate) struct Outside {
+pub(crate) struct OutsideConstants {
     pub(crate) map: IndexMap<Vec<u8>, u32>,
-    ghost small: { (name : List ℕ) (n : ℕ) → held map name ≡ Some n → n < 2 ^ 32 },
+    ghost small: { (name : List ℕ) (n : ℕ) → value_of_name map name ≡ Some n → n < 2 ^ 32 },
 }
 
 /// The constants that are known at a line.
 #[derive(Clone, Copy)]
-pub(crate) struct Known<'a> {
+pub(crate) struct KnownConstants<'a> {
     /// Those of the open segment are among its names.
-    pub(crate) names: Option<&'a Names>,
-    pub(crate) outside: &'a Outside,
+    pub(crate) names: Option<&'a DefinedNames>,
+    pub(crate) outside: &'a OutsideConstants,
 }
 
-impl Names {
+impl DefinedNames {
     ghost use Rattle.std.specs.Prelude.{◌≡◌, [], length, bytes_eq, None, IfOk, OnOk, MatchOption, is_some, option_copied};
     ghost use Rattle.macro_meaning.specs.Symbol.{with_name};
     ghost use Rattle.asm_meaning.specs.State.{no_names, no_constants};
@@ -38,10 +38,10 @@ impl Names {
 
     /// None.
     #[tactic(auto, using(crate::proofs::Maps::no_names_held))]
-    pub(crate) fn new(alloc: Global) -> Names
+    pub(crate) fn new(alloc: Global) -> DefinedNames
         ensures { names_of result ≡ no_names }
     {
-        Names {
+        DefinedNames {
             map: IndexMap::new(alloc),
         }
     }
@@ -50,7 +50,7 @@ impl Names {
     pub(crate) fn get(&self, name: &[u8]) -> Option<Option<u32>>
         ensures { result ≡ names_of self.now name.now }
     {
-        match look(&self.map, name) {
+        match get_by_name(&self.map, name) {
             Some(value) => Some(*value),
             None => None,
         }
@@ -60,14 +60,14 @@ impl Names {
     fn set_number(&mut self, alloc: Global, name: &[u8], n: u32) -> Result<(), AllocError>
         ensures { OnOk result (names_of self.new ≡ with_name name.now (Some n) (names_of self.old)) }
     {
-        put(alloc, &mut self.map, name, Some(n))
+        insert_by_name(alloc, &mut self.map, name, Some(n))
     }
 
     /// One more name, without a value.
     fn set_open(&mut self, alloc: Global, name: &[u8]) -> Result<(), AllocError>
         ensures { OnOk result (names_of self.new ≡ with_name name.now None (names_of self.old)) }
     {
-        put(alloc, &mut self.map, name, None)
+        insert_by_name(alloc, &mut self.map, name, None)
     }
 
     /// One more name.
@@ -86,7 +86,7 @@ impl Names {
     }
 }
 
-impl Outside {
+impl OutsideConstants {
     ghost use Rattle.std.specs.Prelude.{◌≡◌, [], length, bytes_eq, None, IfOk, OnOk, MatchOption, is_some, option_copied};
     ghost use Rattle.macro_meaning.specs.Symbol.{with_name};
     ghost use Rattle.asm_meaning.specs.State.{no_names, no_constants};
@@ -95,10 +95,10 @@ impl Outside {
 
     /// None.
     #[tactic(auto, using(crate::proofs::Maps::no_constants_held))]
-    pub(crate) fn new(alloc: Global) -> Outside
+    pub(crate) fn new(alloc: Global) -> OutsideConstants
         ensures { outside_of result ≡ no_constants }
     {
-        Outside {
+        OutsideConstants {
             map: IndexMap::new(alloc),
         }
     }
@@ -107,7 +107,7 @@ impl Outside {
     pub(crate) fn get(&self, name: &[u8]) -> Option<u32>
         ensures { result ≡ outside_of self.now name.now }
     {
-        match look(&self.map, name) {
+        match get_by_name(&self.map, name) {
             Some(value) => Some(*value),
             None => None,
         }
@@ -117,11 +117,11 @@ impl Outside {
     pub(crate) fn set(&mut self, alloc: Global, name: &[u8], value: u32) -> Result<(), AllocError>
         ensures { OnOk result (outside_of self.new ≡ with_name name.now value (outside_of self.old)) }
     {
-        put(alloc, &mut self.map, name, value)
+        insert_by_name(alloc, &mut self.map, name, value)
     }
 }
 
-impl<'a> Known<'a> {
+impl<'a> KnownConstants<'a> {
     ghost use Rattle.std.specs.Prelude.{◌≡◌, [], length, bytes_eq, None, IfOk, OnOk, MatchOption, is_some, option_copied};
     ghost use Rattle.macro_meaning.specs.Symbol.{with_name};
     ghost use Rattle.asm_meaning.specs.State.{no_names, no_constants};
@@ -143,7 +143,7 @@ impl<'a> Known<'a> {
 
     /// Their values have 32 bits.
     #[tactic(auto, using(crate::proofs::Small::known_small))]
-    pub(crate) fn know_small(self)
+    pub(crate) fn recall_small(self)
         ensures { AreSmall (constants self.entry) }
     {}
 

@@ -5,7 +5,7 @@ ghost use Rattle.byteorder.specs.Endian.{little_bytes};
 ghost use Rattle.omf_format.specs.Expression.{AreTerms, Tree};
 ghost use Rattle.orca_text.specs.View.{term};
 ghost use Rattle.asm_meaning.specs.Constant as meaning;
-ghost use Rattle.asm_meaning.specs.Elements.{number_piece, numbered};
+ghost use Rattle.asm_meaning.specs.Elements.{number_piece, piece_of_number};
 ghost use Rattle.asm_meaning.specs.Formulas.{AreFormulas, number_of};
 ghost use Rattle.orca_object.specs.AmountView.{amount_view, kept_view, kept_of, kept_answer};
 ghost use Rattle.orca_object.specs.DcView.{IsKeptOf, HasNumbers, piece_answer};
@@ -14,9 +14,9 @@ ghost use Rattle.orca_object.specs.NamesView.{constants};
 ghost use Rattle.orca_object.specs.PieceView.{piece, pieces_answer};
 
 use crate::amount::{Amount, amount_of};
-use crate::causes::{gather, gathered};
-use crate::names::Known;
-use crate::piece::{Piece, ended, number_bytes};
+use crate::causes::{answer_or_fault, gather_answer};
+use crate::names::KnownConstants;
+use crate::piece::{Piece, number_bytes, shift_and_end};
 use asm_meaning::AsmCause;
 use orca_text::{Formula, LinePart, Operands, behind_byte, formula_at, is_too_deep};
 use std::alloc::{AllocError, Global};
@@ -24,7 +24,7 @@ use std::alloc::{AllocError, Global};
 /// What a formula amounts to, unless it is too deep or has a number that is too large.
 fn judged_amount(
     alloc: Global,
-    known: Known<'_>,
+    known: KnownConstants<'_>,
     formula: &Formula,
     large: bool,
 ) -> Result<Result<Amount, AsmCause>, AllocError>
@@ -42,7 +42,7 @@ fn judged_amount(
 }
 
 /// The number of an amount that has to be one.
-fn needed(amount: Amount) -> Result<u32, AsmCause>
+fn require_number(amount: Amount) -> Result<u32, AsmCause>
     ensures { result ≡ needed_kept (kept_view amount) }
 {
     match amount {
@@ -54,7 +54,7 @@ fn needed(amount: Amount) -> Result<u32, AsmCause>
 /// The number that a formula is, which has to be a constant.
 pub(crate) fn number_of(
     alloc: Global,
-    known: Known<'_>,
+    known: KnownConstants<'_>,
     formula: &Formula,
     large: bool,
 ) -> Result<Result<u32, AsmCause>, AllocError>
@@ -63,7 +63,7 @@ pub(crate) fn number_of(
 {
     let answer = judged_amount(alloc, known, formula, large)?;
     match answer {
-        Ok(amount) => Ok(needed(amount)),
+        Ok(amount) => Ok(require_number(amount)),
         Err(cause) => Ok(Err(cause)),
     }
 }
@@ -79,7 +79,7 @@ fn number_piece(alloc: Global, width: u8, amount: Amount) -> Result<Piece, Alloc
             Ok(Piece::Bytes(bytes))
         }
         Amount::Written(text) => {
-            let expr = ended(text, 0)?;
+            let expr = shift_and_end(text, 0)?;
             Ok(Piece::Formula {
                 code: 0xEB,
                 count: width,
@@ -91,16 +91,16 @@ fn number_piece(alloc: Global, width: u8, amount: Amount) -> Result<Piece, Alloc
 }
 
 /// What a formula gives where numbers of so many bytes are wanted.
-fn numbered(
+fn piece_of_number(
     alloc: Global,
-    known: Known<'_>,
+    known: KnownConstants<'_>,
     width: u8,
     formula: &Formula,
     large: bool,
 ) -> Result<Result<Piece, AsmCause>, AllocError>
     requires width { width ≤ 4 }
     requires fine { large ≡ false → AreTerms 0 formula.now }
-    ensures { IfOk result (λ answer. (tree : Tree) → IsKeptOf formula.now large tree → piece_answer answer ≡ numbered (constants known.entry) width tree) }
+    ensures { IfOk result (λ answer. (tree : Tree) → IsKeptOf formula.now large tree → piece_answer answer ≡ piece_of_number (constants known.entry) width tree) }
 {
     let answer = judged_amount(alloc, known, formula, large)?;
     match answer {
@@ -115,7 +115,7 @@ fn numbered(
 /// What the formulas give that commas part in a text, numbers of so many bytes.
 pub(crate) fn numbers_in(
     alloc: Global,
-    known: Known<'_>,
+    known: KnownConstants<'_>,
     width: u8,
     text: LinePart<'_>,
 ) -> Result<Option<Result<Vec<Piece>, AsmCause>>, AllocError>
@@ -130,11 +130,11 @@ pub(crate) fn numbers_in(
         let Some(found) = formula_at(alloc, Operands::Labels, LinePart { bytes: left })? else {
             return Ok(None);
         };
-        let answer = numbered(alloc, known, width, &found.formula, found.large)?;
-        gather(&mut out, &mut fault, answer)?;
+        let answer = piece_of_number(alloc, known, width, &found.formula, found.large)?;
+        gather_answer(&mut out, &mut fault, answer)?;
         let rest = found.rest;
         if rest.is_empty() {
-            return Ok(Some(gathered(fault, out)));
+            return Ok(Some(answer_or_fault(fault, out)));
         }
         let Some(behind) = behind_byte(rest, b',') else {
             return Ok(None);

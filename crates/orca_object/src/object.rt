@@ -5,15 +5,15 @@ ghost use Rattle.omf_format.specs.Header.{IsWritable};
 ghost use Rattle.omf_header.specs.View.{fields};
 ghost use Rattle.asm_meaning.specs.State.{Ended};
 ghost use Rattle.asm_meaning.specs.Object.{records_text, segment_text, object_text};
-ghost use Rattle.orca_object.specs.TextView.{limited, kept_text};
+ghost use Rattle.orca_object.specs.TextView.{text_within_limit, kept_text};
 
-use crate::text::{MAX_FILE, Text};
+use crate::record_bytes::{MAX_FILE, RecordBytes};
 use omf_base::Name;
 use omf_header::{Header, WriteHeaderFault, write_header};
 use std::alloc::{AllocError, Global};
 
 /// How many bytes a header with this name has.
-pub(crate) fn head_size(name: &Name) -> usize
+pub(crate) fn header_size(name: &Name) -> usize
     ensures value { result ≡ 0x37 + length name.now }
     ensures few { result ≤ 0x136 }
 {
@@ -21,7 +21,7 @@ pub(crate) fn head_size(name: &Name) -> usize
 }
 
 /// It has ten bytes.
-fn know_size(load_name: &[u8; 10])
+fn recall_header_size(load_name: &[u8; 10])
     ensures { length load_name.now ≡ 10 }
 {}
 
@@ -34,12 +34,12 @@ fn put_front(text: &mut [u8], front: &[u8])
 }
 
 /// Writes its header into the room before the records of a segment.
-fn close(alloc: Global, header: &Header, segment: &mut Text) -> Result<(), AllocError>
+fn close(alloc: Global, header: &Header, segment: &mut RecordBytes) -> Result<(), AllocError>
     requires { IsWritable (fields header.now) }
-    ensures { OnOk result ((e : Ended) → e.header ≡ fields header.now → kept_text segment.old ≡ limited (replicate (0x37 + length e.header.name) 0 ++ records_text e.body)
-        → kept_text segment.new ≡ limited (segment_text e)) }
+    ensures { OnOk result ((e : Ended) → e.header ≡ fields header.now → kept_text segment.old ≡ text_within_limit (replicate (0x37 + length e.header.name) 0 ++ records_text e.body)
+        → kept_text segment.new ≡ text_within_limit (segment_text e)) }
 {
-    know_size(&header.load_name);
+    recall_header_size(&header.load_name);
     if segment.long {
         return Ok(());
     }
@@ -47,7 +47,7 @@ fn close(alloc: Global, header: &Header, segment: &mut Text) -> Result<(), Alloc
         segment.give_up();
         return Ok(());
     }
-    let Some(size) = segment.bytes.len().checked_sub(head_size(&header.name)) else {
+    let Some(size) = segment.bytes.len().checked_sub(header_size(&header.name)) else {
         return Ok(());
     };
     match write_header(alloc, header, size as u32) {
@@ -66,13 +66,13 @@ fn close(alloc: Global, header: &Header, segment: &mut Text) -> Result<(), Alloc
 /// Appends a segment with this header: room for it, and then the records.
 pub(crate) fn put_segment(
     alloc: Global,
-    object: &mut Text,
+    object: &mut RecordBytes,
     header: &Header,
-    segment: Text,
+    segment: RecordBytes,
 ) -> Result<(), AllocError>
     requires { IsWritable (fields header.now) }
-    ensures { OnOk result ((segments : List Ended) (e : Ended) → e.header ≡ fields header.now → kept_text segment ≡ limited (replicate (0x37 + length e.header.name) 0 ++ records_text e.body)
-        → kept_text object.old ≡ limited (object_text segments) → kept_text object.new ≡ limited (object_text (segments ++ e ∷ []))) }
+    ensures { OnOk result ((segments : List Ended) (e : Ended) → e.header ≡ fields header.now → kept_text segment ≡ text_within_limit (replicate (0x37 + length e.header.name) 0 ++ records_text e.body)
+        → kept_text object.old ≡ text_within_limit (object_text segments) → kept_text object.new ≡ text_within_limit (object_text (segments ++ e ∷ []))) }
 {
     let mut segment = segment;
     close(alloc, header, &mut segment)?;

@@ -3,9 +3,9 @@
 
 ghost use Rattle.std.specs.Prelude.{◌≡◌, bytes_eq, IfOk, true};
 ghost use Rattle.orca_meaning.specs.Characters.{folded};
-ghost use Rattle.orca_meaning.specs.Operation.{beside};
-ghost use Rattle.asm_meaning.specs.Operations.{directives, ignored, as_ignored, operation_of};
-ghost use Rattle.orca_object.specs.Tables.{later};
+ghost use Rattle.orca_meaning.specs.Operation.{value_of_spelling};
+ghost use Rattle.asm_meaning.specs.Operations.{directives, ignored_directives, as_ignored, operation_of};
+ghost use Rattle.orca_object.specs.Tables.{directives_after_gequ};
 ghost use Rattle.asm_meaning.specs.Statement.{behind_here, is_some_text, is_labelled, needs_segment, begins_segment, needs_label, label_of};
 ghost use Rattle.orca_object.specs.OperandView.{name_answer, no_label};
 ghost use Rattle.asm_meaning.specs.State.{State};
@@ -13,7 +13,7 @@ ghost use Rattle.orca_object.specs.DoneView.{IsSome};
 ghost use Rattle.orca_object.specs.StateView.{ShowsState};
 
 use crate::operand::{behind_here, is_name};
-use crate::state::Kept;
+use crate::state::AsmState;
 use asm_meaning::{AsmCause, Class, Directive, Operation, Switch};
 use omf_base::Name;
 use orca_text::{LinePart, folded, is_spelled, mnemonic_of};
@@ -29,7 +29,7 @@ fn is_operation(operation: &[u8], spelling: &[u8]) -> bool
 /// A directive without effect.
 #[tactic(auto, unfolding(asm_meaning::specs::Operations::ignored, orca_meaning::specs::Operation::beside))]
 fn ignored(operation: &[u8]) -> Option<Directive>
-    ensures { result ≡ beside (folded operation.now) (Rattle.std.specs.Prelude.map as_ignored ignored) }
+    ensures { result ≡ value_of_spelling (folded operation.now) (Rattle.std.specs.Prelude.map as_ignored ignored_directives) }
 {
     if is_operation(operation, b"KEEP") {
         return Some(Directive::Ignored);
@@ -70,7 +70,7 @@ fn ignored(operation: &[u8]) -> Option<Directive>
 /// A directive that stands behind GEQU in the table.
 #[tactic(auto, unfolding(orca_meaning::specs::Operation::beside))]
 fn later_directive(operation: &[u8]) -> Option<Directive>
-    ensures { result ≡ beside (folded operation.now) later }
+    ensures { result ≡ value_of_spelling (folded operation.now) directives_after_gequ }
 {
     if is_operation(operation, b"DC") {
         return Some(Directive::Constants);
@@ -105,7 +105,7 @@ fn later_directive(operation: &[u8]) -> Option<Directive>
 /// The directive that an operation is, in upper or lower case.
 #[tactic(auto, unfolding(asm_meaning::specs::Operations::directives, orca_meaning::specs::Operation::beside))]
 fn directive_of(operation: &[u8]) -> Option<Directive>
-    ensures { result ≡ beside (folded operation.now) directives }
+    ensures { result ≡ value_of_spelling (folded operation.now) directives }
 {
     if is_operation(operation, b"START") {
         return Some(Directive::Begin(Class::Code));
@@ -242,7 +242,7 @@ fn no_label(alloc: Global, operation: Operation) -> Result<Name, AsmCause>
 /// A label in upper case, empty where there is none; `Duplicate` where it can't be defined again.
 pub(crate) fn label_of(
     alloc: Global,
-    kept: &Kept,
+    kept: &AsmState,
     operation: Operation,
     text: LinePart<'_>,
 ) -> Result<Result<Name, AsmCause>, AllocError>

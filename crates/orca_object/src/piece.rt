@@ -5,7 +5,7 @@ ghost use Rattle.byteorder.specs.Endian.{little_bytes};
 ghost use Rattle.omf_format.specs.Expression.{IsTerm, term_text, terms_text, terms_of, Tree, Leaf};
 ghost use Rattle.omf_format.specs.Expression as expression;
 ghost use Rattle.asm_meaning.specs.Formulas.{expression_text};
-ghost use Rattle.asm_meaning.specs.Instruction.{shifted};
+ghost use Rattle.asm_meaning.specs.Instruction.{with_right_shift};
 ghost use Rattle.orca_object.specs.PieceView.{piece};
 
 use omf_base::Name;
@@ -52,8 +52,8 @@ fn put_operator(out: &mut Vec<u8>, code: u8) -> Result<(), AllocError>
 /// The terms of an expression, shifted to the right by so many bits, and its end.
 #[tactic(auto, using(crate::proofs::Ends::end_plain, crate::proofs::Ends::end_shifted))]
 #[inline(always)]
-pub(crate) fn ended(text: Vec<u8>, shift: u8) -> Result<Vec<u8>, AllocError>
-    ensures { IfOk result (λ v. (tree : Tree) → text.items ≡ terms_text 0 (terms_of tree) → v.items ≡ expression_text (shifted shift tree)) }
+pub(crate) fn shift_and_end(text: Vec<u8>, shift: u8) -> Result<Vec<u8>, AllocError>
+    ensures { IfOk result (λ v. (tree : Tree) → text.items ≡ terms_text 0 (terms_of tree) → v.items ≡ expression_text (with_right_shift shift tree)) }
 {
     let mut out = text;
     if shift == 0 {

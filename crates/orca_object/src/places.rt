@@ -11,9 +11,9 @@ ghost use Rattle.asm_meaning.specs.declared.directives.Directive.TheVariants as 
 ghost use Rattle.orca_object.specs.DoingView.{HasDistance};
 
 use crate::amount::number_in;
-use crate::causes::both;
+use crate::causes::pair_or_earlier_fault;
 use crate::operand::behind_here;
-use crate::state::Kept;
+use crate::state::AsmState;
 use asm_meaning::AsmCause;
 use omf_base::{Name, padding};
 use omf_records::Rec;
@@ -21,7 +21,7 @@ use orca_text::LinePart;
 use std::alloc::{AllocError, Global};
 
 /// Of what the address of a segment with this ALIGN is a multiple.
-fn alignment_of(align: u32) -> u32
+fn address_alignment(align: u32) -> u32
     ensures { result ≡ alignment_of align }
 {
     match align {
@@ -31,20 +31,20 @@ fn alignment_of(align: u32) -> u32
     }
 }
 
-impl Kept {
+impl AsmState {
     ghost use Rattle.std.specs.Prelude.{◌≡◌, ◌≤◌, Ok, IfOk};
     ghost use Rattle.asm_meaning.specs.State.{State};
-    ghost use Rattle.asm_meaning.specs.Statement.{alignment_in, aligned, distance_in, moved};
+    ghost use Rattle.asm_meaning.specs.Statement.{alignment_in, state_after_align, distance_in, state_after_org};
     ghost use Rattle.orca_object.specs.StateView.{ShowsState, Leaves};
     ghost use Rattle.orca_object.specs.ActView.{IsNear};
 
     /// An alignment: a power of two up to $10000, and in a segment up to its own.
-    fn alignment(&self, n: u32) -> Result<u32, AsmCause>
+    fn check_alignment(&self, n: u32) -> Result<u32, AsmCause>
         ensures value { (state : State) → ShowsState state self.now → result ≡ alignment_in state n }
         ensures some { IfOk result (λ n. 1 ≤ n) }
     {
         let most = match &self.segment {
-            Some(open) => alignment_of(open.align),
+            Some(open) => address_alignment(open.align),
             None => 0x10000,
         };
         if n.is_power_of_two() && n <= most {
@@ -54,14 +54,14 @@ impl Kept {
     }
 
     /// ALIGN.
-    fn align(
+    fn put_align(
         &mut self,
         alloc: Global,
         label: &Name,
         n: u32,
     ) -> Result<Result<(), AsmCause>, AllocError>
         requires some { 1 ≤ n }
-        ensures { IfOk result (λ done. (state : State) → ShowsState state self.old → Leaves done self.new (Ok (aligned state state.segment label.now n))) }
+        ensures { IfOk result (λ done. (state : State) → ShowsState state self.old → Leaves done self.new (Ok (state_after_align state state.segment label.now n))) }
     {
         if let Some(open) = &mut self.segment {
             let size = u64::from(padding(n, open.body.cells as u32));
@@ -90,7 +90,7 @@ impl Kept {
         n: u32,
     ) -> Result<Result<(), AsmCause>, AllocError>
         requires near { IsNear self.old.segment n }
-        ensures { IfOk result (λ done. (state : State) → ShowsState state self.old → Leaves done self.new (Ok (moved state state.segment label.now n))) }
+        ensures { IfOk result (λ done. (state : State) → ShowsState state self.old → Leaves done self.new (Ok (state_after_org state state.segment label.now n))) }
     {
         if let Some(open) = &mut self.segment {
             return open.give_record(alloc, label, &Rec::Org { n }, u64::from(n));
@@ -101,20 +101,20 @@ impl Kept {
 }
 
 /// ALIGN, by its number.
-fn aligning(
+fn apply_align(
     alloc: Global,
-    kept: &mut Kept,
+    kept: &mut AsmState,
     label: Result<Name, AsmCause>,
     number: Result<u32, AsmCause>,
 ) -> Result<Result<(), AsmCause>, AllocError>
     ensures { IfOk result (λ done. (state : State) → ShowsState state kept.old → Leaves done kept.new (aligned_by state label number)) }
 {
     let step = match number {
-        Ok(n) => kept.alignment(n),
+        Ok(n) => kept.check_alignment(n),
         Err(cause) => Err(cause),
     };
-    match both(label, step) {
-        Ok((name, n)) => kept.align(alloc, &name, n),
+    match pair_or_earlier_fault(label, step) {
+        Ok((name, n)) => kept.put_align(alloc, &name, n),
         Err(cause) => Ok(Err(cause)),
     }
 }
@@ -122,20 +122,20 @@ fn aligning(
 /// ALIGN.
 pub(crate) fn do_align(
     alloc: Global,
-    kept: &mut Kept,
+    kept: &mut AsmState,
     label: Result<Name, AsmCause>,
     text: LinePart<'_>,
 ) -> Result<Result<(), AsmCause>, AllocError>
     ensures { IfOk result (λ done. (state : State) (line : Line) → ShowsState state kept.old → IsLeft state line (Direct directives.Align) label text.entry.bytes.now done kept.new) }
 {
     let number = number_in(alloc, kept.known(), text)?;
-    aligning(alloc, kept, label, number)
+    apply_align(alloc, kept, label, number)
 }
 
 /// The number of ORG: in a segment it stands behind `*+`.
 fn distance_in(
     alloc: Global,
-    kept: &Kept,
+    kept: &AsmState,
     text: LinePart<'_>,
 ) -> Result<Result<u32, AsmCause>, AllocError>
     ensures { IfOk result (λ number. (state : State) → ShowsState state kept.now → HasDistance state text.entry.bytes.now number) }
@@ -152,7 +152,7 @@ fn distance_in(
 /// ORG, by its number.
 fn moving(
     alloc: Global,
-    kept: &mut Kept,
+    kept: &mut AsmState,
     label: Result<Name, AsmCause>,
     number: Result<u32, AsmCause>,
 ) -> Result<Result<(), AsmCause>, AllocError>
@@ -162,7 +162,7 @@ fn moving(
         Ok(n) => kept.distance(n),
         Err(cause) => Err(cause),
     };
-    match both(label, distance) {
+    match pair_or_earlier_fault(label, distance) {
         Ok((name, n)) => kept.org(alloc, &name, n),
         Err(cause) => Ok(Err(cause)),
     }
@@ -171,7 +171,7 @@ fn moving(
 /// ORG.
 pub(crate) fn do_org(
     alloc: Global,
-    kept: &mut Kept,
+    kept: &mut AsmState,
     label: Result<Name, AsmCause>,
     text: LinePart<'_>,
 ) -> Result<Result<(), AsmCause>, AllocError>

@@ -16,12 +16,12 @@ ghost use Rattle.orca_object.specs.DoneView.{IsSome, kinded_by, using_by};
 ghost use Rattle.orca_object.specs.DoingView.{ending};
 
 use crate::amount::number_in;
-use crate::causes::{both, earlier};
-use crate::names::Names;
-use crate::object::{head_size, put_segment};
+use crate::causes::{earlier, pair_or_earlier_fault};
+use crate::names::DefinedNames;
+use crate::object::{header_size, put_segment};
 use crate::operand::{is_name, name_of};
-use crate::state::{Body, Kept, Open};
-use crate::text::Text;
+use crate::record_bytes::RecordBytes;
+use crate::state::{AsmState, Body, OpenSegment};
 use asm_meaning::{AsmCause, Class};
 use omf_base::Name;
 use omf_header::{Header, Kind};
@@ -55,7 +55,7 @@ fn bank_size_of(class: Class) -> u32
 }
 
 /// The header of a segment that ends.
-fn header_of(segment: Open) -> (Header, Text)
+fn header_of(segment: OpenSegment) -> (Header, RecordBytes)
     ensures header { fields result.0 ≡ ended_header segment }
     ensures writable { IsWritable (fields result.0) }
     ensures text { result.1 ≡ segment.body.writer.text }
@@ -87,7 +87,7 @@ fn header_of(segment: Open) -> (Header, Text)
 const SIZE: usize = 10;
 
 /// A text in upper case, and spaces up to ten bytes.
-fn padded(text: &[u8]) -> [u8; 10]
+fn pad_load_name(text: &[u8]) -> [u8; 10]
     requires { length text.now ≤ 10 }
     ensures { result ≡ folded text.now ++ replicate (10 - length text.now) 0x20 }
 {
@@ -107,7 +107,7 @@ fn load_name_of(text: &[u8]) -> Result<[u8; 10], AsmCause>
         return Ok([b' '; SIZE]);
     }
     if is_name(text) && text.len() <= SIZE {
-        return Ok(padded(text));
+        return Ok(pad_load_name(text));
     }
     Err(AsmCause::BadOperand)
 }
@@ -133,11 +133,11 @@ fn listed_kind(n: u32) -> Result<u16, AsmCause>
     Ok(n as u16)
 }
 
-impl Kept {
+impl AsmState {
     ghost use Rattle.std.specs.Prelude.{◌≡◌, ◌≤◌, ◌∷◌, [], length, OnOk, true, None};
     ghost use Rattle.orca_meaning.specs.Line.{Line};
     ghost use Rattle.omf_format.specs.Record.{End, Label, Using};
-    ghost use Rattle.asm_meaning.specs.State.{State, in_segment, marked, begun, closed, grown};
+    ghost use Rattle.asm_meaning.specs.State.{State, in_segment, with_local_record, state_after_start, state_after_end, with_records};
     ghost use Rattle.orca_object.specs.StateView.{ShowsState};
     ghost use Rattle.omf_format.specs.Header.{is_listed, form_of};
     ghost use Rattle.asm_meaning.specs.Statement.{with_kind};
@@ -152,14 +152,14 @@ impl Kept {
         name: Name,
         load_name: [u8; 10],
     ) -> Result<(), AllocError>
-        ensures { OnOk result ((state : State) (l : Line) → ShowsState state self.old → file ≡ l.file → line ≡ l.number → ShowsState (begun state l class name load_name) self.new) }
+        ensures { OnOk result ((state : State) (l : Line) → ShowsState state self.old → file ≡ l.file → line ≡ l.number → ShowsState (state_after_start state l class name load_name) self.new) }
     {
-        let mut names = Names::new(alloc);
+        let mut names = DefinedNames::new(alloc);
         names.set(alloc, name.bytes(), None)?;
-        let front = mem::replace(&mut self.front, Text::new(alloc));
-        let mut text = Text::room(alloc, head_size(&name))?;
+        let front = mem::replace(&mut self.front, RecordBytes::new(alloc));
+        let mut text = RecordBytes::room(alloc, header_size(&name))?;
         text.join(front)?;
-        let open = Open {
+        let open = OpenSegment {
             file,
             line,
             class,
@@ -180,7 +180,7 @@ impl Kept {
 
     /// END.
     fn end(&mut self, alloc: Global, label: &Name) -> Result<(), AllocError>
-        ensures { OnOk result ((state : State) → ShowsState state self.old → ShowsState (closed (in_segment (marked label.now 0x4E (End ∷ [])) state)) self.new) }
+        ensures { OnOk result ((state : State) → ShowsState state self.old → ShowsState (state_after_end (in_segment (with_local_record label.now 0x4E (End ∷ [])) state)) self.new) }
     {
         let mut open = match mem::replace(&mut self.segment, None) {
             Some(open) => open,
@@ -196,7 +196,7 @@ impl Kept {
     /// KIND.
     fn kind(&mut self, alloc: Global, label: &Name, n: u16) -> Result<(), AllocError>
         requires listed { is_listed (form_of n) ≡ true }
-        ensures { OnOk result ((state : State) → ShowsState state self.old → ShowsState (in_segment (λ s. with_kind n (marked label.now 0x4E [] s)) state) self.new) }
+        ensures { OnOk result ((state : State) → ShowsState state self.old → ShowsState (in_segment (λ s. with_kind n (with_local_record label.now 0x4E [] s)) state) self.new) }
     {
         if let Some(open) = &mut self.segment {
             open.mark_alone(alloc, label)?;
@@ -209,7 +209,7 @@ impl Kept {
     /// USING.
     fn using(&mut self, alloc: Global, label: &Name, name: &Name) -> Result<(), AllocError>
         requires some { 1 ≤ length name.now }
-        ensures { OnOk result ((state : State) → ShowsState state self.old → ShowsState (in_segment (marked label.now 0x4E (Using name.now ∷ [])) state) self.new) }
+        ensures { OnOk result ((state : State) → ShowsState state self.old → ShowsState (in_segment (with_local_record label.now 0x4E (Using name.now ∷ [])) state) self.new) }
     {
         let using = Rec::Using { name: name.bytes() };
         if let Some(open) = &mut self.segment {
@@ -222,7 +222,7 @@ impl Kept {
     /// ENTRY.
     fn entry(&mut self, alloc: Global, label: &Name) -> Result<(), AllocError>
         requires some { 1 ≤ length label.now }
-        ensures { OnOk result ((state : State) → ShowsState state self.old → ShowsState (in_segment (grown label.now None (Label true label.now 0 0x4E 0 ∷ []) []) state) self.new) }
+        ensures { OnOk result ((state : State) → ShowsState state self.old → ShowsState (in_segment (with_records label.now None (Label true label.now 0 0x4E 0 ∷ []) []) state) self.new) }
     {
         let global = Rec::Label {
             global: true,
@@ -242,7 +242,7 @@ impl Kept {
 /// START and its kin.
 pub(crate) fn do_begin(
     alloc: Global,
-    kept: &mut Kept,
+    kept: &mut AsmState,
     file: u32,
     number: u32,
     class: Class,
@@ -269,7 +269,7 @@ pub(crate) fn do_begin(
 /// END.
 pub(crate) fn do_end(
     alloc: Global,
-    kept: &mut Kept,
+    kept: &mut AsmState,
     label: Result<Name, AsmCause>,
 ) -> Result<Result<(), AsmCause>, AllocError>
     ensures { IfOk result (λ done. (state : State) → ShowsState state kept.old → Leaves done kept.new (ending state label)) }
@@ -286,7 +286,7 @@ pub(crate) fn do_end(
 /// ENTRY.
 fn entering(
     alloc: Global,
-    kept: &mut Kept,
+    kept: &mut AsmState,
     label: Result<Name, AsmCause>,
 ) -> Result<Result<(), AsmCause>, AllocError>
     requires some { IsSome label }
@@ -304,7 +304,7 @@ fn entering(
 /// ENTRY.
 pub(crate) fn do_entry(
     alloc: Global,
-    kept: &mut Kept,
+    kept: &mut AsmState,
     label: Result<Name, AsmCause>,
 ) -> Result<Result<(), AsmCause>, AllocError>
     requires some { IsSome label }
@@ -316,14 +316,14 @@ pub(crate) fn do_entry(
 /// USING, by the name of its operand.
 fn using(
     alloc: Global,
-    kept: &mut Kept,
+    kept: &mut AsmState,
     label: Result<Name, AsmCause>,
     found: Result<Name, AsmCause>,
 ) -> Result<Result<(), AsmCause>, AllocError>
     requires found { IsSome found }
     ensures { IfOk result (λ done. (state : State) → ShowsState state kept.old → Leaves done kept.new (using_by state label found)) }
 {
-    match both(label, found) {
+    match pair_or_earlier_fault(label, found) {
         Ok((name, found)) => {
             kept.using(alloc, &name, &found)?;
             Ok(Ok(()))
@@ -335,7 +335,7 @@ fn using(
 /// USING.
 pub(crate) fn do_using(
     alloc: Global,
-    kept: &mut Kept,
+    kept: &mut AsmState,
     label: Result<Name, AsmCause>,
     text: LinePart<'_>,
 ) -> Result<Result<(), AsmCause>, AllocError>
@@ -348,7 +348,7 @@ pub(crate) fn do_using(
 /// KIND, by its number.
 fn kinding(
     alloc: Global,
-    kept: &mut Kept,
+    kept: &mut AsmState,
     label: Result<Name, AsmCause>,
     number: Result<u32, AsmCause>,
 ) -> Result<Result<(), AsmCause>, AllocError>
@@ -358,7 +358,7 @@ fn kinding(
         Ok(n) => listed_kind(n),
         Err(cause) => Err(cause),
     };
-    match both(label, kind) {
+    match pair_or_earlier_fault(label, kind) {
         Ok((name, n)) => {
             kept.kind(alloc, &name, n)?;
             Ok(Ok(()))
@@ -370,7 +370,7 @@ fn kinding(
 /// KIND.
 pub(crate) fn do_kind(
     alloc: Global,
-    kept: &mut Kept,
+    kept: &mut AsmState,
     label: Result<Name, AsmCause>,
     text: LinePart<'_>,
 ) -> Result<Result<(), AsmCause>, AllocError>

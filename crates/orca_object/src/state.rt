@@ -6,8 +6,8 @@ ghost use Rattle.omf_format.specs.Header.{is_listed, form_of};
 ghost use Rattle.asm_meaning.specs.State.{greatest_length};
 
 use crate::mode::Widths;
-use crate::names::{Known, Names, Outside};
-use crate::text::Text;
+use crate::names::{DefinedNames, KnownConstants, OutsideConstants};
+use crate::record_bytes::RecordBytes;
 use crate::writer::Writer;
 use asm_meaning::{AsmCause, Class};
 use omf_base::Name;
@@ -27,7 +27,7 @@ pub(crate) struct Body {
 
 /// A segment that hasn't ended.
 #[derive(Drop)]
-pub(crate) struct Open {
+pub(crate) struct OpenSegment {
     /// The file of the line that begins it, and that line's number.
     pub(crate) file: u32,
     pub(crate) line: u32,
@@ -41,7 +41,7 @@ pub(crate) struct Open {
     pub(crate) load_name: [u8; 10],
     pub(crate) name: Name,
     /// The names that it defines.
-    pub(crate) names: Names,
+    pub(crate) names: DefinedNames,
     pub(crate) body: Body,
     ghost listed: { is_listed (form_of kind) ≡ true },
 }
@@ -49,18 +49,18 @@ pub(crate) struct Open {
 /// The widths of the registers, whether MSB is on, the constants from outside segments, what waits for the next segment,
 /// the segment that is open, and the bytes of those that have ended.
 #[derive(Drop)]
-pub(crate) struct Kept {
+pub(crate) struct AsmState {
     pub(crate) widths: Widths,
     pub(crate) msb: bool,
-    pub(crate) outside: Outside,
+    pub(crate) outside: OutsideConstants,
     /// ORG, ALIGN and the first records of the next segment.
     pub(crate) org: u32,
     pub(crate) align: u32,
-    pub(crate) front: Text,
-    pub(crate) segment: Option<Open>,
+    pub(crate) front: RecordBytes,
+    pub(crate) segment: Option<OpenSegment>,
     /// SEGNUM of the next segment.
     pub(crate) number: u16,
-    pub(crate) object: Text,
+    pub(crate) object: RecordBytes,
 }
 
 /// The most cells of a segment of a class.
@@ -83,12 +83,12 @@ impl Body {
     ghost use Rattle.asm_meaning.specs.Object.{records_text};
     ghost use Rattle.asm_meaning.specs.Pieces.{place_behind};
     ghost use Rattle.orca_object.specs.BodyView.{ShowsBody};
-    ghost use Rattle.orca_object.specs.TextView.{limited, kept_text};
+    ghost use Rattle.orca_object.specs.TextView.{text_within_limit, kept_text};
 
     /// Records that give no cells, behind room for a header.
     #[tactic(auto, using(crate::proofs::Bodies::begins))]
-    pub(crate) fn new(alloc: Global, text: Text) -> Body
-        ensures { (room : ℕ) (records : List Record) → kept_text text ≡ limited (replicate room 0 ++ records_text records) → place_behind 0 records ≡ 0 → ShowsBody room records result }
+    pub(crate) fn new(alloc: Global, text: RecordBytes) -> Body
+        ensures { (room : ℕ) (records : List Record) → kept_text text ≡ text_within_limit (replicate room 0 ++ records_text records) → place_behind 0 records ≡ 0 → ShowsBody room records result }
     {
         Body {
             writer: Writer::new(alloc, text),
@@ -121,18 +121,18 @@ impl Body {
     }
 }
 
-impl Open {
+impl OpenSegment {
     ghost use Rattle.std.specs.Prelude.{◌≡◌, ◌∷◌, [], OnOk, IfOk};
     ghost use Rattle.omf_format.specs.Field.{written_layout};
     ghost use Rattle.omf_format.specs.Record.{IsRecord};
     ghost use Rattle.omf_records.specs.View.{view};
     ghost use Rattle.link_meaning.specs.Sizes.{size_at};
-    ghost use Rattle.asm_meaning.specs.State.{Segment, local_of, marked};
-    ghost use Rattle.orca_object.specs.StateView.{ShowsSegment, ShowsGrown, named, with_records, labelled};
+    ghost use Rattle.asm_meaning.specs.State.{Segment, local_of, with_local_record};
+    ghost use Rattle.orca_object.specs.StateView.{ShowsSegment, ShowsGrown, with_defined_name, with_records, with_local_label};
 
     /// One more name, where the statement has a label.
     fn define(&mut self, alloc: Global, label: &Name, value: Option<u32>) -> Result<(), AllocError>
-        ensures segment { OnOk result ((s : Segment) → ShowsSegment s self.old → ShowsSegment (named label.now value s) self.new) }
+        ensures segment { OnOk result ((s : Segment) → ShowsSegment s self.old → ShowsSegment (with_defined_name label.now value s) self.new) }
         ensures cells { self.new.body.cells ≡ self.old.body.cells }
     {
         let name = label.bytes();
@@ -162,7 +162,7 @@ impl Open {
     ) -> Result<(), AllocError>
         requires record { IsRecord written_layout (view rec.now) }
         requires none { size_at self.old.body.cells (view rec.now) ≡ 0 }
-        ensures segment { OnOk result ((s : Segment) → ShowsSegment s self.old → ShowsSegment (with_records (view rec.now ∷ []) (named label.now value s)) self.new) }
+        ensures segment { OnOk result ((s : Segment) → ShowsSegment s self.old → ShowsSegment (with_records (view rec.now ∷ []) (with_defined_name label.now value s)) self.new) }
     {
         self.define(alloc, label, value)?;
         self.put(rec)
@@ -195,7 +195,7 @@ impl Open {
         form: u8,
         size: u64,
     ) -> Result<(), AllocError>
-        ensures segment { OnOk result ((s : Segment) → ShowsSegment s self.old → ShowsSegment (labelled label.now form size s) self.new) }
+        ensures segment { OnOk result ((s : Segment) → ShowsSegment s self.old → ShowsSegment (with_local_label label.now form size s) self.new) }
         ensures cells { OnOk result (self.new.body.cells ≡ self.old.body.cells) }
     {
         self.define(alloc, label, None)?;
@@ -204,7 +204,7 @@ impl Open {
 
     /// The label of a directive that gives no records.
     pub(crate) fn mark_alone(&mut self, alloc: Global, label: &Name) -> Result<(), AllocError>
-        ensures { OnOk result ((s : Segment) → ShowsSegment s self.old → ShowsSegment (marked label.now 0x4E [] s) self.new) }
+        ensures { OnOk result ((s : Segment) → ShowsSegment s self.old → ShowsSegment (with_local_record label.now 0x4E [] s) self.new) }
     {
         self.mark(alloc, label, 0x4E, 0)
     }
@@ -218,7 +218,7 @@ impl Open {
     ) -> Result<(), AllocError>
         requires record { IsRecord written_layout (view rec.now) }
         requires none { size_at self.old.body.cells (view rec.now) ≡ 0 }
-        ensures { OnOk result ((s : Segment) → ShowsSegment s self.old → ShowsSegment (marked label.now 0x4E (view rec.now ∷ []) s) self.new) }
+        ensures { OnOk result ((s : Segment) → ShowsSegment s self.old → ShowsSegment (with_local_record label.now 0x4E (view rec.now ∷ []) s) self.new) }
     {
         self.mark(alloc, label, 0x4E, 0)?;
         self.put(rec)
@@ -234,7 +234,7 @@ impl Open {
     ) -> Result<Result<(), AsmCause>, AllocError>
         requires record { IsRecord written_layout (view rec.now) }
         requires size { size ≡ size_at self.old.body.cells (view rec.now) }
-        ensures { IfOk result (λ done. (s : Segment) → ShowsSegment s self.old → ShowsGrown done (marked label.now 0x4E (view rec.now ∷ []) s) self.new) }
+        ensures { IfOk result (λ done. (s : Segment) → ShowsSegment s self.old → ShowsGrown done (with_local_record label.now 0x4E (view rec.now ∷ []) s) self.new) }
     {
         self.mark(alloc, label, 0x4E, size)?;
         match self.body.grow(size) {
@@ -247,44 +247,44 @@ impl Open {
     }
 }
 
-impl Kept {
+impl AsmState {
     ghost use Rattle.std.specs.Prelude.{◌≡◌, [], is_some, None, OnOk};
-    ghost use Rattle.asm_meaning.specs.State.{State, start, in_segment, marked, is_too_long};
+    ghost use Rattle.asm_meaning.specs.State.{State, start, in_segment, with_local_record, is_too_long};
     ghost use Rattle.asm_meaning.specs.declared.directives.Operation.{Operation};
     ghost use Rattle.asm_meaning.specs.Statement.{constants_of, is_taken, begins_segment};
     ghost use Rattle.orca_object.specs.NamesView.{constants};
     ghost use Rattle.orca_object.specs.StateView.{ShowsState};
 
     /// Before the first line.
-    pub(crate) fn new(alloc: Global) -> Kept
+    pub(crate) fn new(alloc: Global) -> AsmState
         ensures state { ShowsState start result }
         ensures short { result.segment ≡ None }
     {
-        Kept {
+        AsmState {
             widths: Widths {
                 long_a: true,
                 long_i: true,
             },
             msb: false,
-            outside: Outside::new(alloc),
+            outside: OutsideConstants::new(alloc),
             org: 0,
             align: 0,
-            front: Text::new(alloc),
+            front: RecordBytes::new(alloc),
             segment: None,
             number: 1,
-            object: Text::new(alloc),
+            object: RecordBytes::new(alloc),
         }
     }
 
     /// The constants that are known.
-    pub(crate) fn known(&self) -> Known<'_>
+    pub(crate) fn known(&self) -> KnownConstants<'_>
         ensures { (state : State) → ShowsState state self.now → constants result ≡ constants_of state }
     {
         let names = match &self.segment {
             Some(open) => Some(&open.names),
             None => None,
         };
-        Known {
+        KnownConstants {
             names,
             outside: &self.outside,
         }
@@ -325,7 +325,7 @@ impl Kept {
 
     /// The label of a directive that gives no records.
     pub(crate) fn mark_alone(&mut self, alloc: Global, label: &Name) -> Result<(), AllocError>
-        ensures { OnOk result ((state : State) → ShowsState state self.old → ShowsState (in_segment (marked label.now 0x4E []) state) self.new) }
+        ensures { OnOk result ((state : State) → ShowsState state self.old → ShowsState (in_segment (with_local_record label.now 0x4E []) state) self.new) }
     {
         if let Some(open) = &mut self.segment {
             open.mark_alone(alloc, label)?;

@@ -11,12 +11,12 @@ ghost use Rattle.orca_object.specs.MarkView.{IsPlainAnswer};
 ghost use Rattle.orca_object.specs.ModeView.{widths};
 ghost use Rattle.orca_object.specs.NamesView.{constants};
 
-use crate::causes::{gather, gathered};
+use crate::causes::{answer_or_fault, gather_answer};
 use crate::dc::element_at;
-use crate::given::{Given, Part};
+use crate::encoding::{Encoding, RepeatedPieces};
 use crate::instruct::instruct;
 use crate::mode::Widths;
-use crate::names::Known;
+use crate::names::KnownConstants;
 use asm_meaning::AsmCause;
 use orca_text::{LinePart, Mnemonic, SourceLine, TextCause, behind_byte, read_operand};
 use std::alloc::{AllocError, Global};
@@ -32,11 +32,11 @@ fn know_short(line: &SourceLine)
 /// What an instruction's line gives, or the first fault of its operand.
 pub(crate) fn instruction_given(
     alloc: Global,
-    known: Known<'_>,
+    known: KnownConstants<'_>,
     of: Widths,
     mnemonic: Mnemonic,
     line: &SourceLine,
-) -> Result<Result<Given, AsmCause>, AllocError>
+) -> Result<Result<Encoding, AsmCause>, AllocError>
     requires operation { LiesIn line.now.text line.now.operation }
     requires operand { LiesIn line.now.text line.now.operand }
     requires mnemonic { line_mnemonic line.now ≡ Some mnemonic }
@@ -44,7 +44,7 @@ pub(crate) fn instruction_given(
     ensures plain { IfOk result IsPlainAnswer }
 {
     know_short(line);
-    known.know_small();
+    known.recall_small();
     match read_operand(alloc, line) {
         Ok(operand) => {
             let answer = instruct(alloc, known, of, mnemonic, &operand)?;
@@ -63,10 +63,10 @@ pub(crate) fn instruction_given(
 /// What the elements of DC give that commas part in a text.
 fn parts_in(
     alloc: Global,
-    known: Known<'_>,
+    known: KnownConstants<'_>,
     msb: bool,
     text: LinePart<'_>,
-) -> Result<Option<Result<Vec<Part>, AsmCause>>, AllocError>
+) -> Result<Option<Result<Vec<RepeatedPieces>, AsmCause>>, AllocError>
     ensures found { IfOk result (λ found. IfSome found (λ answer. HasElements (constants known.entry) msb text.entry.bytes.now (parts_answer answer))) }
     ensures none { IfOk result (λ found. IfNone found ((elements : List Element) → AreElements text.entry.bytes.now elements → ⊥)) }
 {
@@ -78,9 +78,9 @@ fn parts_in(
         let Some((answer, rest)) = found else {
             return Ok(None);
         };
-        gather(&mut out, &mut fault, answer)?;
+        gather_answer(&mut out, &mut fault, answer)?;
         if rest.is_empty() {
-            return Ok(Some(gathered(fault, out)));
+            return Ok(Some(answer_or_fault(fault, out)));
         }
         let Some(behind) = behind_byte(rest, b',') else {
             return Ok(None);
@@ -92,16 +92,16 @@ fn parts_in(
 /// What the operand of DC gives, or its first fault.
 pub(crate) fn constants_given(
     alloc: Global,
-    known: Known<'_>,
+    known: KnownConstants<'_>,
     msb: bool,
     text: LinePart<'_>,
-) -> Result<Result<Given, AsmCause>, AllocError>
+) -> Result<Result<Encoding, AsmCause>, AllocError>
     ensures { IfOk result (λ answer. IsByList (constants known.entry) msb text.entry.bytes.now (given_answer answer)) }
 {
     let found = parts_in(alloc, known, msb, text)?;
     match found {
         Some(answer) => match answer {
-            Ok(parts) => Ok(Ok(Given::Parts(parts))),
+            Ok(parts) => Ok(Ok(Encoding::Parts(parts))),
             Err(cause) => Ok(Err(cause)),
         },
         None => Ok(Err(AsmCause::BadOperand)),

@@ -14,12 +14,12 @@ ghost use Rattle.orca_object.specs.StateView.{ShowsState, IsLeft};
 ghost use Rattle.orca_object.specs.StepView.{Steps, IsPlacedAs};
 ghost use Rattle.orca_object.specs.AssembleView.{HasStepped, IsLast, IsAssembled};
 
-use crate::data::{do_constants, do_instruct, do_space, rest};
+use crate::data::{do_anop, do_constants, do_instruct, do_space};
 use crate::equates::{do_equ, do_gequ};
 use crate::operation::{begins_segment, label_of, needs_segment, operation_of};
 use crate::places::{do_align, do_org};
 use crate::segments::{do_begin, do_end, do_entry, do_kind, do_using};
-use crate::state::Kept;
+use crate::state::AsmState;
 use crate::switches::turning;
 use asm_meaning::{AsmCause, AsmFault, Directive, Operation};
 use omf_base::Name;
@@ -29,7 +29,7 @@ use std::alloc::{AllocError, Global};
 /// A directive that needs no label.
 fn do_unlabelled(
     alloc: Global,
-    kept: &mut Kept,
+    kept: &mut AsmState,
     directive: Directive,
     label: Result<Name, AsmCause>,
     text: LinePart<'_>,
@@ -46,8 +46,8 @@ fn do_unlabelled(
         Directive::Org => do_org(alloc, kept, label, text),
         Directive::Kind => do_kind(alloc, kept, label, text),
         Directive::Turn(switch) => turning(alloc, kept, switch, label, text.bytes),
-        Directive::Nothing => rest(alloc, kept, label),
-        Directive::Ignored => rest(alloc, kept, label),
+        Directive::Nothing => do_anop(alloc, kept, label),
+        Directive::Ignored => do_anop(alloc, kept, label),
         Directive::Begin(_) | Directive::Entry | Directive::Equ | Directive::Gequ => unreachable!(),
     }
 }
@@ -55,7 +55,7 @@ fn do_unlabelled(
 /// What an operation leaves, before the segment's length is judged.
 fn do_operation(
     alloc: Global,
-    kept: &mut Kept,
+    kept: &mut AsmState,
     operation: Operation,
     label: Result<Name, AsmCause>,
     of: &SourceLine,
@@ -81,7 +81,7 @@ fn do_operation(
 
 /// Whether a statement stands on the wrong side.
 #[inline(always)]
-fn is_misplaced(kept: &Kept, operation: Operation, label: &[u8], operand: &[u8]) -> bool
+fn is_misplaced(kept: &AsmState, operation: Operation, label: &[u8], operand: &[u8]) -> bool
     ensures { (state : State) → ShowsState state kept.now → result ≡ is_misplaced state.segment operation label.now operand.now }
 {
     match &kept.segment {
@@ -94,7 +94,7 @@ fn is_misplaced(kept: &Kept, operation: Operation, label: &[u8], operand: &[u8])
 #[inline(always)]
 fn finish(
     alloc: Global,
-    kept: &mut Kept,
+    kept: &mut AsmState,
     operation: Operation,
     label: Result<Name, AsmCause>,
     of: &SourceLine,
@@ -118,7 +118,11 @@ fn finish(
 }
 
 /// What a line leaves, or its first fault.
-fn step(alloc: Global, kept: &mut Kept, of: &SourceLine) -> Result<Result<(), AsmCause>, AllocError>
+fn step(
+    alloc: Global,
+    kept: &mut AsmState,
+    of: &SourceLine,
+) -> Result<Result<(), AsmCause>, AllocError>
     requires fields { HaveFields of.now.text (line of.now).fields }
     ensures { IfOk result (λ done. (state : State) → ShowsState state kept.old → Steps state (line of.now) done kept.new) }
 {
@@ -145,10 +149,10 @@ fn fault_at(of: &SourceLine, cause: AsmCause) -> AsmFault
 }
 
 /// What lines leave, or the fault of the first that has one.
-fn step_all(alloc: Global, lines: &Lines) -> Result<Result<Kept, AsmFault>, AllocError>
+fn step_all(alloc: Global, lines: &Lines) -> Result<Result<AsmState, AsmFault>, AllocError>
     ensures { IfOk result (HasStepped lines.now) }
 {
-    let mut kept = Kept::new(alloc);
+    let mut kept = AsmState::new(alloc);
     let mut place: u32 = 0;
     let count = lines.count();
     'lines: while place < count {
@@ -166,7 +170,7 @@ fn step_all(alloc: Global, lines: &Lines) -> Result<Result<Kept, AsmFault>, Allo
 }
 
 /// The object that lines have left: the first of their faults is that a segment has no END, then that it is too long.
-fn object_of(kept: Kept) -> Result<Vec<u8>, AsmFault>
+fn object_of(kept: AsmState) -> Result<Vec<u8>, AsmFault>
     ensures { (state : State) → ShowsState state kept → IsLast state result }
 {
     if let Some(open) = &kept.segment {
@@ -187,8 +191,8 @@ fn object_of(kept: Kept) -> Result<Vec<u8>, AsmFault>
 }
 
 /// The object that lines have left, or the fault of the first that has one.
-fn answered(stepped: Result<Kept, AsmFault>) -> Result<Vec<u8>, AsmFault>
-    ensures assembled { (lines : List Line) → HasStepped lines stepped → IsAssembled lines result }
+fn object_or_fault(stepped: Result<AsmState, AsmFault>) -> Result<Vec<u8>, AsmFault>
+    ensures assemble_lines { (lines : List Line) → HasStepped lines stepped → IsAssembled lines result }
     ensures fault { (fault : AsmFault) → stepped ≡ Err fault → result ≡ Err fault }
 {
     match stepped {
@@ -198,9 +202,9 @@ fn answered(stepped: Result<Kept, AsmFault>) -> Result<Vec<u8>, AsmFault>
 }
 
 /// The object of expanded lines, or the first fault of theirs.
-pub fn assembled(alloc: Global, lines: &Lines) -> Result<Result<Vec<u8>, AsmFault>, AllocError>
+pub fn assemble_lines(alloc: Global, lines: &Lines) -> Result<Result<Vec<u8>, AsmFault>, AllocError>
     ensures { IfOk result (IsAssembled lines.now) }
 {
     let stepped = step_all(alloc, lines)?;
-    Ok(answered(stepped))
+    Ok(object_or_fault(stepped))
 }

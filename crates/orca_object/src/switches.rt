@@ -5,8 +5,8 @@ ghost use Rattle.asm_meaning.specs.Statement.{switch_of, turning};
 ghost use Rattle.asm_meaning.specs.State.{State};
 ghost use Rattle.orca_object.specs.StateView.{ShowsState, Leaves};
 
-use crate::causes::both;
-use crate::state::Kept;
+use crate::causes::pair_or_earlier_fault;
+use crate::state::AsmState;
 use asm_meaning::{AsmCause, Switch};
 use omf_base::Name;
 use orca_text::is_spelled;
@@ -25,20 +25,20 @@ fn switch_of(text: &[u8]) -> Result<bool, AsmCause>
     Err(AsmCause::BadOperand)
 }
 
-impl Kept {
+impl AsmState {
     ghost use Rattle.std.specs.Prelude.{[], OnOk};
-    ghost use Rattle.asm_meaning.specs.State.{State, in_segment, marked, turned};
+    ghost use Rattle.asm_meaning.specs.State.{State, in_segment, with_local_record, with_switch_set};
     ghost use Rattle.orca_object.specs.StateView.{ShowsState};
 
     /// LONGA, LONGI and MSB, with a label.
-    fn turn(
+    fn put_switch(
         &mut self,
         alloc: Global,
         label: &Name,
         switch: Switch,
         on: bool,
     ) -> Result<(), AllocError>
-        ensures { OnOk result ((state : State) → ShowsState state self.old → ShowsState (turned switch on (in_segment (marked label.now 0x4E []) state)) self.new) }
+        ensures { OnOk result ((state : State) → ShowsState state self.old → ShowsState (with_switch_set switch on (in_segment (with_local_record label.now 0x4E []) state)) self.new) }
     {
         self.mark_alone(alloc, label)?;
         match switch {
@@ -53,16 +53,16 @@ impl Kept {
 /// LONGA, LONGI and MSB.
 pub(crate) fn turning(
     alloc: Global,
-    kept: &mut Kept,
+    kept: &mut AsmState,
     switch: Switch,
     label: Result<Name, AsmCause>,
     text: &[u8],
 ) -> Result<Result<(), AsmCause>, AllocError>
     ensures { IfOk result (λ done. (state : State) → ShowsState state kept.old → Leaves done kept.new (turning state switch label text.now)) }
 {
-    match both(label, switch_of(text)) {
+    match pair_or_earlier_fault(label, switch_of(text)) {
         Ok((name, on)) => {
-            kept.turn(alloc, &name, switch, on)?;
+            kept.put_switch(alloc, &name, switch, on)?;
             Ok(Ok(()))
         }
         Err(cause) => Ok(Err(cause)),

@@ -5,9 +5,9 @@ ghost use Rattle.std.specs.List.{repeat};
 ghost use Rattle.asm_meaning.specs.Pieces as meaning;
 ghost use Rattle.orca_object.specs.PieceView.{piece};
 
-use crate::given::Part;
+use crate::encoding::RepeatedPieces;
 use crate::piece::Piece;
-use crate::text::Text;
+use crate::record_bytes::RecordBytes;
 use omf_records::Rec;
 use std::alloc::{AllocError, Global};
 
@@ -15,7 +15,7 @@ use std::alloc::{AllocError, Global};
 /// nothing: their memory is kept for the next.
 #[derive(Drop)]
 pub(crate) struct Writer {
-    pub(crate) text: Text,
+    pub(crate) text: RecordBytes,
     pub(crate) waiting: Vec<u8>,
 }
 
@@ -67,10 +67,10 @@ impl Writer {
     ghost use Rattle.orca_object.specs.GivenView.{part_pieces, all_pieces};
     ghost use Rattle.orca_object.specs.PieceView.{piece};
     ghost use Rattle.orca_object.specs.PutView.{HasWritten};
-    ghost use Rattle.orca_object.specs.TextView.{limited, kept_text};
+    ghost use Rattle.orca_object.specs.TextView.{text_within_limit, kept_text};
 
     /// Records so far, behind which no bytes wait.
-    pub(crate) fn new(alloc: Global, text: Text) -> Writer
+    pub(crate) fn new(alloc: Global, text: RecordBytes) -> Writer
         ensures { result.text ≡ text }
     {
         Writer {
@@ -82,7 +82,7 @@ impl Writer {
     /// Appends the record of the constant bytes that wait for one, if there are any.
     #[inline(always)]
     fn flush(&mut self) -> Result<(), AllocError>
-        ensures text { OnOk result ((text : List ℕ) → kept_text self.old.text ≡ limited text → kept_text self.new.text ≡ limited (text ++ records_text (constant_records self.old.waiting.items))) }
+        ensures text { OnOk result ((text : List ℕ) → kept_text self.old.text ≡ text_within_limit text → kept_text self.new.text ≡ text_within_limit (text ++ records_text (constant_records self.old.waiting.items))) }
         ensures none { OnOk result (self.new.waiting.items ≡ []) }
     {
         if self.waiting.is_empty() {
@@ -173,7 +173,7 @@ impl Writer {
 
     /// Appends the pieces of a part, so often.
     #[inline(always)]
-    fn put_part(&mut self, part: &Part) -> Result<(), AllocError>
+    fn put_part(&mut self, part: &RepeatedPieces) -> Result<(), AllocError>
         requires { ArePlainPieces (part_pieces part.now) }
         ensures { OnOk result ((whole : List ℕ) (rest : List meaning.Piece) → HasWritten whole self.old (part_pieces part.now ++ rest) → HasWritten whole self.new rest) }
     {
@@ -187,7 +187,7 @@ impl Writer {
     }
 
     /// Appends parts.
-    fn put_parts(&mut self, parts: &[Part]) -> Result<(), AllocError>
+    fn put_parts(&mut self, parts: &[RepeatedPieces]) -> Result<(), AllocError>
         requires { ArePlainPieces (all_pieces parts.now) }
         ensures { OnOk result ((whole : List ℕ) (rest : List meaning.Piece) → HasWritten whole self.old (all_pieces parts.now ++ rest) → HasWritten whole self.new rest) }
     {
@@ -198,9 +198,9 @@ impl Writer {
     }
 
     /// Appends the records of parts. Constant bytes that stand side by side are gathered, whatever waited before.
-    pub(crate) fn put_all_parts(&mut self, parts: &[Part]) -> Result<(), AllocError>
+    pub(crate) fn put_all_parts(&mut self, parts: &[RepeatedPieces]) -> Result<(), AllocError>
         requires { ArePlainPieces (all_pieces parts.now) }
-        ensures { OnOk result ((text : List ℕ) → kept_text self.old.text ≡ limited text → kept_text self.new.text ≡ limited (text ++ records_text (records_of (all_pieces parts.now)))) }
+        ensures { OnOk result ((text : List ℕ) → kept_text self.old.text ≡ text_within_limit text → kept_text self.new.text ≡ text_within_limit (text ++ records_text (records_of (all_pieces parts.now)))) }
     {
         self.waiting.clear();
         self.put_parts(parts)?;

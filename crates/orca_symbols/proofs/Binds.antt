@@ -7,11 +7,11 @@ use Rattle.std.proofs.lemmas.Bool.{ne_eqb}
 use Rattle.std.proofs.lemmas.List.Folds.{list_any_at}
 use Rattle.macro_meaning.specs.declared.statements.Kind.TheVariants.{Text}
 use Rattle.macro_meaning.specs.Symbol.{Symbol, Own, Symbols, with_name}
-use Rattle.macro_meaning.specs.Call.{is_among, Binding, binding, keyword_from, by_place, or_place, bound, bound_once, bound_all, with_missing, complete, all_names, arguments, label_bound}
+use Rattle.macro_meaning.specs.Call.{is_among, Binding, binding, keyword_from, by_place, or_place, bound_arguments, bound_once, bound_all, with_missing, complete, all_names, arguments, label_bound}
 use Rattle.std.specs.List.{prefix_len}
 use Rattle.orca_meaning.specs.Characters.{is_name_start, is_name_byte, folded}
 use Rattle.orca_meaning.specs.Token.{name_at}
-use Rattle.macro_meaning.specs.Definition.{listed, Model}
+use Rattle.macro_meaning.specs.Definition.{list_of_option, Model}
 use Rattle.orca_symbols.specs.Calling.{IsOnce, AreBound}
 use Rattle.orca_symbols.proofs.Parted.{drop_next, drop_all}
 
@@ -54,8 +54,8 @@ all_unbound parameters pieces more place piece old whole is none so =
 pub all_twice : (parameters pieces more : List (List ℕ)) (place : ℕ) (piece : List ℕ) (b : Binding) (old : Symbols) (whole : Option Symbols) → pieces ≡ piece ∷ more
     → binding parameters place piece ≡ Some b → bound_once b.name b.text old ≡ None → bound_all parameters place pieces old ≡ whole → whole ≡ None
 unfolding bound_all after_bound after_binding
-all_twice parameters pieces more place piece b old whole is found bound so =
-    let front : bound_all parameters place (piece ∷ more) old ≡ None = ap (after_binding parameters more old) found ∙ ap (after_bound parameters b.next more) bound in
+all_twice parameters pieces more place piece b old whole is found bound_arguments so =
+    let front : bound_all parameters place (piece ∷ more) old ≡ None = ap (after_binding parameters more old) found ∙ ap (after_bound parameters b.next more) bound_arguments in
     sym so ∙ ap (λ (l : List (List ℕ)). bound_all parameters place l old) is ∙ front
 
 -- ---- parameters that were reached
@@ -149,7 +149,7 @@ reached_stay (suc place) (name ∷ names) symbols so =
     rw (so 0 name (omega arith) refl) (reached_stay place names symbols (λ i other less is. so (suc i) other (omega (arith, less)) is))
 
 -- nor are they once the label parameter is there
-label_reached : (label : Option (List ℕ)) (names : List (List ℕ)) (place : ℕ) (symbols : Symbols) → AreBound names place symbols → AreBound names place (with_missing (listed label) symbols)
+label_reached : (label : Option (List ℕ)) (names : List (List ℕ)) (place : ℕ) (symbols : Symbols) → AreBound names place symbols → AreBound names place (with_missing (list_of_option label) symbols)
 unfolding with_missing
 label_reached None names place symbols so i name less is = so i name less is
 label_reached (Some label) names place symbols so i name less is = by_test (is_some (symbols label))
@@ -160,8 +160,8 @@ label_reached (Some label) names place symbols so i name less is = by_test (is_s
 
 -- all of a call
 pub bound_is : (m : Model) (label operand : List ℕ) (p : List (List ℕ)) (place : ℕ) (s0 s1 s2 s3 : Symbols) → p ≡ m.parameters → s0 ≡ label_bound m.label label → bound_all p 0 (arguments operand) s0 ≡ Some s1
-    → AreBound p place s1 → s2 ≡ with_missing (listed m.label) s1 → s3 ≡ with_missing (drop place p) s2 → bound m label operand ≡ Some s3
-unfolding bound with_missing
+    → AreBound p place s1 → s2 ≡ with_missing (list_of_option m.label) s1 → s3 ≡ with_missing (drop place p) s2 → bound_arguments m label operand ≡ Some s3
+unfolding bound_arguments with_missing
 bound_is m label operand p place s0 s1 s2 s3 p_is first all reached second third =
     ap (complete (all_names m)) whole ∙ ap (λ (s : Symbols). Some s) (by_label m.label second ∙ sym last)
   where
@@ -174,12 +174,12 @@ bound_is m label operand p place s0 s1 s2 s3 p_is first all reached second third
     last : s3 ≡ with_missing m.parameters s2
     last = third ∙ sym (reached_stay place p s2 still) ∙ ap (λ (x : List (List ℕ)). with_missing x s2) p_is
 
-    by_label : (o : Option (List ℕ)) → s2 ≡ with_missing (listed o) s1 → with_missing (elim o [ None ↦ m.parameters | Some name ↦ name ∷ m.parameters ]) s1 ≡ with_missing m.parameters s2
+    by_label : (o : Option (List ℕ)) → s2 ≡ with_missing (list_of_option o) s1 → with_missing (elim o [ None ↦ m.parameters | Some name ↦ name ∷ m.parameters ]) s1 ≡ with_missing m.parameters s2
     by_label None is = ap (with_missing m.parameters) (sym is)
     by_label (Some name) is = ap (with_missing m.parameters) (sym is)
 
-pub bound_none : (m : Model) (label operand : List ℕ) (p : List (List ℕ)) (s0 : Symbols) → p ≡ m.parameters → s0 ≡ label_bound m.label label → bound_all p 0 (arguments operand) s0 ≡ None → bound m label operand ≡ None
-unfolding bound
+pub bound_none : (m : Model) (label operand : List ℕ) (p : List (List ℕ)) (s0 : Symbols) → p ≡ m.parameters → s0 ≡ label_bound m.label label → bound_all p 0 (arguments operand) s0 ≡ None → bound_arguments m label operand ≡ None
+unfolding bound_arguments
 bound_none m label operand p s0 p_is first none =
     ap (complete (all_names m)) (ap (λ (x : List (List ℕ)). bound_all x 0 (arguments operand) (label_bound m.label label)) (sym p_is) ∙ ap (bound_all p 0 (arguments operand)) (sym first) ∙ none)
 

@@ -4,7 +4,7 @@ use Rattle.orca_meaning.specs.Line.{three_fields}
 use Rattle.orca_meaning.specs.Token.{name_at}
 use Rattle.macro_meaning.specs.Statements.{behind_dot}
 use Rattle.macro_meaning.specs.Substitution.{first_passes}
-use Rattle.macro_meaning.specs.Deed.{cut}
+use Rattle.macro_meaning.specs.Effect.{without_sequence_symbol}
 
 -- a line without a dot at its front has no sequence symbol
 no_dot : (n : ℕ) (text : List ℕ) → first_passes (λ (byte : ℕ). eqb byte 0x2E) text ≡ false → behind_dot (take n text) ≡ None
@@ -13,6 +13,6 @@ no_dot (suc n) [] other = refl
 no_dot zero (byte ∷ behind) other = refl
 no_dot (suc n) (byte ∷ behind) other = ap (λ (b : Bool). cond b (name_at (take n behind)) None) other
 
-pub cut_none : (text : List ℕ) → first_passes (λ (byte : ℕ). eqb byte 0x2E) text ≡ false → text ≡ cut text
-unfolding cut three_fields
+pub cut_none : (text : List ℕ) → first_passes (λ (byte : ℕ). eqb byte 0x2E) text ≡ false → text ≡ without_sequence_symbol text
+unfolding without_sequence_symbol three_fields
 cut_none text other = rw (no_dot ((three_fields text).label.to - 0) text other) refl

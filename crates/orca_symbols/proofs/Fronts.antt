@@ -5,7 +5,7 @@ use Rattle.std.proofs.Common.{◌≡◌, ℕ, zero, suc, ◌+◌, ◌-◌, ◌�
 use Rattle.std.specs.Char.{to_ascii_uppercase}
 use Rattle.std.specs.List.{list_all}
 use Rattle.orca_meaning.specs.Characters.{folded}
-use Rattle.macro_meaning.specs.Substitution.{Naming, with_front, in_place, substituted}
+use Rattle.macro_meaning.specs.Substitution.{Naming, with_front, in_place, substituted_from}
 
 pub front_more : (a b : List ℕ) (rest : Option (List ℕ)) → with_front (a ++ b) rest ≡ with_front a (with_front b rest)
 front_more a b None = refl
@@ -20,21 +20,21 @@ front_start out (Some text) e = ap (λ (o : List ℕ). Some (o ++ text)) e
 
 -- what comes in place of an `&`
 pub put_more : (text_of : List ℕ → Option (List ℕ)) (naming : ℕ → Naming) (at byte : ℕ) (behind old new : List ℕ) (put : List ℕ × ℕ) (whole : Option (List ℕ)) → byte ≡ 0x26
-    → in_place text_of (naming at) behind ≡ Some put → new ≡ old ++ put.0 → with_front old (substituted text_of naming at 0 (byte ∷ behind)) ≡ whole
-    → with_front new (substituted text_of naming (at + 1) put.1 behind) ≡ whole
-unfolding substituted
+    → in_place text_of (naming at) behind ≡ Some put → new ≡ old ++ put.0 → with_front old (substituted_from text_of naming at 0 (byte ∷ behind)) ≡ whole
+    → with_front new (substituted_from text_of naming (at + 1) put.1 behind) ≡ whole
+unfolding substituted_from
 put_more text_of naming at byte behind old new put whole ampersand is push so =
-    let front : substituted text_of naming at 0 (0x26 ∷ behind) ≡ with_front put.0 (substituted text_of naming (at + 1) put.1 behind) = rw is refl in
-    ap (λ (n : List ℕ). with_front n (substituted text_of naming (at + 1) put.1 behind)) push ∙ front_more old put.0 (substituted text_of naming (at + 1) put.1 behind)
-    ∙ ap (with_front old) (sym front) ∙ ap (λ (b : ℕ). with_front old (substituted text_of naming at 0 (b ∷ behind))) (sym ampersand) ∙ so
+    let front : substituted_from text_of naming at 0 (0x26 ∷ behind) ≡ with_front put.0 (substituted_from text_of naming (at + 1) put.1 behind) = rw is refl in
+    ap (λ (n : List ℕ). with_front n (substituted_from text_of naming (at + 1) put.1 behind)) push ∙ front_more old put.0 (substituted_from text_of naming (at + 1) put.1 behind)
+    ∙ ap (with_front old) (sym front) ∙ ap (λ (b : ℕ). with_front old (substituted_from text_of naming at 0 (b ∷ behind))) (sym ampersand) ∙ so
 
 -- a symbol isn't declared
 pub put_none : (text_of : List ℕ → Option (List ℕ)) (naming : ℕ → Naming) (at byte : ℕ) (behind old : List ℕ) (whole : Option (List ℕ)) → byte ≡ 0x26
-    → in_place text_of (naming at) behind ≡ None → with_front old (substituted text_of naming at 0 (byte ∷ behind)) ≡ whole → whole ≡ None
-unfolding substituted
+    → in_place text_of (naming at) behind ≡ None → with_front old (substituted_from text_of naming at 0 (byte ∷ behind)) ≡ whole → whole ≡ None
+unfolding substituted_from
 put_none text_of naming at byte behind old whole ampersand none so =
-    let front : substituted text_of naming at 0 (0x26 ∷ behind) ≡ None = rw none refl in
-    sym so ∙ ap (λ (b : ℕ). with_front old (substituted text_of naming at 0 (b ∷ behind))) ampersand ∙ ap (with_front old) front
+    let front : substituted_from text_of naming at 0 (0x26 ∷ behind) ≡ None = rw none refl in
+    sym so ∙ ap (λ (b : ℕ). with_front old (substituted_from text_of naming at 0 (b ∷ behind))) ampersand ∙ ap (with_front old) front
 
 -- a byte that is no small letter
 abbrev pub is_upper : ℕ → Bool
@@ -59,24 +59,24 @@ plain_most (byte ∷ behind) = by_test (eqb byte 0x26) (plain_most behind)
 
 -- a run is copied as it is
 pub plain_front : (text_of : List ℕ → Option (List ℕ)) (naming : ℕ → Naming) (at : ℕ) (text : List ℕ)
-    → substituted text_of naming at 0 text ≡ with_front (take (plain_len text) text) (substituted text_of naming (at + plain_len text) 0 (drop (plain_len text) text))
-unfolding substituted plain_len
+    → substituted_from text_of naming at 0 text ≡ with_front (take (plain_len text) text) (substituted_from text_of naming (at + plain_len text) 0 (drop (plain_len text) text))
+unfolding substituted_from plain_len
 plain_front text_of naming at [] = refl
 plain_front text_of naming at (byte ∷ behind) = by_test (eqb byte 0x26) refl (plain_front text_of naming (at + 1) behind)
   where
     by_test : (b : Bool) → eqb byte 0x26 ≡ b
-        → substituted text_of naming (at + 1) 0 behind ≡ with_front (take (plain_len behind) behind) (substituted text_of naming (at + 1 + plain_len behind) 0 (drop (plain_len behind) behind))
-        → substituted text_of naming at 0 (byte ∷ behind)
-        ≡ with_front (take (cond b 0 (plain_len behind + 1)) (byte ∷ behind)) (substituted text_of naming (at + cond b 0 (plain_len behind + 1)) 0 (drop (cond b 0 (plain_len behind + 1)) (byte ∷ behind)))
-    by_test true is more = let same : at + 0 ≡ at = omega arith in sym (front_start [] (substituted text_of naming (at + 0) 0 (byte ∷ behind)) refl ∙ ap (λ (n : ℕ). substituted text_of naming n 0 (byte ∷ behind)) same)
+        → substituted_from text_of naming (at + 1) 0 behind ≡ with_front (take (plain_len behind) behind) (substituted_from text_of naming (at + 1 + plain_len behind) 0 (drop (plain_len behind) behind))
+        → substituted_from text_of naming at 0 (byte ∷ behind)
+        ≡ with_front (take (cond b 0 (plain_len behind + 1)) (byte ∷ behind)) (substituted_from text_of naming (at + cond b 0 (plain_len behind + 1)) 0 (drop (cond b 0 (plain_len behind + 1)) (byte ∷ behind)))
+    by_test true is more = let same : at + 0 ≡ at = omega arith in sym (front_start [] (substituted_from text_of naming (at + 0) 0 (byte ∷ behind)) refl ∙ ap (λ (n : ℕ). substituted_from text_of naming n 0 (byte ∷ behind)) same)
     by_test false is more =
         let n = plain_len behind in
-        let here : substituted text_of naming at 0 (byte ∷ behind) ≡ with_front (byte ∷ []) (substituted text_of naming (at + 1) 0 behind) = rw is refl in
+        let here : substituted_from text_of naming at 0 (byte ∷ behind) ≡ with_front (byte ∷ []) (substituted_from text_of naming (at + 1) 0 behind) = rw is refl in
         let place : at + 1 + n ≡ at + (n + 1) = omega arith in
         let count : suc n ≡ n + 1 = omega arith in
-        here ∙ ap (with_front (byte ∷ [])) more ∙ sym (front_more (byte ∷ []) (take n behind) (substituted text_of naming (at + 1 + n) 0 (drop n behind)))
-        ∙ ap (λ (p : ℕ). with_front (byte ∷ take n behind) (substituted text_of naming p 0 (drop n behind))) place
-        ∙ ap (λ (k : ℕ). with_front (take k (byte ∷ behind)) (substituted text_of naming (at + (n + 1)) 0 (drop k (byte ∷ behind)))) count
+        here ∙ ap (with_front (byte ∷ [])) more ∙ sym (front_more (byte ∷ []) (take n behind) (substituted_from text_of naming (at + 1 + n) 0 (drop n behind)))
+        ∙ ap (λ (p : ℕ). with_front (byte ∷ take n behind) (substituted_from text_of naming p 0 (drop n behind))) place
+        ∙ ap (λ (k : ℕ). with_front (take k (byte ∷ behind)) (substituted_from text_of naming (at + (n + 1)) 0 (drop k (byte ∷ behind)))) count
 
 -- an `&` stands behind a run
 pub behind_run : (text : List ℕ) (byte : ℕ) (behind : List ℕ) → drop (plain_len text) text ≡ byte ∷ behind → byte ≡ 0x26
@@ -90,27 +90,27 @@ behind_run (first ∷ text) byte behind is = by_test (eqb first 0x26) refl (behi
 
 -- the bytes that were taken are left out
 pub skipped : (text_of : List ℕ → Option (List ℕ)) (naming : ℕ → Naming) (at taken : ℕ) (text : List ℕ) → taken ≤ length text
-    → substituted text_of naming at taken text ≡ substituted text_of naming (at + taken) 0 (drop taken text)
-unfolding substituted
-skipped text_of naming at zero text few = let same : at ≡ at + 0 = omega arith in ap (λ (n : ℕ). substituted text_of naming n 0 text) same
+    → substituted_from text_of naming at taken text ≡ substituted_from text_of naming (at + taken) 0 (drop taken text)
+unfolding substituted_from
+skipped text_of naming at zero text few = let same : at ≡ at + 0 = omega arith in ap (λ (n : ℕ). substituted_from text_of naming n 0 text) same
 skipped text_of naming at (suc taken) [] few = absurd (omega (arith, few))
 skipped text_of naming at (suc taken) (byte ∷ behind) few =
     let same : at + 1 + taken ≡ at + suc taken = omega arith in
-    skipped text_of naming (at + 1) taken behind (omega (arith, few)) ∙ ap (λ (n : ℕ). substituted text_of naming n 0 (drop taken behind)) same
+    skipped text_of naming (at + 1) taken behind (omega (arith, few)) ∙ ap (λ (n : ℕ). substituted_from text_of naming n 0 (drop taken behind)) same
 
 -- nothing is left
-pub nothing_left : (text_of : List ℕ → Option (List ℕ)) (naming : ℕ → Naming) (at : ℕ) (rest out : List ℕ) → length rest ≡ 0 → with_front out (substituted text_of naming at 0 rest) ≡ Some out
-unfolding substituted
+pub nothing_left : (text_of : List ℕ → Option (List ℕ)) (naming : ℕ → Naming) (at : ℕ) (rest out : List ℕ) → length rest ≡ 0 → with_front out (substituted_from text_of naming at 0 rest) ≡ Some out
+unfolding substituted_from
 nothing_left text_of naming at [] out none = front_end out
 nothing_left text_of naming at (byte ∷ rest) out none = absurd (omega (arith, none))
 
 -- so far, where so many bytes of a line are left
 abbrev pub IsSoFar : (List ℕ → Option (List ℕ)) → (ℕ → Naming) → List ℕ → List ℕ → List ℕ → Type 0
-IsSoFar text_of naming text left out = with_front out (substituted text_of naming (length text - length left) 0 left) ≡ substituted text_of naming 0 0 text
+IsSoFar text_of naming text left out = with_front out (substituted_from text_of naming (length text - length left) 0 left) ≡ substituted_from text_of naming 0 0 text
 
 pub run_starts : (text_of : List ℕ → Option (List ℕ)) (naming : ℕ → Naming) (text out : List ℕ) → out ≡ [] → IsSoFar text_of naming text text out
 run_starts text_of naming text out empty =
-    front_start out (substituted text_of naming (length text - length text) 0 text) empty ∙ ap (λ (n : ℕ). substituted text_of naming n 0 text) (none (length text))
+    front_start out (substituted_from text_of naming (length text - length text) 0 text) empty ∙ ap (λ (n : ℕ). substituted_from text_of naming n 0 text) (none (length text))
   where
     none : (n : ℕ) → n - n ≡ 0
     none n = omega arith
@@ -120,39 +120,39 @@ module _ (text_of : List ℕ → Option (List ℕ)) (naming : ℕ → Naming) (t
   place : length text - length left + plain_len left ≡ length text - length rest
   place = omega (arith, within, plain_most left, ap length rest_is, length-drop (plain_len left) left)
 
-  behind_plain : with_front new (substituted text_of naming (length text - length rest) 0 rest) ≡ substituted text_of naming 0 0 text
+  behind_plain : with_front new (substituted_from text_of naming (length text - length rest) 0 rest) ≡ substituted_from text_of naming 0 0 text
   behind_plain =
-      ap (λ (n : List ℕ). with_front n (substituted text_of naming (length text - length rest) 0 rest)) copied
-      ∙ front_more out (take (plain_len left) left) (substituted text_of naming (length text - length rest) 0 rest)
-      ∙ ap (λ (r : List ℕ). with_front out (with_front (take (plain_len left) left) (substituted text_of naming (length text - length rest) 0 r))) rest_is
-      ∙ ap (λ (p : ℕ). with_front out (with_front (take (plain_len left) left) (substituted text_of naming p 0 (drop (plain_len left) left)))) (sym place)
+      ap (λ (n : List ℕ). with_front n (substituted_from text_of naming (length text - length rest) 0 rest)) copied
+      ∙ front_more out (take (plain_len left) left) (substituted_from text_of naming (length text - length rest) 0 rest)
+      ∙ ap (λ (r : List ℕ). with_front out (with_front (take (plain_len left) left) (substituted_from text_of naming (length text - length rest) 0 r))) rest_is
+      ∙ ap (λ (p : ℕ). with_front out (with_front (take (plain_len left) left) (substituted_from text_of naming p 0 (drop (plain_len left) left)))) (sym place)
       ∙ ap (with_front out) (sym (plain_front text_of naming (length text - length left) left)) ∙ so
 
-  pub run_ends : length rest ≡ 0 → substituted text_of naming 0 0 text ≡ Some new
+  pub run_ends : length rest ≡ 0 → substituted_from text_of naming 0 0 text ≡ Some new
   run_ends none = sym behind_plain ∙ nothing_left text_of naming (length text - length rest) rest new none
 
-  pub run_fails : (byte : ℕ) (behind : List ℕ) → rest ≡ byte ∷ behind → in_place text_of (naming (length text - length rest)) behind ≡ None → substituted text_of naming 0 0 text ≡ None
+  pub run_fails : (byte : ℕ) (behind : List ℕ) → rest ≡ byte ∷ behind → in_place text_of (naming (length text - length rest)) behind ≡ None → substituted_from text_of naming 0 0 text ≡ None
   run_fails byte behind first none =
-      put_none text_of naming (length text - length rest) byte behind new (substituted text_of naming 0 0 text) (behind_run left byte behind (sym rest_is ∙ first)) none
-      (subst (λ (r : List ℕ). with_front new (substituted text_of naming (length text - length rest) 0 r) ≡ substituted text_of naming 0 0 text) first behind_plain)
+      put_none text_of naming (length text - length rest) byte behind new (substituted_from text_of naming 0 0 text) (behind_run left byte behind (sym rest_is ∙ first)) none
+      (subst (λ (r : List ℕ). with_front new (substituted_from text_of naming (length text - length rest) 0 r) ≡ substituted_from text_of naming 0 0 text) first behind_plain)
 
   pub run_goes : (byte : ℕ) (behind put : List ℕ) (more : ℕ) (last others : List ℕ) → rest ≡ byte ∷ behind → in_place text_of (naming (length text - length rest)) behind ≡ Some (put, more) → more ≤ length behind
       → last ≡ new ++ put → others ≡ drop more behind → IsSoFar text_of naming text others last
   run_goes byte behind put more last others first is few pushed others_are =
-      let next = put_more text_of naming (length text - length rest) byte behind new last (put, more) (substituted text_of naming 0 0 text) (behind_run left byte behind (sym rest_is ∙ first)) is pushed
-      (subst (λ (r : List ℕ). with_front new (substituted text_of naming (length text - length rest) 0 r) ≡ substituted text_of naming 0 0 text) first behind_plain) in
+      let next = put_more text_of naming (length text - length rest) byte behind new last (put, more) (substituted_from text_of naming 0 0 text) (behind_run left byte behind (sym rest_is ∙ first)) is pushed
+      (subst (λ (r : List ℕ). with_front new (substituted_from text_of naming (length text - length rest) 0 r) ≡ substituted_from text_of naming 0 0 text) first behind_plain) in
       let most : length rest ≤ length text = omega (arith, within, ap length rest_is, length-drop (plain_len left) left) in
       let at : length text - length rest + 1 + more ≡ length text - length others = omega (arith, most, few, ap length first, ap length others_are, length-drop more behind) in
-      ap (λ (o : List ℕ). with_front last (substituted text_of naming (length text - length o) 0 o)) others_are
-      ∙ ap (λ (p : ℕ). with_front last (substituted text_of naming p 0 (drop more behind))) (sym (at ∙ ap (λ (o : List ℕ). length text - length o) others_are))
+      ap (λ (o : List ℕ). with_front last (substituted_from text_of naming (length text - length o) 0 o)) others_are
+      ∙ ap (λ (p : ℕ). with_front last (substituted_from text_of naming p 0 (drop more behind))) (sym (at ∙ ap (λ (o : List ℕ). length text - length o) others_are))
       ∙ ap (with_front last) (sym (skipped text_of naming (length text - length rest + 1) more behind few)) ∙ next
 
 -- a text without `&` stays as it is
-pub plain_text : (text_of : List ℕ → Option (List ℕ)) (naming : ℕ → Naming) (text : List ℕ) → plain_len text ≡ length text → substituted text_of naming 0 0 text ≡ Some text
+pub plain_text : (text_of : List ℕ → Option (List ℕ)) (naming : ℕ → Naming) (text : List ℕ) → plain_len text ≡ length text → substituted_from text_of naming 0 0 text ≡ Some text
 plain_text text_of naming text plain =
     let place : 0 + plain_len text ≡ length text = omega (arith, plain) in
-    plain_front text_of naming 0 text ∙ ap (λ (n : ℕ). with_front (take (plain_len text) text) (substituted text_of naming n 0 (drop (plain_len text) text))) place
-    ∙ ap (λ (n : ℕ). with_front (take n text) (substituted text_of naming (length text) 0 (drop n text))) plain
+    plain_front text_of naming 0 text ∙ ap (λ (n : ℕ). with_front (take (plain_len text) text) (substituted_from text_of naming n 0 (drop (plain_len text) text))) place
+    ∙ ap (λ (n : ℕ). with_front (take n text) (substituted_from text_of naming (length text) 0 (drop n text))) plain
     ∙ nothing_left text_of naming (length text) (drop (length text) text) (take (length text) text) (omega (arith, length-drop (length text) text)) ∙ ap (λ (t : List ℕ). Some t) (take_whole text)
   where
     take_whole : (t : List ℕ) → take (length t) t ≡ t

@@ -8,7 +8,7 @@ use Rattle.indexmap.specs.IndexMap.{IndexMap, UpdatesBy, IsEmpty}
 use Rattle.std.specs.Option.{option_map}
 use Rattle.std.proofs.Math.Path.{fun_ext}
 use Rattle.macro_meaning.specs.Symbol.{with_name}
-use Rattle.orca_symbols.specs.Held.{held}
+use Rattle.orca_symbols.specs.Held.{value_of_name}
 use Rattle.orca_symbols.proofs.Parted.{drop_next}
 
 apart : (bs cs ks : List ℕ) → bytes_eq bs cs ≡ false → bytes_eq bs ks ≡ true → bytes_eq cs ks ≡ false
@@ -19,15 +19,15 @@ unfolding KeepsOthers
 others eq test old new h = h
 
 pub updated : {V S : Type 0} (name : List ℕ) (m n : IndexMap (Vec ℕ) V S) (w : Option V) → UpdatesBy (λ x y. bytes_eq x.items y.items) (λ k. bytes_eq name k.items) m n w
-    → (q : List ℕ) → held n q ≡ cond (bytes_eq name q) w (held m q)
+    → (q : List ℕ) → value_of_name n q ≡ cond (bytes_eq name q) w (value_of_name m q)
 updated name m n w h q = by_test (bytes_eq name q) refl
   where
-    by_test : (b : Bool) → bytes_eq name q ≡ b → held n q ≡ cond b w (held m q)
-    by_test true is = subst (λ (l : List ℕ). held n l ≡ w) ((bytes_decides name q).0 is) h.1
+    by_test : (b : Bool) → bytes_eq name q ≡ b → value_of_name n q ≡ cond b w (value_of_name m q)
+    by_test true is = subst (λ (l : List ℕ). value_of_name n l ≡ w) ((bytes_decides name q).0 is) h.1
     by_test false is = others (λ x y. bytes_eq x.items y.items) (λ k. bytes_eq name k.items) m.entries n.entries h.3 (λ k. bytes_eq q k.items) (λ x y. nat_list_eq_equiv.congr q x.items y.items) (λ k. apart name q k.items is)
 
 -- what was found tells whether the name had none
-pub is_new : {V S : Type 0} (name : List ℕ) (m : IndexMap (Vec ℕ) V S) (found : Option V) (fresh : Bool) → found ≡ held m name → is_some found ≡ not fresh → fresh ≡ is_none (held m name)
+pub is_new : {V S : Type 0} (name : List ℕ) (m : IndexMap (Vec ℕ) V S) (found : Option V) (fresh : Bool) → found ≡ value_of_name m name → is_some found ≡ not fresh → fresh ≡ is_none (value_of_name m name)
 is_new {V = V} name m found fresh is test = by_found found fresh test ∙ ap is_none is
   where
     by_found : (o : Option V) (b : Bool) → is_some o ≡ not b → b ≡ is_none o
@@ -37,9 +37,9 @@ is_new {V = V} name m found fresh is test = by_found found fresh test ∙ ap is_
     by_found (Some v) false e = refl
 
 -- as it is seen
-pub named : {V B S : Type 0} (f : V → B) (name : List ℕ) (value : V) (m n : IndexMap (Vec ℕ) V S) → ((q : List ℕ) → held n q ≡ cond (bytes_eq name q) (Some value) (held m q))
-    → (λ (q : List ℕ). option_map f (held n q)) ≡ with_name name (f value) (λ (q : List ℕ). option_map f (held m q))
-named {V = V} {B = B} f name value m n h = fun_ext (λ q. ap (option_map f) (h q) ∙ by_test (bytes_eq name q) (held m q))
+pub named : {V B S : Type 0} (f : V → B) (name : List ℕ) (value : V) (m n : IndexMap (Vec ℕ) V S) → ((q : List ℕ) → value_of_name n q ≡ cond (bytes_eq name q) (Some value) (value_of_name m q))
+    → (λ (q : List ℕ). option_map f (value_of_name n q)) ≡ with_name name (f value) (λ (q : List ℕ). option_map f (value_of_name m q))
+named {V = V} {B = B} f name value m n h = fun_ext (λ q. ap (option_map f) (h q) ∙ by_test (bytes_eq name q) (value_of_name m q))
   where
     by_test : (b : Bool) (old : Option V) → option_map f (cond b (Some value) old) ≡ cond b (Some (f value)) (option_map f old)
     by_test true old = refl
@@ -51,12 +51,12 @@ seen_new f None fresh is = is
 seen_new f (Some value) fresh is = is
 
 -- a map without entries
-pub empty_held : {V S : Type 0} (m : IndexMap (Vec ℕ) V S) → IsEmpty m → (q : List ℕ) → held m q ≡ None
+pub empty_held : {V S : Type 0} (m : IndexMap (Vec ℕ) V S) → IsEmpty m → (q : List ℕ) → value_of_name m q ≡ None
 empty_held m none q = ap (λ es. lookup (λ k. bytes_eq q k.items) es) none
 
 -- a name that isn't that of this entry stands behind it, if anywhere
 pub passed : {V S : Type 0} (name : List ℕ) (m : IndexMap (Vec ℕ) V S) (at : ℕ) (key : Vec ℕ) (value : V) → Some (key, value) ≡ slice_get m.entries at → bytes_eq name key.items ≡ false
-    → lookup (λ k. bytes_eq name k.items) (drop at m.entries) ≡ held m name → lookup (λ k. bytes_eq name k.items) (drop (at + 1) m.entries) ≡ held m name
+    → lookup (λ k. bytes_eq name k.items) (drop at m.entries) ≡ value_of_name m name → lookup (λ k. bytes_eq name k.items) (drop (at + 1) m.entries) ≡ value_of_name m name
 passed {V = V} name m at key value is other so =
     let asked : List (Vec ℕ × V) → Option V = lookup (λ k. bytes_eq name k.items) in
     let rest = drop (at + 1) m.entries in

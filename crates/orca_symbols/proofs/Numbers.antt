@@ -15,7 +15,7 @@ use Rattle.orca_meaning.specs.declared.operators.Operands.TheVariants.{Symbols}
 use Rattle.orca_meaning.specs.Formula.{MeansAt, has_large}
 use Rattle.orca_meaning.specs.laws.FormulaLaws.{formed, one_tree, pending-one}
 use Rattle.macro_meaning.specs.declared.faults.MacroCause.TheVariants.{NoSuchSymbol, BadSetting}
-use Rattle.macro_meaning.specs.Condition.{Answer, environment, is_declared, number_of, answer_of, IsNumber, Formula, NoFormula}
+use Rattle.macro_meaning.specs.Condition.{Answer, symbol_environment, is_declared, number_of, answer_of, IsNumber, Formula, NoFormula}
 use Rattle.macro_meaning.specs.Symbol.{Values}
 use Rattle.orca_text.specs.FormulaAt.{IsFormulaAt, HasNoFormula}
 use Rattle.orca_text.specs.Kept.{kept_terms}
@@ -72,7 +72,7 @@ fine_terms text terms large rest short f is =
 
 pub has_value : (values : Values) (text : List ℕ) (terms : List Term) (large : Bool) (rest : List ℕ) (answer : Answer) → length text ≤ 255 → IsFormulaAt Symbols text terms large rest → rest ≡ []
     → list_all (is_declared values) terms ≡ true → large ≡ false → peak 1 0 0 terms ≤ 64
-    → ((tree : Tree) → Spells 0 (terms_text 0 terms ++ 0x00 ∷ []) tree → answer ≡ number_of (value (environment values) 0 0 tree)) → IsNumber values text answer
+    → ((tree : Tree) → Spells 0 (terms_text 0 terms ++ 0x00 ∷ []) tree → answer ≡ number_of (value (symbol_environment values) 0 0 tree)) → IsNumber values text answer
 unfolding answer_of
 has_value values text terms large rest answer short f e has is shallow value_is =
     let all : list_all (is_declared values) (terms_of f.tree) ≡ true = sym (declared_kept values (terms_of f.tree)) ∙ ap (list_all (is_declared values)) (sym f.kept) ∙ has in
@@ -134,6 +134,6 @@ not_deep b k both is = by_cases (cases_lt 64 k)
 
 pub all_values : {E : Type 0} (values : Values) (text : List ℕ) (terms : List Term) (large : Bool) (rest : List ℕ) (r : Result Answer E) → length text ≤ 255 → IsFormulaAt Symbols text terms large rest → rest ≡ []
     → list_all (is_declared values) terms ≡ true → large ≡ false → peak 1 0 0 terms ≤ 64
-    → IfOk r (λ answer. (tree : Tree) → Spells 0 (terms_text 0 terms ++ 0x00 ∷ []) tree → answer ≡ number_of (value (environment values) 0 0 tree)) → IfOk r (λ answer. IsNumber values text answer)
+    → IfOk r (λ answer. (tree : Tree) → Spells 0 (terms_text 0 terms ++ 0x00 ∷ []) tree → answer ≡ number_of (value (symbol_environment values) 0 0 tree)) → IfOk r (λ answer. IsNumber values text answer)
 all_values values text terms large rest (Ok answer) short f e has is shallow value_is = has_value values text terms large rest answer short f e has is shallow value_is
 all_values values text terms large rest (Err none) short f e has is shallow value_is = tt

@@ -4,7 +4,7 @@ use Rattle.std.specs.Prelude.{position, slice_get}
 use Rattle.std.specs.List.{position_or_len}
 use Rattle.std.proofs.lemmas.List.{drop_more}
 use Rattle.orca_meaning.specs.Quotes.{quote_behind}
-use Rattle.macro_meaning.specs.Pieces.{parts, open_behind, with_byte, pieces_from, pieces, closed_at, quoted, appended, joined}
+use Rattle.macro_meaning.specs.Pieces.{parts, open_behind, with_byte, pieces_from, pieces, closed_at, unquoted_text, appended_texts, joined_texts}
 use Rattle.orca_symbols.specs.Piece.{piece_len, AreNotTwo}
 
 -- ---- elements from a place on
@@ -98,35 +98,35 @@ never_closes quote behind none = rw (none_found (ltb (position_or_len (λ b. eqb
 
 -- ---- joined texts
 
-pub join_start : (pieces out : List (List ℕ)) (first : List ℕ) → first ≡ [] → appended (Some first) (joined (drop 0 pieces)) ≡ joined pieces
-join_start pieces out first e = ap (λ (o : List ℕ). appended (Some o) (joined pieces)) e ∙ same (joined pieces)
+pub join_start : (pieces out : List (List ℕ)) (first : List ℕ) → first ≡ [] → appended_texts (Some first) (joined_texts (drop 0 pieces)) ≡ joined_texts pieces
+join_start pieces out first e = ap (λ (o : List ℕ). appended_texts (Some o) (joined_texts pieces)) e ∙ same (joined_texts pieces)
   where
-    same : (rest : Option (List ℕ)) → appended (Some []) rest ≡ rest
+    same : (rest : Option (List ℕ)) → appended_texts (Some []) rest ≡ rest
     same None = refl
     same (Some text) = refl
 
-pub join_next : (pieces : List (List ℕ)) (at : ℕ) (piece text old new : List ℕ) (whole : Option (List ℕ)) → slice_get pieces at ≡ Some piece → quoted piece ≡ Some text → new ≡ old ++ text
-    → appended (Some old) (joined (drop at pieces)) ≡ whole → appended (Some new) (joined (drop (at + 1) pieces)) ≡ whole
-unfolding joined
+pub join_next : (pieces : List (List ℕ)) (at : ℕ) (piece text old new : List ℕ) (whole : Option (List ℕ)) → slice_get pieces at ≡ Some piece → unquoted_text piece ≡ Some text → new ≡ old ++ text
+    → appended_texts (Some old) (joined_texts (drop at pieces)) ≡ whole → appended_texts (Some new) (joined_texts (drop (at + 1) pieces)) ≡ whole
+unfolding joined_texts
 join_next pieces at piece text old new whole is found push so =
-    ap (λ (n : List ℕ). appended (Some n) (joined (drop (at + 1) pieces))) push ∙ more old text (joined (drop (at + 1) pieces))
-    ∙ ap (λ (t : Option (List ℕ)). appended (Some old) (appended t (joined (drop (at + 1) pieces)))) (sym found)
-    ∙ ap (λ (l : List (List ℕ)). appended (Some old) (joined l)) (sym (drop_next pieces at piece is)) ∙ so
+    ap (λ (n : List ℕ). appended_texts (Some n) (joined_texts (drop (at + 1) pieces))) push ∙ more old text (joined_texts (drop (at + 1) pieces))
+    ∙ ap (λ (t : Option (List ℕ)). appended_texts (Some old) (appended_texts t (joined_texts (drop (at + 1) pieces)))) (sym found)
+    ∙ ap (λ (l : List (List ℕ)). appended_texts (Some old) (joined_texts l)) (sym (drop_next pieces at piece is)) ∙ so
   where
-    more : (a b : List ℕ) (rest : Option (List ℕ)) → appended (Some (a ++ b)) rest ≡ appended (Some a) (appended (Some b) rest)
+    more : (a b : List ℕ) (rest : Option (List ℕ)) → appended_texts (Some (a ++ b)) rest ≡ appended_texts (Some a) (appended_texts (Some b) rest)
     more a b None = refl
     more a b (Some t) = ap (λ (t : List ℕ). Some t) (append_assoc a b t)
 
-pub join_none : (pieces : List (List ℕ)) (at : ℕ) (piece old : List ℕ) (whole : Option (List ℕ)) → slice_get pieces at ≡ Some piece → quoted piece ≡ None
-    → appended (Some old) (joined (drop at pieces)) ≡ whole → whole ≡ None
-unfolding joined
+pub join_none : (pieces : List (List ℕ)) (at : ℕ) (piece old : List ℕ) (whole : Option (List ℕ)) → slice_get pieces at ≡ Some piece → unquoted_text piece ≡ None
+    → appended_texts (Some old) (joined_texts (drop at pieces)) ≡ whole → whole ≡ None
+unfolding joined_texts
 join_none pieces at piece old whole is none so =
-    sym so ∙ ap (λ (l : List (List ℕ)). appended (Some old) (joined l)) (drop_next pieces at piece is) ∙ ap (λ (t : Option (List ℕ)). appended (Some old) (appended t (joined (drop (at + 1) pieces)))) none
+    sym so ∙ ap (λ (l : List (List ℕ)). appended_texts (Some old) (joined_texts l)) (drop_next pieces at piece is) ∙ ap (λ (t : Option (List ℕ)). appended_texts (Some old) (appended_texts t (joined_texts (drop (at + 1) pieces)))) none
 
-pub join_end : (pieces : List (List ℕ)) (at : ℕ) (out : List ℕ) (whole : Option (List ℕ)) → length pieces ≤ at → appended (Some out) (joined (drop at pieces)) ≡ whole → whole ≡ Some out
-unfolding joined
+pub join_end : (pieces : List (List ℕ)) (at : ℕ) (out : List ℕ) (whole : Option (List ℕ)) → length pieces ≤ at → appended_texts (Some out) (joined_texts (drop at pieces)) ≡ whole → whole ≡ Some out
+unfolding joined_texts
 join_end pieces at out whole end so =
-    sym so ∙ ap (λ (l : List (List ℕ)). appended (Some out) (joined l)) (drop_all pieces at end) ∙ ap (λ (t : List ℕ). Some t) (append-nil out)
+    sym so ∙ ap (λ (l : List (List ℕ)). appended_texts (Some out) (joined_texts l)) (drop_all pieces at end) ∙ ap (λ (t : List ℕ). Some t) (append-nil out)
 
 -- a place at which something stands
 pub get_inside : {A : Type 0} (l : List A) (i : ℕ) (x : A) → slice_get l i ≡ Some x → i + 1 ≤ length l

@@ -1,11 +1,11 @@
 -- Lines that are parted into what is copied and the symbols whose texts come between.
 use Rattle.std.specs.Prelude.{◌≡◌, ℕ, List, [], ◌∷◌, ◌++◌, length, drop, Option, Some, None}
-use Rattle.macro_meaning.specs.Substitution.{naming_at, substituted, with_front}
+use Rattle.macro_meaning.specs.Substitution.{naming_at, substituted_from, with_front}
 use Rattle.orca_meaning.specs.Line.{Line}
-use Rattle.orca_symbols.specs.declared.template.Part.{Part}
-use Rattle.orca_symbols.specs.declared.template.Part.TheVariants.{Plain, Put, Need}
-use Rattle.orca_symbols.specs.declared.template.Place.{Place}
-use Rattle.orca_symbols.specs.declared.template.Place.TheVariants.{Ampersand, Text, Asked}
+use Rattle.orca_symbols.specs.declared.template.TemplatePart.{TemplatePart}
+use Rattle.orca_symbols.specs.declared.template.TemplatePart.TheVariants.{Plain, Put, Need}
+use Rattle.orca_symbols.specs.declared.template.Replacement.{Replacement}
+use Rattle.orca_symbols.specs.declared.template.Replacement.TheVariants.{Ampersand, Text, Asked}
 
 -- this, where the other is there
 abbrev pub where_some : List ℕ → Option (List ℕ) → Option (List ℕ)
@@ -13,7 +13,7 @@ where_some text None = None
 where_some text (Some other) = Some text
 
 -- what comes of a part; None where its symbol isn't declared
-abbrev pub part_text : (List ℕ → Option (List ℕ)) → Part → Option (List ℕ)
+abbrev pub part_text : (List ℕ → Option (List ℕ)) → TemplatePart → Option (List ℕ)
 part_text text_of (Plain bytes) = Some bytes
 part_text text_of (Put name) = text_of name
 part_text text_of (Need name) = where_some [] (text_of name)
@@ -23,21 +23,21 @@ join None tail = None
 join (Some front) tail = with_front front tail
 
 -- what comes of parts with something behind them
-abbrev pub followed : (List ℕ → Option (List ℕ)) → List Part → Option (List ℕ) → Option (List ℕ)
-followed text_of [] tail = tail
-followed text_of (part ∷ parts) tail = join (part_text text_of part) (followed text_of parts tail)
+abbrev pub text_before : (List ℕ → Option (List ℕ)) → List TemplatePart → Option (List ℕ) → Option (List ℕ)
+text_before text_of [] tail = tail
+text_before text_of (part ∷ parts) tail = join (part_text text_of part) (text_before text_of parts tail)
 
 -- the parts are those of the line
-pub record HasParts (line : Line) (parts : List Part) : Type 0 where
-  pub is : (text_of : List ℕ → Option (List ℕ)) → followed text_of parts (Some []) ≡ substituted text_of (naming_at line.text line.fields) 0 0 line.text
+pub record HasParts (line : Line) (parts : List TemplatePart) : Type 0 where
+  pub is : (text_of : List ℕ → Option (List ℕ)) → text_before text_of parts (Some []) ≡ substituted_from text_of (naming_at line.text line.fields) 0 0 line.text
 
 -- what comes in place of an `&`, and how many of the bytes behind it go with it
-abbrev pub placed : (List ℕ → Option (List ℕ)) → Place → Option (List ℕ)
-placed text_of Ampersand = Some (0x26 ∷ [])
-placed text_of (Text name more) = text_of name
-placed text_of (Asked name) = where_some (0x26 ∷ []) (text_of name)
+abbrev pub replacement_text : (List ℕ → Option (List ℕ)) → Replacement → Option (List ℕ)
+replacement_text text_of Ampersand = Some (0x26 ∷ [])
+replacement_text text_of (Text name more) = text_of name
+replacement_text text_of (Asked name) = where_some (0x26 ∷ []) (text_of name)
 
-abbrev pub more_of : Place → ℕ
+abbrev pub more_of : Replacement → ℕ
 more_of Ampersand = 0
 more_of (Text name more) = more
 more_of (Asked name) = 0
@@ -47,5 +47,5 @@ with_more more None = None
 with_more more (Some text) = Some (text, more)
 
 -- all that comes of the parts begins with these bytes
-pub record BeginWith (parts : List Part) (front : List ℕ) : Type 0 where
-  pub is : (text_of : List ℕ → Option (List ℕ)) (text : List ℕ) → followed text_of parts (Some []) ≡ Some text → text ≡ front ++ drop (length front) text
+pub record BeginWith (parts : List TemplatePart) (front : List ℕ) : Type 0 where
+  pub is : (text_of : List ℕ → Option (List ℕ)) (text : List ℕ) → text_before text_of parts (Some []) ≡ Some text → text ≡ front ++ drop (length front) text

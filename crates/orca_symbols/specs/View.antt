@@ -12,7 +12,7 @@ use Rattle.orca_symbols.specs.declared.symbols.SharedText.{SharedText}
 use Rattle.orca_symbols.specs.declared.symbols.Symbols.{Symbols}
 use Rattle.orca_symbols.specs.declared.symbols.Texts.{Texts}
 use Rattle.orca_symbols.specs.declared.symbols.Values.{Values}
-use Rattle.orca_symbols.specs.Held.{held}
+use Rattle.orca_symbols.specs.Held.{value_of_name}
 
 abbrev pub symbol : Symbol → meaning.Symbol
 symbol (Own kind text) = meaning.Own kind text
@@ -22,10 +22,10 @@ abbrev pub shared_text : SharedText → Kind × List ℕ
 shared_text shared = (shared.kind, shared.text)
 
 abbrev pub symbols_of : Symbols → meaning.Symbols
-symbols_of symbols name = option_map symbol (held symbols.map name)
+symbols_of symbols name = option_map symbol (value_of_name symbols.map name)
 
 abbrev pub texts_of : Texts → meaning.SharedTexts
-texts_of texts name = option_map shared_text (held texts.map name)
+texts_of texts name = option_map shared_text (value_of_name texts.map name)
 
 abbrev pub values : Values → meaning.Values
 values of = record { symbols = symbols_of of.symbols.now; texts = texts_of of.texts.now; calls = of.calls.now }

@@ -1,12 +1,12 @@
 //! Calls of macros: how operands are bound to parameters (ORCA/M reference manual, "Macro calls").
 
 ghost use Rattle.std.specs.Prelude.{◌≡◌, ◌≤◌, ◌<◌, ◌+◌, ◌^◌, ◌∷◌, [], List, ℕ, length, drop, slice_get, bytes_eq, Some, None, IfOk, IfSome, OnOk, MatchOption, if◌then◌else◌, is_some, true, false};
-ghost use Rattle.macro_meaning.specs.Definition.{listed};
+ghost use Rattle.macro_meaning.specs.Definition.{list_of_option};
 ghost use Rattle.std.specs.List.{list_any};
 ghost use Rattle.orca_meaning.specs.Characters.{folded};
 ghost use Rattle.orca_meaning.specs.Token.{name_at};
 ghost use Rattle.macro_meaning.specs.Pieces.{pieces};
-ghost use Rattle.macro_meaning.specs.Call.{is_among, keyword_from, by_place, binding, bound_once, bound_all, with_missing, label_bound, arguments, all_names, bound, names_count};
+ghost use Rattle.macro_meaning.specs.Call.{is_among, keyword_from, by_place, binding, bound_once, bound_all, with_missing, label_bound, arguments, all_names, bound_arguments, names_count};
 ghost use Rattle.macro_meaning.specs.Symbol.{is_count};
 ghost use Rattle.orca_symbols.specs.Calling.{bind, IsOnce, AreBound};
 ghost use Rattle.orca_symbols.specs.ModelView.{model};
@@ -15,7 +15,7 @@ ghost use Rattle.orca_symbols.specs.View.{symbols_of};
 use crate::model_line::ModelLine;
 use crate::operands::first_piece;
 use crate::symbols::{Symbol, Symbols, is_count};
-use crate::text::Text;
+use crate::text::SymbolText;
 use macro_meaning::Kind;
 use omf_base::Name;
 use orca_text::{LinePart, behind_byte, is_name_start, is_spelled, name_len};
@@ -111,7 +111,7 @@ fn bind_once(
 ) -> Result<bool, AllocError>
     ensures { IfOk result (λ fresh. IsOnce fresh parameter.now text.entry.bytes.now (symbols_of symbols.old) (symbols_of symbols.new)) }
 {
-    let text = Text::of(alloc, text)?;
+    let text = SymbolText::of(alloc, text)?;
     symbols.add_new(alloc, parameter, Symbol::Own(Kind::Text, text))
 }
 
@@ -171,7 +171,7 @@ fn bind_missing(alloc: Global, parameter: &Name, symbols: &mut Symbols) -> Resul
     if let Some(_) = symbols.get(parameter.bytes()) {
         return Ok(());
     }
-    let text = Text::of(alloc, LinePart { bytes: b"" })?;
+    let text = SymbolText::of(alloc, LinePart { bytes: b"" })?;
     symbols.add(alloc, parameter.bytes(), Symbol::Own(Kind::Text, text))
 }
 
@@ -199,7 +199,7 @@ fn bind_label(
     parameter: &Option<Name>,
     symbols: &mut Symbols,
 ) -> Result<(), AllocError>
-    ensures { OnOk result (symbols_of symbols.new ≡ with_missing (listed parameter.now) (symbols_of symbols.old)) }
+    ensures { OnOk result (symbols_of symbols.new ≡ with_missing (list_of_option parameter.now) (symbols_of symbols.old)) }
 {
     match parameter {
         Some(name) => bind_missing(alloc, name, symbols),
@@ -223,22 +223,22 @@ fn label_bound(
     if label.bytes.is_empty() {
         return Ok(symbols);
     }
-    let text = Text::of(alloc, label)?;
+    let text = SymbolText::of(alloc, label)?;
     symbols.add(alloc, parameter.bytes(), Symbol::Own(Kind::Text, text))?;
     Ok(symbols)
 }
 
 /// The symbols with which an expansion begins, where the operands fit. They stand in the memory of the spare ones.
 #[tactic(auto, unfolding(macro_meaning::specs::Call::bound), using(crate::proofs::Binds::bound_none))]
-pub fn bound(
+pub fn bind_arguments(
     alloc: Global,
     of: &ModelLine,
     label: LinePart<'_>,
     operand: LinePart<'_>,
     spare: Symbols,
 ) -> Result<Option<Symbols>, AllocError>
-    ensures { IfOk result (λ found. MatchOption found (bound (model of.now) label.entry.bytes.now operand.entry.bytes.now ≡ None)
-        (λ s. bound (model of.now) label.entry.bytes.now operand.entry.bytes.now ≡ Some (symbols_of s))) }
+    ensures { IfOk result (λ found. MatchOption found (bound_arguments (model of.now) label.entry.bytes.now operand.entry.bytes.now ≡ None)
+        (λ s. bound_arguments (model of.now) label.entry.bytes.now operand.entry.bytes.now ≡ Some (symbols_of s))) }
 {
     let mut symbols = label_bound(alloc, &of.label, label, spare)?;
     let parameters = of.parameters.as_slice();

@@ -6,14 +6,14 @@ ghost use Rattle.omf_format.specs.Expression.{AreTerms, terms_text, Tree, Spells
 ghost use Rattle.omf_format.specs.Value.{value, truth, apply_two};
 ghost use Rattle.omf_format.specs.declared.value.Value.TheVariants as Value;
 ghost use Rattle.orca_meaning.specs.Formula.{operator_code};
-ghost use Rattle.macro_meaning.specs.Condition.{attribute, attribute_of, environment, is_declared, number_of, IsNumber, IsCondition, comparison_at, same_as, compared_with, comparison};
+ghost use Rattle.macro_meaning.specs.Condition.{attribute, attribute_of, symbol_environment, is_declared, number_of, IsNumber, IsCondition, comparison_at, same_as, compared_with, comparison};
 ghost use Rattle.macro_meaning.specs.Symbol.{text_of};
 ghost use Rattle.omf_expr.specs.View.{view};
 ghost use Rattle.orca_symbols.specs.Short.{HasNumber};
 ghost use Rattle.orca_symbols.specs.View.{values};
 ghost use Rattle.orca_text.specs.View.{term};
 
-use crate::operands::{quoted, quoted_at};
+use crate::operands::{quoted_at, unquote};
 use crate::symbols::{Values, text_of};
 use macro_meaning::MacroCause;
 use omf_expr::{Env, Expr, Term, Value, ValueFault, evaluate, put_term};
@@ -41,10 +41,10 @@ fn attribute(code: u8, text: LinePart<'_>) -> u32
 }
 
 impl<'a> Env for Values<'a> {
-    ghost use Rattle.macro_meaning.specs.Condition.{environment};
+    ghost use Rattle.macro_meaning.specs.Condition.{symbol_environment};
     ghost use Rattle.orca_symbols.specs.View.{values};
 
-    ghost meaning = { λ of. environment (values of) };
+    ghost meaning = { λ of. symbol_environment (values of) };
 
     fn label(&self, _: &[u8], _: bool) -> Option<Value> {
         None
@@ -133,7 +133,7 @@ fn value_of(
     formula: &Formula,
 ) -> Result<Result<u32, MacroCause>, AllocError>
     requires { AreTerms 0 formula.now }
-    ensures { IfOk result (λ answer. (tree : Tree) → Spells 0 (terms_text 0 formula.now ++ 0x00 ∷ []) tree → answer ≡ number_of (value (environment (values of.entry)) 0 0 tree)) }
+    ensures { IfOk result (λ answer. (tree : Tree) → Spells 0 (terms_text 0 formula.now ++ 0x00 ∷ []) tree → answer ≡ number_of (value (symbol_environment (values of.entry)) 0 0 tree)) }
 {
     let bytes = expression(alloc, formula.terms())?;
     match Expr::of(bytes.as_slice(), 0) {
@@ -245,7 +245,7 @@ fn compared_with(a: &[u8], behind: &[u8]) -> Option<bool>
     let Some((equal, rest)) = comparison_at(behind) else {
         return None;
     };
-    match quoted(rest) {
+    match unquote(rest) {
         Some(b) => Some((a == b) == equal),
         None => None,
     }

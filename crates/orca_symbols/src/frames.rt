@@ -11,7 +11,7 @@ use std::alloc::{AllocError, Global};
 
 /// An expansion, or the source, at one of its lines.
 #[derive(Drop)]
-pub struct Scope {
+pub struct CallScope {
     /// The macro's place among the definitions, none for the source.
     pub place: Option<usize>,
     /// The place of the line.
@@ -25,7 +25,7 @@ pub struct Scope {
 /// The expansions that called the present one, each at the line to which it goes back. Contracts see the last first.
 #[derive(Drop)]
 pub struct Frames {
-    pub items: Vec<Scope>,
+    pub items: Vec<CallScope>,
 }
 
 impl Frames {
@@ -39,7 +39,7 @@ impl Frames {
     }
 
     #[tactic(auto, using(crate::specs::Frame::pushed))]
-    pub fn push(&mut self, scope: Scope) -> Result<(), AllocError>
+    pub fn push(&mut self, scope: CallScope) -> Result<(), AllocError>
         ensures ok { OnOk result (stack_of self.new ≡ frame scope ∷ stack_of self.old) }
     {
         self.items.push(scope)?;
@@ -47,7 +47,7 @@ impl Frames {
     }
 
     #[tactic(auto, using(crate::specs::Frame::popped))]
-    pub fn pop(&mut self) -> Option<Scope>
+    pub fn pop(&mut self) -> Option<CallScope>
         ensures { MatchOption result ((stack_of self.old ≡ []) × (stack_of self.new ≡ [])) (λ scope. stack_of self.old ≡ frame scope ∷ stack_of self.new) }
     {
         self.items.pop()
@@ -65,18 +65,18 @@ impl Frames {
 /// What the visits have come to: the expansion whose line is visited, those that called it, the texts of the shared symbols,
 /// and how many macros were called.
 #[derive(Drop)]
-pub struct State {
-    pub scope: Scope,
+pub struct ExpansionState {
+    pub scope: CallScope,
     pub frames: Frames,
     pub texts: Texts,
     pub calls: Calls,
 }
 
 /// The source at its first line.
-fn source(alloc: Global) -> Scope
+fn source(alloc: Global) -> CallScope
     ensures { frame result ≡ record { macro = None; line = 0; root = 0; counter = 255; symbols = no_symbols } }
 {
-    Scope {
+    CallScope {
         place: None,
         line: 0,
         root: 0,
@@ -85,16 +85,16 @@ fn source(alloc: Global) -> Scope
     }
 }
 
-impl State {
+impl ExpansionState {
     /// At the first line of the source.
-    pub fn new(alloc: Global) -> Result<State, AllocError>
+    pub fn new(alloc: Global) -> Result<ExpansionState, AllocError>
         ensures scope { IfOk result (λ s. frame s.scope ≡ record { macro = None; line = 0; root = 0; counter = 255; symbols = no_symbols }) }
         ensures frames { IfOk result (λ s. stack_of s.frames ≡ []) }
         ensures texts { IfOk result (λ s. texts_of s.texts ≡ no_texts) }
         ensures calls { IfOk result (λ s. s.calls ≡ 0) }
     {
         let calls = Calls::none(alloc)?;
-        Ok(State {
+        Ok(ExpansionState {
             scope: source(alloc),
             frames: Frames::new(alloc),
             texts: Texts::new(alloc),

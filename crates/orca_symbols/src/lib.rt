@@ -5,8 +5,8 @@
 mod call;
 mod conditions;
 mod frames;
-mod held;
 mod model_line;
+mod name_map;
 mod names;
 mod operands;
 mod sequence;
@@ -16,19 +16,19 @@ mod template;
 mod text;
 mod word;
 
-pub use call::{bound, names_count};
+pub use call::{bind_arguments, names_count};
 pub use conditions::{condition, number};
-pub use frames::{Frames, Scope, State};
-pub use held::{look, put};
+pub use frames::{CallScope, ExpansionState, Frames};
 pub use model_line::{ModelLine, model_of};
+pub use name_map::{get_by_name, insert_by_name};
 pub use names::{is_operation, is_target, operation_is, sequence_name, statement_of, target_name};
-pub use operands::{Piece, joined, pieces, quoted, two_pieces};
-pub use sequence::{begins_dot, cut};
-pub use substitution::{is_folded, is_plain, shown};
+pub use operands::{OperandPiece, join_quoted, pieces, two_pieces, unquote};
+pub use sequence::{begins_dot, skip_sequence_symbol};
+pub use substitution::{is_folded, is_plain, substitute};
 pub use symbols::{
     Calls, SharedText, Symbol, Symbols, Texts, Values, declaration_of, first_text, is_count,
     is_declaration, is_kind, kind_of, signed_decimal,
 };
-pub use template::{Part, fill, parts_of, plain_front};
-pub use text::Text;
+pub use template::{TemplatePart, instantiate, parts_of, plain_front};
+pub use text::SymbolText;
 pub use word::{Word, symbol_word, target_word};

@@ -6,8 +6,8 @@ ghost use Rattle.orca_symbols.specs.ModelView.{model};
 ghost use Rattle.orca_text.specs.View.{fields};
 ghost use Rattle.orca_meaning.specs.Line.{HaveFields};
 
-use crate::names::{symbol_name, whole};
-use crate::operands::{Piece, piece_at, pieces};
+use crate::names::{symbol_name, whole_match};
+use crate::operands::{OperandPiece, piece_at, pieces};
 use omf_base::Name;
 use orca_text::{Fields, LinePart, is_comment, name_at, part, three_fields};
 use std::alloc::{AllocError, Global};
@@ -25,7 +25,7 @@ pub struct ModelLine {
 
 /// The names of parameters `&NAME`.
 #[tactic(auto, using(crate::proofs::Models::names_start, crate::proofs::Models::names_next, crate::proofs::Models::names_none, crate::proofs::Models::names_end))]
-fn names_of(alloc: Global, pieces: &[Piece<'_>]) -> Result<Option<Vec<Name>>, AllocError>
+fn names_of(alloc: Global, pieces: &[OperandPiece<'_>]) -> Result<Option<Vec<Name>>, AllocError>
     ensures { IfOk result (λ found. MatchOption found (names_of pieces.now ≡ None) (λ v. names_of pieces.now ≡ Some v.items)) }
 {
     let mut names = Vec::new(alloc);
@@ -72,7 +72,7 @@ fn model_by(alloc: Global, text: LinePart<'_>, at: Fields) -> Result<Option<Mode
     ensures { IfOk result (λ found. MatchOption found (model_by text.entry.bytes.now (fields at) ≡ None) (λ m. model_by text.entry.bytes.now (fields at) ≡ Some (model m))) }
 {
     let named = name_at(alloc, part(text, at.operation))?;
-    let Some(name) = whole(named) else {
+    let Some(name) = whole_match(named) else {
         return Ok(None);
     };
     let Some(label) = label_of(alloc, part(text, at.label))? else {

@@ -4,11 +4,11 @@ ghost use Rattle.std.specs.Prelude.{◌≡◌, List, ℕ, bytes_eq, Some, None, 
 ghost use Rattle.std.specs.Option.{option_map};
 ghost use Rattle.orca_meaning.specs.Characters.{folded};
 ghost use Rattle.orca_meaning.specs.Line.{HaveFields};
-ghost use Rattle.orca_meaning.specs.Operation.{beside};
+ghost use Rattle.orca_meaning.specs.Operation.{value_of_spelling};
 ghost use Rattle.orca_meaning.specs.Token.{Found};
 ghost use Rattle.orca_symbols.specs.Letters.{with_a, with_s, with_l, with_m, with_g};
 ghost use Rattle.macro_meaning.specs.Definition.{operation_is};
-ghost use Rattle.macro_meaning.specs.Statements.{statement_of, is_operation, whole, behind_dot, symbol_name, sequence_name, target_name};
+ghost use Rattle.macro_meaning.specs.Statements.{statement_of, is_operation, whole_match, behind_dot, symbol_name, sequence_name, target_name};
 ghost use Rattle.orca_text.specs.View.{line};
 
 use macro_meaning::{Declaration, Kind, Statement};
@@ -36,7 +36,7 @@ pub fn operation_is(of: &SourceLine, spelling: &[u8]) -> bool
 /// The statements that begin with A.
 #[tactic(auto, unfolding(crate::specs::Letters::with_a, orca_meaning::specs::Operation::beside))]
 fn with_a(operation: &[u8]) -> Option<Statement>
-    ensures { result ≡ beside (folded operation.now) with_a }
+    ensures { result ≡ value_of_spelling (folded operation.now) with_a }
 {
     if is_operation(operation, b"AMID") {
         return Some(Statement::Middle);
@@ -59,7 +59,7 @@ fn with_a(operation: &[u8]) -> Option<Statement>
 /// The statements that begin with S.
 #[tactic(auto, unfolding(crate::specs::Letters::with_s, orca_meaning::specs::Operation::beside))]
 fn with_s(operation: &[u8]) -> Option<Statement>
-    ensures { result ≡ beside (folded operation.now) with_s }
+    ensures { result ≡ value_of_spelling (folded operation.now) with_s }
 {
     if is_operation(operation, b"SETA") {
         return Some(Statement::Set(Kind::Number));
@@ -76,7 +76,7 @@ fn with_s(operation: &[u8]) -> Option<Statement>
 /// The statements that begin with L.
 #[tactic(auto, unfolding(crate::specs::Letters::with_l, orca_meaning::specs::Operation::beside))]
 fn with_l(operation: &[u8]) -> Option<Statement>
-    ensures { result ≡ beside (folded operation.now) with_l }
+    ensures { result ≡ value_of_spelling (folded operation.now) with_l }
 {
     if is_operation(operation, b"LCLA") {
         return Some(Statement::Declare(Declaration::Local(Kind::Number)));
@@ -93,7 +93,7 @@ fn with_l(operation: &[u8]) -> Option<Statement>
 /// The statements that begin with M.
 #[tactic(auto, unfolding(crate::specs::Letters::with_m, orca_meaning::specs::Operation::beside))]
 fn with_m(operation: &[u8]) -> Option<Statement>
-    ensures { result ≡ beside (folded operation.now) with_m }
+    ensures { result ≡ value_of_spelling (folded operation.now) with_m }
 {
     if is_operation(operation, b"MEXIT") {
         return Some(Statement::Leave);
@@ -113,7 +113,7 @@ fn with_m(operation: &[u8]) -> Option<Statement>
 /// The statements that begin with G.
 #[tactic(auto, unfolding(crate::specs::Letters::with_g, orca_meaning::specs::Operation::beside))]
 fn with_g(operation: &[u8]) -> Option<Statement>
-    ensures { result ≡ beside (folded operation.now) with_g }
+    ensures { result ≡ value_of_spelling (folded operation.now) with_g }
 {
     if is_operation(operation, b"GBLA") {
         return Some(Statement::Declare(Declaration::Shared(Kind::Number)));
@@ -155,8 +155,8 @@ pub fn statement_of(operation: &[u8]) -> Option<Statement>
 }
 
 /// What was found, where nothing stands behind it.
-pub(crate) fn whole(found: Option<(Name, &[u8])>) -> Option<Name>
-    ensures { result ≡ whole (option_map (λ x. (x.0, x.1.now)) found.entry) }
+pub(crate) fn whole_match(found: Option<(Name, &[u8])>) -> Option<Name>
+    ensures { result ≡ whole_match (option_map (λ x. (x.0, x.1.now)) found.entry) }
 {
     match found {
         Some((name, rest)) => {
@@ -174,7 +174,7 @@ pub(crate) fn symbol_name(alloc: Global, text: LinePart<'_>) -> Result<Option<Na
     ensures { IfOk result (λ name. name ≡ symbol_name text.entry.bytes.now) }
 {
     let found = symbol_at(alloc, text)?;
-    Ok(whole(found))
+    Ok(whole_match(found))
 }
 
 /// The name of a sequence symbol, where the text is `.NAME` and nothing else.
@@ -185,13 +185,13 @@ pub fn sequence_name(alloc: Global, text: LinePart<'_>) -> Result<Option<Name>, 
         return Ok(None);
     };
     let found = name_at(alloc, LinePart { bytes: behind })?;
-    Ok(whole(found))
+    Ok(whole_match(found))
 }
 
 /// Whether a text is a name.
 #[tactic(auto, using(crate::proofs::WholeName::whole_name, crate::proofs::WholeName::no_bytes, crate::proofs::WholeName::no_start))]
 pub(crate) fn is_name(text: &[u8]) -> bool
-    ensures { result ≡ is_some (whole (Rattle.orca_meaning.specs.Token.name_at text.now)) }
+    ensures { result ≡ is_some (whole_match (Rattle.orca_meaning.specs.Token.name_at text.now)) }
 {
     let Some((first, others)) = text.split_first() else {
         return false;

@@ -1,7 +1,7 @@
 //! Texts parted by commas or plus signs, and texts in quotes.
 
 ghost use Rattle.std.specs.Prelude.{◌≡◌, ◌≤◌, ◌<◌, ◌+◌, ◌^◌, ◌∷◌, [], List, ℕ, map, length, take, drop, position, nat_eq, slice_get, Some, None, IfOk, IfSome, MatchOption, option_copied};
-ghost use Rattle.macro_meaning.specs.Pieces.{open_behind, parts, pieces, closed_at, quoted_at, quoted, joined, appended};
+ghost use Rattle.macro_meaning.specs.Pieces.{open_behind, parts, pieces, closed_at, quoted_at, unquoted_text, joined_texts, appended_texts};
 ghost use Rattle.orca_symbols.specs.Piece.{piece_len, more_pieces, AreNotTwo};
 
 use orca_text::{LinePart, quote_behind};
@@ -10,11 +10,11 @@ use std::marker::Model;
 
 /// A part of a text, of at most 255 bytes. Contracts see its bytes.
 #[derive(Drop)]
-pub struct Piece<'a> {
+pub struct OperandPiece<'a> {
     bytes: &'a [u8],
 }
 
-impl<'a> Model for Piece<'a> {
+impl<'a> Model for OperandPiece<'a> {
     ghost use Rattle.std.specs.Prelude.{◌≤◌, ℕ, List, length};
 
     ghost Value = { List ℕ };
@@ -24,11 +24,11 @@ impl<'a> Model for Piece<'a> {
     ghost invariant = { λ piece. length piece.bytes.now ≤ 255 };
 }
 
-impl<'a> Piece<'a> {
-    fn of(part: LinePart<'a>) -> Piece<'a>
+impl<'a> OperandPiece<'a> {
+    fn of(part: LinePart<'a>) -> OperandPiece<'a>
         ensures { result ≡ part.entry.bytes.now }
     {
-        Piece { bytes: part.bytes }
+        OperandPiece { bytes: part.bytes }
     }
 
     /// The same as a part of a line.
@@ -40,7 +40,10 @@ impl<'a> Piece<'a> {
 }
 
 /// The piece at a place.
-pub(crate) fn piece_at<'a, 'b>(pieces: &'b [Piece<'a>], at: usize) -> Option<&'b Piece<'a>>
+pub(crate) fn piece_at<'a, 'b>(
+    pieces: &'b [OperandPiece<'a>],
+    at: usize,
+) -> Option<&'b OperandPiece<'a>>
     ensures { MatchOption result (length pieces.now ≤ at) (λ piece. slice_get pieces.now at ≡ Some piece.now) }
 {
     pieces.get(at)
@@ -88,14 +91,14 @@ pub fn pieces<'a>(
     alloc: Global,
     separator: u8,
     text: LinePart<'a>,
-) -> Result<Vec<Piece<'a>>, AllocError>
+) -> Result<Vec<OperandPiece<'a>>, AllocError>
     ensures { IfOk result (λ v. v.items ≡ pieces separator text.entry.bytes.now) }
 {
     let mut found = Vec::new(alloc);
     let mut left = text.bytes;
     'pieces: loop {
         let (piece, behind) = left.split_at(piece_len(separator, LinePart { bytes: left }));
-        found.push(Piece::of(LinePart { bytes: piece }))?;
+        found.push(OperandPiece::of(LinePart { bytes: piece }))?;
         let Some((_, others)) = behind.split_first() else {
             return Ok(found);
         };
@@ -173,9 +176,9 @@ pub(crate) fn quoted_at(text: &[u8]) -> Option<(&[u8], &[u8])>
 }
 
 /// The text in quotes that this is.
-pub fn quoted(text: &[u8]) -> Option<&[u8]>
+pub fn unquote(text: &[u8]) -> Option<&[u8]>
     ensures bound { IfSome result (λ x. length x.now ≤ length text.now) }
-    ensures text { MatchOption result (quoted text.now ≡ None) (λ x. quoted text.now ≡ Some x.now) }
+    ensures text { MatchOption result (unquoted_text text.now ≡ None) (λ x. unquoted_text text.now ≡ Some x.now) }
 {
     match quoted_at(text) {
         Some((inside, rest)) => {
@@ -190,8 +193,11 @@ pub fn quoted(text: &[u8]) -> Option<&[u8]>
 
 /// Texts in quotes, joined.
 #[tactic(auto, using(crate::proofs::Parted::join_start, crate::proofs::Parted::join_next, crate::proofs::Parted::join_none, crate::proofs::Parted::join_end))]
-pub fn joined(alloc: Global, pieces: &[Piece<'_>]) -> Result<Option<Vec<u8>>, AllocError>
-    ensures { IfOk result (λ found. MatchOption found (joined pieces.now ≡ None) (λ v. joined pieces.now ≡ Some v.items)) }
+pub fn join_quoted(
+    alloc: Global,
+    pieces: &[OperandPiece<'_>],
+) -> Result<Option<Vec<u8>>, AllocError>
+    ensures { IfOk result (λ found. MatchOption found (joined_texts pieces.now ≡ None) (λ v. joined_texts pieces.now ≡ Some v.items)) }
 {
     let mut out = Vec::new(alloc);
     let mut at = 0;
@@ -199,7 +205,7 @@ pub fn joined(alloc: Global, pieces: &[Piece<'_>]) -> Result<Option<Vec<u8>>, Al
         let Some(piece) = piece_at(pieces, at) else {
             return Ok(Some(out));
         };
-        let Some(text) = quoted(piece.part().bytes) else {
+        let Some(text) = unquote(piece.part().bytes) else {
             return Ok(None);
         };
         out.extend_from_slice(text)?;

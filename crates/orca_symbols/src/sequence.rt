@@ -1,7 +1,7 @@
 //! The sequence symbol in column 1 of a line (ORCA/M reference manual, "Sequence symbols").
 
 ghost use Rattle.std.specs.Prelude.{◌≡◌, ◌==◌, ◌≤◌, length, take};
-ghost use Rattle.macro_meaning.specs.Deed.{cut};
+ghost use Rattle.macro_meaning.specs.Effect.{without_sequence_symbol};
 ghost use Rattle.macro_meaning.specs.Substitution.{first_passes};
 
 use crate::names::is_sequence;
@@ -19,9 +19,9 @@ pub fn begins_dot(text: &[u8]) -> bool
 }
 
 /// The line behind a sequence symbol in column 1.
-#[tactic(auto, unfolding(macro_meaning::specs::Deed::cut), using(crate::proofs::Cuts::cut_none))]
-pub fn cut(text: LinePart<'_>) -> LinePart<'_>
-    ensures value { result.bytes.now ≡ cut text.entry.bytes.now }
+#[tactic(auto, unfolding(macro_meaning::specs::Effect::cut), using(crate::proofs::Cuts::cut_none))]
+pub fn skip_sequence_symbol(text: LinePart<'_>) -> LinePart<'_>
+    ensures value { result.bytes.now ≡ without_sequence_symbol text.entry.bytes.now }
     ensures bound { length result.bytes.now ≤ length text.entry.bytes.now }
 {
     if !begins_dot(text.bytes) {

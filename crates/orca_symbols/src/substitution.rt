@@ -6,7 +6,7 @@ ghost use Rattle.orca_meaning.specs.Characters.{is_letter, is_name_start};
 ghost use Rattle.orca_meaning.specs.Line.{LiesIn, HaveFields, part};
 ghost use Rattle.macro_meaning.specs.Statements.{statement_of};
 ghost use Rattle.orca_meaning.specs.Quotes.{is_closed, quote_after};
-ghost use Rattle.macro_meaning.specs.Substitution.{lies_in, asks_before, is_asked, may_ask, sets_label, declares, naming_by, naming_at, name_length, taken_length, first_passes, in_place, substituted, with_front};
+ghost use Rattle.macro_meaning.specs.Substitution.{lies_in, asks_before, is_asked, may_ask, sets_label, declares, naming_by, naming_at, name_length, taken_length, first_passes, in_place, substituted_from, with_front};
 ghost use Rattle.macro_meaning.specs.Symbol.{text_of};
 ghost use Rattle.orca_symbols.specs.Plain.{plain_len};
 ghost use Rattle.orca_symbols.specs.View.{naming, values};
@@ -289,7 +289,7 @@ pub(crate) fn copy_plain<'a>(out: &mut Vec<u8>, text: &'a [u8]) -> Result<&'a [u
 /// The text of a line with the symbols' texts in place; none where a symbol isn't declared. It stands in the buffer, whose
 /// own bytes are gone.
 #[tactic(auto, using(crate::proofs::Fronts::run_starts))]
-pub fn shown(
+pub fn substitute(
     alloc: Global,
     of: Values<'_>,
     source: &SourceLine,
@@ -297,8 +297,8 @@ pub fn shown(
 ) -> Result<Option<Vec<u8>>, AllocError>
     requires { HaveFields source.now.text (line source.now).fields }
     ensures { IfOk result (λ found. MatchOption found
-        (substituted (text_of (values of.entry)) (naming_at source.now.text (line source.now).fields) 0 0 source.now.text ≡ None)
-        (λ v. substituted (text_of (values of.entry)) (naming_at source.now.text (line source.now).fields) 0 0 source.now.text ≡ Some v.items)) }
+        (substituted_from (text_of (values of.entry)) (naming_at source.now.text (line source.now).fields) 0 0 source.now.text ≡ None)
+        (λ v. substituted_from (text_of (values of.entry)) (naming_at source.now.text (line source.now).fields) 0 0 source.now.text ≡ Some v.items)) }
 {
     let text = source.text.bytes();
     let statement = statement_of(source.part(source.operation).bytes);

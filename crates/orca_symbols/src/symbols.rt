@@ -5,11 +5,11 @@ ghost use Rattle.macro_meaning.specs.Symbol.{text_of, decimal, signed_decimal, k
 ghost use Rattle.macro_meaning.specs.Call.{no_symbols};
 ghost use Rattle.macro_meaning.specs.Visit.{no_texts};
 ghost use Rattle.orca_symbols.specs.Changes.{IsRenewed, IsRenewedIn};
-ghost use Rattle.orca_symbols.specs.Held.{held};
+ghost use Rattle.orca_symbols.specs.Held.{value_of_name};
 ghost use Rattle.orca_symbols.specs.View.{symbol, shared_text, symbols_of, texts_of, values};
 
-use crate::held::{insert, look, put};
-use crate::text::Text;
+use crate::name_map::{get_by_name, insert_by_name, insert_new_name};
+use crate::text::SymbolText;
 use indexmap::IndexMap;
 use itoa::Buffer;
 use macro_meaning::{Declaration, Kind};
@@ -21,7 +21,7 @@ use std::marker::Model;
 #[derive(Drop)]
 pub enum Symbol {
     /// Its own, with its text.
-    Own(Kind, Text),
+    Own(Kind, SymbolText),
     /// One that all expansions share.
     Common(Kind),
 }
@@ -30,7 +30,7 @@ pub enum Symbol {
 #[derive(Drop)]
 pub struct SharedText {
     pub kind: Kind,
-    pub text: Text,
+    pub text: SymbolText,
 }
 
 /// The symbols of an expansion by name.
@@ -49,7 +49,7 @@ pub struct Texts {
 #[derive(Drop)]
 pub struct Calls {
     count: u32,
-    digits: Text,
+    digits: SymbolText,
 }
 
 impl Model for Calls {
@@ -64,26 +64,26 @@ impl Model for Calls {
 }
 
 /// A number in decimal digits.
-fn decimal(alloc: Global, n: u32) -> Result<Text, AllocError>
+fn decimal(alloc: Global, n: u32) -> Result<SymbolText, AllocError>
     ensures { IfOk result (λ v. v ≡ decimal n) }
 {
     let mut buffer = Buffer::new();
     let digits = LinePart {
         bytes: buffer.format(n).as_bytes(),
     };
-    Text::of(alloc, digits)
+    SymbolText::of(alloc, digits)
 }
 
 /// A signed number in decimal digits.
 #[tactic(auto, using(crate::proofs::Signed::same_digits))]
-pub fn signed_decimal(alloc: Global, z: i32) -> Result<Text, AllocError>
+pub fn signed_decimal(alloc: Global, z: i32) -> Result<SymbolText, AllocError>
     ensures { IfOk result (λ v. v ≡ signed_decimal z) }
 {
     let mut buffer = Buffer::new();
     let digits = LinePart {
         bytes: buffer.format(z).as_bytes(),
     };
-    Text::of(alloc, digits)
+    SymbolText::of(alloc, digits)
 }
 
 impl Calls {
@@ -136,7 +136,7 @@ pub fn is_count(name: &[u8]) -> bool
 }
 
 /// Gives a symbol of its own another text. The text of a shared one is handed back.
-fn renew(slot: &mut Symbol, kind: Kind, text: Text) -> Option<Text>
+fn renew(slot: &mut Symbol, kind: Kind, text: SymbolText) -> Option<SymbolText>
     ensures { IsRenewed kind text (symbol slot.old) (symbol slot.new) result }
 {
     match slot {
@@ -172,7 +172,7 @@ impl Symbols {
     pub fn get(&self, name: &[u8]) -> Option<&Symbol>
         ensures { MatchOption result (symbols_of self.now name.now ≡ None) (λ s. symbols_of self.now name.now ≡ Some (symbol s.now)) }
     {
-        look(&self.map, name)
+        get_by_name(&self.map, name)
     }
 
     /// Gives a name that mostly has no symbol yet one.
@@ -188,14 +188,14 @@ impl Symbols {
         ensures ok { OnOk result (symbols_of self.new ≡ with_name name.now (symbol value) (symbols_of self.old)) }
         ensures fresh { IfOk result (λ fresh. fresh ≡ is_none (symbols_of self.old name.now)) }
     {
-        match insert(alloc, &mut self.map, name, value) {
+        match insert_new_name(alloc, &mut self.map, name, value) {
             Ok(fresh) => Ok(fresh),
             Err(_) => Err(AllocError),
         }
     }
 
     /// Gives a symbol of its own another text. The text of a shared one is handed back.
-    pub fn renew(&mut self, name: &[u8], kind: Kind, text: Text) -> Option<Text>
+    pub fn renew(&mut self, name: &[u8], kind: Kind, text: SymbolText) -> Option<SymbolText>
         ensures { IsRenewedIn name.now kind text (symbols_of self.old name.now) (symbols_of self.old) (symbols_of self.new) result }
     {
         match self.map.get_mut(name) {
@@ -219,14 +219,14 @@ impl Texts {
     pub fn get(&self, name: &[u8]) -> Option<&SharedText>
         ensures { MatchOption result (texts_of self.now name.now ≡ None) (λ s. texts_of self.now name.now ≡ Some (shared_text s.now)) }
     {
-        look(&self.map, name)
+        get_by_name(&self.map, name)
     }
 
     /// Gives a name a text.
     pub fn set(&mut self, alloc: Global, name: &[u8], value: SharedText) -> Result<(), AllocError>
         ensures { OnOk result (texts_of self.new ≡ with_name name.now (shared_text value) (texts_of self.old)) }
     {
-        match put(alloc, &mut self.map, name, value) {
+        match insert_by_name(alloc, &mut self.map, name, value) {
             Ok(()) => Ok(()),
             Err(_) => Err(AllocError),
         }
@@ -310,12 +310,12 @@ pub fn is_declaration(declaration: Declaration, other: Declaration) -> bool
 }
 
 /// What a symbol holds at first.
-pub fn first_text(alloc: Global, kind: Kind) -> Result<Text, AllocError>
+pub fn first_text(alloc: Global, kind: Kind) -> Result<SymbolText, AllocError>
     ensures { IfOk result (λ v. v ≡ first_text kind) }
 {
     match kind {
-        Kind::Number => Text::of(alloc, LinePart { bytes: b"0" }),
-        Kind::Flag => Text::of(alloc, LinePart { bytes: b"0" }),
-        Kind::Text => Text::of(alloc, LinePart { bytes: b"" }),
+        Kind::Number => SymbolText::of(alloc, LinePart { bytes: b"0" }),
+        Kind::Flag => SymbolText::of(alloc, LinePart { bytes: b"0" }),
+        Kind::Text => SymbolText::of(alloc, LinePart { bytes: b"" }),
     }
 }

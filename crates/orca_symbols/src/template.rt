@@ -5,7 +5,7 @@ ghost use Rattle.macro_meaning.specs.Substitution.{in_place, with_front, name_le
 ghost use Rattle.macro_meaning.specs.Symbol.{text_of};
 ghost use Rattle.orca_meaning.specs.Characters as characters;
 ghost use Rattle.orca_meaning.specs.Line.{HaveFields};
-ghost use Rattle.orca_symbols.specs.Template.{HasParts, BeginWith, followed, part_text, placed, more_of, with_more, join};
+ghost use Rattle.orca_symbols.specs.Template.{HasParts, BeginWith, text_before, part_text, replacement_text, more_of, with_more, join};
 ghost use Rattle.orca_symbols.specs.View.{naming, values};
 ghost use Rattle.orca_text.specs.View.{line};
 
@@ -21,7 +21,7 @@ use std::alloc::{AllocError, Global};
 
 /// A part of a line.
 #[derive(Drop)]
-pub enum Part {
+pub enum TemplatePart {
     /// These bytes.
     Plain(Name),
     /// The text of this symbol.
@@ -32,7 +32,7 @@ pub enum Part {
 
 /// What comes in place of an `&`.
 #[derive(Drop)]
-pub(crate) enum Place {
+pub(crate) enum Replacement {
     /// It stays.
     Ampersand,
     /// The text of this symbol, and so many of the bytes behind it go with it.
@@ -51,39 +51,39 @@ fn front_name(alloc: Global, behind: LinePart<'_>) -> Result<Name, AllocError>
 
 /// What comes in place of an `&` before these bytes.
 #[tactic(auto, using(crate::proofs::Templates::ampersand, crate::proofs::Templates::not_letter, crate::proofs::Templates::not_name, crate::proofs::Templates::text, crate::proofs::Templates::asked))]
-fn place_of(alloc: Global, at: Naming, behind: LinePart<'_>) -> Result<Place, AllocError>
-    ensures place { IfOk result (λ p. (text_of : List ℕ → Option (List ℕ)) → in_place text_of (naming at) behind.entry.bytes.now ≡ with_more (more_of p) (placed text_of p)) }
+fn place_of(alloc: Global, at: Naming, behind: LinePart<'_>) -> Result<Replacement, AllocError>
+    ensures place { IfOk result (λ p. (text_of : List ℕ → Option (List ℕ)) → in_place text_of (naming at) behind.entry.bytes.now ≡ with_more (more_of p) (replacement_text text_of p)) }
     ensures bound { IfOk result (λ p. more_of p ≤ length behind.entry.bytes.now) }
 {
     match at {
         Naming::Replaced => {
             if !begins_letter(behind.bytes) {
-                return Ok(Place::Ampersand);
+                return Ok(Replacement::Ampersand);
             }
             let name = front_name(alloc, behind)?;
-            Ok(Place::Text(name, taken_length(behind.bytes)))
+            Ok(Replacement::Text(name, taken_length(behind.bytes)))
         }
         Naming::Named => {
             if !begins_name(behind.bytes) {
-                return Ok(Place::Ampersand);
+                return Ok(Replacement::Ampersand);
             }
             let name = front_name(alloc, behind)?;
-            Ok(Place::Asked(name))
+            Ok(Replacement::Asked(name))
         }
-        Naming::Declared => Ok(Place::Ampersand),
+        Naming::Declared => Ok(Replacement::Ampersand),
     }
 }
 
 /// Puts bytes that are copied behind the parts.
 #[tactic(auto, using(crate::proofs::Templates::closed_empty, crate::proofs::Templates::closed_some))]
-fn close(alloc: Global, parts: &mut Vec<Part>, run: LinePart<'_>) -> Result<(), AllocError>
-    ensures { OnOk result ((text_of : List ℕ → Option (List ℕ)) (tail : Option (List ℕ)) → followed text_of parts.new.items tail ≡ followed text_of parts.old.items (with_front run.entry.bytes.now tail)) }
+fn close(alloc: Global, parts: &mut Vec<TemplatePart>, run: LinePart<'_>) -> Result<(), AllocError>
+    ensures { OnOk result ((text_of : List ℕ → Option (List ℕ)) (tail : Option (List ℕ)) → text_before text_of parts.new.items tail ≡ text_before text_of parts.old.items (with_front run.entry.bytes.now tail)) }
 {
     if run.bytes.is_empty() {
         return Ok(());
     }
     let bytes = name(alloc, run)?;
-    parts.push(Part::Plain(bytes))?;
+    parts.push(TemplatePart::Plain(bytes))?;
     Ok(())
 }
 
@@ -91,32 +91,32 @@ fn close(alloc: Global, parts: &mut Vec<Part>, run: LinePart<'_>) -> Result<(), 
 #[tactic(auto, using(crate::proofs::Templates::adds_ampersand, crate::proofs::Templates::adds_text, crate::proofs::Templates::adds_asked))]
 fn add(
     alloc: Global,
-    parts: &mut Vec<Part>,
+    parts: &mut Vec<TemplatePart>,
     run: &mut Vec<u8>,
-    place: Place,
+    place: Replacement,
 ) -> Result<usize, AllocError>
     requires { length run.old.items ≤ 255 }
     ensures more { IfOk result (λ more. more ≡ more_of place) }
     ensures short { IfOk result (λ more. length run.new.items ≤ length run.old.items + 1) }
     ensures parts { IfOk result (λ more. (text_of : List ℕ → Option (List ℕ)) (tail : Option (List ℕ))
-        → followed text_of parts.new.items (with_front run.new.items tail) ≡ followed text_of parts.old.items (with_front run.old.items (join (placed text_of place) tail))) }
+        → text_before text_of parts.new.items (with_front run.new.items tail) ≡ text_before text_of parts.old.items (with_front run.old.items (join (replacement_text text_of place) tail))) }
 {
     match place {
-        Place::Ampersand => {
+        Replacement::Ampersand => {
             run.push(b'&')?;
             Ok(0)
         }
-        Place::Text(name, more) => {
+        Replacement::Text(name, more) => {
             let front = LinePart {
                 bytes: run.as_slice(),
             };
             close(alloc, parts, front)?;
-            parts.push(Part::Put(name))?;
+            parts.push(TemplatePart::Put(name))?;
             run.clear();
             Ok(more)
         }
-        Place::Asked(name) => {
-            parts.push(Part::Need(name))?;
+        Replacement::Asked(name) => {
+            parts.push(TemplatePart::Need(name))?;
             run.push(b'&')?;
             Ok(0)
         }
@@ -124,7 +124,7 @@ fn add(
 }
 
 /// The parts of a line.
-pub fn parts_of(alloc: Global, of: &SourceLine) -> Result<Vec<Part>, AllocError>
+pub fn parts_of(alloc: Global, of: &SourceLine) -> Result<Vec<TemplatePart>, AllocError>
     requires { HaveFields of.now.text (line of.now).fields }
     ensures { IfOk result (λ parts. HasParts (line of.now) parts.items) }
 {
@@ -153,31 +153,31 @@ pub fn parts_of(alloc: Global, of: &SourceLine) -> Result<Vec<Part>, AllocError>
 
 /// The bytes with which all begins that comes of parts.
 #[tactic(auto, using(crate::proofs::Parted::drop_read, crate::proofs::Templates::needs_more))]
-pub fn plain_front(parts: &[Part]) -> Option<LinePart<'_>>
+pub fn plain_front(parts: &[TemplatePart]) -> Option<LinePart<'_>>
     ensures { IfSome result (λ front. BeginWith parts.now front.bytes.now) }
 {
     'parts: for part in parts {
         match part {
-            Part::Plain(bytes) => {
+            TemplatePart::Plain(bytes) => {
                 return Some(LinePart {
                     bytes: bytes.bytes(),
                 });
             }
-            Part::Need(_) => {}
-            Part::Put(_) => return None,
+            TemplatePart::Need(_) => {}
+            TemplatePart::Put(_) => return None,
         }
     }
     None
 }
 
 /// What comes of a part, if its symbol is declared.
-fn part_text<'a>(of: Values<'a>, part: &'a Part) -> Option<&'a [u8]>
+fn part_text<'a>(of: Values<'a>, part: &'a TemplatePart) -> Option<&'a [u8]>
     ensures { MatchOption result (part_text (text_of (values of.entry)) part.now ≡ None) (λ t. part_text (text_of (values of.entry)) part.now ≡ Some t.now) }
 {
     match part {
-        Part::Plain(bytes) => Some(bytes.bytes()),
-        Part::Put(name) => text_of(of, name.bytes()),
-        Part::Need(name) => match text_of(of, name.bytes()) {
+        TemplatePart::Plain(bytes) => Some(bytes.bytes()),
+        TemplatePart::Put(name) => text_of(of, name.bytes()),
+        TemplatePart::Need(name) => match text_of(of, name.bytes()) {
             Some(_) => Some(b""),
             None => None,
         },
@@ -185,9 +185,13 @@ fn part_text<'a>(of: Values<'a>, part: &'a Part) -> Option<&'a [u8]>
 }
 
 /// Puts what comes of parts into a buffer, whose own bytes are gone: whether all their symbols are declared.
-pub fn fill(of: Values<'_>, parts: &[Part], out: &mut Vec<u8>) -> Result<bool, AllocError>
-    ensures text { IfOk result (λ found. IsTrue found → followed (text_of (values of.entry)) parts.now (Some []) ≡ Some out.new.items) }
-    ensures missing { IfOk result (λ found. found ≡ false → followed (text_of (values of.entry)) parts.now (Some []) ≡ None) }
+pub fn instantiate(
+    of: Values<'_>,
+    parts: &[TemplatePart],
+    out: &mut Vec<u8>,
+) -> Result<bool, AllocError>
+    ensures text { IfOk result (λ found. IsTrue found → text_before (text_of (values of.entry)) parts.now (Some []) ≡ Some out.new.items) }
+    ensures missing { IfOk result (λ found. found ≡ false → text_before (text_of (values of.entry)) parts.now (Some []) ≡ None) }
 {
     out.clear();
     'parts: for part in parts {

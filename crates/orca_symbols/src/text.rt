@@ -24,7 +24,7 @@ pub(crate) fn name(alloc: Global, part: LinePart<'_>) -> Result<Name, AllocError
 
 /// Where the bytes of a text stand.
 #[derive(Drop)]
-enum Kept {
+enum TextBytes {
     /// In the value itself.
     Few(ArrayVec<u8, FEW>),
     /// In memory.
@@ -33,11 +33,11 @@ enum Kept {
 
 /// At most 255 bytes. Contracts see them.
 #[derive(Drop)]
-pub struct Text {
-    kept: Kept,
+pub struct SymbolText {
+    kept: TextBytes,
 }
 
-impl Model for Text {
+impl Model for SymbolText {
     ghost use Rattle.std.specs.Prelude.{◌≤◌, ℕ, List, length};
     ghost use Rattle.orca_symbols.specs.Kept.{kept_bytes};
 
@@ -48,32 +48,32 @@ impl Model for Text {
     ghost invariant = { λ text. length (kept_bytes text.kept) ≤ 255 };
 }
 
-impl Text {
+impl SymbolText {
     /// A copy of bytes. A few of them take no memory.
-    pub fn of(alloc: Global, part: LinePart<'_>) -> Result<Text, AllocError>
+    pub fn of(alloc: Global, part: LinePart<'_>) -> Result<SymbolText, AllocError>
         ensures { IfOk result (λ text. text ≡ part.entry.bytes.now) }
     {
         let mut few = ArrayVec::new();
         match few.try_extend_from_slice(part.bytes) {
-            Ok(()) => Ok(Text {
-                kept: Kept::Few(few),
+            Ok(()) => Ok(SymbolText {
+                kept: TextBytes::Few(few),
             }),
             Err(_) => {
                 let many = name(alloc, part)?;
-                Ok(Text {
-                    kept: Kept::Many(many),
+                Ok(SymbolText {
+                    kept: TextBytes::Many(many),
                 })
             }
         }
     }
 
     /// The text whose bytes these are. It takes no memory.
-    pub fn from_vec(bytes: Vec<u8>) -> Text
+    pub fn from_vec(bytes: Vec<u8>) -> SymbolText
         requires { length bytes.items ≤ 255 }
         ensures { result ≡ bytes.items }
     {
-        Text {
-            kept: Kept::Many(Name::from_vec(bytes)),
+        SymbolText {
+            kept: TextBytes::Many(Name::from_vec(bytes)),
         }
     }
 
@@ -83,8 +83,8 @@ impl Text {
         ensures short { length result.now ≤ 255 }
     {
         match &self.kept {
-            Kept::Few(few) => few.as_slice(),
-            Kept::Many(many) => many.bytes(),
+            TextBytes::Few(few) => few.as_slice(),
+            TextBytes::Many(many) => many.bytes(),
         }
     }
 }

@@ -1,7 +1,7 @@
 //! Short texts that are lent where they stand as they are wanted, and kept else.
 
 ghost use Rattle.std.specs.Prelude.{◌≡◌, ◌≤◌, length, IfOk, IsTrue};
-ghost use Rattle.macro_meaning.specs.Statements.{whole, symbol_name, sequence_name, target_name};
+ghost use Rattle.macro_meaning.specs.Statements.{whole_match, symbol_name, sequence_name, target_name};
 ghost use Rattle.orca_meaning.specs.Characters as characters;
 ghost use Rattle.orca_meaning.specs.Token.{name_at};
 
@@ -15,8 +15,8 @@ use std::marker::Model;
 /// At most 255 bytes. Contracts see them.
 #[derive(Drop)]
 pub struct Word<'a> {
-    own: Option<Name>,
-    lent: &'a [u8],
+    owned: Option<Name>,
+    borrowed: &'a [u8],
 }
 
 impl<'a> Model for Word<'a> {
@@ -25,28 +25,28 @@ impl<'a> Model for Word<'a> {
 
     ghost Value = { List ℕ };
 
-    ghost view = { λ word. word_of word.own word.lent.now };
+    ghost view = { λ word. word_of word.owned word.borrowed.now };
 
-    ghost invariant = { λ word. length (word_of word.own word.lent.now) ≤ 255 };
+    ghost invariant = { λ word. length (word_of word.owned word.borrowed.now) ≤ 255 };
 }
 
 impl<'a> Word<'a> {
     /// Bytes that are lent.
-    pub fn lent(part: LinePart<'a>) -> Word<'a>
+    pub fn borrowed(part: LinePart<'a>) -> Word<'a>
         ensures { result ≡ part.entry.bytes.now }
     {
         Word {
-            own: None,
-            lent: part.bytes,
+            owned: None,
+            borrowed: part.bytes,
         }
     }
 
-    fn own(name: Name) -> Word<'a>
+    fn owned(name: Name) -> Word<'a>
         ensures { result ≡ name }
     {
         Word {
-            own: Some(name),
-            lent: &[],
+            owned: Some(name),
+            borrowed: &[],
         }
     }
 
@@ -55,9 +55,9 @@ impl<'a> Word<'a> {
         ensures value { result.now ≡ self.now }
         ensures short { length result.now ≤ 255 }
     {
-        match &self.own {
+        match &self.owned {
             Some(name) => name.bytes(),
-            None => self.lent,
+            None => self.borrowed,
         }
     }
 }
@@ -67,17 +67,17 @@ fn folded_word<'a>(alloc: Global, text: LinePart<'a>) -> Result<Word<'a>, AllocE
     ensures { IfOk result (λ word. word ≡ characters.folded text.entry.bytes.now) }
 {
     if is_folded(text.bytes) {
-        return Ok(Word::lent(text));
+        return Ok(Word::borrowed(text));
     }
     let name = folded(alloc, text)?;
-    Ok(Word::own(name))
+    Ok(Word::owned(name))
 }
 
 /// The name that a text is, in upper case.
 #[tactic(auto, using(crate::proofs::WholeName::some_name, crate::proofs::WholeName::none_name))]
 #[inline(always)]
 fn whole_word<'a>(alloc: Global, text: LinePart<'a>) -> Result<Option<Word<'a>>, AllocError>
-    ensures { IfOk result (λ word. word ≡ whole (name_at text.entry.bytes.now)) }
+    ensures { IfOk result (λ word. word ≡ whole_match (name_at text.entry.bytes.now)) }
 {
     if is_name(text.bytes) {
         let word = folded_word(alloc, text)?;

@@ -11,7 +11,7 @@ use Rattle.std.proofs.lemmas.Slice.Eq.{bytes_eq-Decides}
 use Rattle.orca_meaning.specs.declared.mnemonics.Mnemonic.{Mnemonic}
 use Rattle.orca_meaning.specs.declared.forms.OperandUse.{OperandUse}
 use Rattle.orca_meaning.specs.Characters.{folded}
-use Rattle.orca_meaning.specs.Operation.{beside, mnemonics, mnemonic_of, use_of}
+use Rattle.orca_meaning.specs.Operation.{value_of_spelling, mnemonics, mnemonic_of, use_of}
 use Rattle.orca_text.specs.Spelling.{key_of, is_three}
 
 -- three bytes are known by their number
@@ -77,8 +77,8 @@ not_true false h = refl
 
 -- the row with the word's number is the word's row
 beside-at : (word : List ℕ) (rows : Rows) (i : ℕ) → is_three word ≡ true → are_three rows ≡ true → rises (keys rows) ≡ true → i < length rows
-    → get_or (keys rows) i 0 ≡ key_of word → beside word rows ≡ slice_get (map (λ row. row.1) rows) i
-unfolding beside are_three rises
+    → get_or (keys rows) i 0 ≡ key_of word → value_of_spelling word rows ≡ slice_get (map (λ row. row.1) rows) i
+unfolding value_of_spelling are_three rises
 beside-at word [] i three all up less is = absurd (omega arith)
 beside-at word (row ∷ rows) zero three all up less is =
     let same = three_same row.0 word (and_parts _ _ all).0 three is in
@@ -92,8 +92,8 @@ beside-at word (row ∷ rows) (suc i) three all up less is =
     rw test (beside-at word rows i three (and_parts _ _ all).1 (and_parts _ _ up).1 (omega arith) is)
 
 -- no row is the word's where none has its number
-beside-none : (word : List ℕ) (rows : Rows) → ((k : ℕ) → k < length rows → get_or (keys rows) k 0 ≢ key_of word) → beside word rows ≡ None
-unfolding beside
+beside-none : (word : List ℕ) (rows : Rows) → ((k : ℕ) → k < length rows → get_or (keys rows) k 0 ≢ key_of word) → value_of_spelling word rows ≡ None
+unfolding value_of_spelling
 beside-none word [] none = refl
 beside-none word (row ∷ rows) none =
     let other : bytes_eq row.0 word ≡ true → ⊥ = λ e. none 0 (omega arith) (ap key_of ((bytes_eq-Decides row.0 word).0 e)) in
@@ -101,8 +101,8 @@ beside-none word (row ∷ rows) none =
     rw test (beside-none word rows (λ k less. none (suc k) (omega arith)))
 
 -- nor where the word isn't three bytes long
-beside-other : (word : List ℕ) (rows : Rows) → are_three rows ≡ true → length word ≢ 3 → beside word rows ≡ None
-unfolding beside are_three
+beside-other : (word : List ℕ) (rows : Rows) → are_three rows ≡ true → length word ≢ 3 → value_of_spelling word rows ≡ None
+unfolding value_of_spelling are_three
 beside-other word [] all long = refl
 beside-other word (row ∷ rows) all long =
     let other : bytes_eq row.0 word ≡ true → ⊥ = λ e. long (sym (ap length ((bytes_eq-Decides row.0 word).0 e)) ∙ three_long row.0 (and_parts _ _ all).0) in
@@ -127,12 +127,12 @@ ordered i j le less = by_order (cases_eq i j)
     by_order (inr other) = let lower = rises_at (keys mnemonics) i j all_rise (omega arith) less in omega arith
 
 found_row : (word : List ℕ) (i : ℕ) → is_three word ≡ true → IsBinarySearchResult (λ y. nat_cmp y (key_of word)) (keys mnemonics) (Ok i)
-    → beside word mnemonics ≡ slice_get (map (λ row. row.1) mnemonics) i
+    → value_of_spelling word mnemonics ≡ slice_get (map (λ row. row.1) mnemonics) i
 found_row word i three is =
     let found : (i < length (keys mnemonics)) × (get_or (keys mnemonics) i 0 ≡ key_of word) = searched (keys mnemonics) (key_of word) (Ok i) is ordered in
     beside-at word mnemonics i three all_three all_rise (omega (arith, found.0, length-map mnemonics (λ row. key_of row.0))) found.1
 
-no_row : (word : List ℕ) (i : ℕ) → IsBinarySearchResult (λ y. nat_cmp y (key_of word)) (keys mnemonics) (Err i) → beside word mnemonics ≡ None
+no_row : (word : List ℕ) (i : ℕ) → IsBinarySearchResult (λ y. nat_cmp y (key_of word)) (keys mnemonics) (Err i) → value_of_spelling word mnemonics ≡ None
 no_row word i is =
     let found : (i ≤ length (keys mnemonics)) × ((k : ℕ) → k < i → get_or (keys mnemonics) k 0 < key_of word) × ((k : ℕ) → i ≤ k → k < length (keys mnemonics) → key_of word < get_or (keys mnemonics) k 0) =
     searched (keys mnemonics) (key_of word) (Err i) is ordered in
@@ -143,7 +143,7 @@ no_row word i is =
     by_place found k less same (inl before) = omega (arith, found.1 k before)
     by_place found k less same (inr behind) = omega (arith, found.2 k behind less)
 
-no_three : (word : List ℕ) → length word ≢ 3 → beside word mnemonics ≡ None
+no_three : (word : List ℕ) → length word ≢ 3 → value_of_spelling word mnemonics ≡ None
 no_three word long = beside-other word mnemonics all_three long
 
 abbrev Names : Type 0

@@ -6,22 +6,22 @@ use Rattle.omf_format.specs.Lines.{lines_of}
 use Rattle.omf_format.specs.laws.LinesLaws.{lines_of-nil}
 use Rattle.orca_meaning.specs.declared.lines.TextCause.{TextCause}
 use Rattle.orca_meaning.specs.declared.lines.TextCause.TheVariants.{LineTooLong, TooManyLines, BadOperand, BadNumber, Memory}
-use Rattle.orca_meaning.specs.Line.{Line, line_of, line_fault, numbered, first_line_fault, or_later}
+use Rattle.orca_meaning.specs.Line.{Line, line_of, line_fault, numbered_lines, first_line_fault, or_later}
 use Rattle.orca_text.specs.Refusals.{IsRefused, IsRefusedFor}
 
 -- these lines were read, and the line with this number is the next
 pub record HasRead (file : ℕ) (source rest : List ℕ) (number : ℕ) (lines : List Line) : Type 0 where
-  pub all : lines ++ numbered file number (lines_of rest) ≡ numbered file 1 (lines_of source)
+  pub all : lines ++ numbered_lines file number (lines_of rest) ≡ numbered_lines file 1 (lines_of source)
   pub fault : first_line_fault number (lines_of rest) ≡ first_line_fault 1 (lines_of source)
   pub count : length lines + 1 ≡ number
   pub few : number ≤ 65537
 
-numbered-cons : (file number : ℕ) (text : List ℕ) (texts : List (List ℕ)) → numbered file number (text ∷ texts) ≡ line_of file number text ∷ numbered file (number + 1) texts
-unfolding numbered
+numbered-cons : (file number : ℕ) (text : List ℕ) (texts : List (List ℕ)) → numbered_lines file number (text ∷ texts) ≡ line_of file number text ∷ numbered_lines file (number + 1) texts
+unfolding numbered_lines
 numbered-cons file number text texts = refl
 
-numbered-nil : (file number : ℕ) → numbered file number [] ≡ []
-unfolding numbered
+numbered-nil : (file number : ℕ) → numbered_lines file number [] ≡ []
+unfolding numbered_lines
 numbered-nil file number = refl
 
 fault-cons : (number : ℕ) (text : List ℕ) (texts : List (List ℕ)) → first_line_fault number (text ∷ texts) ≡ or_later number (line_fault number text) (first_line_fault (number + 1) texts)
@@ -45,8 +45,8 @@ pub read_on : (file : ℕ) (source rest text behind : List ℕ) (number : ℕ) (
     → lines_of rest ≡ text ∷ lines_of behind → line_fault number text ≡ None → new ≡ lines ++ line_of file number text ∷ []
     → HasRead file source behind (number + 1) new
 read_on file source rest text behind number lines new read first none pushed = record {
-  all = ap (λ (l : List Line). l ++ numbered file (number + 1) (lines_of behind)) pushed ∙ append_assoc lines (line_of file number text ∷ []) (numbered file (number + 1) (lines_of behind))
-      ∙ ap (λ (l : List Line). lines ++ l) (sym (numbered-cons file number text (lines_of behind)) ∙ ap (numbered file number) (sym first)) ∙ read.all;
+  all = ap (λ (l : List Line). l ++ numbered_lines file (number + 1) (lines_of behind)) pushed ∙ append_assoc lines (line_of file number text ∷ []) (numbered_lines file (number + 1) (lines_of behind))
+      ∙ ap (λ (l : List Line). lines ++ l) (sym (numbered-cons file number text (lines_of behind)) ∙ ap (numbered_lines file number) (sym first)) ∙ read.all;
   fault = sym (ap (λ (f : Option TextCause). or_later number f (first_line_fault (number + 1) (lines_of behind))) none) ∙ sym (fault-cons number text (lines_of behind))
       ∙ ap (first_line_fault number) (sym first) ∙ read.fault;
   count = omega (arith, read.count, ap length pushed, length-append lines (line_of file number text ∷ []));
@@ -78,8 +78,8 @@ read_bad file source rest text behind number lines cause read first bad =
     record { file_is = refl; cause_is = bad_cause number number text source cause bad (sym read.fault ∙ ap (first_line_fault number) first ∙ found) }
 
 pub read_all : (file : ℕ) (source rest : List ℕ) (number : ℕ) (lines : List Line) → HasRead file source rest number lines → length rest ≡ 0
-    → (lines ≡ numbered file 1 (lines_of source)) × (first_line_fault 1 (lines_of source) ≡ None)
+    → (lines ≡ numbered_lines file 1 (lines_of source)) × (first_line_fault 1 (lines_of source) ≡ None)
 read_all file source [] number lines read none =
-    let last : numbered file number (lines_of []) ≡ [] = ap (numbered file number) lines_of-nil ∙ numbered-nil file number in
+    let last : numbered_lines file number (lines_of []) ≡ [] = ap (numbered_lines file number) lines_of-nil ∙ numbered-nil file number in
     (sym (append-nil lines) ∙ ap (λ (l : List Line). lines ++ l) (sym last) ∙ read.all, sym read.fault ∙ ap (first_line_fault number) lines_of-nil ∙ fault-nil number)
 read_all file source (byte ∷ rest) number lines read none = absurd (omega arith)

@@ -3,7 +3,7 @@
 ghost use Rattle.std.specs.Prelude.{◌≡◌, ◌+◌, ◌^◌, ◌≤◌, ◌<◌, [], ◌∷◌, ◌++◌, not, map, length, slice_get, Some, None, IfOk, IfErr, IfSome, OnOk, OnErr, MatchOption};
 ghost use Rattle.std.specs.List.{filter};
 ghost use Rattle.omf_format.specs.Lines.{lines_of};
-ghost use Rattle.orca_meaning.specs.Line.{line_of, line_fault, numbered, first_line_fault, fields_of, is_comment, HaveFields};
+ghost use Rattle.orca_meaning.specs.Line.{line_of, line_fault, numbered_lines, first_line_fault, fields_of, is_comment, HaveFields};
 ghost use Rattle.orca_text.specs.View.{line};
 ghost use Rattle.orca_text.specs.OwnFields.{HaveOwnFields};
 ghost use Rattle.orca_text.specs.Refusals.{IsRefused};
@@ -145,7 +145,7 @@ fn checked(file: u32, number: u32, text: &[u8]) -> Result<(), TextFault>
 
 /// The lines of a source, or its first line that is too long or one too many.
 pub fn read_lines(alloc: Global, file: u32, source: &[u8]) -> Result<Lines, TextFault>
-    ensures lines { IfOk result (λ lines. lines ≡ numbered file 1 (lines_of source.now)) }
+    ensures lines { IfOk result (λ lines. lines ≡ numbered_lines file 1 (lines_of source.now)) }
     ensures good { OnOk result (first_line_fault 1 (lines_of source.now) ≡ None) }
     ensures refused { IfErr result (λ fault. IsRefused file source.now fault) }
 {

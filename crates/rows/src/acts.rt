@@ -1,9 +1,9 @@
 //! What a line does.
 
 use crate::asking::{ask, ask_number, asked};
-use crate::bench::Bench;
 use crate::expanding::tell_expanded;
 use crate::failing::run_each;
+use crate::fixture::Fixture;
 use crate::fronts::dump_fronts;
 use crate::loading::load;
 use crate::pieces::{
@@ -26,7 +26,7 @@ fn first_word(line: &str) -> (&str, &str) {
 }
 
 /// Does what a line says.
-pub fn act(alloc: Global, bench: &mut Bench, line: &str) -> Result<(), AllocError> {
+pub fn act(alloc: Global, bench: &mut Fixture, line: &str) -> Result<(), AllocError> {
     let (word, rest) = first_word(line);
     match word {
         "" | ";" => Ok(()),
@@ -46,7 +46,7 @@ pub fn act(alloc: Global, bench: &mut Bench, line: &str) -> Result<(), AllocErro
 }
 
 /// Begins a row, whose title is told.
-fn begin(bench: &mut Bench, line: &str) -> Result<(), AllocError> {
+fn begin(bench: &mut Fixture, line: &str) -> Result<(), AllocError> {
     bench.begin();
     tell(bench.out(), "")?;
     tell(bench.out(), line)
@@ -128,7 +128,7 @@ fn calls_of(alloc: Global, words: &str) -> Result<Vec<u32>, AllocError> {
 }
 
 /// Sets which calls fail, or how many of the last lines are told.
-fn set(alloc: Global, bench: &mut Bench, word: &str, rest: &str) -> Result<(), AllocError> {
+fn set(alloc: Global, bench: &mut Fixture, word: &str, rest: &str) -> Result<(), AllocError> {
     match word {
         "store" => bench.store = calls_of(alloc, rest)?,
         "sink" => bench.sink = calls_of(alloc, rest)?,
@@ -138,7 +138,7 @@ fn set(alloc: Global, bench: &mut Bench, word: &str, rest: &str) -> Result<(), A
 }
 
 /// Holds what stands at `out` at a path of the row.
-fn hold(alloc: Global, bench: &mut Bench, path: &str) -> Result<(), AllocError> {
+fn hold(alloc: Global, bench: &mut Fixture, path: &str) -> Result<(), AllocError> {
     let bytes = match bench.outcome.output() {
         Some(bytes) => bytes.to_vec(alloc)?,
         None => Vec::new(alloc),
@@ -149,7 +149,7 @@ fn hold(alloc: Global, bench: &mut Bench, path: &str) -> Result<(), AllocError> 
 /// Does what a line says that is told itself.
 fn do_row(
     alloc: Global,
-    bench: &mut Bench,
+    bench: &mut Fixture,
     line: &str,
     word: &str,
     rest: &str,
@@ -172,7 +172,7 @@ fn do_row(
 }
 
 /// Runs words over the row's files, and tells what they did.
-fn run_list(alloc: Global, bench: &mut Bench, words: &Vec<String>) -> Result<(), AllocError> {
+fn run_list(alloc: Global, bench: &mut Fixture, words: &Vec<String>) -> Result<(), AllocError> {
     let run = run(alloc, words, bench.shelf.row(), &bench.store, &bench.sink)?;
     let lines = bench.lines;
     tell_run(alloc, bench.out(), &run, lines)?;
@@ -183,7 +183,7 @@ fn run_list(alloc: Global, bench: &mut Bench, words: &Vec<String>) -> Result<(),
 /// Runs words over one file, and tells this part of what stands at `out` then, or else what was printed.
 fn run_one(
     alloc: Global,
-    bench: &mut Bench,
+    bench: &mut Fixture,
     words: &str,
     file: Held,
     part: (&str, &str),
@@ -220,13 +220,18 @@ fn between(
 }
 
 /// The source that two words and what stands behind them say: the file of the first word, the text, and the file of the second.
-fn source_of(alloc: Global, bench: &Bench, front: &str, rest: &str) -> Result<Vec<u8>, AllocError> {
+fn source_of(
+    alloc: Global,
+    bench: &Fixture,
+    front: &str,
+    rest: &str,
+) -> Result<Vec<u8>, AllocError> {
     let (behind, text) = first_word(rest);
     between(alloc, &bench.shelf, front, text, behind)
 }
 
 /// Assembles a source, and tells the records of its first segment.
-fn assemble(alloc: Global, bench: &mut Bench, front: &str, rest: &str) -> Result<(), AllocError> {
+fn assemble(alloc: Global, bench: &mut Fixture, front: &str, rest: &str) -> Result<(), AllocError> {
     let source = source_of(alloc, bench, front, rest)?;
     let file = held(alloc, "src", source)?;
     run_one(alloc, bench, "asm src out", file, ("bytes", BODY))
@@ -253,7 +258,7 @@ fn said_of(
 /// common.
 fn assemble_forms(
     alloc: Global,
-    bench: &mut Bench,
+    bench: &mut Fixture,
     mnemonic: &str,
     operands: &str,
 ) -> Result<(), AllocError> {
@@ -281,7 +286,7 @@ fn tell_form(
 }
 
 /// Runs a script.
-fn run_script(alloc: Global, bench: &mut Bench, text: &str) -> Result<(), AllocError> {
+fn run_script(alloc: Global, bench: &mut Fixture, text: &str) -> Result<(), AllocError> {
     let file = held(alloc, "s", text_of(alloc, text)?)?;
     run_one(alloc, bench, "run s", file, ("", ""))
 }
@@ -289,7 +294,7 @@ fn run_script(alloc: Global, bench: &mut Bench, text: &str) -> Result<(), AllocE
 /// Expands a source with the row's files.
 fn expand(
     alloc: Global,
-    bench: &mut Bench,
+    bench: &mut Fixture,
     word: &str,
     front: &str,
     rest: &str,
@@ -320,7 +325,7 @@ fn object_of(
 /// Links records, and tells the body of the first load segment.
 fn link_records(
     alloc: Global,
-    bench: &mut Bench,
+    bench: &mut Fixture,
     cells: &str,
     records: &str,
 ) -> Result<(), AllocError> {

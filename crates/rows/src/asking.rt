@@ -1,8 +1,8 @@
 //! What is asked of what a run left.
 
-use crate::bench::Bench;
+use crate::fixture::Fixture;
 use crate::pieces::{hex, number};
-use crate::running::Outcome;
+use crate::running::RunOutcome;
 use crate::telling::{tell, tell_bytes};
 use std::alloc::{AllocError, Global};
 
@@ -37,7 +37,7 @@ fn body_of(bytes: &[u8]) -> Option<&[u8]> {
 }
 
 /// What is asked for by a word of what stands at `out`.
-pub fn asked<'a>(run: &'a Outcome, word: &str, rest: &str) -> Option<&'a [u8]> {
+pub fn asked<'a>(run: &'a RunOutcome, word: &str, rest: &str) -> Option<&'a [u8]> {
     let bytes = run.output()?;
     match word {
         "bytes" => part_of(bytes, rest),
@@ -48,7 +48,7 @@ pub fn asked<'a>(run: &'a Outcome, word: &str, rest: &str) -> Option<&'a [u8]> {
 }
 
 /// Tells what is asked for by a word and what stands behind it.
-pub fn ask(alloc: Global, bench: &mut Bench, word: &str, rest: &str) -> Result<(), AllocError> {
+pub fn ask(alloc: Global, bench: &mut Fixture, word: &str, rest: &str) -> Result<(), AllocError> {
     let mut told = Vec::new(alloc);
     match asked(&bench.outcome, word, rest) {
         Some(bytes) => tell_bytes(&mut told, bytes)?,
@@ -58,7 +58,7 @@ pub fn ask(alloc: Global, bench: &mut Bench, word: &str, rest: &str) -> Result<(
 }
 
 /// Tells how many bytes stand at `out`, or how often the store was read.
-pub fn ask_number(alloc: Global, bench: &mut Bench, word: &str) -> Result<(), AllocError> {
+pub fn ask_number(alloc: Global, bench: &mut Fixture, word: &str) -> Result<(), AllocError> {
     let number = match (word, bench.outcome.output()) {
         ("size", Some(bytes)) => bytes.len() as u64,
         ("size", None) => 0,

@@ -1,7 +1,7 @@
 //! Runs in which one call fails, the number of the call rising until a run meets no failure.
 
-use crate::bench::Bench;
-use crate::running::{Outcome, run, words_of};
+use crate::fixture::Fixture;
+use crate::running::{RunOutcome, run, words_of};
 use crate::shelf::Held;
 use crate::telling::{tell, tell_text};
 use std::alloc::{AllocError, Global};
@@ -10,7 +10,7 @@ use std::alloc::{AllocError, Global};
 const MOST: u32 = 64;
 
 /// What stands at `out`, beside what stands there where nothing fails.
-fn left_of(run: &Outcome, whole: &Outcome) -> &'static str {
+fn left_of(run: &RunOutcome, whole: &RunOutcome) -> &'static str {
     match (run.output(), whole.output()) {
         (Some(left), Some(bytes)) if left == bytes => ", all at out",
         (Some(left), Some(bytes)) if bytes.starts_with(left) => ", a front at out",
@@ -24,8 +24,8 @@ fn tell_failing(
     alloc: Global,
     out: &mut Vec<u8>,
     call: u32,
-    run: &Outcome,
-    whole: &Outcome,
+    run: &RunOutcome,
+    whole: &RunOutcome,
 ) -> Result<(), AllocError> {
     let (status, reads, left) = (run.status, run.reads, left_of(run, whole));
     let line = format!(in alloc; "call {call}: {status:?}, reads {reads}{left}")?;
@@ -43,7 +43,7 @@ fn run_failing(
     row: &[Held],
     of_store: bool,
     call: u32,
-) -> Result<Outcome, AllocError> {
+) -> Result<RunOutcome, AllocError> {
     if of_store {
         run(alloc, words, row, &[call], &[])
     } else {
@@ -73,7 +73,7 @@ fn tell_all(
 /// Runs words while each call fails in turn: those of the store, or those of the sink.
 pub fn run_each(
     alloc: Global,
-    bench: &mut Bench,
+    bench: &mut Fixture,
     of_store: bool,
     words: &str,
 ) -> Result<(), AllocError> {

@@ -1,14 +1,14 @@
 //! Files that are cut anywhere.
 
-use crate::bench::Bench;
+use crate::fixture::Fixture;
 use crate::pieces::put_at;
-use crate::running::{Outcome, run, words_of};
+use crate::running::{RunOutcome, run, words_of};
 use crate::shelf::Held;
 use crate::telling::{tell, tell_text};
 use std::alloc::{AllocError, Global};
 
 /// Dumps a file.
-fn dump(alloc: Global, bytes: Vec<u8>) -> Result<Outcome, AllocError> {
+fn dump(alloc: Global, bytes: Vec<u8>) -> Result<RunOutcome, AllocError> {
     let mut row = Vec::new(alloc);
     let path = String::from_str(alloc, "obj")?;
     row.push(Held { path, bytes })?;
@@ -16,7 +16,7 @@ fn dump(alloc: Global, bytes: Vec<u8>) -> Result<Outcome, AllocError> {
 }
 
 /// Dumps the front of a file, as it is or with its length as BYTECNT.
-fn dump_front(alloc: Global, front: &[u8], counted: bool) -> Result<Outcome, AllocError> {
+fn dump_front(alloc: Global, front: &[u8], counted: bool) -> Result<RunOutcome, AllocError> {
     let mut bytes = front.to_vec(alloc)?;
     if counted {
         let size = (front.len() % 0x1_0000_0000) as u32;
@@ -64,7 +64,7 @@ fn tell_fronts(
 /// Dumps the fronts of the file at a path: all as they are, or those with a whole header with their length as BYTECNT.
 pub fn dump_fronts(
     alloc: Global,
-    bench: &mut Bench,
+    bench: &mut Fixture,
     counted: bool,
     path: &str,
 ) -> Result<(), AllocError> {

@@ -1,6 +1,6 @@
 //! Load files that are read.
 
-use crate::bench::Bench;
+use crate::fixture::Fixture;
 use crate::telling::tell;
 use omf_cells::{LoadFault, read_load};
 use std::alloc::{AllocError, Global};
@@ -23,7 +23,7 @@ fn fault_in(alloc: Global, file: &[u8]) -> Option<LoadFault> {
 }
 
 /// Reads the load file at a path, and tells its fault or that it has none.
-pub fn load(alloc: Global, bench: &mut Bench, path: &str) -> Result<(), AllocError> {
+pub fn load(alloc: Global, bench: &mut Fixture, path: &str) -> Result<(), AllocError> {
     let file = bench.shelf.copy_of(alloc, path)?;
     let Some(fault) = fault_in(alloc, &file) else {
         return tell(bench.out(), "loaded");

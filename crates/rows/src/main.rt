@@ -4,9 +4,9 @@
 
 mod acts;
 mod asking;
-mod bench;
 mod expanding;
 mod failing;
+mod fixture;
 mod fronts;
 mod loading;
 mod pieces;
@@ -15,13 +15,13 @@ mod shelf;
 mod telling;
 
 use acts::act;
-use bench::Bench;
+use fixture::Fixture;
 use std::alloc::{AllocError, Global};
 use std::io::{self, Write};
 
 /// What the rows of a text tell.
 fn told(alloc: Global, text: &str) -> Result<Vec<u8>, AllocError> {
-    let mut bench = Bench::new(alloc);
+    let mut bench = Fixture::new(alloc);
     for line in text.split('\n') {
         act(alloc, &mut bench, line)?;
     }

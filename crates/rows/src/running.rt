@@ -7,7 +7,7 @@ use std::alloc::{AllocError, Global};
 
 /// What a run left.
 #[derive(Drop)]
-pub struct Outcome {
+pub struct RunOutcome {
     /// How it ended.
     pub status: Status,
     /// What was printed.
@@ -22,10 +22,10 @@ pub struct Outcome {
     pub faults: u64,
 }
 
-impl Outcome {
+impl RunOutcome {
     /// No run.
-    pub fn none(alloc: Global) -> Outcome {
-        Outcome {
+    pub fn none(alloc: Global) -> RunOutcome {
+        RunOutcome {
             status: Status::Done,
             text: Vec::new(alloc),
             made: None,
@@ -90,8 +90,8 @@ fn outcome_of(
     files: &MemoryFiles,
     text: &MemorySink,
     row: &[Held],
-) -> Result<Outcome, AllocError> {
-    Ok(Outcome {
+) -> Result<RunOutcome, AllocError> {
+    Ok(RunOutcome {
         status,
         text: text.bytes().to_vec(alloc)?,
         made: made_in(alloc, files)?,
@@ -109,7 +109,7 @@ pub fn run(
     row: &[Held],
     store: &[u32],
     sink: &[u32],
-) -> Result<Outcome, AllocError> {
+) -> Result<RunOutcome, AllocError> {
     let mut files = store_of(alloc, row, store)?;
     let mut text = MemorySink::new(alloc, sink.to_vec(alloc)?);
     let mut last = None;

@@ -1,6 +1,6 @@
 //! What is told of a run.
 
-use crate::running::Outcome;
+use crate::running::RunOutcome;
 use std::alloc::{AllocError, Global};
 
 /// How many bytes a line has.
@@ -88,7 +88,7 @@ fn last_lines(text: &[u8], count: usize) -> &[u8] {
 pub fn tell_run(
     alloc: Global,
     out: &mut Vec<u8>,
-    run: &Outcome,
+    run: &RunOutcome,
     lines: usize,
 ) -> Result<(), AllocError> {
     tell(out, format!(in alloc; "{:?}", run.status)?.as_str())?;
@@ -102,7 +102,7 @@ pub fn tell_run(
 }
 
 /// Tells whether something stands at `out`, and where a file changed that the store held.
-fn tell_left(out: &mut Vec<u8>, run: &Outcome) -> Result<(), AllocError> {
+fn tell_left(out: &mut Vec<u8>, run: &RunOutcome) -> Result<(), AllocError> {
     if run.made.is_some() {
         tell(out, "written")?;
     }

@@ -4,7 +4,7 @@ ghost use Rattle.std.specs.Prelude.{◌≡◌, ◌≢◌, ◌==◌, ◌&&◌, �
 ghost use Rattle.std.specs.List.{list_all, list_any};
 ghost use Rattle.loader_machine.specs.Commands as machine;
 ghost use Rattle.loader_machine.specs.Alloc.{is_attributes};
-ghost use Rattle.loader_machine.specs.Script.{words_of, is_word, stands_twice, banks_of, load_of, are_jsl_numbers, jsl_of, is_manner, shut_down_of, are_poke_numbers, poke_of, bytes_of, are_bytes_numbers, are_alloc_numbers, alloc_of, room_of, compact_of, one_number, two_numbers, given_by, handle_of, words_command, named, is_in_turn, is_number, number_of, command_of, line_command};
+ghost use Rattle.loader_machine.specs.Script.{words_of, is_word, stands_twice, banks_of, load_of, are_jsl_numbers, jsl_of, is_manner, shut_down_of, are_poke_numbers, poke_of, bytes_of, are_bytes_numbers, are_alloc_numbers, alloc_of, room_of, compact_of, one_number, two_numbers, given_by, handle_of, words_command, command_named, is_in_turn, is_number, number_of, command_of, line_command};
 ghost use Rattle.script_text.specs.Words.{bank_numbers, IsHandleIn};
 ghost use Rattle.script_text.specs.View.{command, IsRead};
 
@@ -552,7 +552,7 @@ fn is_name(word: &[u8], name: &str) -> bool
 /// The command that a word names.
 #[tactic(auto, unfolding(loader_machine::specs::Script::named))]
 fn named(word: &[u8]) -> Option<CommandName>
-    ensures { result ≡ named word.now }
+    ensures { result ≡ command_named word.now }
 {
     if is_name(word, "banks") {
         return Some(CommandName::Banks);

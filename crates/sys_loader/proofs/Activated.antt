@@ -18,17 +18,17 @@ use Rattle.loader_machine.specs.Rule.{RoomRule}
 use Rattle.iigs_meaning.specs.Memory.{Changes}
 use Rattle.loader_machine.specs.declared.faults.LoaderFault.{LoaderFault}
 use Rattle.loader_machine.specs.declared.faults.LoaderFault.TheVariants as fault
-use Rattle.loader_machine.specs.declared.seen.Head.{Head}
+use Rattle.loader_machine.specs.declared.seen.SegmentHead.{SegmentHead}
 use Rattle.loader_machine.specs.declared.seen.Presence.{Presence}
 use Rattle.loader_machine.specs.declared.seen.Presence.TheVariants.{Absent, Purged, Idle, Active}
 use Rattle.loader_machine.specs.Heads.{head_of, at_number, is_table, want_of}
-use Rattle.loader_machine.specs.State.{Machine, Seen, fresh, first_id, handles_of, is_attached, led_by}
+use Rattle.loader_machine.specs.State.{Machine, UserSeen, fresh, first_id, handles_of, is_attached, led_by}
 use Rattle.loader_machine.specs.Presences.{handle_at, presence, presence_at, lies_in, lies_at, active_at}
 use Rattle.loader_machine.specs.Found.{HoldsLoad}
 use Rattle.loader_machine.specs.laws.OnceLaws.{one_load}
 use Rattle.loader_machine.specs.Commands.{Reply, LoadSegment, MadeActive, Refused}
 use Rattle.loader_machine.specs.Refusals.{Refuse, load_segment_refusal}
-use Rattle.loader_machine.specs.Steps.{Sees, seen_of, Outcome, OutOfSlots, OutOfRoom, Made, Activates, Answers, MakesActive, active_block, changed, with_slots, with_both, with_segment}
+use Rattle.loader_machine.specs.Steps.{Sees, seen_of, Activation, OutOfSlots, OutOfRoom, Made, Activates, Answers, MakesActive, active_block, with_block_changed, with_slots, with_both, with_segment}
 use Rattle.loader_machine.specs.Needs.{Needs, is_read, path_if}
 use Rattle.loader_agrees.specs.Agrees.{Loaded, Outline, kept_outlines, seen_in, Agrees, Has, IsSound, Meets}
 use Rattle.loader_agrees.specs.laws.Reads.{headed}
@@ -101,13 +101,13 @@ IsMet held state id number of reads reply new before now =
     ⊎ (((reply ≡ Refused fault.CannotRead) × Agrees held new state × (reads ≡ true) × (now ≡ one_more before))
     ⊎ ((reply ≡ Refused fault.Memory) × Agrees held new state × (now ≡ before)))
 
-pub not_changed : (kept found : List Head) (why : LoaderFault) → found ≡ kept → IsChanged kept found why → ⊥
+pub not_changed : (kept found : List SegmentHead) (why : LoaderFault) → found ≡ kept → IsChanged kept found why → ⊥
 not_changed kept found why same (inl d) =
     let differs = d.3 in
-    differs.other (same_Some d.1 d.2 (sym differs.was' ∙ ap (λ (hs : List Head). at_number hs d.0) (sym same) ∙ differs.is'))
+    differs.other (same_Some d.1 d.2 (sym differs.was' ∙ ap (λ (hs : List SegmentHead). at_number hs d.0) (sym same) ∙ differs.is'))
 not_changed kept found why same (inr d) = d.1 (ap length (sym same))
 
-module _ (held : FileMap) (old : Loaded) (state : Machine) (id number : ℕ) (sound : IsSound old.memory old.users) (agrees : Agrees held old state) (head : Head) (handle : Option Handle)
+module _ (held : FileMap) (old : Loaded) (state : Machine) (id number : ℕ) (sound : IsSound old.memory old.users) (agrees : Agrees held old state) (head : SegmentHead) (handle : Option Handle)
     (can : CanLoad old id number head handle) where
   abbrev pub is : IsKept held old state agrees id can.kept
   is = kept_is held old state agrees id can.kept can.made
@@ -120,13 +120,13 @@ module _ (held : FileMap) (old : Loaded) (state : Machine) (id number : ℕ) (so
 
   found : (s : Segment) × (segment_at is.does_agree.segments number ≡ Some s) × (head ≡ head_of s)
   found =
-      let it = headed is.does_agree.segments number head (ap (λ (hs : List Head). at_number hs number) (sym is.does_agree.heads) ∙ can.head') in
+      let it = headed is.does_agree.segments number head (ap (λ (hs : List SegmentHead). at_number hs number) (sym is.does_agree.heads) ∙ can.head') in
       (it.0, it.1, sym it.2)
 
   pub presence_same : presence_at state.slots (handles_of is.user) number ≡ presence old.memory.slots handle
   presence_same = ap (λ (o : Outline). presence state.slots (handle_at o.handles number)) (sym is.does_agree.same) ∙ ap (presence state.slots) can.handle' ∙ ap (λ (t : Slots). presence t handle) (sym agrees.slots)
 
-  makes : (p : Presence) → presence old.memory.slots handle ≡ p → (outcome : Outcome) → Activates RoomRule state id is.user number (want_of head) p outcome
+  makes : (p : Presence) → presence old.memory.slots handle ≡ p → (outcome : Activation) → Activates RoomRule state id is.user number (want_of head) p outcome
       → (of : ℕ → Reply) (reply : Reply) (next : Machine) → Answers state number outcome of reply next → MakesActive RoomRule held state id number of reply next
   makes p at outcome activates of reply next answers = record {
     sees = sees;
@@ -134,7 +134,7 @@ module _ (held : FileMap) (old : Loaded) (state : Machine) (id number : ℕ) (so
     is = found.1;
     outcome = outcome;
     activates = subst (λ (q : Presence). Activates RoomRule state id is.user number (want_of (head_of found.0)) q outcome) (sym (presence_same ∙ at))
-        (subst (λ (x : Head). Activates RoomRule state id is.user number (want_of x) p outcome) found.2 activates);
+        (subst (λ (x : SegmentHead). Activates RoomRule state id is.user number (want_of x) p outcome) found.2 activates);
     answers = answers;
   }
 
@@ -153,7 +153,7 @@ module _ (held : FileMap) (old : Loaded) (state : Machine) (id number : ℕ) (so
       let shifted = turned.shifted in
       let led = is_led old.users id can.kept sound.attached can.made in
       let its : handle ≡ Some h = idle_handle old.memory.slots handle h at here in
-      let next : Machine = with_slots state (changed active_block state.slots h) in
+      let next : Machine = with_slots state (with_block_changed active_block state.slots h) in
       let was : get old.memory.slots h ≡ Some shifted.changes.block = ap (λ (t : Slots). get t h) (sym shifted.renewed.slots) ∙ shifted.changes.was in
       let its_at : shifted.changes.block.at ≡ Some at = idle_at old.memory.slots h at shifted.changes.block (ap (presence old.memory.slots) (sym its) ∙ here) was in
       inl (
@@ -167,7 +167,7 @@ module _ (held : FileMap) (old : Loaded) (state : Machine) (id number : ℕ) (so
   -- ---- it comes
 
   plain : is_table head ≡ false
-  plain = dynamic_plain is.does_agree.holds.file is.does_agree.segments is.does_agree.holds.loadable number head (ap (λ (hs : List Head). at_number hs number) (sym is.does_agree.heads) ∙ can.head') can.dynamic
+  plain = dynamic_plain is.does_agree.holds.file is.does_agree.segments is.does_agree.holds.loadable number head (ap (λ (hs : List SegmentHead). at_number hs number) (sym is.does_agree.heads) ∙ can.head') can.dynamic
 
   same_load : (file : List ℕ) (segments : List Segment) → IsRead (Some held) can.kept.path file → IsLoadable file segments → is.does_agree.segments ≡ segments
   same_load file segments is_read taken =
@@ -177,7 +177,7 @@ module _ (held : FileMap) (old : Loaded) (state : Machine) (id number : ℕ) (so
   not_bad file bad is_read first =
       let same : is.does_agree.holds.file ≡ file = same_Some is.does_agree.holds.file file (sym is.does_agree.holds.is_held.0 ∙ is_read.1) in
       no_fault_as (is_attached (kept_outlines old.users) id) file is.does_agree.segments bad (subst (λ (f : List ℕ). IsLoadable f is.does_agree.segments) same is.does_agree.holds.loadable)
-      (λ attached n g found'. (joined_of old.users id can.kept sound.attached can.made attached).1.dynamic n g (ap (λ (hs : List Head). at_number hs n) is.does_agree.heads ∙ found')) first
+      (λ attached n g found'. (joined_of old.users id can.kept sound.attached can.made attached).1.dynamic n g (ap (λ (hs : List SegmentHead). at_number hs n) is.does_agree.heads ∙ found')) first
 
   has_it : (h : Handle) → handle ≡ Some h → Has old.users (id - first_id) number head h
   has_it h its = record { kept = can.kept; made = (made_at old.users id can.kept can.made).0; head' = can.head'; handle = can.handle' ∙ its }
@@ -219,7 +219,7 @@ module _ (held : FileMap) (old : Loaded) (state : Machine) (id number : ℕ) (so
       let next : Machine = with_both state id new.memory.slots (Some (with_segment is.user number (fresh (Some did.h)))) in
       let brought = subst (λ (o : Option Handle). Rattle.sys_loader.specs.Activating.IsBrought old.memory id head o did.h address did.placed) some did.brought in
       let changes : Changes brought.1 did.h active_block did.placed = brought.4 in
-      let slots : new.memory.slots ≡ changed active_block brought.1.slots did.h =
+      let slots : new.memory.slots ≡ with_block_changed active_block brought.1.slots did.h =
       did.renewed.slots ∙ changes.slots ∙ sym (ap (λ (o : Option Block). option_map_or (λ b. Rattle.iigs_meaning.specs.Slots.with_value brought.1.slots did.h (active_block b)) o brought.1.slots) changes.was) in
       let there = moved {h = did.h} {last = brought.1.slots} brought.2.puts brought.3 state.slots agrees.slots state.banks agrees.banks in
       let activates : Activates RoomRule state id is.user number (want_of head) (Purged did.h) (Made address next) =
@@ -331,8 +331,8 @@ module _ (held : FileMap) (old : Loaded) (state : Machine) (id number : ℕ) (so
 
   passes : load_segment_refusal (Some (seen_of is.user is.does_agree.segments)) number ≡ None
   passes =
-      ap (λ (seen : Seen). load_segment_refusal (Some seen) number) (sym seen_same)
-      ∙ ap (λ (o : Option Seen). load_segment_refusal o number) (sym (ap (option_map seen_in) can.made)) ∙ can.passes
+      ap (λ (seen : UserSeen). load_segment_refusal (Some seen) number) (sym seen_same)
+      ∙ ap (λ (o : Option UserSeen). load_segment_refusal o number) (sym (ap (option_map seen_in) can.made)) ∙ can.passes
 
   pub needs : is_read (presence old.memory.slots handle) ≡ true → Needs held state (LoadSegment id number) (is.user.path ∷ [])
   needs reads =

@@ -16,7 +16,7 @@ use Rattle.iigs_meaning.specs.Fits.{Slots}
 use Rattle.iigs_meaning.specs.Memory.{bytes_at}
 use Rattle.iigs_meaning.specs.Puts.{PutsAll, without_user}
 use Rattle.loader_machine.specs.Rule.{RoomRule}
-use Rattle.loader_machine.specs.declared.seen.Head.{Head}
+use Rattle.loader_machine.specs.declared.seen.SegmentHead.{SegmentHead}
 use Rattle.loader_machine.specs.declared.seen.Life.TheVariants.{Running, Dormant}
 use Rattle.loader_machine.specs.declared.seen.Presence.{Presence}
 use Rattle.loader_machine.specs.declared.seen.Presence.TheVariants.{Absent, Purged, Idle, Active}
@@ -28,7 +28,7 @@ use Rattle.loader_machine.specs.Stands.{setting, far_of}
 use Rattle.loader_machine.specs.Found.{HoldsLoad}
 use Rattle.loader_machine.specs.Commands.{Started}
 use Rattle.loader_machine.specs.Steps.{PutIn, Begins, started_user, again_users, lost_refusal}
-use Rattle.loader_agrees.specs.Agrees.{Kept, Loaded, outline, kept_outlines, far_in, IsJoined, AreAttached, UserAgrees, Agrees, IsCall, IsSound}
+use Rattle.loader_agrees.specs.Agrees.{LoadedUser, Loaded, outline, kept_outlines, far_in, IsJoined, AreAttached, UserAgrees, Agrees, IsCall, IsSound}
 use Rattle.loader_agrees.specs.Acts.{IsAdded, started_kept}
 use Rattle.loader_agrees.specs.laws.Begun.{user_agrees, others_agree, begun_keeps}
 use Rattle.loader_agrees.specs.laws.BegunSound.{sound_placed}
@@ -52,12 +52,12 @@ use Rattle.sys_loader.proofs.Relived as relived
 use Rattle.sys_loader.proofs.Rerun.{rerun_sound, rerun_agrees}
 use Rattle.sys_loader.proofs.Together.{is_in, in_row, in_rows, with_all_then, with_all_else, length_all, map_all}
 
-module _ (old new : Loaded) (id : ℕ) (kept : Kept) (segments : List Segment) (started : answers.Started) (sound : IsSound old.memory old.users) (made : user_of old.users id ≡ Some kept) (rests : kept.life ≡ Dormant)
+module _ (old new : Loaded) (id : ℕ) (kept : LoadedUser) (segments : List Segment) (started : answers.Started) (sound : IsSound old.memory old.users) (made : user_of old.users id ≡ Some kept) (rests : kept.life ≡ Dormant)
     (top : (q f : ℕ) → attached_at (kept_outlines old.users) q f ≡ Some id → ⊥) (same : map head_of segments ≡ kept.heads) (did : HasBegunAnew old id kept segments started new) where
   abbrev place : ℕ
   place = id - first_id
 
-  abbrev its : Kept
+  abbrev its : LoadedUser
   its = record (started_kept kept.path (map head_of segments) did.placed.handles) { attached = kept.attached }
 
   its_users : (slice_get old.users place ≡ Some (Some kept)) × (first_id + place ≡ id)
@@ -83,7 +83,7 @@ module _ (old new : Loaded) (id : ℕ) (kept : Kept) (segments : List Segment) (
   high : (n : ℕ) → is_in (id ∷ []) n ≡ true → first_id ≤ n
   high n found = omega (arith, only_id n found, its_users.1)
 
-  row_out : (p : ℕ) (k : Kept) (i n : ℕ) → slice_get old.users p ≡ Some (Some k) → is_in (id ∷ []) (first_id + p) ≡ false → slice_get k.attached i ≡ Some n → is_in (id ∷ []) n ≡ false
+  row_out : (p : ℕ) (k : LoadedUser) (i n : ℕ) → slice_get old.users p ≡ Some (Some k) → is_in (id ∷ []) (first_id + p) ≡ false → slice_get k.attached i ≡ Some n → is_in (id ∷ []) n ≡ false
   row_out p k i n made' out is = elim (cases_eq id n) [
     | inl eq ↦
         let back : i + 2 - 2 ≡ i = omega arith in
@@ -95,7 +95,7 @@ module _ (old new : Loaded) (id : ℕ) (kept : Kept) (segments : List Segment) (
   dropped_sound : IsSound dropped.memory dropped.users
   dropped_sound = gone_sound old dropped (id ∷ []) sound released_one refl high row_out
 
-  dropped_before : (p : ℕ) (k : Kept) → slice_get dropped.users p ≡ Some (Some k) → (slice_get old.users p ≡ Some (Some k)) × (p ≢ place)
+  dropped_before : (p : ℕ) (k : LoadedUser) → slice_get dropped.users p ≡ Some (Some k) → (slice_get old.users p ≡ Some (Some k)) × (p ≢ place)
   dropped_before p k is = elim (cases_eq p place) [
     | inl eq ↦ absurd (clash (sym (set_at old.users place None inside) ∙ ap (slice_get dropped.users) (sym eq) ∙ is))
     | inr ne ↦ (sym (set_apart old.users place p None ne) ∙ is, ne)
@@ -113,13 +113,13 @@ module _ (old new : Loaded) (id : ℕ) (kept : Kept) (segments : List Segment) (
   without = record { memory = released_memory old.memory id; users = with_all (with_life Running) (with_user old.users id None) rows }
 
   -- an attached user
-  row_of : (p : ℕ) (k : Kept) → slice_get old.users p ≡ Some (Some k) → is_in rows (first_id + p) ≡ true → IsJoined kept.life k
+  row_of : (p : ℕ) (k : LoadedUser) → slice_get old.users p ≡ Some (Some k) → is_in rows (first_id + p) ≡ true → IsJoined kept.life k
   row_of p k made' found =
       let row = in_rows rows (first_id + p) found in
       let one = sound.attached.each place row.0 (first_id + p) kept its_users.0 row.1 in
       subst (IsJoined kept.life) (same_Some one.0 k (sym one.1 ∙ user_there old.users p k made')) one.2
 
-  together : (p i n : ℕ) (k : Kept) → slice_get dropped.users p ≡ Some (Some k) → slice_get k.attached i ≡ Some n → is_in rows (first_id + p) ≡ is_in rows n
+  together : (p i n : ℕ) (k : LoadedUser) → slice_get dropped.users p ≡ Some (Some k) → slice_get k.attached i ≡ Some n → is_in rows (first_id + p) ≡ is_in rows n
   together p i n k made' is = go (is_in rows (first_id + p)) (is_in rows n) refl refl
     where
       nothing : (j m : ℕ) → slice_get {X = ℕ} [] j ≡ Some m → ⊥
@@ -145,7 +145,7 @@ module _ (old new : Loaded) (id : ℕ) (kept : Kept) (segments : List Segment) (
   none_static true s e e' = cc
   none_static false s e e' = cc
 
-  quiet : (p : ℕ) (k : Kept) → slice_get dropped.users p ≡ Some (Some k) → is_in rows (first_id + p) ≡ true → (n : ℕ) (head : Head) → at_number k.heads n ≡ Some head → is_static head ≡ true → ⊥
+  quiet : (p : ℕ) (k : LoadedUser) → slice_get dropped.users p ≡ Some (Some k) → is_in rows (first_id + p) ≡ true → (n : ℕ) (head : SegmentHead) → at_number k.heads n ≡ Some head → is_static head ≡ true → ⊥
   quiet p k made' found n head is static =
       let joined = row_of p k (dropped_before p k made').0 found in
       none_static (is_dynamic head.kind) (is_skipped head.kind) (joined.dynamic n head is).0 static
@@ -155,40 +155,40 @@ module _ (old new : Loaded) (id : ℕ) (kept : Kept) (segments : List Segment) (
 
   -- ---- the new users
 
-  life_again : (k : Kept) → with_life Running (with_life Running k) ≡ with_life Running k
+  life_again : (k : LoadedUser) → with_life Running (with_life Running k) ≡ with_life Running k
   life_again k = refl
 
   at_place : slice_get new.users place ≡ Some (Some its)
   at_place =
       let one = with_all_then (with_life Running) life_again rows (with_user old.users id (Some its)) place its (set_at old.users place (Some its) inside) in
       let is : one.0 ≡ its = elim one.2 [ inl l ↦ l.1 | inr l ↦ l.1 ] in
-      ap (λ (us : List (Option Kept)). slice_get us place) did.users' ∙ one.1 ∙ ap (λ (k : Kept). Some (Some k)) is
+      ap (λ (us : List (Option LoadedUser)). slice_get us place) did.users' ∙ one.1 ∙ ap (λ (k : LoadedUser). Some (Some k)) is
 
   -- any other is as without it
-  else_same : (a b : Option Kept) (p : ℕ) → p ≢ place → slice_get (with_user old.users id a) p ≡ slice_get (with_user old.users id b) p
+  else_same : (a b : Option LoadedUser) (p : ℕ) → p ≢ place → slice_get (with_user old.users id a) p ≡ slice_get (with_user old.users id b) p
   else_same a b p ne = set_apart old.users place p a ne ∙ sym (set_apart old.users place p b ne)
 
-  now_without : (p : ℕ) (k : Kept) → p ≢ place → slice_get new.users p ≡ Some (Some k) → slice_get without.users p ≡ Some (Some k)
+  now_without : (p : ℕ) (k : LoadedUser) → p ≢ place → slice_get new.users p ≡ Some (Some k) → slice_get without.users p ≡ Some (Some k)
   now_without p k ne is =
       with_all_else (with_life Running) life_again rows (with_user old.users id (Some its)) (with_user old.users id None) p k (else_same (Some its) None p ne)
-      (ap (λ (us : List (Option Kept)). slice_get us p) (sym did.users') ∙ is)
+      (ap (λ (us : List (Option LoadedUser)). slice_get us p) (sym did.users') ∙ is)
 
-  without_now : (p : ℕ) (k : Kept) → p ≢ place → slice_get without.users p ≡ Some (Some k) → slice_get new.users p ≡ Some (Some k)
+  without_now : (p : ℕ) (k : LoadedUser) → p ≢ place → slice_get without.users p ≡ Some (Some k) → slice_get new.users p ≡ Some (Some k)
   without_now p k ne is =
-      ap (λ (us : List (Option Kept)). slice_get us p) did.users'
+      ap (λ (us : List (Option LoadedUser)). slice_get us p) did.users'
       ∙ with_all_else (with_life Running) life_again rows (with_user old.users id None) (with_user old.users id (Some its)) p k (else_same None (Some its) p ne) is
 
-  kept_one : (a b : Kept) → Some (Some a) ≡ Some (Some b) → a ≡ b
+  kept_one : (a b : LoadedUser) → Some (Some a) ≡ Some (Some b) → a ≡ b
   kept_one a b e = cc
 
-  not_without : (p : ℕ) (k : Kept) → p ≡ place → slice_get without.users p ≡ Some (Some k) → ⊥
+  not_without : (p : ℕ) (k : LoadedUser) → p ≡ place → slice_get without.users p ≡ Some (Some k) → ⊥
   not_without p k eq is =
       let w = relived.users_now dropped.users without.users Running rows refl p k is in
       (dropped_before p w.was w.made).1 eq
 
   added : IsAdded without.users place its new.users
   added = record {
-    few = omega (arith, sound.few, ap (λ (us : List (Option Kept)). length us) did.users', length_all (with_life Running) (with_user old.users id (Some its)) rows, length_set old.users place (Some its));
+    few = omega (arith, sound.few, ap (λ (us : List (Option LoadedUser)). length us) did.users', length_all (with_life Running) (with_user old.users id (Some its)) rows, length_set old.users place (Some its));
     here = at_place;
     which = λ p k made'. elim (cases_eq p place) [
       | inl eq ↦ inr (eq, kept_one k its (sym made' ∙ ap (slice_get new.users) eq ∙ at_place))
@@ -205,11 +205,11 @@ module _ (old new : Loaded) (id : ℕ) (kept : Kept) (segments : List Segment) (
   abbrev ids : List ℕ
   ids = id ∷ rows
 
-  abbrev resumed : List (Option Kept)
+  abbrev resumed : List (Option LoadedUser)
   resumed = with_all (with_life Running) (with_user old.users id (Some (with_life Running kept))) rows
 
   are : resumed ≡ with_all (with_life Running) old.users ids
-  are = sym (ap (λ (o : Option Kept). with_all (with_life Running) (option_map_or (λ (u : Kept). with_user old.users id (Some (with_life Running u))) o old.users) rows) made)
+  are = sym (ap (λ (o : Option LoadedUser). with_all (with_life Running) (option_map_or (λ (u : LoadedUser). with_user old.users id (Some (with_life Running u))) o old.users) rows) made)
 
   has_id : is_in ids id ≡ true
   has_id = let test : (id == id) ≡ true = grind arith in rw test refl
@@ -234,12 +234,12 @@ module _ (old new : Loaded) (id : ℕ) (kept : Kept) (segments : List Segment) (
   resumed_place =
       let one = with_all_then (with_life Running) life_again rows (with_user old.users id (Some (with_life Running kept))) place (with_life Running kept) (set_at old.users place (Some (with_life Running kept)) inside) in
       let is : one.0 ≡ with_life Running kept = elim one.2 [ inl l ↦ l.1 | inr l ↦ l.1 ] in
-      one.1 ∙ ap (λ (k : Kept). Some (Some k)) is
+      one.1 ∙ ap (λ (k : LoadedUser). Some (Some k)) is
 
   is_like : IsLike (with_life Running kept) its
   is_like = record { path = refl; life = refl; heads = same; attached = refl }
 
-  itself : (k : Kept) → IsLike k k
+  itself : (k : LoadedUser) → IsLike k k
   itself k = record { path = refl; life = refl; heads = refl; attached = refl }
 
   like : AreLike resumed new.users
@@ -248,12 +248,12 @@ module _ (old new : Loaded) (id : ℕ) (kept : Kept) (segments : List Segment) (
       | inl eq ↦ (
         with_life Running kept,
         ap (slice_get resumed) eq ∙ resumed_place,
-        subst (λ (k : Kept). IsLike (with_life Running kept) k) (sym (kept_one now its (sym is ∙ ap (slice_get new.users) eq ∙ at_place))) is_like,
+        subst (λ (k : LoadedUser). IsLike (with_life Running kept) k) (sym (kept_one now its (sym is ∙ ap (slice_get new.users) eq ∙ at_place))) is_like,
       )
       | inr ne ↦ (
         now,
         with_all_else (with_life Running) life_again rows (with_user old.users id (Some its)) (with_user old.users id (Some (with_life Running kept))) p now (else_same (Some its) (Some (with_life Running kept)) p ne)
-            (ap (λ (us : List (Option Kept)). slice_get us p) (sym did.users') ∙ is),
+            (ap (λ (us : List (Option LoadedUser)). slice_get us p) (sym did.users') ∙ is),
         itself now,
       )
     ];
@@ -261,11 +261,11 @@ module _ (old new : Loaded) (id : ℕ) (kept : Kept) (segments : List Segment) (
       | inl eq ↦ (
         its,
         ap (slice_get new.users) eq ∙ at_place,
-        subst (λ (k : Kept). IsLike k its) (sym (kept_one was (with_life Running kept) (sym is ∙ ap (slice_get resumed) eq ∙ resumed_place))) is_like,
+        subst (λ (k : LoadedUser). IsLike k its) (sym (kept_one was (with_life Running kept) (sym is ∙ ap (slice_get resumed) eq ∙ resumed_place))) is_like,
       )
       | inr ne ↦ (
         was,
-        ap (λ (us : List (Option Kept)). slice_get us p) did.users'
+        ap (λ (us : List (Option LoadedUser)). slice_get us p) did.users'
             ∙ with_all_else (with_life Running) life_again rows (with_user old.users id (Some (with_life Running kept))) (with_user old.users id (Some its)) p was (else_same (Some (with_life Running kept)) (Some its) p ne) is,
         itself was,
       )
@@ -291,7 +291,7 @@ module _ (old new : Loaded) (id : ℕ) (kept : Kept) (segments : List Segment) (
           let was = sound.attached.each place (t.file - 2) n kept its_users.0 e in
           let then' = relived.user_then old.users resumed Running ids are n was.0 was.1 in
           let its_heads : was.0.heads ≡ reached.heads = go' was.0 was.1 (same_Some (heads_in old.users n) reached.heads is) in
-          let head' : at_number was.0.heads t.segment ≡ Some reached.head = ap (λ (hs : List Head). at_number hs t.segment) its_heads ∙ reached.head' in
+          let head' : at_number was.0.heads t.segment ≡ Some reached.head = ap (λ (hs : List SegmentHead). at_number hs t.segment) its_heads ∙ reached.head' in
           let kind = was.2.dynamic t.segment reached.head head' in
           let there = made_at old.users n was.0 was.1 in
           let within = slice_get_within kept.attached (t.file - 2) n e in
@@ -304,7 +304,7 @@ module _ (old new : Loaded) (id : ℕ) (kept : Kept) (segments : List Segment) (
               kept = now.0;
               made = now.1;
               head = reached.head;
-              head' = ap (λ (hs : List Head). at_number hs t.segment) now.2 ∙ head';
+              head' = ap (λ (hs : List SegmentHead). at_number hs t.segment) now.2 ∙ head';
               dynamic = kind.0;
               loaded = kind.1;
             },
@@ -312,24 +312,24 @@ module _ (old new : Loaded) (id : ℕ) (kept : Kept) (segments : List Segment) (
             omega (arith, at_most was.0.heads t.segment reached.head head', sound.short (n - first_id) was.0 there.0),
           )
         where
-          go' : (u : Kept) → user_of old.users n ≡ Some u → heads_in old.users n ≡ reached.heads → u.heads ≡ reached.heads
-          go' u is' e' = sym (ap (λ (o : Option Kept). option_map_or (λ (k : Kept). k.heads) o []) is') ∙ e'
+          go' : (u : LoadedUser) → user_of old.users n ≡ Some u → heads_in old.users n ≡ reached.heads → u.heads ≡ reached.heads
+          go' u is' e' = sym (ap (λ (o : Option LoadedUser). option_map_or (λ (k : LoadedUser). k.heads) o []) is') ∙ e'
 
           -- the user of a row, now
-          now_user : (m : ℕ) (u : Kept) → user_of old.users m ≡ Some u → slice_get kept.attached (t.file - 2) ≡ Some m → (v : Kept) × (user_of new.users m ≡ Some v) × (v.heads ≡ u.heads)
+          now_user : (m : ℕ) (u : LoadedUser) → user_of old.users m ≡ Some u → slice_get kept.attached (t.file - 2) ≡ Some m → (v : LoadedUser) × (user_of new.users m ≡ Some v) × (v.heads ≡ u.heads)
           now_user m u is' row =
               let one = relived.user_then old.users resumed Running ids are m u is' in
               let at = made_at resumed m one.0 one.1 in
               let forth = like.forth (m - first_id) one.0 at.0 in
               (forth.0, subst (λ (q : ℕ). user_of new.users q ≡ Some forth.0) at.1 (user_there new.users (m - first_id) forth.0 forth.1), forth.2.heads ∙ one.2)
 
-  calls_anew : (file : List ℕ) → IsLoadable file segments → lost_refusal (kept_heads old.users kept.attached) segments ≡ None → (number k : ℕ) (head : Head) (h : Handle) → at_number (map head_of segments) number ≡ Some head
+  calls_anew : (file : List ℕ) → IsLoadable file segments → lost_refusal (kept_heads old.users kept.attached) segments ≡ None → (number k : ℕ) (head : SegmentHead) (h : Handle) → at_number (map head_of segments) number ≡ Some head
       → handle_at its.handles number ≡ Some h → is_table head ≡ true → k < entry_count head.length → IsCall new.users id (target_at (bytes_at new.memory h.slot) k)
   calls_anew file loadable none number k head h head' handle table inside' =
       let s = headed segments number head head' in
       let table' = ap is_table s.2 ∙ table in
       its_call file segments loadable did.placed.short new.users id its its_made refl (setting id new.memory.slots its.handles) number k s.0 (bytes_at new.memory h.slot) s.1
-      table' (did.placed.begins number s.0 h s.1 handle) (omega (arith, inside', ap (λ (x : Head). entry_count x.length) s.2))
+      table' (did.placed.begins number s.0 h s.1 handle) (omega (arith, inside', ap (λ (x : SegmentHead). entry_count x.length) s.2))
       (λ t found above. far_call t above (all_reached file segments (kept_heads old.users kept.attached) loadable none number k s.0 t s.1 table' found above))
 
   pub begun_anew_sound : (file : List ℕ) → IsLoadable file segments → lost_refusal (kept_heads old.users kept.attached) segments ≡ None → IsSound new.memory new.users
@@ -346,7 +346,7 @@ module _ (old new : Loaded) (id : ℕ) (kept : Kept) (segments : List Segment) (
 
   -- none of those of the user is active
   module _ (i m : ℕ) (row : slice_get kept.attached i ≡ Some m) where
-    one : (u : Kept) × (user_of old.users m ≡ Some u) × IsJoined kept.life u
+    one : (u : LoadedUser) × (user_of old.users m ≡ Some u) × IsJoined kept.life u
     one = sound.attached.each place i m kept its_users.0 row
 
     there : (slice_get old.users (m - first_id) ≡ Some (Some one.0)) × (first_id + (m - first_id) ≡ m)
@@ -361,10 +361,10 @@ module _ (old new : Loaded) (id : ℕ) (kept : Kept) (segments : List Segment) (
     dropped_made : slice_get dropped.users (m - first_id) ≡ Some (Some one.0)
     dropped_made = set_apart old.users place (m - first_id) None apart ∙ there.0
 
-    then_one : (v : Kept) × (slice_get without.users (m - first_id) ≡ Some (Some v)) × (v.handles ≡ one.0.handles)
+    then_one : (v : LoadedUser) × (slice_get without.users (m - first_id) ≡ Some (Some v)) × (v.handles ≡ one.0.handles)
     then_one =
         let v = relived.users_then dropped.users without.users Running rows refl (m - first_id) one.0 dropped_made in
-        (v.0, v.1, elim v.2 [ inl l ↦ ap (λ (k : Kept). k.handles) l.1 | inr l ↦ ap (λ (k : Kept). k.handles) l.1 ])
+        (v.0, v.1, elim v.2 [ inl l ↦ ap (λ (k : LoadedUser). k.handles) l.1 | inr l ↦ ap (λ (k : LoadedUser). k.handles) l.1 ])
 
     handles_now : handles_in (kept_outlines new.users) m ≡ one.0.handles
     handles_now =
@@ -421,7 +421,7 @@ module _ (old new : Loaded) (id : ℕ) (kept : Kept) (segments : List Segment) (
     all_kept p n head h has = let of' = without_sound.each p n head h has in begun_keeps without.memory new.memory kept.path segments id started.entry did.placed h of'.block of'.live of'.fixed
 
     -- what is attached is active where it was
-    far_now : (p : ℕ) (k : Kept) → slice_get new.users p ≡ Some (Some k) → p ≢ place → (f n : ℕ) → far_of new.memory.slots (kept_outlines new.users) (first_id + p) f n ≡ far_of without.memory.slots (kept_outlines without.users) (first_id + p) f n
+    far_now : (p : ℕ) (k : LoadedUser) → slice_get new.users p ≡ Some (Some k) → p ≢ place → (f n : ℕ) → far_of new.memory.slots (kept_outlines new.users) (first_id + p) f n ≡ far_of without.memory.slots (kept_outlines without.users) (first_id + p) f n
     far_now p k made' ne f n = step ∙ far_kept without new.memory without_sound all_kept (first_id + p) f n
       where
         was : slice_get without.users p ≡ Some (Some k)
@@ -472,7 +472,7 @@ module _ (old new : Loaded) (id : ℕ) (kept : Kept) (segments : List Segment) (
             go None e = refl
             go (Some m) e = not_active' (f - 2) m e n
 
-        each_agrees : (p : ℕ) (k : Kept) (u : User) → slice_get new.users p ≡ Some (Some k) → slice_get next.users p ≡ Some (Some u) → UserAgrees held new.memory (far_in new (first_id + p)) (first_id + p) k u
+        each_agrees : (p : ℕ) (k : LoadedUser) (u : User) → slice_get new.users p ≡ Some (Some k) → slice_get next.users p ≡ Some (Some u) → UserAgrees held new.memory (far_in new (first_id + p)) (first_id + p) k u
         each_agrees p k u made' made'' = elim (cases_eq p place) [
           | inl eq ↦
               let one = with_all_then state_of.runs_again again_user rows (with_user state.users id (Some user)) place user (set_at state.users place (Some user) (omega (arith, inside, lists))) in
@@ -481,7 +481,7 @@ module _ (old new : Loaded) (id : ℕ) (kept : Kept) (segments : List Segment) (
               let kept_is : its ≡ k = kept_one its k (sym at_place ∙ ap (slice_get new.users) (sym eq) ∙ made') in
               let id_is : id ≡ first_id + p = omega (arith, its_users.1, eq) in
               subst (λ (n : ℕ). UserAgrees held new.memory (far_in new n) n k u) id_is
-              (subst (λ (x : User). UserAgrees held new.memory (far_in new id) id k x) user_is' (subst (λ (x : Kept). UserAgrees held new.memory (far_in new id) id x user) kept_is
+              (subst (λ (x : User). UserAgrees held new.memory (far_in new id) id k x) user_is' (subst (λ (x : LoadedUser). UserAgrees held new.memory (far_in new id) id x user) kept_is
               (user_agrees held without new kept.path segments id started.entry without_sound did.placed holds kept.attached (far_in new id) far_none)))
           | inr ne ↦
               let was = now_without p k ne made' in

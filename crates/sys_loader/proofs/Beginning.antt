@@ -14,7 +14,7 @@ use Rattle.iigs_meaning.specs.Fits.{Slots}
 use Rattle.iigs_meaning.specs.Puts.{PutsAll}
 use Rattle.loader_machine.specs.Rule.{RoomRule}
 use Rattle.iigs_meaning.specs.Memory.{Memory, AreAllPlaced, bytes_at}
-use Rattle.loader_machine.specs.declared.seen.Head.{Head}
+use Rattle.loader_machine.specs.declared.seen.SegmentHead.{SegmentHead}
 use Rattle.loader_machine.specs.declared.seen.Life.{Life}
 use Rattle.loader_machine.specs.declared.seen.Life.TheVariants.{Running}
 use Rattle.loader_machine.specs.Heads.{head_of, at_number, is_stack, stack_want, plain_want, want_of, wants_of, entry_in}
@@ -22,7 +22,7 @@ use Rattle.loader_machine.specs.State.{no_pokes, first_id, max_users, ids_from}
 use Rattle.loader_machine.specs.Presences.{handle_at}
 use Rattle.loader_machine.specs.Stands.{setting, stands, place_in}
 use Rattle.loader_machine.specs.Steps.{lost_refusal}
-use Rattle.loader_agrees.specs.Agrees.{Kept, Loaded, IsSound}
+use Rattle.loader_agrees.specs.Agrees.{LoadedUser, Loaded, IsSound}
 use Rattle.loader_agrees.specs.Acts.{HasPlaced, HasBegun, started_kept, joined_kepts}
 use Rattle.loader_agrees.specs.laws.Begun.{all_placed, all_length, decide}
 use Rattle.loader_agrees.specs.laws.BegunSound.{AreDistinct, rest_apart, all_distinct, spread_want, spread_index, spread_once, want_size}
@@ -38,7 +38,7 @@ use Rattle.loader_users.proofs.Settling.{addresses, is_setting}
 
 -- ---- new blocks
 
-pub want_some : (head : Head) → 0 < (want_of head).size
+pub want_some : (head : SegmentHead) → 0 < (want_of head).size
 unfolding want_of stack_want plain_want
 want_some head = elim (decide (is_stack head)) [ inl stack ↦ rw stack (grind arith) | inr plain ↦ rw plain (grind arith) ]
 
@@ -50,10 +50,10 @@ has_handle handles k h is = go (slice_get handles k) refl is
     go (Some x) e is = e ∙ ap (λ (y : Option Handle). Some y) is
 
 module _ (before memory : Memory) (load : List Segment) (hs : List Handle) (user : ℕ) (placed : AreAllPlaced RoomRule before user false (wants_of (map head_of load)) hs memory) where
-  abbrev heads : List Head
+  abbrev heads : List SegmentHead
   heads = map head_of load
 
-  one_ready : (n : ℕ) (head : Head) (h : Handle) → at_number heads n ≡ Some head → handle_at (spread_handles load hs) n ≡ Some h → IsReady memory head h
+  one_ready : (n : ℕ) (head : SegmentHead) (h : Handle) → at_number heads n ≡ Some head → handle_at (spread_handles load hs) n ≡ Some h → IsReady memory head h
   one_ready zero head h is has = absurd cc
   one_ready (suc k) head h is has =
       let want = spread_want heads hs k head h is (has_handle (spread_handles load hs) k h has) in
@@ -76,7 +76,7 @@ module _ (before memory : Memory) (load : List Segment) (hs : List Handle) (user
 
   pub all_ready : (kept : List users.Segment) → heads_of kept ≡ heads → handles_of kept ≡ spread_handles load hs → AreReady memory (heads_of kept) (handles_of kept)
   all_ready kept same handles =
-      subst (λ (gs : List Head). AreReady memory gs (handles_of kept)) (sym same)
+      subst (λ (gs : List SegmentHead). AreReady memory gs (handles_of kept)) (sym same)
       (subst (λ (os : List (Option Handle)). AreReady memory heads os) (sym handles) (record { each = one_ready; once = once }))
 
 -- ---- all written
@@ -111,11 +111,11 @@ settled file load hs user kept old new taken same handles filled = record {
 pub kept_started : (user : User) (load : List Segment) (path : List ℕ) (hs : List Handle) (ids : List ℕ) → heads_of user.segments.items ≡ map head_of load → handles_of user.segments.items ≡ spread_handles load hs
     → string_bytes user.path ≡ path → user.life ≡ Running → user.attached.items ≡ ids → kept user ≡ record (started_kept path (map head_of load) hs) { attached = ids }
 kept_started user load path hs ids same handles path_is runs attached =
-    let made : List ℕ → Life → List (Option Handle) → List Head → List ℕ → Kept = λ p l os gs ids'. record { path = p; life = l; handles = os; heads = gs; attached = ids' } in
+    let made : List ℕ → Life → List (Option Handle) → List SegmentHead → List ℕ → LoadedUser = λ p l os gs ids'. record { path = p; life = l; handles = os; heads = gs; attached = ids' } in
     ap (λ (p : List ℕ). made p user.life (handles_of user.segments.items) (heads_of user.segments.items) user.attached.items) path_is
     ∙ ap (λ (l : Life). made path l (handles_of user.segments.items) (heads_of user.segments.items) user.attached.items) runs
     ∙ ap (λ (os : List (Option Handle)). made path Running os (heads_of user.segments.items) user.attached.items) handles
-    ∙ ap (λ (gs : List Head). made path Running (spread_handles load hs) gs user.attached.items) same
+    ∙ ap (λ (gs : List SegmentHead). made path Running (spread_handles load hs) gs user.attached.items) same
     ∙ ap (made path Running (spread_handles load hs) (map head_of load)) attached
 
 -- ---- users that are put behind others one by one
@@ -124,13 +124,13 @@ pub none_left : {X : Type 0} (xs : List X) → length xs ≡ 0 → xs ≡ []
 none_left [] e = refl
 none_left (x ∷ xs) e = absurd (omega (arith, e))
 
-pub pushed_more : (us us' : List (Option User)) (rest rest' : List User) (u : User) (all : List (Option Kept)) → us' ≡ us ++ Some u ∷ [] → rest ≡ u ∷ rest'
-    → map (option_map kept) us ++ map (λ (k : Kept). Some k) (map kept rest) ≡ all → map (option_map kept) us' ++ map (λ (k : Kept). Some k) (map kept rest') ≡ all
+pub pushed_more : (us us' : List (Option User)) (rest rest' : List User) (u : User) (all : List (Option LoadedUser)) → us' ≡ us ++ Some u ∷ [] → rest ≡ u ∷ rest'
+    → map (option_map kept) us ++ map (λ (k : LoadedUser). Some k) (map kept rest) ≡ all → map (option_map kept) us' ++ map (λ (k : LoadedUser). Some k) (map kept rest') ≡ all
 pushed_more us us' rest rest' u all pushed steps so_far =
-    ap (λ (l : List (Option User)). map (option_map kept) l ++ map (λ (k : Kept). Some k) (map kept rest')) pushed
-    ∙ ap (λ (l : List (Option Kept)). l ++ map (λ (k : Kept). Some k) (map kept rest')) (map-append (option_map kept) us (Some u ∷ []))
-    ∙ append_assoc (map (option_map kept) us) (Some (kept u) ∷ []) (map (λ (k : Kept). Some k) (map kept rest'))
-    ∙ ap (λ (l : List User). map (option_map kept) us ++ map (λ (k : Kept). Some k) (map kept l)) (sym steps) ∙ so_far
+    ap (λ (l : List (Option User)). map (option_map kept) l ++ map (λ (k : LoadedUser). Some k) (map kept rest')) pushed
+    ∙ ap (λ (l : List (Option LoadedUser)). l ++ map (λ (k : LoadedUser). Some k) (map kept rest')) (map-append (option_map kept) us (Some u ∷ []))
+    ∙ append_assoc (map (option_map kept) us) (Some (kept u) ∷ []) (map (λ (k : LoadedUser). Some k) (map kept rest'))
+    ∙ ap (λ (l : List User). map (option_map kept) us ++ map (λ (k : LoadedUser). Some k) (map kept l)) (sym steps) ∙ so_far
 
 -- ---- one user more, and those of its rows
 
@@ -140,8 +140,8 @@ joined_length [] all long = refl
 joined_length (path ∷ paths) [] long = absurd (omega (arith, long))
 joined_length (path ∷ paths) (segments ∷ all) long = ap suc (joined_length paths all (omega (arith, long)))
 
-pub rows_length : (paths : List (List ℕ)) (all : List (List Segment)) (joined : List Kept) → AreJoinedUsers paths all joined → length joined ≡ length paths
-rows_length paths all joined rows = sym (length-map joined (λ (k : Kept). Some k)) ∙ ap length rows.users' ∙ joined_length paths all rows.long
+pub rows_length : (paths : List (List ℕ)) (all : List (List Segment)) (joined : List LoadedUser) → AreJoinedUsers paths all joined → length joined ≡ length paths
+rows_length paths all joined rows = sym (length-map joined (λ (k : LoadedUser). Some k)) ∙ ap length rows.users' ∙ joined_length paths all rows.long
 
 module _ (memory middle new : Memory) (users' last : List (Option User)) (user : User) (joined : List User) (load : List Segment) (path : List ℕ) (all : List (List Segment)) (hs : List Handle) (id : ℕ) (entry : Option ℕ)
     (few : length users' + 1 + length joined ≤ max_users) (short : length load < 2 ^ 16) (id_is : id ≡ first_id + length users') (placed : AreAllPlaced RoomRule memory id false (wants_of (map head_of load)) hs middle)
@@ -150,7 +150,7 @@ module _ (memory middle new : Memory) (users' last : List (Option User)) (user :
     (entry_is : entry ≡ entry_in (heads_of user.segments.items) (place_in new.slots (handles_of user.segments.items)) 1)
     (rows : AreJoinedUsers (paths_of load) all (map kept joined))
     (pushed : map (option_map kept) last ≡ map (option_map kept) (users' ++ Some user ∷ []) ++ map (λ k. Some k) (map kept joined)) where
-  abbrev its : Kept
+  abbrev its : LoadedUser
   its = record (started_kept path (map head_of load) hs) { attached = ids_from (id + 1) (length (paths_of load)) }
 
   kept_is : kept user ≡ its
@@ -167,7 +167,7 @@ module _ (memory middle new : Memory) (users' last : List (Option User)) (user :
     placed = placed;
     banks = is_settled.banks ∙ placed.kept.banks;
     slots = is_settled.slots;
-    entry_is = entry_is ∙ ap (λ (gs : List Head). entry_in gs (place_in new.slots (handles_of user.segments.items)) 1) same
+    entry_is = entry_is ∙ ap (λ (gs : List SegmentHead). entry_in gs (place_in new.slots (handles_of user.segments.items)) 1) same
         ∙ ap (λ (os : List (Option Handle)). entry_in (map head_of load) (place_in new.slots os) 1) handles;
     stay = λ k live. is_settled.stay k.slot (λ i h is. rest_apart memory.banks id memory.slots middle.slots (wants_of (map head_of load)) hs placed.puts k live i h is);
     begins = λ n s h there has. subst (λ (slots : Slots). IsFront (stands (setting id slots (spread_handles load hs)) no_pokes s) (bytes_at new h.slot)) (sym is_settled.slots) (is_settled.begins n s h there has);
@@ -180,10 +180,10 @@ module _ (memory middle new : Memory) (users' last : List (Option User)) (user :
   users_are : map (option_map kept) last ≡ map (option_map kept) users' ++ Some its ∷ joined_kepts (paths_of load) all
   users_are =
       pushed
-      ∙ ap (λ (us : List (Option Kept)). us ++ map (λ k. Some k) (map kept joined)) (map-append (option_map kept) users' (Some user ∷ []))
+      ∙ ap (λ (us : List (Option LoadedUser)). us ++ map (λ k. Some k) (map kept joined)) (map-append (option_map kept) users' (Some user ∷ []))
       ∙ append_assoc (map (option_map kept) users') (Some (kept user) ∷ []) (map (λ k. Some k) (map kept joined))
-      ∙ ap (λ (us : List (Option Kept)). map (option_map kept) users' ++ Some (kept user) ∷ us) rows.users'
-      ∙ ap (λ (k : Kept). map (option_map kept) users' ++ Some k ∷ joined_kepts (paths_of load) all) kept_is
+      ∙ ap (λ (us : List (Option LoadedUser)). map (option_map kept) users' ++ Some (kept user) ∷ us) rows.users'
+      ∙ ap (λ (k : LoadedUser). map (option_map kept) users' ++ Some k ∷ joined_kepts (paths_of load) all) kept_is
 
   pub begun : HasBegun (loaded memory users') path load all id entry (loaded new last)
   begun = record { few = fits; long = rows.long; shorts = rows.shorts; id_is = omega (arith, id_is, count); placed = placed_new; users = users_are }

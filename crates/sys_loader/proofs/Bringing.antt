@@ -5,17 +5,17 @@ use Rattle.std.proofs.lemmas.Bool.{cases_eq}
 use Rattle.std.proofs.lemmas.Option.{same_Some}
 use Rattle.std.proofs.lemmas.List.{length-replicate}
 use Rattle.iigs_meaning.specs.declared.handles.Handle.{Handle}
-use Rattle.iigs_meaning.specs.declared.slots.Content.TheVariants.{Used}
+use Rattle.iigs_meaning.specs.declared.slots.SlotContent.TheVariants.{Used}
 use Rattle.iigs_meaning.specs.declared.wants.Want.{Want}
 use Rattle.iigs_meaning.specs.declared.wants.Block.{Block}
 use Rattle.iigs_meaning.specs.Slots.{slot_at, get}
 use Rattle.iigs_meaning.specs.Fits.{Slots, block_in}
-use Rattle.iigs_meaning.specs.Puts.{placed}
+use Rattle.iigs_meaning.specs.Puts.{placed_block}
 use Rattle.iigs_meaning.specs.laws.Left.{AreLeft}
 use Rattle.iigs_meaning.specs.laws.SlideRoomLaws.{are_left}
 use Rattle.loader_machine.specs.Rule.{RoomRule}
 use Rattle.iigs_meaning.specs.Memory.{Memory, IsPlaced, IsReplaced, Changes, bytes_at}
-use Rattle.loader_machine.specs.declared.seen.Head.{Head}
+use Rattle.loader_machine.specs.declared.seen.SegmentHead.{SegmentHead}
 use Rattle.loader_machine.specs.Heads.{want_of}
 use Rattle.loader_machine.specs.Presences.{presence, there_at, lies_in}
 use Rattle.loader_machine.specs.Steps.{active_block}
@@ -29,7 +29,7 @@ use Rattle.loader_agrees.specs.laws.Stay.IsReached.{Kept, Purged, Moved}
 use Rattle.loader_users.proofs.Shifting.{value_here, value_in}
 
 -- what a placed block of a segment is, and what is left of the others
-pub record Brings (old : Loaded) (id : ℕ) (head : Head) (h : Handle) (address : ℕ) (new : Memory) : Type 0 where
+pub record Brings (old : Loaded) (id : ℕ) (head : SegmentHead) (h : Handle) (address : ℕ) (new : Memory) : Type 0 where
   pub block : Block
   pub live : get new.slots h ≡ Some block
   pub at : block.at ≡ Some address
@@ -40,14 +40,14 @@ pub record Brings (old : Loaded) (id : ℕ) (head : Head) (h : Handle) (address 
   pub level : block.level ≡ 0
   pub banks : new.banks ≡ old.memory.banks
   pub size : length (bytes_at new h.slot) ≡ (want_of head).size
-  pub keeps : (p n : ℕ) (g : Head) (k : Handle) → Has old.users p n g k → k.slot ≢ h.slot → Keeps old.memory new k
+  pub keeps : (p n : ℕ) (g : SegmentHead) (k : Handle) → Has old.users p n g k → k.slot ≢ h.slot → Keeps old.memory new k
   pub only : (n : ℕ) (b : Block) → block_in (slot_at new.slots n) ≡ Some b → ((n ≡ h.slot) × (b ≡ block)) ⊎ ((was : Block) × (block_in (slot_at old.memory.slots n) ≡ Some was) × (was.user ≡ b.user))
 
-module _ (old : Loaded) (sound : IsSound old.memory old.users) (id : ℕ) (head : Head) (h : Handle) (address : ℕ) (new : Memory) where
+module _ (old : Loaded) (sound : IsSound old.memory old.users) (id : ℕ) (head : SegmentHead) (h : Handle) (address : ℕ) (new : Memory) where
   -- under a new handle
   pub brings_first : (is : IsPlaced RoomRule old.memory (want_of head) id true 0 false h new) → is.puts.address ≡ address → Brings old id head h address new
   brings_first is at = record {
-    block = placed (want_of head) is.puts.address id true 0 false;
+    block = placed_block (want_of head) is.puts.address id true 0 false;
     live = puts_here old.memory.banks old.memory.slots new.slots (want_of head) id true 0 false h is.puts;
     at = ap (λ (n : ℕ). Some n) at;
     want = refl;
@@ -62,7 +62,7 @@ module _ (old : Loaded) (sound : IsSound old.memory old.users) (id : ℕ) (head 
   }
 
   -- no handle is in its slot
-  pub first_apart : (is : IsPlaced RoomRule old.memory (want_of head) id true 0 false h new) → (p n : ℕ) (g : Head) (k : Handle) → Has old.users p n g k → k.slot ≢ h.slot
+  pub first_apart : (is : IsPlaced RoomRule old.memory (want_of head) id true 0 false h new) → (p n : ℕ) (g : SegmentHead) (k : Handle) → Has old.users p n g k → k.slot ≢ h.slot
   first_apart is p n g k has =
       let of' = sound.each p n g k has in
       let live : IsSome (get old.memory.slots k) = rw of'.live refl in
@@ -75,7 +75,7 @@ module _ (old : Loaded) (sound : IsSound old.memory old.users) (id : ℕ) (head 
     room = is.puts.room
 
     abbrev fresh : Block
-    fresh = placed (want_of head) is.puts.address is.puts.block.user is.puts.block.locked is.puts.block.level false
+    fresh = placed_block (want_of head) is.puts.address is.puts.block.user is.puts.block.locked is.puts.block.level false
 
     left : AreLeft old.memory.slots room
     left = are_left old.memory.banks old.memory.slots (want_of head) is.puts.address room is.puts.makes
@@ -159,7 +159,7 @@ module _ (old : Loaded) (sound : IsSound old.memory old.users) (id : ℕ) (head 
 -- a block that was placed anew is there
 pub replaced_there : (old : Memory) (h : Handle) (want : Want) (new : Memory) → IsReplaced RoomRule old h want new → IsSomeAnd (get new.slots h) (λ block. IsSome block.at)
 replaced_there old h want new is =
-    let fresh : Block = placed want is.puts.address is.puts.block.user is.puts.block.locked is.puts.block.level false in
+    let fresh : Block = placed_block want is.puts.address is.puts.block.user is.puts.block.locked is.puts.block.level false in
     let left = are_left old.banks old.slots want is.puts.address is.puts.room is.puts.makes in
     let was = reached_block is.puts.block (get is.puts.room h) (get_left old.slots is.puts.room left h is.puts.block is.puts.was) in
     let live : get new.slots h ≡ Some fresh = ap (λ (t : Slots). get t h) is.puts.next_is ∙ value_here is.puts.room h was.0 fresh was.1 in

@@ -19,14 +19,14 @@ use Rattle.iigs_meaning.specs.declared.wants.Block.{Block}
 use Rattle.iigs_meaning.specs.Slots.{get}
 use Rattle.iigs_meaning.specs.Fits.{Slots}
 use Rattle.iigs_meaning.specs.Memory.{Memory, bytes_at}
-use Rattle.loader_machine.specs.declared.seen.Head.{Head}
+use Rattle.loader_machine.specs.declared.seen.SegmentHead.{SegmentHead}
 use Rattle.loader_machine.specs.Heads.{head_of, at_number}
 use Rattle.loader_machine.specs.State.{no_pokes, first_id, user_of, with_user, led_by}
 use Rattle.loader_machine.specs.Presences.{handle_at, presence, there_at, lies_in, lies_at}
 use Rattle.loader_machine.specs.Stands as machine
-use Rattle.loader_machine.specs.Stands.{Setting, nowhere, target_with, setting, stands}
+use Rattle.loader_machine.specs.Stands.{AddressSetting, no_far_segment, target_with, setting, stands}
 use Rattle.loader_machine.specs.laws.StandsLaws.{AreAlike, stands_alike}
-use Rattle.loader_agrees.specs.Agrees.{Kept, Loaded, kept_outlines, Has, IsSound}
+use Rattle.loader_agrees.specs.Agrees.{LoadedUser, Loaded, kept_outlines, Has, IsSound}
 use Rattle.loader_agrees.specs.laws.BegunSound.{want_size}
 use Rattle.loader_agrees.specs.laws.Keeping.{of_kept}
 use Rattle.loader_agrees.specs.laws.Lists.{set_map}
@@ -48,10 +48,10 @@ none_active [] = tt
 none_active (t ∷ ts) = (refl, none_active ts)
 
 -- where no segment of an attached user is active, none is for a file above 1
-no_far : (slots : Slots) (handles : List (Option Handle)) (file n : ℕ) → 2 ≤ file → target_with nowhere slots handles file n ≡ None
+no_far : (slots : Slots) (handles : List (Option Handle)) (file n : ℕ) → 2 ≤ file → target_with no_far_segment slots handles file n ≡ None
 no_far slots handles file n above = let other : (file == 1) ≡ false = grind arith in rw other refl
 
-module _ (old : Loaded) (id number : ℕ) (sound : IsSound old.memory old.users) (head : Head) (handle : Option Handle) (can : CanLoad old id number head handle)
+module _ (old : Loaded) (id number : ℕ) (sound : IsSound old.memory old.users) (head : SegmentHead) (handle : Option Handle) (can : CanLoad old id number head handle)
     (h : Handle) (address : ℕ) (placed : Memory) (brought : IsBrought old.memory id head handle h address placed) where
   its_users : (slice_get old.users (id - first_id) ≡ Some (Some can.kept)) × (first_id + (id - first_id) ≡ id)
   its_users = made_at old.users id can.kept can.made
@@ -108,7 +108,7 @@ module _ (old : Loaded) (id number : ℕ) (sound : IsSound old.memory old.users)
         ∙ ap (λ (hs : List (Option Handle)). machine.place_in placed.slots hs n) handles_are
 
     -- the setting in which no target is active
-    abbrev bare : Setting
+    abbrev bare : AddressSetting
     bare = record { id = id; place = machine.place_in placed.slots (with_handle can.kept number h).handles; target = λ file segment. None }
 
     module _ (file : List ℕ) (load : List Segment) (taken : IsLoadable file load) (heads : map head_of load ≡ can.kept.heads) where
@@ -116,7 +116,7 @@ module _ (old : Loaded) (id number : ℕ) (sound : IsSound old.memory old.users)
       bare_setting = record { id = refl; place = place_is; targets = λ n s is table. none_active (targets_of s) }
 
       same_head : (s : Segment) → segment_at load number ≡ Some s → head_of s ≡ head
-      same_head s is = same_Some (head_of s) head (sym (head_at load number s is) ∙ ap (λ (hs : List Head). at_number hs number) heads ∙ can.head')
+      same_head s is = same_Some (head_of s) head (sym (head_at load number s is) ∙ ap (λ (hs : List SegmentHead). at_number hs number) heads ∙ can.head')
 
       pub begins : (content : List ℕ) → IsFilled load number id (slice_set (addresses placed.slots items) (number - 1) (Some address)) content → (s : Segment) → segment_at load number ≡ Some s
           → IsFront (stands (setting id placed.slots (with_handle can.kept number h).handles) no_pokes s) content
@@ -127,7 +127,7 @@ module _ (old : Loaded) (id number : ℕ) (sound : IsSound old.memory old.users)
             own = refl;
             static = λ n t there static. refl;
             target = λ table n t there dynamic kept'.
-                let clash : true ≡ false = sym can.dynamic ∙ ap (λ (x : Head). is_dynamic x.kind) (sym (same_head s is)) ∙ (its.table table).static in absurd cc;
+                let clash : true ≡ false = sym can.dynamic ∙ ap (λ (x : SegmentHead). is_dynamic x.kind) (sym (same_head s is)) ∙ (its.table table).static in absurd cc;
             far = λ table file n above. sym (no_far placed.slots (with_handle can.kept number h).handles file n above);
           } in
           subst (λ (bytes : List ℕ). IsFront bytes content) (stands_alike load number s its bare (setting id placed.slots (with_handle can.kept number h).handles) alike no_pokes) (filled bare s bare_setting is)
@@ -142,22 +142,22 @@ module _ (old : Loaded) (id number : ℕ) (sound : IsSound old.memory old.users)
       go (Some a) locked e = refl
 
   -- each segment of a user that is there has room in its block, where this content is in the new one
-  pub roomy_now : (content : List ℕ) → length content ≡ length (bytes_at placed h.slot) → (owner : ℕ) (lead : Kept) → user_of old.users owner ≡ Some lead → AreRoomy (with_bytes placed h.slot content) lead.heads lead.handles
+  pub roomy_now : (content : List ℕ) → length content ≡ length (bytes_at placed h.slot) → (owner : ℕ) (lead : LoadedUser) → user_of old.users owner ≡ Some lead → AreRoomy (with_bytes placed h.slot content) lead.heads lead.handles
   roomy_now content same owner lead lead_made = record { each = each; once = once }
     where
       lead_users : (slice_get old.users (owner - first_id) ≡ Some (Some lead)) × (first_id + (owner - first_id) ≡ owner)
       lead_users = made_at old.users owner lead lead_made
 
-      here : (n : ℕ) (g : Head) (k : Handle) → at_number lead.heads n ≡ Some g → handle_at lead.handles n ≡ Some k → owner ≡ id → n ≡ number → g.length ≤ length (bytes_at (with_bytes placed h.slot content) k.slot)
+      here : (n : ℕ) (g : SegmentHead) (k : Handle) → at_number lead.heads n ≡ Some g → handle_at lead.handles n ≡ Some k → owner ≡ id → n ≡ number → g.length ≤ length (bytes_at (with_bytes placed h.slot content) k.slot)
       here n g k found has owns eq =
           let user : lead ≡ can.kept = same_Some lead can.kept (sym lead_made ∙ ap (user_of old.users) owns ∙ can.made) in
-          let its : k ≡ h = new_one.own k (sym can.handle' ∙ ap (handle_at can.kept.handles) (sym eq) ∙ ap (λ (x : Kept). handle_at x.handles n) (sym user) ∙ has) in
-          let g_is : g ≡ head = same_Some g head (sym found ∙ ap (λ (x : Kept). at_number x.heads n) user ∙ ap (at_number can.kept.heads) eq ∙ can.head') in
+          let its : k ≡ h = new_one.own k (sym can.handle' ∙ ap (handle_at can.kept.handles) (sym eq) ∙ ap (λ (x : LoadedUser). handle_at x.handles n) (sym user) ∙ has) in
+          let g_is : g ≡ head = same_Some g head (sym found ∙ ap (λ (x : LoadedUser). at_number x.heads n) user ∙ ap (at_number can.kept.heads) eq ∙ can.head') in
           let bytes : bytes_at (with_bytes placed h.slot content) k.slot ≡ content =
           ap (λ (x : Handle). bytes_at (with_bytes placed h.slot content) x.slot) its ∙ get_or-set_same placed.bytes h.slot content [] slot_inside in
-          omega (arith, ap length bytes, same, block_fits, ap (λ (x : Head). x.length) g_is)
+          omega (arith, ap length bytes, same, block_fits, ap (λ (x : SegmentHead). x.length) g_is)
 
-      apart : (n : ℕ) (g : Head) (k : Handle) → at_number lead.heads n ≡ Some g → handle_at lead.handles n ≡ Some k → ((owner ≡ id) → (n ≡ number) → ⊥) → IsSome (there_at (presence placed.slots (Some k)))
+      apart : (n : ℕ) (g : SegmentHead) (k : Handle) → at_number lead.heads n ≡ Some g → handle_at lead.handles n ≡ Some k → ((owner ≡ id) → (n ≡ number) → ⊥) → IsSome (there_at (presence placed.slots (Some k)))
           → g.length ≤ length (bytes_at (with_bytes placed h.slot content) k.slot)
       apart n g k found has differ there =
           let it : Has old.users (owner - first_id) n g k = record { kept = lead; made = lead_users.0; head' = found; handle = has } in
@@ -166,7 +166,7 @@ module _ (old : Loaded) (id number : ℕ) (sound : IsSound old.memory old.users)
           let room = of'.room (at_block placed.slots k of'.block of'.live there) in
           omega (arith, room, ap length (get_or-set_other placed.bytes h.slot k.slot content [] other))
 
-      each : (n : ℕ) (g : Head) (k : Handle) → at_number lead.heads n ≡ Some g → handle_at lead.handles n ≡ Some k → IsSome (there_at (presence placed.slots (Some k)))
+      each : (n : ℕ) (g : SegmentHead) (k : Handle) → at_number lead.heads n ≡ Some g → handle_at lead.handles n ≡ Some k → IsSome (there_at (presence placed.slots (Some k)))
           → g.length ≤ length (bytes_at (with_bytes placed h.slot content) k.slot)
       each n g k found has there = elim (cases_eq owner id) [
         | inl owns ↦ elim (cases_eq n number) [ inl eq ↦ here n g k found has owns eq | inr ne ↦ apart n g k found has (λ o e. ne e) there ]
@@ -181,24 +181,24 @@ module _ (old : Loaded) (id number : ℕ) (sound : IsSound old.memory old.users)
 
   -- ---- as it is done
 
-  module _ (k : Kept) (made : user_of old.users id ≡ Some k) where
+  module _ (k : LoadedUser) (made : user_of old.users id ≡ Some k) where
     same_kept : can.kept ≡ k
     same_kept = same_Some can.kept k (sym can.made ∙ made)
 
     pub number_inside : (1 ≤ number) × (number ≤ length k.heads)
-    number_inside = subst (λ (x : Kept). (1 ≤ number) × (number ≤ length x.heads)) same_kept number_in
+    number_inside = subst (λ (x : LoadedUser). (1 ≤ number) × (number ≤ length x.heads)) same_kept number_in
 
     pub has_head : (load : List Segment) → map head_of load ≡ k.heads → HasHead load number head
     has_head load heads =
-        let it = headed load number head (ap (λ (hs : List Head). at_number hs number) (heads ∙ ap (λ (x : Kept). x.heads) (sym same_kept)) ∙ can.head') in
+        let it = headed load number head (ap (λ (hs : List SegmentHead). at_number hs number) (heads ∙ ap (λ (x : LoadedUser). x.heads) (sym same_kept)) ∙ can.head') in
         rw it.1 (sym it.2)
 
-    pub roomy_filled : (load : List Segment) (places : List (Option ℕ)) (filled : Memory) → IsWritten load number id places placed h filled → (owner : ℕ) (lead : Kept) → user_of old.users owner ≡ Some lead
+    pub roomy_filled : (load : List Segment) (places : List (Option ℕ)) (filled : Memory) → IsWritten load number id places placed h filled → (owner : ℕ) (lead : LoadedUser) → user_of old.users owner ≡ Some lead
         → AreRoomy filled lead.heads lead.handles
     roomy_filled load places filled written owner lead lead_made =
         subst (λ (m : Memory). AreRoomy m lead.heads lead.handles) (sym written.new_is) (roomy_now written.content written.same owner lead lead_made)
 
-    come_at : (last : Loaded) (items : List users.Segment) (file : List ℕ) (load : List Segment) (places : List (Option ℕ)) (filled new : Memory) (count : ℕ) (lead : Kept)
+    come_at : (last : Loaded) (items : List users.Segment) (file : List ℕ) (load : List Segment) (places : List (Option ℕ)) (filled new : Memory) (count : ℕ) (lead : LoadedUser)
         → user_of old.users (led_by (kept_outlines old.users) id).0 ≡ Some lead → handles_of items ≡ k.handles → IsLoadable file load
         → map head_of load ≡ k.heads → count ≡ length lead.heads → places ≡ slice_set (addresses placed.slots items) (number - 1) (Some address) → IsWritten load number id places placed h filled
         → AreRenewed lead.heads lead.handles (Some ((led_by (kept_outlines old.users) id).1, number)) (Some address) filled new count → last.memory ≡ new → last.users ≡ with_user old.users id (Some (with_handle k number h))
@@ -210,8 +210,8 @@ module _ (old : Loaded) (id number : ℕ) (sound : IsSound old.memory old.users)
       content = written.content;
       same = written.same;
       begins = λ s is.
-          subst (λ (x : Kept). IsFront (stands (setting id placed.slots (with_handle x number h).handles) no_pokes s) written.content) same_kept
-          (begins items (handles ∙ ap (λ (x : Kept). x.handles) (sym same_kept)) file load taken (heads ∙ ap (λ (x : Kept). x.heads) (sym same_kept)) written.content
+          subst (λ (x : LoadedUser). IsFront (stands (setting id placed.slots (with_handle x number h).handles) no_pokes s) written.content) same_kept
+          (begins items (handles ∙ ap (λ (x : LoadedUser). x.handles) (sym same_kept)) file load taken (heads ∙ ap (λ (x : LoadedUser). x.heads) (sym same_kept)) written.content
           (subst (λ (ps : List (Option ℕ)). IsFilled load number id ps written.content) at_places written.filled) s is);
       lead = lead;
       leads = leads;
@@ -223,12 +223,12 @@ module _ (old : Loaded) (id number : ℕ) (sound : IsSound old.memory old.users)
 
 -- ---- as the calls do it: the address is looked up, and the new block's place is set among those of the others
 
-module _ (old : Loaded) (id number : ℕ) (sound : IsSound old.memory old.users) (head : Head) (handle : Option Handle) (can : CanLoad old id number head handle) (h : Handle) (placed : Memory)
+module _ (old : Loaded) (id number : ℕ) (sound : IsSound old.memory old.users) (head : SegmentHead) (handle : Option Handle) (can : CanLoad old id number head handle) (h : Handle) (placed : Memory)
     (brought : (at : ℕ) × IsBrought old.memory id head handle h at placed) (address : ℕ) (looked : address ≡ unwrap_or (there_at (presence placed.slots (Some h))) 0) where
   brought_there : IsBrought old.memory id head handle h address placed
   brought_there = subst (λ (a : ℕ). IsBrought old.memory id head handle h a placed) (address_of old id number sound head handle can h brought.0 placed brought.1 address looked) brought.1
 
-  pub has_come : (k : Kept) → user_of old.users id ≡ Some k → (last : Loaded) (items : List users.Segment) (file : List ℕ) (load : List Segment) (others places : List (Option ℕ)) (m n : ℕ) (filled new : Memory) (count : ℕ) (lead : Kept)
+  pub has_come : (k : LoadedUser) → user_of old.users id ≡ Some k → (last : Loaded) (items : List users.Segment) (file : List ℕ) (load : List Segment) (others places : List (Option ℕ)) (m n : ℕ) (filled new : Memory) (count : ℕ) (lead : LoadedUser)
       → user_of old.users (led_by (kept_outlines old.users) id).0 ≡ Some lead → count ≡ length lead.heads → handles_of items ≡ k.handles → IsLoadable file load → map head_of load ≡ k.heads → others ≡ addresses placed.slots items → m ≡ number → places ≡ slice_set others (m - 1) (Some address)
       → n ≡ number → IsWritten load n id places placed h filled → AreRenewed lead.heads lead.handles (Some ((led_by (kept_outlines old.users) id).1, number)) (Some address) filled new count → last.memory ≡ new
       → last.users ≡ with_user old.users id (Some (with_handle k number h)) → HasCome old id number k head handle load address last

@@ -18,17 +18,17 @@ use Rattle.iigs_meaning.specs.Blocks.{AreApart}
 use Rattle.loader_machine.specs.Rule.{RoomRule}
 use Rattle.loader_machine.specs.declared.faults.LoaderFault.{LoaderFault}
 use Rattle.loader_machine.specs.declared.faults.LoaderFault.TheVariants.{CannotRead, Memory}
-use Rattle.loader_machine.specs.declared.seen.Head.{Head}
+use Rattle.loader_machine.specs.declared.seen.SegmentHead.{SegmentHead}
 use Rattle.loader_machine.specs.declared.seen.Life.TheVariants.{Running}
 use Rattle.loader_machine.specs.Heads.{head_of, at_number, is_table}
-use Rattle.loader_machine.specs.State.{User, Machine, Seen, handles_of, held_at, outlines, named_by}
+use Rattle.loader_machine.specs.State.{User, Machine, UserSeen, handles_of, held_at, outlines, named_by}
 use Rattle.loader_machine.specs.Presences.{presence_at, is_active}
 use Rattle.loader_machine.specs.Stands.{place_in, stands}
 use Rattle.loader_machine.specs.Found.{HoldsLoad}
 use Rattle.loader_machine.specs.Refusals.{Refuse, bytes_refusal}
 use Rattle.loader_machine.specs.Commands.{Reply, Bytes, Jsl, Where, Entered, Lies, Shown, Refused}
 use Rattle.loader_machine.specs.laws.OnceLaws.{one_load}
-use Rattle.loader_machine.specs.Steps.{Sees, seen_of, setting_in, StandsIn, IsAt, Place, Nowhere, In, IsLocated, place_reply, Decides, Either, no_jsl, address_of, target_at_code, Enters, EntersEntry, EntersSegment, StepsJsl, Outcome, OutOfSlots, OutOfRoom, Made, Answers, Steps}
+use Rattle.loader_machine.specs.Steps.{Sees, seen_of, setting_in, StandsIn, IsAt, AddressPlace, Nowhere, In, IsLocated, place_reply, Decides, Either, no_jsl, address_of, target_at_code, Enters, EntersEntry, EntersSegment, StepsJsl, Activation, OutOfSlots, OutOfRoom, Made, Answers, Steps}
 use Rattle.loader_agrees.specs.Agrees.{Loaded, Agrees, IsSound, Meets}
 use Rattle.loader_agrees.specs.laws.Apart.{steps_once_there}
 use Rattle.loader_agrees.specs.laws.Reads.{head_at}
@@ -75,7 +75,7 @@ undecided : (r : Refuse) (state : Machine) (reply : Reply) (next : Machine) (Don
 undecided r state reply next Done is d = subst (λ (x : Refuse). Decides x state reply next Done) is d
 
 -- bytes of an active segment can be read
-bytes_pass : (slots : Slots) (seen : Seen) (number at count : ℕ) (head : Head) → seen.life ≡ Running → at_number seen.heads number ≡ Some head → is_skipped head.kind ≡ false
+bytes_pass : (slots : Slots) (seen : UserSeen) (number at count : ℕ) (head : SegmentHead) → seen.life ≡ Running → at_number seen.heads number ≡ Some head → is_skipped head.kind ≡ false
     → is_active (presence_at slots seen.handles number) ≡ true → at + count ≤ head.length → bytes_refusal slots (Some seen) number at count ≡ None
 unfolding bytes_refusal
 bytes_pass slots seen number at count head runs head' loaded active inside =
@@ -84,7 +84,7 @@ bytes_pass slots seen number at count head runs head' loaded active inside =
 
 -- ---- replies
 
-place_is : (place : Place) (id number offset : ℕ) → place_reply place ≡ Lies id number offset → place ≡ In id number offset
+place_is : (place : AddressPlace) (id number offset : ℕ) → place_reply place ≡ Lies id number offset → place ≡ In id number offset
 place_is Nowhere id number offset e = absurd cc
 place_is (In a b c) id number offset e = cc
 
@@ -154,7 +154,7 @@ module _ (held : FileMap) (loader : Loaded) (state : Machine) (agrees : Agrees h
 
   -- ---- what comes of them
 
-  answers_enter : (other : ℕ) → named_by (outlines state.users) id t.file ≡ Some other → (outcome : Outcome) (result : Result answers.Entered LoaderFault) (next : Machine)
+  answers_enter : (other : ℕ) → named_by (outlines state.users) id t.file ≡ Some other → (outcome : Activation) (result : Result answers.Entered LoaderFault) (next : Machine)
       → Answers state t.segment outcome (λ address. Entered other t.segment t.offset (address + t.offset)) (jsl_reply result) next → EntersTarget state id t result
   answers_enter other named OutOfSlots (Ok place) next is = let no = is.0 in absurd cc
   answers_enter other named OutOfSlots (Err why) next is = let e = is.0 in inr (inl cc)
@@ -193,7 +193,7 @@ module _ (held : FileMap) (loader : Loaded) (state : Machine) (agrees : Agrees h
       let located : IsLocated held state (address_of four) done.0 = subst (λ (bs : List ℕ). IsLocated held state (address_of bs) done.0) same done.1 in
       let place : done.0 ≡ In id call.table (entry_place call.k) = place_is done.0 id call.table (entry_place call.k)
       (steps_once_there held loader state agrees sound apart (Where (address_of four)) (place_reply done.0) (Lies id call.table (entry_place call.k)) state state (done.0, located, refl, refl) lies).0 in
-      enters result next (address_of other) (subst (λ (p : Place). Enters RoomRule held state (address_of other) p (jsl_reply result) next) place done.2)
+      enters result next (address_of other) (subst (λ (p : AddressPlace). Enters RoomRule held state (address_of other) p (jsl_reply result) next) place done.2)
 
   steps_enter : (result : Result answers.Entered LoaderFault) (next : Machine) → Steps RoomRule held state (Jsl id number at) (jsl_reply result) next → EntersTarget state id t result
   steps_enter result next steps = go (bytes_refusal state.slots steps.seen number at 4) refl

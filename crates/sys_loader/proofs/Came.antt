@@ -9,7 +9,7 @@ use Rattle.load_meaning.specs.laws.CellLaws.{loadable_has}
 use Rattle.iigs_meaning.specs.declared.handles.Handle.{Handle}
 use Rattle.iigs_meaning.specs.declared.wants.Block.{Block}
 use Rattle.iigs_meaning.specs.Memory.{Memory}
-use Rattle.loader_machine.specs.declared.seen.Head.{Head}
+use Rattle.loader_machine.specs.declared.seen.SegmentHead.{SegmentHead}
 use Rattle.loader_machine.specs.declared.seen.Presence.{Presence}
 use Rattle.loader_machine.specs.declared.seen.Presence.TheVariants.{Absent, Purged, Idle, Active}
 use Rattle.loader_machine.specs.Heads.{head_of, at_number, is_table}
@@ -18,7 +18,7 @@ use Rattle.loader_machine.specs.Presences.{handle_at, presence, there_at}
 use Rattle.load_meaning.specs.Loadable.{IsLoadable}
 use Rattle.loader_machine.specs.Steps.{with_both, with_segment}
 use Rattle.loader_machine.specs.Needs.{is_read}
-use Rattle.loader_agrees.specs.Agrees.{Kept, Loaded, kept_outlines, Agrees, Has, IsSound}
+use Rattle.loader_agrees.specs.Agrees.{LoadedUser, Loaded, kept_outlines, Agrees, Has, IsSound}
 use Rattle.loader_agrees.specs.laws.Begun.{decide}
 use Rattle.loader_agrees.specs.laws.Reads.{headed}
 use Rattle.loader_agrees.specs.laws.Seeing.{made_at, kept_is}
@@ -34,12 +34,12 @@ not_there (Idle h a) is = absurd cc
 not_there (Active h a) is = absurd cc
 
 -- what a block that is brought is, apart from all others
-pub record IsNew (old : Loaded) (id number : ℕ) (head : Head) (handle : Option Handle) (h : Handle) (address : ℕ) (new : Memory) : Type 0 where
+pub record IsNew (old : Loaded) (id number : ℕ) (head : SegmentHead) (handle : Option Handle) (h : Handle) (address : ℕ) (new : Memory) : Type 0 where
   pub brings : Brings old id head h address new
-  pub apart : (p n : ℕ) (g : Head) (k : Handle) → Has old.users p n g k → ((first_id + p ≡ id) → (n ≡ number) → ⊥) → k.slot ≢ h.slot
+  pub apart : (p n : ℕ) (g : SegmentHead) (k : Handle) → Has old.users p n g k → ((first_id + p ≡ id) → (n ≡ number) → ⊥) → k.slot ≢ h.slot
   pub own : (k : Handle) → handle ≡ Some k → k ≡ h
 
-module _ (old : Loaded) (id number : ℕ) (sound : IsSound old.memory old.users) (kept : Kept) (head : Head) (made : slice_get old.users (id - first_id) ≡ Some (Some kept)) (its_id : first_id + (id - first_id) ≡ id)
+module _ (old : Loaded) (id number : ℕ) (sound : IsSound old.memory old.users) (kept : LoadedUser) (head : SegmentHead) (made : slice_get old.users (id - first_id) ≡ Some (Some kept)) (its_id : first_id + (id - first_id) ≡ id)
     (head' : at_number kept.heads number ≡ Some head) where
   pub is_new : (handle : Option Handle) (h : Handle) (address : ℕ) (new : Memory) → handle_at kept.handles number ≡ handle → IsBrought old.memory id head handle h address new
       → IsNew old id number head handle h address new
@@ -63,17 +63,17 @@ module _ (old : Loaded) (id number : ℕ) (sound : IsSound old.memory old.users)
       }
 
 -- a dynamic segment of a load file is no table
-pub dynamic_plain : (file : List ℕ) (segments : List Segment) → IsLoadable file segments → (number : ℕ) (head : Head) → at_number (map head_of segments) number ≡ Some head → is_dynamic head.kind ≡ true → is_table head ≡ false
+pub dynamic_plain : (file : List ℕ) (segments : List Segment) → IsLoadable file segments → (number : ℕ) (head : SegmentHead) → at_number (map head_of segments) number ≡ Some head → is_dynamic head.kind ≡ true → is_table head ≡ false
 dynamic_plain file segments taken number head is dynamic =
     let s = headed segments number head is in
     elim (decide (is_table head)) [
       | inr other ↦ other
       | inl table ↦
           (let t = (loadable_has file segments taken number s.0 s.1).table (ap is_table s.2 ∙ table) in
-          let clash : false ≡ true = sym t.static ∙ ap (λ (h : Head). is_dynamic h.kind) s.2 ∙ dynamic in absurd cc)
+          let clash : false ≡ true = sym t.static ∙ ap (λ (h : SegmentHead). is_dynamic h.kind) s.2 ∙ dynamic in absurd cc)
     ]
 
-module _ (old new : Loaded) (id number : ℕ) (head : Head) (handle : Option Handle) (segments : List Segment) (address : ℕ) (sound : IsSound old.memory old.users)
+module _ (old new : Loaded) (id number : ℕ) (head : SegmentHead) (handle : Option Handle) (segments : List Segment) (address : ℕ) (sound : IsSound old.memory old.users)
     (can : CanLoad old id number head handle) (gone : is_read (presence old.memory.slots handle) ≡ true) (plain : is_table head ≡ false) (did : HasCome old id number can.kept head handle segments address new) where
   its_users : (slice_get old.users (id - first_id) ≡ Some (Some can.kept)) × (first_id + (id - first_id) ≡ id)
   its_users = made_at old.users id can.kept can.made

@@ -4,12 +4,12 @@ use Rattle.std.specs.Prelude.{slice_get, is_some, ◌&&◌}
 use Rattle.std.specs.Option.{option_map_or}
 use Rattle.std.proofs.lemmas.Bool.{cases_eq}
 use Rattle.iigs_meaning.specs.declared.handles.Handle.{Handle}
-use Rattle.iigs_meaning.specs.declared.slots.Content.TheVariants.{Used}
+use Rattle.iigs_meaning.specs.declared.slots.SlotContent.TheVariants.{Used}
 use Rattle.iigs_meaning.specs.declared.wants.Block.{Block}
 use Rattle.iigs_meaning.specs.Slots.{slot_at, get, used_value, with_value}
 use Rattle.iigs_meaning.specs.Fits.{Slots, block_in}
 use Rattle.loader_machine.specs.Presences.{lies_at, active_at}
-use Rattle.loader_machine.specs.Steps.{changed, changed_all, let_go, idle_block}
+use Rattle.loader_machine.specs.Steps.{with_block_changed, changed_all, let_go, idle_block}
 use Rattle.loader_agrees.specs.Agrees.{IsSegments}
 use Rattle.loader_agrees.specs.laws.Slotted.{slot_apart, live_block}
 use Rattle.loader_users.proofs.Shifting.{value_here, value_in}
@@ -34,21 +34,21 @@ live_same slots h k a b p q same =
     handle_same h k same (sym (generation_is slots h a p) ∙ ap (λ (n : ℕ). (slot_at slots n).generation) same ∙ generation_is slots k b q)
 
 module _ (f : Block → Block) (again : (b : Block) → f (f b) ≡ f b) where
-  changed_is : (slots : Slots) (h : Handle) (o : Option Block) → get slots h ≡ o → changed f slots h ≡ option_map_or (λ b. with_value slots h (f b)) o slots
+  changed_is : (slots : Slots) (h : Handle) (o : Option Block) → get slots h ≡ o → with_block_changed f slots h ≡ option_map_or (λ b. with_value slots h (f b)) o slots
   changed_is slots h o is = ap (λ (x : Option Block). option_map_or (λ b. with_value slots h (f b)) x slots) is
 
-  here : (slots : Slots) (h : Handle) (b : Block) → get slots h ≡ Some b → get (changed f slots h) h ≡ Some (f b)
+  here : (slots : Slots) (h : Handle) (b : Block) → get slots h ≡ Some b → get (with_block_changed f slots h) h ≡ Some (f b)
   here slots h b is = ap (λ (t : Slots). get t h) (changed_is slots h (Some b) is) ∙ value_here slots h b (f b) is
 
-  one : (slots : Slots) (h k : Handle) (b : Block) → get slots k ≡ Some b → (get (changed f slots h) k ≡ Some b) ⊎ (get (changed f slots h) k ≡ Some (f b))
+  one : (slots : Slots) (h k : Handle) (b : Block) → get slots k ≡ Some b → (get (with_block_changed f slots h) k ≡ Some b) ⊎ (get (with_block_changed f slots h) k ≡ Some (f b))
   one slots h k b is = go (get slots h) refl
     where
-      go : (o : Option Block) → get slots h ≡ o → (get (changed f slots h) k ≡ Some b) ⊎ (get (changed f slots h) k ≡ Some (f b))
+      go : (o : Option Block) → get slots h ≡ o → (get (with_block_changed f slots h) k ≡ Some b) ⊎ (get (with_block_changed f slots h) k ≡ Some (f b))
       go None none = inl (ap (λ (t : Slots). get t k) (changed_is slots h None none) ∙ is)
       go (Some c) found = elim (cases_eq k.slot h.slot) [
         | inl same ↦
             let it : h ≡ k = live_same slots h k c b found is (sym same) in
-            inr (ap (λ (x : Handle). get (changed f slots x) k) it ∙ here slots k b is)
+            inr (ap (λ (x : Handle). get (with_block_changed f slots x) k) it ∙ here slots k b is)
         | inr ne ↦ inl (ap (λ (t : Slots). get t k) (changed_is slots h (Some c) found) ∙ slot_apart slots h k (record { generation = h.generation; content = Used (f c) }) ne ∙ is)
       ]
 
@@ -60,8 +60,8 @@ module _ (f : Block → Block) (again : (b : Block) → f (f b) ≡ f b) where
   all_or slots [] k b is = inl is
   all_or slots (None ∷ handles) k b is = all_or slots handles k b is
   all_or slots (Some h ∷ handles) k b is = elim (one slots h k b is) [
-    | inl same ↦ all_or (changed f slots h) handles k b same
-    | inr new ↦ elim (all_or (changed f slots h) handles k (f b) new) [
+    | inl same ↦ all_or (with_block_changed f slots h) handles k b same
+    | inr new ↦ elim (all_or (with_block_changed f slots h) handles k (f b) new) [
       | inl same ↦ inr same
       | inr twice ↦ inr (twice ∙ ap (λ (x : Block). Some x) (again b))
     ]
@@ -74,7 +74,7 @@ module _ (f : Block → Block) (again : (b : Block) → f (f b) ≡ f b) where
   all_here slots (None ∷ handles) k b (suc i) is found = all_here slots handles k b i is found
   all_here slots (Some h ∷ handles) k b zero is found =
       let it : h ≡ k = same_handle found in
-      elim (all_or (changed f slots h) handles k (f b) (ap (λ (x : Handle). get (changed f slots x) k) it ∙ here slots k b is)) [
+      elim (all_or (with_block_changed f slots h) handles k (f b) (ap (λ (x : Handle). get (with_block_changed f slots x) k) it ∙ here slots k b is)) [
         | inl same ↦ same
         | inr twice ↦ twice ∙ ap (λ (x : Block). Some x) (again b)
       ]
@@ -82,8 +82,8 @@ module _ (f : Block → Block) (again : (b : Block) → f (f b) ≡ f b) where
       same_handle : Some (Some h) ≡ Some (Some k) → h ≡ k
       same_handle e = cc
   all_here slots (Some h ∷ handles) k b (suc i) is found = elim (one slots h k b is) [
-    | inl same ↦ all_here (changed f slots h) handles k b i same found
-    | inr new ↦ all_here (changed f slots h) handles k (f b) i new found ∙ ap (λ (x : Block). Some x) (again b)
+    | inl same ↦ all_here (with_block_changed f slots h) handles k b i same found
+    | inr new ↦ all_here (with_block_changed f slots h) handles k (f b) i new found ∙ ap (λ (x : Block). Some x) (again b)
   ]
 
   -- a handle of a slot that none of them has stays
@@ -91,9 +91,9 @@ module _ (f : Block → Block) (again : (b : Block) → f (f b) ≡ f b) where
   all_apart slots [] k apart = refl
   all_apart slots (None ∷ handles) k apart = all_apart slots handles k (λ i h found. apart (suc i) h found)
   all_apart slots (Some h ∷ handles) k apart =
-      all_apart (changed f slots h) handles k (λ i g found. apart (suc i) g found) ∙ go (get slots h) refl
+      all_apart (with_block_changed f slots h) handles k (λ i g found. apart (suc i) g found) ∙ go (get slots h) refl
     where
-      go : (o : Option Block) → get slots h ≡ o → get (changed f slots h) k ≡ get slots k
+      go : (o : Option Block) → get slots h ≡ o → get (with_block_changed f slots h) k ≡ get slots k
       go None none = ap (λ (t : Slots). get t k) (changed_is slots h None none)
       go (Some c) found = ap (λ (t : Slots). get t k) (changed_is slots h (Some c) found) ∙ slot_apart slots h k (record { generation = h.generation; content = Used (f c) }) (apart zero h refl)
 
@@ -103,11 +103,11 @@ module _ (f : Block → Block) (again : (b : Block) → f (f b) ≡ f b) where
   all_kept of same slots [] n b is = (b, is, refl)
   all_kept of same slots (None ∷ handles) n b is = all_kept of same slots handles n b is
   all_kept {X} of same slots (Some h ∷ handles) n b is =
-      let was = all_kept of same (changed f slots h) handles n b is in
+      let was = all_kept of same (with_block_changed f slots h) handles n b is in
       let more = go was.0 was.1 (get slots h) refl in
       (more.0, more.1, more.2 ∙ was.2)
     where
-      go : (c : Block) → block_in (slot_at (changed f slots h) n) ≡ Some c → (o : Option Block) → get slots h ≡ o → (was : Block) × (block_in (slot_at slots n) ≡ Some was) × (of was ≡ of c)
+      go : (c : Block) → block_in (slot_at (with_block_changed f slots h) n) ≡ Some c → (o : Option Block) → get slots h ≡ o → (was : Block) × (block_in (slot_at slots n) ≡ Some was) × (of was ≡ of c)
       go c found None none = (c, sym (ap (λ (t : Slots). block_in (slot_at t n)) (changed_is slots h None none)) ∙ found, refl)
       go c found (Some d) live = elim (value_in slots h d (f d) live n c (sym (ap (λ (t : Slots). block_in (slot_at t n)) (changed_is slots h (Some d) live)) ∙ found)) [
         | inl new ↦ (d, ap (λ (m : ℕ). block_in (slot_at slots m)) new.0 ∙ live_block slots h d live, sym (ap of new.1 ∙ same d))
@@ -123,18 +123,18 @@ module _ (f : Block → Block) (again : (b : Block) → f (f b) ≡ f b) where
   pub all_join : (slots : Slots) (xs ys : List (Option Handle)) → changed_all f slots (xs ++ ys) ≡ changed_all f (changed_all f slots xs) ys
   all_join slots [] ys = refl
   all_join slots (None ∷ xs) ys = all_join slots xs ys
-  all_join slots (Some h ∷ xs) ys = all_join (changed f slots h) xs ys
+  all_join slots (Some h ∷ xs) ys = all_join (with_block_changed f slots h) xs ys
 
   -- one handle more
-  pub all_more : (slots : Slots) (handles : List (Option Handle)) (h : Handle) → changed_all f slots (handles ++ Some h ∷ []) ≡ changed f (changed_all f slots handles) h
+  pub all_more : (slots : Slots) (handles : List (Option Handle)) (h : Handle) → changed_all f slots (handles ++ Some h ∷ []) ≡ with_block_changed f (changed_all f slots handles) h
   all_more slots [] h = refl
   all_more slots (None ∷ handles) h = all_more slots handles h
-  all_more slots (Some g ∷ handles) h = all_more (changed f slots g) handles h
+  all_more slots (Some g ∷ handles) h = all_more (with_block_changed f slots g) handles h
 
   pub all_none : (slots : Slots) (handles : List (Option Handle)) → changed_all f slots (handles ++ None ∷ []) ≡ changed_all f slots handles
   all_none slots [] = refl
   all_none slots (None ∷ handles) = all_none slots handles
-  all_none slots (Some g ∷ handles) = all_none (changed f slots g) handles
+  all_none slots (Some g ∷ handles) = all_none (with_block_changed f slots g) handles
 
 -- ---- segments that are let go
 

@@ -17,15 +17,15 @@ use Rattle.iigs_meaning.specs.declared.wants.Block.{Block}
 use Rattle.iigs_meaning.specs.Slots.{slot_at, get}
 use Rattle.iigs_meaning.specs.Fits.{Slots, block_in}
 use Rattle.iigs_meaning.specs.Memory.{Memory, bytes_at}
-use Rattle.loader_machine.specs.declared.seen.Head.{Head}
+use Rattle.loader_machine.specs.declared.seen.SegmentHead.{SegmentHead}
 use Rattle.loader_machine.specs.declared.seen.Life.TheVariants.{Running, Dormant}
 use Rattle.loader_machine.specs.Heads.{head_of, at_number, is_static, is_table, want_of}
-use Rattle.loader_machine.specs.State.{Pokes, Held, User, Machine, absent, fresh, no_pokes, first_id, user_of, with_user, held_at, attached_at, handles_in}
+use Rattle.loader_machine.specs.State.{Pokes, HeldSegment, User, Machine, absent, fresh, no_pokes, first_id, user_of, with_user, held_at, attached_at, handles_in}
 use Rattle.loader_machine.specs.Presences.{handle_at, presence, presence_at, there_at, active_at, is_active, lies_in, lies_at}
 use Rattle.loader_machine.specs.Stands.{Far, setting, setting_with, stands}
 use Rattle.loader_machine.specs.laws.StandsLaws.{AreAlike, stands_alike}
 use Rattle.loader_machine.specs.Steps.{with_both, with_segment}
-use Rattle.loader_agrees.specs.Agrees.{Kept, Loaded, Outline, outline, outline_of, kept_outlines, far_in, LeadsFar, UserAgrees, Agrees, IsCall, IsOf, Has, IsSound}
+use Rattle.loader_agrees.specs.Agrees.{LoadedUser, Loaded, Outline, outline, outline_of, kept_outlines, far_in, LeadsFar, UserAgrees, Agrees, IsCall, IsOf, Has, IsSound}
 use Rattle.loader_agrees.specs.laws.Begun.{decide}
 use Rattle.loader_agrees.specs.laws.BegunSound.{want_size}
 use Rattle.loader_agrees.specs.laws.Frame.{Keeps, Same, Gone, agrees_still}
@@ -52,12 +52,12 @@ use Rattle.loader_users.proofs.Leads.{entries_lead}
 
 -- ---- the loader
 
-module _ (old new : Loaded) (id number owner file : ℕ) (kept lead : Kept) (head : Head) (handle : Option Handle) (h : Handle) (address : ℕ) (placed : Memory) (content : List ℕ)
+module _ (old new : Loaded) (id number owner file : ℕ) (kept lead : LoadedUser) (head : SegmentHead) (handle : Option Handle) (h : Handle) (address : ℕ) (placed : Memory) (content : List ℕ)
     (sound : IsSound old.memory old.users) (leading : Leading old.users id owner file) (lead_made : user_of old.users owner ≡ Some lead)
-    (alone : file ≡ 1 ⊎ ((n : ℕ) (g : Head) → at_number kept.heads n ≡ Some g → is_table g ≡ false)) (made : user_of old.users id ≡ Some kept) (head' : at_number kept.heads number ≡ Some head) (handle' : handle_at kept.handles number ≡ handle)
+    (alone : file ≡ 1 ⊎ ((n : ℕ) (g : SegmentHead) → at_number kept.heads n ≡ Some g → is_table g ≡ false)) (made : user_of old.users id ≡ Some kept) (head' : at_number kept.heads number ≡ Some head) (handle' : handle_at kept.handles number ≡ handle)
     (dynamic : is_dynamic head.kind ≡ true) (plain : is_table head ≡ false) (gone : there_at (presence old.memory.slots handle) ≡ None)
     (brings : Brings old id head h address placed)
-    (apart : (p n : ℕ) (g : Head) (k : Handle) → Has old.users p n g k → ((first_id + p ≡ id) → (n ≡ number) → ⊥) → k.slot ≢ h.slot)
+    (apart : (p n : ℕ) (g : SegmentHead) (k : Handle) → Has old.users p n g k → ((first_id + p ≡ id) → (n ≡ number) → ⊥) → k.slot ≢ h.slot)
     (own_handle : (k : Handle) → handle ≡ Some k → k ≡ h)
     (same : length content ≡ length (bytes_at placed h.slot))
     (renewed : AreRenewed lead.heads lead.handles (Some (file, number)) (Some address) (with_bytes placed h.slot content) new.memory (length lead.heads))
@@ -84,7 +84,7 @@ module _ (old new : Loaded) (id number owner file : ℕ) (kept lead : Kept) (hea
   inside : number - 1 < length kept.handles
   inside = omega (arith, number_in.1, sound.lengths place kept its_users.0)
 
-  abbrev come : Kept
+  abbrev come : LoadedUser
   come = with_handle kept number h
 
   slots_are : new.memory.slots ≡ placed.slots
@@ -112,43 +112,43 @@ module _ (old new : Loaded) (id number owner file : ℕ) (kept lead : Kept) (hea
 
   -- ---- handles before and after
 
-  kept_one : (p : ℕ) (k : Kept) → slice_get old.users p ≡ Some (Some k) → p ≡ place → k ≡ kept
+  kept_one : (p : ℕ) (k : LoadedUser) → slice_get old.users p ≡ Some (Some k) → p ≡ place → k ≡ kept
   kept_one p k found eq = go k kept (sym found ∙ ap (slice_get old.users) eq ∙ its_users.0)
     where
-      go : (a b : Kept) → Some (Some a) ≡ Some (Some b) → a ≡ b
+      go : (a b : LoadedUser) → Some (Some a) ≡ Some (Some b) → a ≡ b
       go a b e = cc
 
   id_of : (p : ℕ) → first_id + p ≡ id → p ≡ place
   id_of p e = omega (arith, e, its_users.1)
 
   -- a user is as before, or it is the one with the handle more
-  users_now : (p : ℕ) (k : Kept) → slice_get new.users p ≡ Some (Some k) → ((p ≡ place) × (k ≡ come)) ⊎ ((p ≢ place) × (slice_get old.users p ≡ Some (Some k)))
+  users_now : (p : ℕ) (k : LoadedUser) → slice_get new.users p ≡ Some (Some k) → ((p ≡ place) × (k ≡ come)) ⊎ ((p ≢ place) × (slice_get old.users p ≡ Some (Some k)))
   users_now p k found = elim (cases_eq p place) [
     | inl eq ↦
         let within = slice_get_within old.users place (Some kept) its_users.0 in
-        let now : slice_get new.users p ≡ Some (Some come) = ap (λ (us : List (Option Kept)). slice_get us p) users ∙ ap (slice_get (slice_set old.users place (Some come))) eq ∙ set_at old.users place (Some come) within in
+        let now : slice_get new.users p ≡ Some (Some come) = ap (λ (us : List (Option LoadedUser)). slice_get us p) users ∙ ap (slice_get (slice_set old.users place (Some come))) eq ∙ set_at old.users place (Some come) within in
         inl (eq, one k come (sym found ∙ now))
-    | inr ne ↦ inr (ne, sym (set_apart old.users place p (Some come) ne) ∙ ap (λ (us : List (Option Kept)). slice_get us p) (sym users) ∙ found)
+    | inr ne ↦ inr (ne, sym (set_apart old.users place p (Some come) ne) ∙ ap (λ (us : List (Option LoadedUser)). slice_get us p) (sym users) ∙ found)
   ]
     where
-      one : (a b : Kept) → Some (Some a) ≡ Some (Some b) → a ≡ b
+      one : (a b : LoadedUser) → Some (Some a) ≡ Some (Some b) → a ≡ b
       one a b e = cc
 
   -- a handle is the new block's, or was there before and is apart from it
-  has_before : (p n : ℕ) (g : Head) (k : Handle) → Has new.users p n g k
+  has_before : (p n : ℕ) (g : SegmentHead) (k : Handle) → Has new.users p n g k
       → ((p ≡ place) × (n ≡ number) × (g ≡ head) × (k ≡ h)) ⊎ (Has old.users p n g k × (k.slot ≢ h.slot))
   has_before p n g k has = elim (users_now p has.kept has.made) [
     | inl it ↦ elim (cases_eq n number) [
       | inl eq ↦
-          let heads : Some g ≡ Some head = sym has.head' ∙ ap (λ (x : Kept). at_number x.heads n) it.1 ∙ ap (at_number kept.heads) eq ∙ head' in
-          let handles : Some k ≡ Some h = sym has.handle ∙ ap (λ (x : Kept). handle_at x.handles n) it.1 ∙ ap (handle_at come.handles) eq ∙ handle_here kept number h inside number_in.0 in
+          let heads : Some g ≡ Some head = sym has.head' ∙ ap (λ (x : LoadedUser). at_number x.heads n) it.1 ∙ ap (at_number kept.heads) eq ∙ head' in
+          let handles : Some k ≡ Some h = sym has.handle ∙ ap (λ (x : LoadedUser). handle_at x.handles n) it.1 ∙ ap (handle_at come.handles) eq ∙ handle_here kept number h inside number_in.0 in
           inl (it.0, eq, same_Some g head heads, same_Some k h handles)
       | inr ne ↦
           let was : Has old.users p n g k = record {
             kept = kept;
             made = ap (slice_get old.users) it.0 ∙ its_users.0;
-            head' = ap (λ (x : Kept). at_number x.heads n) (sym it.1) ∙ has.head';
-            handle = sym (handle_apart kept number h inside number_in.0 n ne) ∙ ap (λ (x : Kept). handle_at x.handles n) (sym it.1) ∙ has.handle;
+            head' = ap (λ (x : LoadedUser). at_number x.heads n) (sym it.1) ∙ has.head';
+            handle = sym (handle_apart kept number h inside number_in.0 n ne) ∙ ap (λ (x : LoadedUser). handle_at x.handles n) (sym it.1) ∙ has.handle;
           } in
           inr (was, apart p n g k was (λ e e'. ne e'))
     ]
@@ -159,7 +159,7 @@ module _ (old new : Loaded) (id number owner file : ℕ) (kept lead : Kept) (hea
 
   -- ---- what is true of every loader
 
-  of_slots : (p : ℕ) (g : Head) (k : Handle) → k.slot ≢ h.slot → IsOf placed (first_id + p) g k → IsOf new.memory (first_id + p) g k
+  of_slots : (p : ℕ) (g : SegmentHead) (k : Handle) → k.slot ≢ h.slot → IsOf placed (first_id + p) g k → IsOf new.memory (first_id + p) g k
   of_slots p g k ne is = record {
     block = is.block;
     live = ap (λ (t : Slots). get t k) slots_are ∙ is.live;
@@ -181,27 +181,27 @@ module _ (old new : Loaded) (id number owner file : ℕ) (kept lead : Kept) (hea
     room = λ there. omega (arith, want_size head, size_here);
   }
 
-  each_now : (p n : ℕ) (g : Head) (k : Handle) → Has new.users p n g k → IsOf new.memory (first_id + p) g k
+  each_now : (p n : ℕ) (g : SegmentHead) (k : Handle) → Has new.users p n g k → IsOf new.memory (first_id + p) g k
   each_now p n g k has = elim (has_before p n g k has) [
     | inl it ↦
         subst (λ (q : ℕ). IsOf new.memory (first_id + q) g k) (sym it.0)
-        (subst (λ (x : Head). IsOf new.memory (first_id + place) x k) (sym it.2) (subst (IsOf new.memory (first_id + place) head) (sym it.3) of_it))
+        (subst (λ (x : SegmentHead). IsOf new.memory (first_id + place) x k) (sym it.2) (subst (IsOf new.memory (first_id + place) head) (sym it.3) of_it))
     | inr was ↦ of_slots p g k was.1 (of_kept old.memory placed (first_id + p) g k (sound.each p n g k was.0) (brings.keeps p n g k was.0 was.1))
   ]
 
-  static_apart : (n : ℕ) (g : Head) → at_number kept.heads n ≡ Some g → is_static g ≡ true → n ≢ number
+  static_apart : (n : ℕ) (g : SegmentHead) → at_number kept.heads n ≡ Some g → is_static g ≡ true → n ≢ number
   static_apart n g found static eq =
       let same' : g ≡ head = same_Some g head (sym found ∙ ap (at_number kept.heads) eq ∙ head') in
-      no (is_dynamic g.kind) (is_skipped g.kind) (ap (λ (x : Head). is_dynamic x.kind) same' ∙ dynamic) static
+      no (is_dynamic g.kind) (is_skipped g.kind) (ap (λ (x : SegmentHead). is_dynamic x.kind) same' ∙ dynamic) static
     where
       no : (d k : Bool) → d ≡ true → (not d && not k) ≡ true → ⊥
       no true k e e' = cc
       no false k e e' = cc
 
-  keeps_old : (p n : ℕ) (g : Head) (k : Handle) → Has old.users p n g k → ((first_id + p ≡ id) → (n ≡ number) → ⊥) → Keeps old.memory placed k
+  keeps_old : (p n : ℕ) (g : SegmentHead) (k : Handle) → Has old.users p n g k → ((first_id + p ≡ id) → (n ≡ number) → ⊥) → Keeps old.memory placed k
   keeps_old p n g k has differ = brings.keeps p n g k has (apart p n g k has differ)
 
-  active_still : (p : ℕ) (k : Kept) (n : ℕ) (g : Head) → slice_get old.users p ≡ Some (Some k) → at_number k.heads n ≡ Some g → ((first_id + p ≡ id) → (n ≡ number) → ⊥) → is_active (presence_at old.memory.slots k.handles n) ≡ true
+  active_still : (p : ℕ) (k : LoadedUser) (n : ℕ) (g : SegmentHead) → slice_get old.users p ≡ Some (Some k) → at_number k.heads n ≡ Some g → ((first_id + p ≡ id) → (n ≡ number) → ⊥) → is_active (presence_at old.memory.slots k.handles n) ≡ true
       → presence new.memory.slots (handle_at k.handles n) ≡ presence old.memory.slots (handle_at k.handles n)
   active_still p k n g found head'' differ active = go (handle_at k.handles n) refl active
     where
@@ -211,15 +211,15 @@ module _ (old new : Loaded) (id number owner file : ℕ) (kept lead : Kept) (hea
           ap (λ (t : Slots). presence t (Some j)) slots_are
           ∙ keeps_active old.memory placed j (keeps_old p n g j (record { kept = k; made = found; head' = head''; handle = e }) differ) act
 
-  statics_now : (p : ℕ) (k : Kept) (n : ℕ) (g : Head) → slice_get new.users p ≡ Some (Some k) → k.life ≡ Running → at_number k.heads n ≡ Some g → is_static g ≡ true
+  statics_now : (p : ℕ) (k : LoadedUser) (n : ℕ) (g : SegmentHead) → slice_get new.users p ≡ Some (Some k) → k.life ≡ Running → at_number k.heads n ≡ Some g → is_static g ≡ true
       → is_active (presence_at new.memory.slots k.handles n) ≡ true
   statics_now p k n g found runs head'' static = elim (users_now p k found) [
     | inl it ↦
-        let own : at_number kept.heads n ≡ Some g = ap (λ (x : Kept). at_number x.heads n) (sym it.1) ∙ head'' in
+        let own : at_number kept.heads n ≡ Some g = ap (λ (x : LoadedUser). at_number x.heads n) (sym it.1) ∙ head'' in
         let ne = static_apart n g own static in
-        let life : kept.life ≡ Running = ap (λ (x : Kept). x.life) (sym it.1) ∙ runs in
+        let life : kept.life ≡ Running = ap (λ (x : LoadedUser). x.life) (sym it.1) ∙ runs in
         let before = sound.statics place kept n g its_users.0 life own static in
-        ap (λ (x : Kept). is_active (presence_at new.memory.slots x.handles n)) it.1
+        ap (λ (x : LoadedUser). is_active (presence_at new.memory.slots x.handles n)) it.1
         ∙ ap (λ (o : Option Handle). is_active (presence new.memory.slots o)) (handle_apart kept number h inside number_in.0 n ne)
         ∙ ap is_active (active_still place kept n g its_users.0 own (λ e e'. ne e') before) ∙ before
     | inr other ↦
@@ -227,9 +227,9 @@ module _ (old new : Loaded) (id number owner file : ℕ) (kept lead : Kept) (hea
         ap is_active (active_still p k n g other.1 head'' (λ e e'. other.0 (id_of p e)) before) ∙ before
   ]
 
-  rests_now : kept.life ≡ Running → (p : ℕ) (k : Kept) (n : ℕ) → slice_get new.users p ≡ Some (Some k) → k.life ≡ Dormant → is_active (presence_at new.memory.slots k.handles n) ≡ false
+  rests_now : kept.life ≡ Running → (p : ℕ) (k : LoadedUser) (n : ℕ) → slice_get new.users p ≡ Some (Some k) → k.life ≡ Dormant → is_active (presence_at new.memory.slots k.handles n) ≡ false
   rests_now runs p k n found life = elim (users_now p k found) [
-    | inl it ↦ (let clash : Running ≡ Dormant = sym runs ∙ ap (λ (x : Kept). x.life) (sym it.1) ∙ life in absurd cc)
+    | inl it ↦ (let clash : Running ≡ Dormant = sym runs ∙ ap (λ (x : LoadedUser). x.life) (sym it.1) ∙ life in absurd cc)
     | inr other ↦ go (handle_at k.handles n) refl other.0 other.1 (sound.rests p k n other.1 life)
   ]
     where
@@ -240,7 +240,7 @@ module _ (old new : Loaded) (id number owner file : ℕ) (kept lead : Kept) (hea
           ap (λ (o : Option Handle). is_active (presence new.memory.slots o)) e ∙ ap (λ (t : Slots). is_active (presence t (Some j))) slots_are
           ∙ keeps_rest old.memory placed j (keeps_old p n one.0 j one.1 (λ e' e''. ne (id_of p e'))) rests
 
-  has_now : (p n : ℕ) (g : Head) (k : Handle) → Has old.users p n g k → ((first_id + p ≡ id) → (n ≡ number) → ⊥) → Has new.users p n g k
+  has_now : (p n : ℕ) (g : SegmentHead) (k : Handle) → Has old.users p n g k → ((first_id + p ≡ id) → (n ≡ number) → ⊥) → Has new.users p n g k
   has_now p n g k has differ = elim (cases_eq p place) [
     | inl eq ↦
         let same' = kept_one p has.kept has.made eq in
@@ -248,32 +248,32 @@ module _ (old new : Loaded) (id number owner file : ℕ) (kept lead : Kept) (hea
         let ne : n ≢ number = λ e. differ (omega (arith, its_users.1, eq)) e in
         record {
           kept = come;
-          made = ap (λ (us : List (Option Kept)). slice_get us p) users ∙ ap (slice_get (slice_set old.users place (Some come))) eq ∙ set_at old.users place (Some come) within;
-          head' = ap (λ (x : Kept). at_number x.heads n) (sym same') ∙ has.head';
-          handle = handle_apart kept number h inside number_in.0 n ne ∙ ap (λ (x : Kept). handle_at x.handles n) (sym same') ∙ has.handle;
+          made = ap (λ (us : List (Option LoadedUser)). slice_get us p) users ∙ ap (slice_get (slice_set old.users place (Some come))) eq ∙ set_at old.users place (Some come) within;
+          head' = ap (λ (x : LoadedUser). at_number x.heads n) (sym same') ∙ has.head';
+          handle = handle_apart kept number h inside number_in.0 n ne ∙ ap (λ (x : LoadedUser). handle_at x.handles n) (sym same') ∙ has.handle;
         }
     | inr ne ↦ record {
       kept = has.kept;
-      made = ap (λ (us : List (Option Kept)). slice_get us p) users ∙ set_apart old.users place p (Some come) ne ∙ has.made;
+      made = ap (λ (us : List (Option LoadedUser)). slice_get us p) users ∙ set_apart old.users place p (Some come) ne ∙ has.made;
       head' = has.head';
       handle = has.handle;
     }
   ]
 
   it_made : slice_get new.users place ≡ Some (Some come)
-  it_made = ap (λ (us : List (Option Kept)). slice_get us place) users ∙ set_at old.users place (Some come) (slice_get_within old.users place (Some kept) its_users.0)
+  it_made = ap (λ (us : List (Option LoadedUser)). slice_get us place) users ∙ set_at old.users place (Some come) (slice_get_within old.users place (Some kept) its_users.0)
 
   has_it : Has new.users place number head h
   has_it = record { kept = come; made = it_made; head' = head'; handle = handle_here kept number h inside number_in.0 }
 
-  differs : (p n : ℕ) (g : Head) (k : Handle) → Has old.users p n g k → k.slot ≢ h.slot → (first_id + p ≡ id) → (n ≡ number) → ⊥
+  differs : (p n : ℕ) (g : SegmentHead) (k : Handle) → Has old.users p n g k → k.slot ≢ h.slot → (first_id + p ≡ id) → (n ≡ number) → ⊥
   differs p n g k has ne e e' =
       let same' = kept_one p has.kept has.made (id_of p e) in
-      let found : handle ≡ Some k = sym handle' ∙ ap (handle_at kept.handles) (sym e') ∙ ap (λ (x : Kept). handle_at x.handles n) (sym same') ∙ has.handle in
+      let found : handle ≡ Some k = sym handle' ∙ ap (handle_at kept.handles) (sym e') ∙ ap (λ (x : LoadedUser). handle_at x.handles n) (sym same') ∙ has.handle in
       ne (ap (λ (x : Handle). x.slot) (own_handle k found))
 
   only_now : (slot : ℕ) (b : Block) → block_in (slot_at new.memory.slots slot) ≡ Some b → b.user ≢ 0
-      → (p : ℕ) × (n : ℕ) × (g : Head) × (k : Handle) × Has new.users p n g k × (k.slot ≡ slot)
+      → (p : ℕ) × (n : ℕ) × (g : SegmentHead) × (k : Handle) × Has new.users p n g k × (k.slot ≡ slot)
   only_now slot b found user = elim (cases_eq slot h.slot) [
     | inl eq ↦ (place, number, head, h, has_it, sym eq)
     | inr ne ↦ elim (brings.only slot b (sym (ap (λ (t : Slots). block_in (slot_at t slot)) slots_are) ∙ found)) [
@@ -285,7 +285,7 @@ module _ (old new : Loaded) (id number owner file : ℕ) (kept lead : Kept) (hea
     ]
   ]
 
-  once_now : (p q n m : ℕ) (g f : Head) (j k : Handle) → Has new.users p n g j → Has new.users q m f k → j.slot ≡ k.slot → (p ≡ q) × (n ≡ m)
+  once_now : (p q n m : ℕ) (g f : SegmentHead) (j k : Handle) → Has new.users p n g j → Has new.users q m f k → j.slot ≡ k.slot → (p ≡ q) × (n ≡ m)
   once_now p q n m g f j k one two same' = elim (has_before p n g j one) [
     | inl it ↦ elim (has_before q m f k two) [
       | inl it' ↦ (it.0 ∙ sym it'.0, it.1 ∙ sym it'.1)
@@ -297,9 +297,9 @@ module _ (old new : Loaded) (id number owner file : ℕ) (kept lead : Kept) (hea
     ]
   ]
 
-  lengths_now : (p : ℕ) (k : Kept) → slice_get new.users p ≡ Some (Some k) → (length k.handles ≡ length k.heads) × (length k.heads < 2 ^ 16)
+  lengths_now : (p : ℕ) (k : LoadedUser) → slice_get new.users p ≡ Some (Some k) → (length k.handles ≡ length k.heads) × (length k.heads < 2 ^ 16)
   lengths_now p k found = elim (users_now p k found) [
-    | inl it ↦ subst (λ (x : Kept). (length x.handles ≡ length x.heads) × (length x.heads < 2 ^ 16)) (sym it.1)
+    | inl it ↦ subst (λ (x : LoadedUser). (length x.handles ≡ length x.heads) × (length x.heads < 2 ^ 16)) (sym it.1)
         (length_set kept.handles (number - 1) (Some h) ∙ sound.lengths place kept its_users.0, sound.short place kept its_users.0)
     | inr other ↦ (sound.lengths p k other.1, sound.short p k other.1)
   ]
@@ -308,37 +308,37 @@ module _ (old new : Loaded) (id number owner file : ℕ) (kept lead : Kept) (hea
   like : AreLike old.users new.users
   like = record {
     back = λ p now found. elim (users_now p now found) [
-      | inl it ↦ (kept, ap (slice_get old.users) it.0 ∙ its_users.0, subst (λ (x : Kept). IsLike kept x) (sym it.1) (record { path = refl; life = refl; heads = refl; attached = refl }))
+      | inl it ↦ (kept, ap (slice_get old.users) it.0 ∙ its_users.0, subst (λ (x : LoadedUser). IsLike kept x) (sym it.1) (record { path = refl; life = refl; heads = refl; attached = refl }))
       | inr other ↦ (now, other.1, record { path = refl; life = refl; heads = refl; attached = refl })
     ];
     forth = λ p was found. elim (cases_eq p place) [
       | inl eq ↦
           let it = kept_one p was found eq in
-          (come, ap (slice_get new.users) eq ∙ it_made, subst (λ (x : Kept). IsLike x come) (sym it) (record { path = refl; life = refl; heads = refl; attached = refl }))
-      | inr ne ↦ (was, ap (λ (us : List (Option Kept)). slice_get us p) users ∙ set_apart old.users place p (Some come) ne ∙ found, record { path = refl; life = refl; heads = refl; attached = refl })
+          (come, ap (slice_get new.users) eq ∙ it_made, subst (λ (x : LoadedUser). IsLike x come) (sym it) (record { path = refl; life = refl; heads = refl; attached = refl }))
+      | inr ne ↦ (was, ap (λ (us : List (Option LoadedUser)). slice_get us p) users ∙ set_apart old.users place p (Some come) ne ∙ found, record { path = refl; life = refl; heads = refl; attached = refl })
     ];
   }
 
-  lead_one : (p : ℕ) (k : Kept) → slice_get old.users p ≡ Some (Some k) → p ≡ lead_place → k ≡ lead
+  lead_one : (p : ℕ) (k : LoadedUser) → slice_get old.users p ≡ Some (Some k) → p ≡ lead_place → k ≡ lead
   lead_one p k found eq = go k lead (sym found ∙ ap (slice_get old.users) eq ∙ lead_users.0)
     where
-      go : (a b : Kept) → Some (Some a) ≡ Some (Some b) → a ≡ b
+      go : (a b : LoadedUser) → Some (Some a) ≡ Some (Some b) → a ≡ b
       go a b e = cc
 
-  at_most : (heads : List Head) (n : ℕ) (g : Head) → at_number heads n ≡ Some g → n ≤ length heads
+  at_most : (heads : List SegmentHead) (n : ℕ) (g : SegmentHead) → at_number heads n ≡ Some g → n ≤ length heads
   at_most heads zero g e = omega arith
   at_most heads (suc m) g e = let within = slice_get_within heads m g e in omega (arith, within)
 
   -- no table's block is written but the leading user's
-  plain_bytes : (p n : ℕ) (g : Head) (k : Handle) → Has old.users p n g k → k.slot ≢ h.slot → ((p ≡ lead_place) → is_table g ≡ false) → bytes_at new.memory k.slot ≡ bytes_at placed k.slot
+  plain_bytes : (p n : ℕ) (g : SegmentHead) (k : Handle) → Has old.users p n g k → k.slot ≢ h.slot → ((p ≡ lead_place) → is_table g ≡ false) → bytes_at new.memory k.slot ≡ bytes_at placed k.slot
   plain_bytes p n g k has ne plain = renewed.stay k.slot (λ m f j le fhead fhandle table same'.
       let other : Has old.users lead_place m f j = record { kept = lead; made = lead_users.0; head' = fhead; handle = fhandle } in
       let both = sound.once lead_place p m n f g j k other has same' in
       let kept_same = lead_one p has.kept has.made (sym both.0) in
-      let heads : Some g ≡ Some f = sym has.head' ∙ ap (λ (x : Kept). at_number x.heads n) kept_same ∙ ap (at_number lead.heads) (sym both.1) ∙ fhead in
+      let heads : Some g ≡ Some f = sym has.head' ∙ ap (λ (x : LoadedUser). at_number x.heads n) kept_same ∙ ap (at_number lead.heads) (sym both.1) ∙ fhead in
       let clash : true ≡ false = sym table ∙ ap is_table (sym (same_Some g f heads)) ∙ plain (sym both.0) in absurd cc) ∙ filled_apart k.slot ne
 
-  calls_now : (p n k : ℕ) (g : Head) (j : Handle) → Has new.users p n g j → is_table g ≡ true → IsSome (there_at (presence new.memory.slots (Some j))) → k < load.entry_count g.length
+  calls_now : (p n k : ℕ) (g : SegmentHead) (j : Handle) → Has new.users p n g j → is_table g ≡ true → IsSome (there_at (presence new.memory.slots (Some j))) → k < load.entry_count g.length
       → IsCall new.users (first_id + p) (load.target_at (bytes_at new.memory j.slot) k)
   calls_now p n k g j has table there inside' = elim (has_before p n g j has) [
     | inl it ↦ (let clash : true ≡ false = sym table ∙ ap is_table it.2 ∙ plain in absurd cc)
@@ -355,19 +355,19 @@ module _ (old new : Loaded) (id number owner file : ℕ) (kept lead : Kept) (hea
           elim (cases_eq p lead_place) [
             | inl eq ↦
                 let user = lead_one p has_old.kept has_old.made eq in
-                let ghead : at_number lead.heads n ≡ Some g = ap (λ (x : Kept). at_number x.heads n) (sym user) ∙ has_old.head' in
-                let ghandle : handle_at lead.handles n ≡ Some j = ap (λ (x : Kept). handle_at x.handles n) (sym user) ∙ has_old.handle in
+                let ghead : at_number lead.heads n ≡ Some g = ap (λ (x : LoadedUser). at_number x.heads n) (sym user) ∙ has_old.head' in
+                let ghandle : handle_at lead.handles n ≡ Some j = ap (λ (x : LoadedUser). handle_at x.handles n) (sym user) ∙ has_old.handle in
                 let follows = renewed.follow n g j (at_most lead.heads n g ghead) ghead ghandle table here in
                 let room : g.length ≤ length (bytes_at old.memory j.slot) = room_there old sound p n g j has_old before in
                 subst (λ (t : Target). IsCall new.users (first_id + p) t)
-                (sym (ap (λ (bs : List ℕ). load.target_at bs k) (follows ∙ ap (Rattle.loader_users.specs.Renewing.renewed (Some (file, number)) (Some address) (load.entry_count g.length)) (filled_apart j.slot ne ∙ bytes))
+                (sym (ap (λ (bs : List ℕ). load.target_at bs k) (follows ∙ ap (Rattle.loader_users.specs.Renewing.relinked_entries (Some (file, number)) (Some address) (load.entry_count g.length)) (filled_apart j.slot ne ∙ bytes))
                 ∙ target_stays (Some (file, number)) (Some address) k (load.entry_count g.length) (bytes_at old.memory j.slot) (omega (arith, inside', room)))) call
             | inr other ↦ subst (λ (bs : List ℕ). IsCall new.users (first_id + p) (load.target_at bs k)) (sym (plain_bytes p n g j has_old ne (λ e. absurd (other e)) ∙ bytes)) call
           ]
 
   pub come_sound : kept.life ≡ Running → IsSound new.memory new.users
   come_sound runs = record {
-    few = omega (arith, sound.few, ap (λ (us : List (Option Kept)). length us) users, length_set old.users place (Some come));
+    few = omega (arith, sound.few, ap (λ (us : List (Option LoadedUser)). length us) users, length_set old.users place (Some come));
     lengths = λ p k found. (lengths_now p k found).0;
     short = λ p k found. (lengths_now p k found).1;
     statics = statics_now;
@@ -397,7 +397,7 @@ module _ (old new : Loaded) (id number owner file : ℕ) (kept lead : Kept) (hea
   user_now = subst (λ (n : ℕ). user_of new.users n ≡ Some come) its_users.1 (user_there new.users place come it_made)
 
   -- another user's segments are active where they were
-  target_of : (p : ℕ) (k : Kept) (n : ℕ) → slice_get old.users p ≡ Some (Some k) → ((first_id + p ≡ id) → (n ≡ number) → ⊥) → (o : Option Handle) → handle_at k.handles n ≡ o
+  target_of : (p : ℕ) (k : LoadedUser) (n : ℕ) → slice_get old.users p ≡ Some (Some k) → ((first_id + p ≡ id) → (n ≡ number) → ⊥) → (o : Option Handle) → handle_at k.handles n ≡ o
       → active_at (presence new.memory.slots o) ≡ active_at (presence old.memory.slots o)
   target_of p k n found differ None e = refl
   target_of p k n found differ (Some j) e =
@@ -423,7 +423,7 @@ module _ (old new : Loaded) (id number owner file : ℕ) (kept lead : Kept) (hea
       nothing zero = refl
       nothing (suc m) = refl
 
-      apart_one : (other : ℕ) (o o' : Option Kept) → user_of old.users other ≡ o → user_of new.users other ≡ o' → o' ≡ o → other ≢ id
+      apart_one : (other : ℕ) (o o' : Option LoadedUser) → user_of old.users other ≡ o → user_of new.users other ≡ o' → o' ≡ o → other ≢ id
           → active_at (presence_at new.memory.slots (option_map_or (λ (u : Outline). u.handles) (option_map outline o') []) n)
           ≡ active_at (presence_at old.memory.slots (option_map_or (λ (u : Outline). u.handles) (option_map outline o) []) n)
       apart_one other None o' is is' same' ne = rw same' (nothing n)
@@ -440,7 +440,7 @@ module _ (old new : Loaded) (id number owner file : ℕ) (kept lead : Kept) (hea
             let ne : n ≢ number = λ same'. not (e ∙ ap (λ (m : ℕ). Some m) eq) same' in
             rw (eq, user_is outline new.users id, user_now, user_is outline old.users id, made) (target_same n ne)
         | inr ne ↦ rw (user_is outline new.users other, user_is outline old.users other)
-            (apart_one other (user_of old.users other) (user_of new.users other) refl refl (ap (λ (us : List (Option Kept)). user_of us other) users ∙ user_apart old.users id kept made (Some come) other ne) ne)
+            (apart_one other (user_of old.users other) (user_of new.users other) refl refl (ap (λ (us : List (Option LoadedUser)). user_of us other) users ∙ user_apart old.users id kept made (Some come) other ne) ne)
       ]
 
   -- ---- agreement
@@ -454,7 +454,7 @@ module _ (old new : Loaded) (id number owner file : ℕ) (kept lead : Kept) (hea
     user' = with_segment is.user number (fresh (Some h))
 
     heads_at : (n : ℕ) (s : Segment) → segment_at is.does_agree.segments n ≡ Some s → at_number kept.heads n ≡ Some (head_of s)
-    heads_at n s found = ap (λ (hs : List Head). at_number hs n) is.does_agree.heads ∙ head_at is.does_agree.segments n s found
+    heads_at n s found = ap (λ (hs : List SegmentHead). at_number hs n) is.does_agree.heads ∙ head_at is.does_agree.segments n s found
 
     sound_one : (n : ℕ) (s : Segment) → segment_at is.does_agree.segments n ≡ Some s → load.is_table s ≡ true → is_static (head_of s) ≡ true
     sound_one n s found table =
@@ -462,7 +462,7 @@ module _ (old new : Loaded) (id number owner file : ℕ) (kept lead : Kept) (hea
         rw (t.static, t.kept) refl
 
     segments_in : number - 1 < length is.user.segments
-    segments_in = omega (arith, number_in.1, ap (λ (hs : List Head). length hs) is.does_agree.heads, length-map is.does_agree.segments head_of, is.does_agree.count)
+    segments_in = omega (arith, number_in.1, ap (λ (hs : List SegmentHead). length hs) is.does_agree.heads, length-map is.does_agree.segments head_of, is.does_agree.count)
 
     held_here : held_at user' number ≡ fresh (Some h)
     held_here = go number number_in.0 segments_in
@@ -472,22 +472,22 @@ module _ (old new : Loaded) (id number owner file : ℕ) (kept lead : Kept) (hea
         go (suc k) le lt =
             let back : suc k - 1 ≡ k = omega arith in
             ap (λ (m : ℕ). option_map_or (λ x. x) (slice_get (slice_set is.user.segments m (fresh (Some h))) k) absent) back
-            ∙ ap (λ (o : Option Held). option_map_or (λ x. x) o absent) (set_at is.user.segments k (fresh (Some h)) (omega (arith, lt, back)))
+            ∙ ap (λ (o : Option HeldSegment). option_map_or (λ x. x) o absent) (set_at is.user.segments k (fresh (Some h)) (omega (arith, lt, back)))
 
     held_apart : (n : ℕ) → n ≢ number → held_at user' n ≡ held_at is.user n
     held_apart zero ne = refl
     held_apart (suc k) ne =
         let other : k ≢ number - 1 = λ e. ne (omega (arith, e, number_in.0)) in
-        ap (λ (o : Option Held). option_map_or (λ x. x) o absent) (set_apart is.user.segments (number - 1) k (fresh (Some h)) other)
+        ap (λ (o : Option HeldSegment). option_map_or (λ x. x) o absent) (set_apart is.user.segments (number - 1) k (fresh (Some h)) other)
 
     outlines : outline come ≡ outline_of user'
     outlines =
         let one : Outline → Outline = λ o. record o { handles = slice_set o.handles (number - 1) (Some h) } in
-        ap one is.does_agree.same ∙ ap (λ (hs : List (Option Handle)). let o : Outline = record (outline_of is.user) { handles = hs } in o) (sym (set_map (λ (x : Held). x.handle) is.user.segments (number - 1) (fresh (Some h))))
+        ap one is.does_agree.same ∙ ap (λ (hs : List (Option Handle)). let o : Outline = record (outline_of is.user) { handles = hs } in o) (sym (set_map (λ (x : HeldSegment). x.handle) is.user.segments (number - 1) (fresh (Some h))))
 
     -- ---- where the segments are
 
-    has_own : (n : ℕ) (k : Handle) → handle_at kept.handles n ≡ Some k → (g : Head) × Has old.users place n g k
+    has_own : (n : ℕ) (k : Handle) → handle_at kept.handles n ≡ Some k → (g : SegmentHead) × Has old.users place n g k
     has_own n k found = has_any old sound place kept its_users.0 n k found
 
     there_same : (n : ℕ) → n ≢ number → IsSome (there_at (presence_at new.memory.slots come.handles n)) → presence_at new.memory.slots come.handles n ≡ presence_at old.memory.slots kept.handles n
@@ -507,27 +507,27 @@ module _ (old new : Loaded) (id number owner file : ℕ) (kept lead : Kept) (hea
         let has : Has old.users lead_place m g j = record { kept = lead; made = lead_users.0; head' = ghead; handle = ghandle } in
         apart lead_place m g j has (λ a b.
         let user = kept_one lead_place lead lead_users.0 (id_of lead_place a) in
-        let heads : Some g ≡ Some (head_of s) = sym ghead ∙ ap (λ (x : Kept). at_number x.heads m) user ∙ ap (at_number kept.heads) b ∙ heads_at number s found in
+        let heads : Some g ≡ Some (head_of s) = sym ghead ∙ ap (λ (x : LoadedUser). at_number x.heads m) user ∙ ap (at_number kept.heads) b ∙ heads_at number s found in
         let table' : load.is_table s ≡ true = ap is_table (sym (same_Some g (head_of s) heads)) ∙ table in
         static_ne number s found (sound_one number s found table') refl) same') ∙ filled_here
 
     -- a table of the user's own follows
     own_table : (n : ℕ) (s : Segment) (k : Handle) → segment_at is.does_agree.segments n ≡ Some s → handle_at kept.handles n ≡ Some k → load.is_table s ≡ true → IsSome (there_at (presence placed.slots (Some k)))
-        → bytes_at new.memory k.slot ≡ Rattle.loader_users.specs.Renewing.renewed (Some (1, number)) (Some address) (load.entry_count s.fields.length) (bytes_at (with_bytes placed h.slot content) k.slot)
+        → bytes_at new.memory k.slot ≡ Rattle.loader_users.specs.Renewing.relinked_entries (Some (1, number)) (Some address) (load.entry_count s.fields.length) (bytes_at (with_bytes placed h.slot content) k.slot)
     own_table n s k found has table there = go leading
       where
         go : Leading old.users id owner file
-            → bytes_at new.memory k.slot ≡ Rattle.loader_users.specs.Renewing.renewed (Some (1, number)) (Some address) (load.entry_count s.fields.length) (bytes_at (with_bytes placed h.slot content) k.slot)
+            → bytes_at new.memory k.slot ≡ Rattle.loader_users.specs.Renewing.relinked_entries (Some (1, number)) (Some address) (load.entry_count s.fields.length) (bytes_at (with_bytes placed h.slot content) k.slot)
         go (Holder above ne' there' empty only) = elim alone [
           | inl one ↦ absurd (omega (arith, above, one))
           | inr plain' ↦ (let clash : true ≡ false = sym table ∙ plain' n (head_of s) (heads_at n s found) in absurd cc)
         ]
         go (Its same' one none) =
             let user : lead ≡ kept = same_Some lead kept (sym lead_made ∙ ap (user_of old.users) same' ∙ made) in
-            let fhead : at_number lead.heads n ≡ Some (head_of s) = ap (λ (x : Kept). at_number x.heads n) user ∙ heads_at n s found in
-            let fhandle : handle_at lead.handles n ≡ Some k = ap (λ (x : Kept). handle_at x.handles n) user ∙ has in
+            let fhead : at_number lead.heads n ≡ Some (head_of s) = ap (λ (x : LoadedUser). at_number x.heads n) user ∙ heads_at n s found in
+            let fhandle : handle_at lead.handles n ≡ Some k = ap (λ (x : LoadedUser). handle_at x.handles n) user ∙ has in
             renewed.follow n (head_of s) k (at_most lead.heads n (head_of s) fhead) fhead fhandle table there
-            ∙ ap (λ (f : ℕ). Rattle.loader_users.specs.Renewing.renewed (Some (f, number)) (Some address) (load.entry_count s.fields.length) (bytes_at (with_bytes placed h.slot content) k.slot)) one
+            ∙ ap (λ (f : ℕ). Rattle.loader_users.specs.Renewing.relinked_entries (Some (f, number)) (Some address) (load.entry_count s.fields.length) (bytes_at (with_bytes placed h.slot content) k.slot)) one
 
     becomes_other : (n : ℕ) (s : Segment) (k : Handle) → n ≢ number → segment_at is.does_agree.segments n ≡ Some s → handle_at come.handles n ≡ Some k → IsSome (there_at (presence_at new.memory.slots come.handles n))
         → Becomes (setting_with (far_in old id) id old.memory.slots kept.handles) (setting_with (far_in new id) id new.memory.slots come.handles) (Some (1, number)) (Some address) old.memory new.memory kept is.user user' n s k
@@ -541,8 +541,8 @@ module _ (old new : Loaded) (id number owner file : ℕ) (kept lead : Kept) (hea
         let kept_bytes = keeps_bytes old.memory placed k (keeps_old place n (head_of s) k one (λ a b. ne b)) here in
         elim (decide (load.is_table s)) [
           | inl table ↦ Turns table was before (own_table n s k found was table here
-              ∙ ap (Rattle.loader_users.specs.Renewing.renewed (Some (1, number)) (Some address) (load.entry_count s.fields.length)) (filled_apart k.slot other ∙ kept_bytes))
-          | inr plain ↦ Stays plain was before (ap (λ p. unwrap_or (there_at p) 0) presence_same) (ap (λ (x : Held). x.pokes) (held_apart n ne))
+              ∙ ap (Rattle.loader_users.specs.Renewing.relinked_entries (Some (1, number)) (Some address) (load.entry_count s.fields.length)) (filled_apart k.slot other ∙ kept_bytes))
+          | inr plain ↦ Stays plain was before (ap (λ p. unwrap_or (there_at p) 0) presence_same) (ap (λ (x : HeldSegment). x.pokes) (held_apart n ne))
               (plain_bytes place n (head_of s) k one other (λ e. plain) ∙ kept_bytes)
         ]
 
@@ -591,7 +591,7 @@ module _ (old new : Loaded) (id number owner file : ℕ) (kept lead : Kept) (hea
       path = refl;
       heads = refl;
       count = length_set is.user.segments (number - 1) (fresh (Some h));
-      unpoked = λ n s found table. ap (λ (x : Held). x.pokes) (held_apart n (static_ne n s found (sound_one n s found table))) ∙ is.does_agree.unpoked n s found table;
+      unpoked = λ n s found table. ap (λ (x : HeldSegment). x.pokes) (held_apart n (static_ne n s found (sound_one n s found table))) ∙ is.does_agree.unpoked n s found table;
       statics = λ runs n s found static. statics_now place come n (head_of s) it_made runs (heads_at n s found) static;
       were = λ there n s found static. let now = there n s found static in subst (λ p. IsSome (there_at p)) (there_same n (static_ne n s found static) now) now;
       places = λ there n s found static. ap (λ p. unwrap_or (there_at p) 0) (there_same n (static_ne n s found static) (there n s found static));
@@ -601,7 +601,7 @@ module _ (old new : Loaded) (id number owner file : ℕ) (kept lead : Kept) (hea
       fits = λ n s found c some.
           let eq = chosen_is n c in
           let same' : head_of s ≡ head = same_Some (head_of s) head (sym (heads_at n s found) ∙ ap (at_number kept.heads) eq ∙ head') in
-          omega (arith, fits, ap (λ (x : Head). x.length) same');
+          omega (arith, fits, ap (λ (x : SegmentHead). x.length) same');
       others = λ n s found dynamic' kept'' c. target_same n (not_chosen n c);
       far_chosen = λ f n above c. absurd (omega (arith, above, (chosen_file 1 f n number c).0));
       far_others = λ f n above c. far_miss id f n (λ found eq. not_its f found);
@@ -611,7 +611,7 @@ module _ (old new : Loaded) (id number owner file : ℕ) (kept lead : Kept) (hea
             let it : k ≡ h = same_Some k h (sym has ∙ ap (handle_at come.handles) eq ∙ handle_here kept number h inside number_in.0) in
             let at = stands_now s found' in
             let held' : IsFront (stands (setting_with (far_in new id) id new.memory.slots come.handles) (held_at user' n).pokes s) content =
-            subst (λ (p : Pokes). IsFront (stands (setting_with (far_in new id) id new.memory.slots come.handles) p s) content) (sym (ap (λ (x : Held). x.pokes) (ap (held_at user') eq ∙ held_here))) at in
+            subst (λ (p : Pokes). IsFront (stands (setting_with (far_in new id) id new.memory.slots come.handles) p s) content) (sym (ap (λ (x : HeldSegment). x.pokes) (ap (held_at user') eq ∙ held_here))) at in
             Anew (subst (λ (x : Handle). IsFront (stands (setting_with (far_in new id) id new.memory.slots come.handles) (held_at user' n).pokes s) (bytes_at new.memory x.slot)) (sym it)
             (subst (λ (bs : List ℕ). IsFront (stands (setting_with (far_in new id) id new.memory.slots come.handles) (held_at user' n).pokes s) bs) (sym (bytes_here s found')) held'))
         | inr ne ↦ becomes_other n s k ne found has present
@@ -626,7 +626,7 @@ module _ (old new : Loaded) (id number owner file : ℕ) (kept lead : Kept) (hea
     moved j same' (Same slot bytes) = Same (ap (λ (t : Slots). get t j) slots_are ∙ slot) (λ there. same' ∙ bytes (subst (λ (t : Slots). IsSome (there_at (presence t (Some j)))) slots_are there))
     moved j same' (Gone block was' can gone') = Gone block was' can (ap (λ (t : Slots). get t j) slots_are ∙ gone')
 
-    others_agree : (p : ℕ) (k : Kept) (u : User) → slice_get old.users p ≡ Some (Some k) → p ≢ place → p ≢ lead_place → ((f n : ℕ) → 2 ≤ f → far_new (first_id + p) f n ≡ far_old (first_id + p) f n)
+    others_agree : (p : ℕ) (k : LoadedUser) (u : User) → slice_get old.users p ≡ Some (Some k) → p ≢ place → p ≢ lead_place → ((f n : ℕ) → 2 ≤ f → far_new (first_id + p) f n ≡ far_old (first_id + p) f n)
         → UserAgrees held old.memory (far_old (first_id + p)) (first_id + p) k u → UserAgrees held new.memory (far_new (first_id + p)) (first_id + p) k u
     others_agree p k u found ne ne' same' was = agrees_still held old.memory new.memory (far_old (first_id + p)) (far_new (first_id + p)) (first_id + p) k u was (λ n j has.
         let one = has_any old sound p k found n j has in
@@ -647,10 +647,10 @@ module _ (old new : Loaded) (id number owner file : ℕ) (kept lead : Kept) (hea
       not_here n e e' = place_ne (id_of lead_place e)
 
       lead_now : slice_get new.users lead_place ≡ Some (Some lead)
-      lead_now = ap (λ (us : List (Option Kept)). slice_get us lead_place) users ∙ set_apart old.users place lead_place (Some come) place_ne ∙ lead_users.0
+      lead_now = ap (λ (us : List (Option LoadedUser)). slice_get us lead_place) users ∙ set_apart old.users place lead_place (Some come) place_ne ∙ lead_users.0
 
       lead_heads : (n : ℕ) (s : Segment) → segment_at its.does_agree.segments n ≡ Some s → at_number lead.heads n ≡ Some (head_of s)
-      lead_heads n s found = ap (λ (hs : List Head). at_number hs n) its.does_agree.heads ∙ head_at its.does_agree.segments n s found
+      lead_heads n s found = ap (λ (hs : List SegmentHead). at_number hs n) its.does_agree.heads ∙ head_at its.does_agree.segments n s found
 
       lead_there : (n : ℕ) (o : Option Handle) → handle_at lead.handles n ≡ o → IsSome (there_at (presence new.memory.slots o)) → presence new.memory.slots o ≡ presence old.memory.slots o
       lead_there n None e some = refl
@@ -674,7 +674,7 @@ module _ (old new : Loaded) (id number owner file : ℕ) (kept lead : Kept) (hea
           elim (decide (load.is_table s)) [
             | inl table ↦ Turns table has before (
                 renewed.follow n (head_of s) k (at_most lead.heads n (head_of s) (lead_heads n s found)) (lead_heads n s found) has table here
-                ∙ ap (Rattle.loader_users.specs.Renewing.renewed (Some (file, number)) (Some address) (load.entry_count s.fields.length)) (filled_apart k.slot other ∙ kept_bytes))
+                ∙ ap (Rattle.loader_users.specs.Renewing.relinked_entries (Some (file, number)) (Some address) (load.entry_count s.fields.length)) (filled_apart k.slot other ∙ kept_bytes))
             | inr plain' ↦ Stays plain' has before (ap (λ p. unwrap_or (there_at p) 0) presence_same) refl (plain_bytes lead_place n (head_of s) k one other (λ e. plain') ∙ kept_bytes)
           ]
 
@@ -707,8 +707,8 @@ module _ (old new : Loaded) (id number owner file : ℕ) (kept lead : Kept) (hea
           let both = chosen_file file t.file t.segment number c in
           let same' : far.other ≡ id = same_Some far.other id (sym far.named ∙ ap (attached_at outs owner) both.0 ∙ there) in
           let user : far.kept ≡ kept = same_Some far.kept kept (sym far.made ∙ ap (user_of old.users) same' ∙ made) in
-          let its_head : far.head ≡ head = same_Some far.head head (sym far.head' ∙ ap (λ (x : Kept). at_number x.heads t.segment) user ∙ ap (at_number kept.heads) both.1 ∙ head') in
-          omega (arith, far.inside, ap (λ (g : Head). g.length) its_head, fits)
+          let its_head : far.head ≡ head = same_Some far.head head (sym far.head' ∙ ap (λ (x : LoadedUser). at_number x.heads t.segment) user ∙ ap (at_number kept.heads) both.1 ∙ head') in
+          omega (arith, far.inside, ap (λ (g : SegmentHead). g.length) its_head, fits)
 
       lead_agrees : UserAgrees held new.memory (far_new owner) owner lead its.user
       lead_agrees = turned_agrees held old.memory new.memory (far_old owner) (far_new owner) owner (Some (file, number)) (Some address) lead lead its.user its.user its.does_agree
@@ -717,7 +717,7 @@ module _ (old new : Loaded) (id number owner file : ℕ) (kept lead : Kept) (hea
     user_one : (a b : User) → Some (Some a) ≡ Some (Some b) → a ≡ b
     user_one a b e = cc
 
-    there_agrees : (p : ℕ) (k : Kept) (u : User) → slice_get old.users p ≡ Some (Some k) → slice_get state.users p ≡ Some (Some u) → p ≢ place
+    there_agrees : (p : ℕ) (k : LoadedUser) (u : User) → slice_get old.users p ≡ Some (Some k) → slice_get state.users p ≡ Some (Some u) → p ≢ place
         → UserAgrees held old.memory (far_old (first_id + p)) (first_id + p) k u → UserAgrees held new.memory (far_new (first_id + p)) (first_id + p) k u
     there_agrees p k u found found' ne was = go leading
       where
@@ -730,7 +730,7 @@ module _ (old new : Loaded) (id number owner file : ℕ) (kept lead : Kept) (hea
               let user_same : u ≡ it.user = user_one u it.user (sym found' ∙ ap (slice_get state.users) eq ∙ (made_at state.users owner it.user it.made).0) in
               let id_is : owner ≡ first_id + p = omega (arith, lead_users.1, eq) in
               subst (λ (n : ℕ). UserAgrees held new.memory (far_new n) n k u) id_is
-              (subst (λ (x : User). UserAgrees held new.memory (far_new owner) owner k x) (sym user_same) (subst (λ (x : Kept). UserAgrees held new.memory (far_new owner) owner x it.user) (sym kept_same) (lead_agrees above apart' there only)))
+              (subst (λ (x : User). UserAgrees held new.memory (far_new owner) owner k x) (sym user_same) (subst (λ (x : LoadedUser). UserAgrees held new.memory (far_new owner) owner x it.user) (sym kept_same) (lead_agrees above apart' there only)))
           | inr ne' ↦ others_agree p k u found ne ne' (λ f n above'. far_miss (first_id + p) f n (λ named eq. ne' (omega (arith, (only (first_id + p) f above' named).0, lead_users.1)))) was
         ]
 
@@ -748,7 +748,7 @@ module _ (old new : Loaded) (id number owner file : ℕ) (kept lead : Kept) (hea
             let user_same : u ≡ user' = user_one u user' (sym found' ∙ ap (slice_get (slice_set state.users place (Some user'))) it.0 ∙ set_at state.users place (Some user') within) in
             let id_is : id ≡ first_id + p = omega (arith, its_users.1, it.0) in
             subst (λ (n : ℕ). UserAgrees held new.memory (far_in new n) n k u) id_is
-            (subst (λ (x : User). UserAgrees held new.memory (far_in new id) id k x) (sym user_same) (subst (λ (x : Kept). UserAgrees held new.memory (far_in new id) id x user') (sym it.1) come_agrees_own))
+            (subst (λ (x : User). UserAgrees held new.memory (far_in new id) id k x) (sym user_same) (subst (λ (x : LoadedUser). UserAgrees held new.memory (far_in new id) id x user') (sym it.1) come_agrees_own))
         | inr other ↦
             let before = sym (set_apart state.users place p (Some user') other.0) ∙ found' in
             there_agrees p k u other.1 before other.0 (agrees.each p k u other.1 before)

@@ -10,14 +10,14 @@ use Rattle.load_meaning.specs.LoadTable.{target_at, entry_count}
 use Rattle.iigs_meaning.specs.declared.handles.Handle.{Handle}
 use Rattle.iigs_meaning.specs.declared.slots.Slot.{Slot}
 use Rattle.iigs_meaning.specs.declared.wants.Block.{Block}
-use Rattle.iigs_meaning.specs.declared.slots.Content.TheVariants.{Free, Retired}
+use Rattle.iigs_meaning.specs.declared.slots.SlotContent.TheVariants.{Free, Retired}
 use Rattle.iigs_meaning.specs.Slots.{slot_at, get, released}
 use Rattle.iigs_meaning.specs.Fits.{Slots, block_in}
 use Rattle.iigs_meaning.specs.Puts.{without_user, without_user_in}
 use Rattle.loader_machine.specs.Rule.{RoomRule}
 use Rattle.iigs_meaning.specs.Memory.{Memory, KeepsBut, AreAllPlaced, bytes_at}
 use Rattle.iigs_meaning.specs.Blocks.{address_in}
-use Rattle.loader_machine.specs.declared.seen.Head.{Head}
+use Rattle.loader_machine.specs.declared.seen.SegmentHead.{SegmentHead}
 use Rattle.loader_machine.specs.declared.seen.Life.TheVariants.{Running, Dormant}
 use Rattle.loader_machine.specs.Heads.{at_number, is_static, is_table}
 use Rattle.loader_machine.specs.State.{User, Machine, Outline, outline_of, outlines, first_id, user_of, with_user, without_all, family, attached_at, is_attached, handles_in}
@@ -26,7 +26,7 @@ use Rattle.loader_machine.specs.Stands.{far_of}
 use Rattle.loader_machine.specs.Refusals.{shut_down_refusal}
 use Rattle.loader_machine.specs.Commands.{Okay, ShutDown}
 use Rattle.loader_machine.specs.Steps.{dropped_state, without_users}
-use Rattle.loader_agrees.specs.Agrees.{Kept, Loaded, outline, kept_outlines, seen_by, far_in, UserAgrees, AreAttached, LeadsFar, EntriesLead, Agrees, IsCall, IsOf, Has, IsSound, Met}
+use Rattle.loader_agrees.specs.Agrees.{LoadedUser, Loaded, outline, kept_outlines, seen_by, far_in, UserAgrees, AreAttached, LeadsFar, EntriesLead, Agrees, IsCall, IsOf, Has, IsSound, Met}
 use Rattle.loader_agrees.specs.laws.Begun.{decide}
 use Rattle.loader_agrees.specs.laws.Frame.{Same, agrees_still}
 use Rattle.loader_agrees.specs.laws.Lists.{set_map, set_at, set_apart, length_set}
@@ -159,26 +159,26 @@ none_in place found = omega (arith, found.1)
 -- the handles of these users are released, and they are gone, where no row of another user names one of them
 module _ (old new : Loaded) (ids : List ℕ) (sound : IsSound old.memory old.users) (released' : AreReleased ids old.memory new.memory) (gone : new.users ≡ without_all old.users ids)
     (high : (n : ℕ) → is_in ids n ≡ true → first_id ≤ n)
-    (row_out : (p : ℕ) (k : Kept) (i n : ℕ) → slice_get old.users p ≡ Some (Some k) → is_in ids (first_id + p) ≡ false → slice_get k.attached i ≡ Some n → is_in ids n ≡ false) where
+    (row_out : (p : ℕ) (k : LoadedUser) (i n : ℕ) → slice_get old.users p ≡ Some (Some k) → is_in ids (first_id + p) ≡ false → slice_get k.attached i ≡ Some n → is_in ids n ≡ false) where
   abbrev In : ℕ → Bool
   In p = is_in ids (first_id + p)
 
   -- a user that is left was there before
-  before : (p : ℕ) (k : Kept) → slice_get new.users p ≡ Some (Some k) → (slice_get old.users p ≡ Some (Some k)) × (In p ≡ false)
-  before p k made = gone_now ids old.users p k (ap (λ (us : List (Option Kept)). slice_get us p) (sym gone) ∙ made)
+  before : (p : ℕ) (k : LoadedUser) → slice_get new.users p ≡ Some (Some k) → (slice_get old.users p ≡ Some (Some k)) × (In p ≡ false)
+  before p k made = gone_now ids old.users p k (ap (λ (us : List (Option LoadedUser)). slice_get us p) (sym gone) ∙ made)
 
-  left : (p : ℕ) (k : Kept) → slice_get old.users p ≡ Some (Some k) → In p ≡ false → slice_get new.users p ≡ Some (Some k)
-  left p k made out = ap (λ (us : List (Option Kept)). slice_get us p) gone ∙ stays_there ids old.users p k high made out
+  left : (p : ℕ) (k : LoadedUser) → slice_get old.users p ≡ Some (Some k) → In p ≡ false → slice_get new.users p ≡ Some (Some k)
+  left p k made out = ap (λ (us : List (Option LoadedUser)). slice_get us p) gone ∙ stays_there ids old.users p k high made out
 
-  user_left : (n : ℕ) (k : Kept) → user_of old.users n ≡ Some k → is_in ids n ≡ false → user_of new.users n ≡ Some k
+  user_left : (n : ℕ) (k : LoadedUser) → user_of old.users n ≡ Some k → is_in ids n ≡ false → user_of new.users n ≡ Some k
   user_left n k is out =
       let there = made_at old.users n k is in
       subst (λ (m : ℕ). user_of new.users m ≡ Some k) there.1 (user_there new.users (n - first_id) k (left (n - first_id) k there.0 (ap (is_in ids) there.1 ∙ out)))
 
-  has_before : (p n : ℕ) (head : Head) (h : Handle) → Has new.users p n head h → Has old.users p n head h × (In p ≡ false)
+  has_before : (p n : ℕ) (head : SegmentHead) (h : Handle) → Has new.users p n head h → Has old.users p n head h × (In p ≡ false)
   has_before p n head h has = let was = before p has.kept has.made in (record { kept = has.kept; made = was.0; head' = has.head'; handle = has.handle }, was.1)
 
-  live_before : (p n : ℕ) (head : Head) (h : Handle) → Has old.users p n head h → In p ≡ false → get new.memory.slots h ≡ get old.memory.slots h
+  live_before : (p n : ℕ) (head : SegmentHead) (h : Handle) → Has old.users p n head h → In p ≡ false → get new.memory.slots h ≡ get old.memory.slots h
   live_before p n head h has out =
       let of' = sound.each p n head h has in
       ap (λ (t : Slots). get t h) released'.slots ∙ others_get ids old.memory.slots h of'.block of'.live (ap (is_in ids) of'.user ∙ out)
@@ -186,7 +186,7 @@ module _ (old new : Loaded) (ids : List ℕ) (sound : IsSound old.memory old.use
   bytes_same : (h : Handle) → IsSome (there_at (presence new.memory.slots (Some h))) → bytes_at new.memory h.slot ≡ bytes_at old.memory h.slot
   bytes_same h there = released'.bytes.bytes h.slot (none_in h.slot) (is_there new.memory h there)
 
-  each_now : (p n : ℕ) (head : Head) (h : Handle) → Has new.users p n head h → IsOf new.memory (first_id + p) head h
+  each_now : (p n : ℕ) (head : SegmentHead) (h : Handle) → Has new.users p n head h → IsOf new.memory (first_id + p) head h
   each_now p n head h has =
       let was = has_before p n head h has in
       let of' = sound.each p n head h was.0 in
@@ -203,23 +203,23 @@ module _ (old new : Loaded) (ids : List ℕ) (sound : IsSound old.memory old.use
             omega (arith, of'.room there, ap (λ (bs : List ℕ). length bs) (bytes_same h present));
       }
 
-  presence_same : (p : ℕ) (k : Kept) → slice_get old.users p ≡ Some (Some k) → In p ≡ false → (n : ℕ) (o : Option Handle) → handle_at k.handles n ≡ o → presence new.memory.slots o ≡ presence old.memory.slots o
+  presence_same : (p : ℕ) (k : LoadedUser) → slice_get old.users p ≡ Some (Some k) → In p ≡ false → (n : ℕ) (o : Option Handle) → handle_at k.handles n ≡ o → presence new.memory.slots o ≡ presence old.memory.slots o
   presence_same p k made out n None e = refl
   presence_same p k made out n (Some h) e = let one = has_any old sound p k made n h e in ap (lies_in h) (live_before p n one.0 h one.1 out)
 
-  statics_now : (p : ℕ) (k : Kept) (n : ℕ) (head : Head) → slice_get new.users p ≡ Some (Some k) → k.life ≡ Running → at_number k.heads n ≡ Some head → is_static head ≡ true
+  statics_now : (p : ℕ) (k : LoadedUser) (n : ℕ) (head : SegmentHead) → slice_get new.users p ≡ Some (Some k) → k.life ≡ Running → at_number k.heads n ≡ Some head → is_static head ≡ true
       → is_active (presence_at new.memory.slots k.handles n) ≡ true
   statics_now p k n head made runs found static =
       let was = before p k made in
       ap is_active (presence_same p k was.0 was.1 n (handle_at k.handles n) refl) ∙ sound.statics p k n head was.0 runs found static
 
-  rests_now : (p : ℕ) (k : Kept) (n : ℕ) → slice_get new.users p ≡ Some (Some k) → k.life ≡ Dormant → is_active (presence_at new.memory.slots k.handles n) ≡ false
+  rests_now : (p : ℕ) (k : LoadedUser) (n : ℕ) → slice_get new.users p ≡ Some (Some k) → k.life ≡ Dormant → is_active (presence_at new.memory.slots k.handles n) ≡ false
   rests_now p k n made life =
       let was = before p k made in
       ap is_active (presence_same p k was.0 was.1 n (handle_at k.handles n) refl) ∙ sound.rests p k n was.0 life
 
   only_now : (slot : ℕ) (b : Block) → block_in (slot_at new.memory.slots slot) ≡ Some b → b.user ≢ 0
-      → (p : ℕ) × (n : ℕ) × (head : Head) × (h : Handle) × Has new.users p n head h × (h.slot ≡ slot)
+      → (p : ℕ) × (n : ℕ) × (head : SegmentHead) × (h : Handle) × Has new.users p n head h × (h.slot ≡ slot)
   only_now slot b found user =
       let was = others_in ids old.memory.slots slot b (sym (ap (λ (t : Slots). block_in (slot_at t slot)) released'.slots) ∙ found) user in
       let it = sound.only slot b was.0 user in
@@ -230,10 +230,10 @@ module _ (old new : Loaded) (ids : List ℕ) (sound : IsSound old.memory old.use
 
   -- ---- attached users
 
-  is_row : (p : ℕ) (k : Kept) (f : ℕ) → slice_get old.users p ≡ Some (Some k) → attached_at (kept_outlines old.users) (first_id + p) f ≡ slice_get k.attached (f - 2)
+  is_row : (p : ℕ) (k : LoadedUser) (f : ℕ) → slice_get old.users p ≡ Some (Some k) → attached_at (kept_outlines old.users) (first_id + p) f ≡ slice_get k.attached (f - 2)
   is_row p k f made = rw (user_is outline old.users (first_id + p), user_there old.users p k made) refl
 
-  is_row_now : (p : ℕ) (k : Kept) (f : ℕ) → slice_get old.users p ≡ Some (Some k) → In p ≡ false → attached_at (kept_outlines new.users) (first_id + p) f ≡ slice_get k.attached (f - 2)
+  is_row_now : (p : ℕ) (k : LoadedUser) (f : ℕ) → slice_get old.users p ≡ Some (Some k) → In p ≡ false → attached_at (kept_outlines new.users) (first_id + p) f ≡ slice_get k.attached (f - 2)
   is_row_now p k f made out = rw (user_is outline new.users (first_id + p), user_there new.users p k (left p k made out)) refl
 
   attached_now : AreAttached new.users
@@ -247,7 +247,7 @@ module _ (old new : Loaded) (ids : List ℕ) (sound : IsSound old.memory old.use
   }
 
   -- what an entry names is there still
-  module _ (p : ℕ) (k : Kept) (made : slice_get old.users p ≡ Some (Some k)) (out : In p ≡ false) where
+  module _ (p : ℕ) (k : LoadedUser) (made : slice_get old.users p ≡ Some (Some k)) (out : In p ≡ false) where
     call_now : (t : Target) → IsCall old.users (first_id + p) t → IsCall new.users (first_id + p) t
     call_now t call = go (t.file == 1) refl
       where
@@ -312,7 +312,7 @@ module _ (old new : Loaded) (ids : List ℕ) (sound : IsSound old.memory old.use
         go None e = refl
         go (Some m) e = other m e
 
-  calls_now : (p n k : ℕ) (g : Head) (j : Handle) → Has new.users p n g j → is_table g ≡ true → IsSome (there_at (presence new.memory.slots (Some j))) → k < entry_count g.length
+  calls_now : (p n k : ℕ) (g : SegmentHead) (j : Handle) → Has new.users p n g j → is_table g ≡ true → IsSome (there_at (presence new.memory.slots (Some j))) → k < entry_count g.length
       → IsCall new.users (first_id + p) (target_at (bytes_at new.memory j.slot) k)
   calls_now p n k g j has table there inside =
       let was = has_before p n g j has in
@@ -322,7 +322,7 @@ module _ (old new : Loaded) (ids : List ℕ) (sound : IsSound old.memory old.use
 
   pub gone_sound : IsSound new.memory new.users
   gone_sound = record {
-    few = omega (arith, sound.few, ap (λ (us : List (Option Kept)). length us) gone, length_gone ids old.users);
+    few = omega (arith, sound.few, ap (λ (us : List (Option LoadedUser)). length us) gone, length_gone ids old.users);
     lengths = λ p k made. sound.lengths p k (before p k made).0;
     short = λ p k made. sound.short p k (before p k made).0;
     statics = statics_now;
@@ -335,7 +335,7 @@ module _ (old new : Loaded) (ids : List ℕ) (sound : IsSound old.memory old.use
   }
 
   module _ (held : FileMap) (state : Machine) (agrees : Agrees held old state) where
-    still : (p : ℕ) (k : Kept) (user : User) → slice_get old.users p ≡ Some (Some k) → In p ≡ false → UserAgrees held old.memory (far_in old (first_id + p)) (first_id + p) k user
+    still : (p : ℕ) (k : LoadedUser) (user : User) → slice_get old.users p ≡ Some (Some k) → In p ≡ false → UserAgrees held old.memory (far_in old (first_id + p)) (first_id + p) k user
         → UserAgrees held new.memory (far_in new (first_id + p)) (first_id + p) k user
     still p k user made out was = agrees_still held old.memory new.memory (far_in old (first_id + p)) (far_in new (first_id + p)) (first_id + p) k user was
         (λ n h found. let one = has_any old sound p k made n h found in Same (live_before p n one.0 h one.1 out) (bytes_same h))
@@ -365,7 +365,7 @@ module _ (old new : Loaded) (id : ℕ) (sound : IsSound old.memory old.users) (d
   abbrev place : ℕ
   place = id - first_id
 
-  abbrev kept : Kept
+  abbrev kept : LoadedUser
   kept = did.kept
 
   abbrev its : List ℕ
@@ -386,7 +386,7 @@ module _ (old new : Loaded) (id : ℕ) (sound : IsSound old.memory old.users) (d
   ]
 
   -- a user that is left has none of them
-  its_out : (p : ℕ) (k : Kept) (i n : ℕ) → slice_get old.users p ≡ Some (Some k) → is_in its (first_id + p) ≡ false → slice_get k.attached i ≡ Some n → is_in its n ≡ false
+  its_out : (p : ℕ) (k : LoadedUser) (i n : ℕ) → slice_get old.users p ≡ Some (Some k) → is_in its (first_id + p) ≡ false → slice_get k.attached i ≡ Some n → is_in its n ≡ false
   its_out p k i n made out is = elim (decide (is_in its n)) [
     | inr out' ↦ out'
     | inl inside ↦ elim (in_either kept.attached id n inside) [
@@ -467,17 +467,17 @@ released_more ids id old mid new so_far (handles, all) =
       };
     }
 
-pub has_dropped : (old last : Loaded) (id : ℕ) (k : Kept) (middle : Memory) (users : List (Option Kept)) → user_of old.users id ≡ Some k → AreReleased k.attached old.memory middle → users ≡ without_all old.users k.attached
+pub has_dropped : (old last : Loaded) (id : ℕ) (k : LoadedUser) (middle : Memory) (users : List (Option LoadedUser)) → user_of old.users id ≡ Some k → AreReleased k.attached old.memory middle → users ≡ without_all old.users k.attached
     → (handles : List Handle) × AreAllPlaced RoomRule middle id true [] handles last.memory → last.users ≡ with_user users id None → HasDropped old id last
 has_dropped old last id k middle users made released gone last_released last_gone = record {
   kept = k;
   made = made;
   released = released_more k.attached id old.memory middle last.memory released last_released;
-  users = last_gone ∙ ap (λ (us : List (Option Kept)). with_user us id None) gone ∙ sym (more_gone k.attached old.users id);
+  users = last_gone ∙ ap (λ (us : List (Option LoadedUser)). with_user us id None) gone ∙ sym (more_gone k.attached old.users id);
 }
 
 -- a user that isn't among the first ones is there still
-module _ (users : List (Option Kept)) (attached : AreAttached users) (id : ℕ) (k : Kept) (made : user_of users id ≡ Some k) (count : ℕ) where
+module _ (users : List (Option LoadedUser)) (attached : AreAttached users) (id : ℕ) (k : LoadedUser) (made : user_of users id ≡ Some k) (count : ℕ) where
   of_take : (xs : List ℕ) (m n : ℕ) → is_in (take m xs) n ≡ true → (i : ℕ) × (i < m) × (slice_get xs i ≡ Some n)
   of_take [] zero n inside = absurd cc
   of_take [] (suc m) n inside = absurd cc
@@ -493,7 +493,7 @@ module _ (users : List (Option Kept)) (attached : AreAttached users) (id : ℕ) 
   place_of : (slice_get users (id - first_id) ≡ Some (Some k)) × (first_id + (id - first_id) ≡ id)
   place_of = made_at users id k made
 
-  left_there : (n : ℕ) (u : Kept) → user_of users n ≡ Some u → ((i : ℕ) → i < count → slice_get k.attached i ≡ Some n → ⊥) → user_of (without_all users (take count k.attached)) n ≡ Some u
+  left_there : (n : ℕ) (u : LoadedUser) → user_of users n ≡ Some u → ((i : ℕ) → i < count → slice_get k.attached i ≡ Some n → ⊥) → user_of (without_all users (take count k.attached)) n ≡ Some u
   left_there n u is none =
       let there = made_at users n u is in
       let its : slice_get (without_all users (take count k.attached)) (n - first_id) ≡ Some (Some u) = stays_there (take count k.attached) users (n - first_id) u
@@ -512,10 +512,10 @@ module _ (users : List (Option Kept)) (attached : AreAttached users) (id : ℕ) 
   still_there = left_there id k made (λ i less is.
       let one = attached.each (id - first_id) i id k place_of.0 is in
       let it : one.0 ≡ k = same_Some one.0 k (sym one.1 ∙ made) in
-      nothing i id (ap (λ (ns : List ℕ). slice_get ns i) (sym (ap (λ (x : Kept). x.attached) (sym it) ∙ one.2.alone)) ∙ is))
+      nothing i id (ap (λ (ns : List ℕ). slice_get ns i) (sym (ap (λ (x : LoadedUser). x.attached) (sym it) ∙ one.2.alone)) ∙ is))
 
   -- and the next one
-  pub next_there : (n : ℕ) → slice_get k.attached count ≡ Some n → (u : Kept) × (user_of (without_all users (take count k.attached)) n ≡ Some u)
+  pub next_there : (n : ℕ) → slice_get k.attached count ≡ Some n → (u : LoadedUser) × (user_of (without_all users (take count k.attached)) n ≡ Some u)
   next_there n is =
       let one = attached.each (id - first_id) count n k place_of.0 is in (
         one.0,

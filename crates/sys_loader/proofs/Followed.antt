@@ -19,18 +19,18 @@ use Rattle.iigs_meaning.specs.Fits.{Slots, HoldsByte}
 use Rattle.loader_machine.specs.Rule.{RoomRule}
 use Rattle.iigs_meaning.specs.Memory.{bytes_at}
 use Rattle.loader_machine.specs.declared.faults.LoaderFault.{LoaderFault}
-use Rattle.loader_machine.specs.declared.seen.Head.{Head}
+use Rattle.loader_machine.specs.declared.seen.SegmentHead.{SegmentHead}
 use Rattle.loader_machine.specs.Heads.{head_of, at_number, is_table}
 use Rattle.loader_machine.specs.State.{Machine, Outline, outlines, first_id, user_of, named_by, handles_of, held_at}
 use Rattle.loader_machine.specs.declared.seen.Presence.{Presence}
 use Rattle.loader_machine.specs.declared.seen.Presence.TheVariants.{Absent, Purged, Idle, Active}
 use Rattle.loader_machine.specs.Presences.{presence, presence_at, there_at, lies_in, lies_at}
-use Rattle.loader_machine.specs.Stands.{Setting, setting_with, entry_for, stands}
+use Rattle.loader_machine.specs.Stands.{AddressSetting, setting_with, entry_for, stands}
 use Rattle.loader_machine.specs.Refusals.{Refuse, bytes_refusal, load_segment_refusal}
-use Rattle.loader_machine.specs.Steps.{Sees, StandsIn, IsAt, Place, Nowhere, In, IsLocated, Decides, Either, no_jsl, address_of, target_at_code, Enters, EntersEntry, MakesActive, StepsJsl}
+use Rattle.loader_machine.specs.Steps.{Sees, StandsIn, IsAt, AddressPlace, Nowhere, In, IsLocated, Decides, Either, no_jsl, address_of, target_at_code, Enters, EntersEntry, MakesActive, StepsJsl}
 use Rattle.loader_machine.specs.Needs.{Needs, Reaches, is_read, path_if}
 use Rattle.loader_machine.specs.Commands.{Reply, Jsl, Entered, Refused}
-use Rattle.loader_agrees.specs.Agrees.{far_in, Kept, Loaded, kept_outlines, seen_by, LeadsFar, Agrees, Has, IsSound, Meets}
+use Rattle.loader_agrees.specs.Agrees.{far_in, LoadedUser, Loaded, kept_outlines, seen_by, LeadsFar, Agrees, Has, IsSound, Meets}
 use Rattle.loader_agrees.specs.Acts.{HasLent, LiesIn}
 use Rattle.loader_agrees.specs.laws.Reads.{its_segment, begins, stands_there, stands_size, at_there, within_front, lies_back, sees_of, one, user}
 use Rattle.loader_agrees.specs.laws.BegunSound.{want_size}
@@ -55,12 +55,12 @@ stopped : (r : Refuse) (why : LoaderFault) (state : Machine) (Done : Type 0) →
 stopped r why state Done is = rw is (refl, refl)
 
 -- an entry of a user's table leads to an offset below LENGTH of a segment of the user that it names; its numbers are small
-pub record LeadsInto (users : List (Option Kept)) (owner : ℕ) (t : Target) : Type 0 where
+pub record LeadsInto (users : List (Option LoadedUser)) (owner : ℕ) (t : Target) : Type 0 where
   pub other : ℕ
   pub named : named_by (kept_outlines users) owner t.file ≡ Some other
-  pub kept : Kept
+  pub kept : LoadedUser
   pub made : user_of users other ≡ Some kept
-  pub head : Head
+  pub head : SegmentHead
   pub head' : at_number kept.heads t.segment ≡ Some head
   pub inside : t.offset < head.length
   pub file_fits : t.file < 2 ^ 16
@@ -102,7 +102,7 @@ module _ (held : FileMap) (old : Loaded) (state : Machine) (sound : IsSound old.
         let f = four id number at bytes lent in
         record { bytes = f.0; stands = f.1; is = stopped (no_jsl (take 4 (drop at f.0))) why state _ (ap no_jsl (sym f.2) ∙ is) }
 
-    steps_to : (place : Place) (reply : Reply) (next : Machine) → no_jsl bytes ≡ None → IsLocated held state (address_of bytes) place → Enters RoomRule held state (address_of bytes) place reply next
+    steps_to : (place : AddressPlace) (reply : Reply) (next : Machine) → no_jsl bytes ≡ None → IsLocated held state (address_of bytes) place → Enters RoomRule held state (address_of bytes) place reply next
         → StepsJsl RoomRule held state id number at reply next
     steps_to place reply next is located enters =
         let f = four id number at bytes lent in
@@ -175,7 +175,7 @@ module _ (held : FileMap) (old : Loaded) (state : Machine) (sound : IsSound old.
       its_table = same_table ∙ table
 
       count : length (targets_of s) ≡ entry_count lies.is.head.length
-      count = targets_count s ∙ ap (λ (h : Head). entry_count h.length) same_head
+      count = targets_count s ∙ ap (λ (h : SegmentHead). entry_count h.length) same_head
 
       front : IsFront (table_bytes (map (entry_for (setting_with (far_in old owner) owner old.memory.slots lies.is.kept.handles)) (targets_of s))) (bytes_at old.memory lies.h.slot)
       front =
@@ -214,10 +214,10 @@ module _ (held : FileMap) (old : Loaded) (state : Machine) (sound : IsSound old.
                   kept = lies.is.kept;
                   made = lies.is.made;
                   head = head_of own.segment';
-                  head' = ap (λ (hs : List Head). at_number hs entry.0.segment) its.does_agree.heads ∙ Rattle.loader_agrees.specs.laws.Reads.head_at its.does_agree.segments entry.0.segment own.segment' own.is;
+                  head' = ap (λ (hs : List SegmentHead). at_number hs entry.0.segment) its.does_agree.heads ∙ Rattle.loader_agrees.specs.laws.Reads.head_at its.does_agree.segments entry.0.segment own.segment' own.is;
                   inside = own.inside;
                   file_fits = omega (arith, own.file');
-                  segment_fits = omega (arith, within, short, ap (λ (hs : List Head). length hs) its.does_agree.heads, Rattle.std.proofs.lemmas.List.length-map its.does_agree.segments head_of);
+                  segment_fits = omega (arith, within, short, ap (λ (hs : List SegmentHead). length hs) its.does_agree.heads, Rattle.std.proofs.lemmas.List.length-map its.does_agree.segments head_of);
                 }
             by_target (inr far) =
                 let above : 2 ≤ entry.0.file = far.beyond in
@@ -236,7 +236,7 @@ module _ (held : FileMap) (old : Loaded) (state : Machine) (sound : IsSound old.
                   segment_fits = far_segment held old state agrees sound owner entry.0 leads;
                 }
 
-        abbrev its_setting : Setting
+        abbrev its_setting : AddressSetting
         its_setting = setting_with (far_in old owner) owner old.memory.slots lies.is.kept.handles
 
         -- what is read of the entry is its target
@@ -275,7 +275,7 @@ there_is slots (Some h) at is = in_slot (get slots h) refl is
     in_slot (Some block) g is = at_place block block.at block.locked g refl is
 
 module _ (held : Option FileMap) (old new : Loaded) (sound : IsSound old.memory old.users) (below : (place address : ℕ) → HoldsByte address (slot_at old.memory.slots place) → address < 2 ^ 24)
-    (below_now : (place address : ℕ) → HoldsByte address (slot_at new.memory.slots place) → address < 2 ^ 24) (owner number : ℕ) (head : Head) (handle : Option Handle)
+    (below_now : (place address : ℕ) → HoldsByte address (slot_at new.memory.slots place) → address < 2 ^ 24) (owner number : ℕ) (head : SegmentHead) (handle : Option Handle)
     (can : CanLoad old owner number head handle) (offset : ℕ) (inside : offset < head.length) where
   lands_there : (at : ℕ) → there_at (presence old.memory.slots handle) ≡ Some at → at + offset < 2 ^ 24
   lands_there at is =
@@ -334,8 +334,8 @@ module _ (held : FileMap) (old new : Loaded) (state : Machine) (sound : IsSound 
       inl (
         (
           state,
-          does_jsl held old state sound agrees id number at call.bytes call.lent (Refused why) state
-              (steps_to held old state sound agrees id number at call.bytes call.lent Nowhere (Refused why) state call.jsl
+          does_jsl held old state sound agrees id number at call.bytes call.borrow_bytes (Refused why) state
+              (steps_to held old state sound agrees id number at call.bytes call.borrow_bytes Nowhere (Refused why) state call.jsl
               (subst (λ (n : ℕ). IsLocated held state n Nowhere) call.address_is (nowhere held old state sound agrees address none))
               (ap (λ (f : LoaderFault). Refused f) is, refl)),
           agrees,
@@ -347,8 +347,8 @@ module _ (held : FileMap) (old new : Loaded) (state : Machine) (sound : IsSound 
       inl (
         (
           state,
-          does_jsl held old state sound agrees id number at call.bytes call.lent (Refused why) state
-              (steps_to held old state sound agrees id number at call.bytes call.lent (In place.user place.segment place.offset) (Refused why) state call.jsl
+          does_jsl held old state sound agrees id number at call.bytes call.borrow_bytes (Refused why) state
+              (steps_to held old state sound agrees id number at call.bytes call.borrow_bytes (In place.user place.segment place.offset) (Refused why) state call.jsl
               (subst (λ (n : ℕ). IsLocated held state n (In place.user place.segment place.offset)) call.address_is (is_at held old state sound agrees place.address place.user place.segment place.offset leads.lies))
               (subst (λ (n : ℕ). Enters RoomRule held state n (In place.user place.segment place.offset) (Refused why) state) call.address_is
               (steps_entry held old state sound agrees place.address place.user place.segment place.offset leads.lies None (Refused why) state table
@@ -365,8 +365,8 @@ module _ (held : FileMap) (old new : Loaded) (state : Machine) (sound : IsSound 
       inl (
         (
           state,
-          does_jsl held old state sound agrees id number at call.bytes call.lent (Entered place.user place.segment place.offset place.address) state
-              (steps_to held old state sound agrees id number at call.bytes call.lent (In place.user place.segment place.offset) (Entered place.user place.segment place.offset place.address) state call.jsl
+          does_jsl held old state sound agrees id number at call.bytes call.borrow_bytes (Entered place.user place.segment place.offset place.address) state
+              (steps_to held old state sound agrees id number at call.bytes call.borrow_bytes (In place.user place.segment place.offset) (Entered place.user place.segment place.offset place.address) state call.jsl
               (subst (λ (n : ℕ). IsLocated held state n (In place.user place.segment place.offset)) call.address_is (is_at held old state sound agrees place.address place.user place.segment place.offset lies))
               (subst (λ (n : ℕ). Enters RoomRule held state n (In place.user place.segment place.offset) (Entered place.user place.segment place.offset place.address) state) call.address_is
               (steps_place held old state sound agrees place.address place.user place.segment place.offset lies (Entered place.user place.segment place.offset place.address) state enters.plain refl refl))),
@@ -405,8 +405,8 @@ module _ (held : FileMap) (old new : Loaded) (state : Machine) (sound : IsSound 
     steps_call : (reply : Reply) (next : Machine) → MakesActive RoomRule held state lead.other t.0.segment of reply next
         → Rattle.loader_machine.specs.Steps.Does held state id (λ seen. bytes_refusal state.slots seen number at 4) reply next (λ user. StepsJsl RoomRule held state id number at reply next)
     steps_call reply next makes =
-        does_jsl held old state sound agrees id number at call.bytes call.lent reply next
-        (steps_to held old state sound agrees id number at call.bytes call.lent (In place.user place.segment place.offset) reply next call.jsl
+        does_jsl held old state sound agrees id number at call.bytes call.borrow_bytes reply next
+        (steps_to held old state sound agrees id number at call.bytes call.borrow_bytes (In place.user place.segment place.offset) reply next call.jsl
         (subst (λ (n : ℕ). IsLocated held state n (In place.user place.segment place.offset)) call.address_is (is_at held old state sound agrees place.address place.user place.segment place.offset is.lies))
         (subst (λ (n : ℕ). Enters RoomRule held state n (In place.user place.segment place.offset) reply next) call.address_is
         (steps_entry held old state sound agrees place.address place.user place.segment place.offset is.lies (Some t.0) reply next is.table
@@ -419,12 +419,12 @@ module _ (held : FileMap) (old new : Loaded) (state : Machine) (sound : IsSound 
     -- the call reaches the target
     pub reaches : Reaches held state id number at lead.other t.0
     reaches =
-        let f = four held old state sound agrees id number at call.bytes call.lent in
+        let f = four held old state sound agrees id number at call.bytes call.borrow_bytes in
         record {
           owner = place.user;
           seen = seen_by old id;
           is_seen = is_seen held old state agrees id;
-          passes = can_read held old state sound agrees id number at call.bytes call.lent;
+          passes = can_read held old state sound agrees id number at call.bytes call.borrow_bytes;
           bytes = f.0;
           stands = f.1;
           jsl = ap no_jsl (sym f.2) ∙ call.jsl;
@@ -436,7 +436,7 @@ module _ (held : FileMap) (old new : Loaded) (state : Machine) (sound : IsSound 
           named = named;
         }
 
-    module _ (head : Head) (handle : Option Handle) (can : CanLoad old lead.other t.0.segment head handle) where
+    module _ (head : SegmentHead) (handle : Option Handle) (can : CanLoad old lead.other t.0.segment head handle) where
       abbrev its_user : IsKept held old state agrees lead.other can.kept
       its_user = kept_is held old state agrees lead.other can.kept can.made
 
@@ -455,10 +455,10 @@ module _ (held : FileMap) (old new : Loaded) (state : Machine) (sound : IsSound 
       head_is : head ≡ lead.head
       head_is =
           let same : can.kept ≡ lead.kept = same_Some can.kept lead.kept (sym can.made ∙ lead.made) in
-          same_Some head lead.head (sym can.head' ∙ ap (λ (k : Kept). at_number k.heads t.0.segment) same ∙ lead.head')
+          same_Some head lead.head (sym can.head' ∙ ap (λ (k : LoadedUser). at_number k.heads t.0.segment) same ∙ lead.head')
 
       inside' : t.0.offset < head.length
-      inside' = omega (arith, lead.inside, ap (λ (x : Head). x.length) head_is)
+      inside' = omega (arith, lead.inside, ap (λ (x : SegmentHead). x.length) head_is)
 
       reply_same : (made : Result ℕ LoaderFault) → HasActivated (Some held) old lead.other t.0.segment can.kept head handle (presence old.memory.slots handle) made new before now
           → activation_reply of made ≡ jsl_reply (entered_at lead.other t.0.segment t.0.offset made)

@@ -4,8 +4,8 @@ use Rattle.std.specs.Prelude.{slice_get, slice_set, option_map}
 use Rattle.std.specs.Option.{option_map_or, option_and_then}
 use Rattle.std.proofs.lemmas.Option.{same_Some, slice_get-get_or, slice_get-map}
 use Rattle.iigs_meaning.specs.declared.handles.Handle.{Handle}
-use Rattle.iigs_meaning.specs.declared.slots.Content.{Content}
-use Rattle.iigs_meaning.specs.declared.slots.Content.TheVariants.{Free, Used, Retired}
+use Rattle.iigs_meaning.specs.declared.slots.SlotContent.{SlotContent}
+use Rattle.iigs_meaning.specs.declared.slots.SlotContent.TheVariants.{Free, Used, Retired}
 use Rattle.iigs_meaning.specs.declared.slots.Slot.{Slot}
 use Rattle.iigs_meaning.specs.declared.wants.Block.{Block}
 use Rattle.iigs_meaning.specs.Slots.{slot_at, get, used_value, with_value}
@@ -14,9 +14,9 @@ use Rattle.iigs_meaning.specs.Blocks.{address_in}
 use Rattle.iigs_meaning.specs.Memory.{Memory, IsThere, Changes}
 use Rattle.loader_machine.specs.declared.seen.Presence.TheVariants.{Absent, Purged, Idle, Active}
 use Rattle.loader_machine.specs.Presences.{presence, lies_in, lies_at}
-use Rattle.loader_machine.specs.Steps.{changed, changed_all, let_go, idle_block}
+use Rattle.loader_machine.specs.Steps.{with_block_changed, changed_all, let_go, idle_block}
 use Rattle.loader_machine.specs.State.{user_of, family, handles_of_all}
-use Rattle.loader_agrees.specs.Agrees.{Kept, kept_outlines}
+use Rattle.loader_agrees.specs.Agrees.{LoadedUser, kept_outlines}
 use Rattle.loader_agrees.specs.laws.Slotted.{slot_set, live_block}
 use Rattle.loader_users.specs.declared.user.Segment as users
 use Rattle.sys_loader.specs.Lives.{AreIdled}
@@ -53,7 +53,7 @@ value_same slots h b is = set_is slots h b b is ∙ go slots h.slot (slot_is (sl
     slot_is : (slot : Slot Block) → (slot.generation ≡ h.generation) × (block_in slot ≡ Some b) → slot ≡ record { generation = h.generation; content = Used b }
     slot_is slot both = by slot.generation slot.content both.0 both.1
       where
-        by : (g : ℕ) (content : Content Block) → g ≡ h.generation → used_value content ≡ Some b
+        by : (g : ℕ) (content : SlotContent Block) → g ≡ h.generation → used_value content ≡ Some b
             → (let one : Slot Block = record { generation = g; content = content } in one) ≡ record { generation = h.generation; content = Used b }
         by g Free e f = absurd cc
         by g Retired e f = absurd cc
@@ -65,7 +65,7 @@ value_same slots h b is = set_is slots h b b is ∙ go slots h.slot (slot_is (sl
     go (x ∷ xs) (suc n) e = ap (λ (ys : Slots). x ∷ ys) (go xs n e)
 
 -- a block that isn't let go stays as it is
-unchanged : (slots : Slots) (h : Handle) → ((b : Block) → get slots h ≡ Some b → let_go b ≡ b) → changed let_go slots h ≡ slots
+unchanged : (slots : Slots) (h : Handle) → ((b : Block) → get slots h ≡ Some b → let_go b ≡ b) → with_block_changed let_go slots h ≡ slots
 unchanged slots h same = go (get slots h) refl
   where
     go : (o : Option Block) → get slots h ≡ o → option_map_or (λ b. with_value slots h (let_go b)) o slots ≡ slots
@@ -78,9 +78,9 @@ module _ (handles : List (Option Handle)) (k : ℕ) (o : Option Handle) (found :
   stays : changed_all let_go old.slots (take (k + 1) handles) ≡ now.slots → AreIdled (take (k + 1) handles) old now
   stays same = record { slots = sym same; bytes = so_far.bytes }
 
-  next : (h : Handle) → o ≡ Some h → changed_all let_go old.slots (take (k + 1) handles) ≡ changed let_go now.slots h
+  next : (h : Handle) → o ≡ Some h → changed_all let_go old.slots (take (k + 1) handles) ≡ with_block_changed let_go now.slots h
   next h is = ap (changed_all let_go old.slots) (take_more handles k o found ∙ ap (λ (x : Option Handle). take k handles ++ x ∷ []) is)
-      ∙ all_more let_go let_go_again old.slots (take k handles) h ∙ ap (λ (t : Slots). changed let_go t h) (sym so_far.slots)
+      ∙ all_more let_go let_go_again old.slots (take k handles) h ∙ ap (λ (t : Slots). with_block_changed let_go t h) (sym so_far.slots)
 
   at_block : (h : Handle) (b : Block) → get now.slots h ≡ Some b → presence now.slots (Some h) ≡ lies_at h b.at b.locked
   at_block h b is = ap (lies_in h) is
@@ -173,7 +173,7 @@ idled_join xs ys old mid new one two = record {
 }
 
 -- the segments of one user more
-module _ (users : List (Option Kept)) (ids : List ℕ) (other : Kept) (old mid new : Memory) where
+module _ (users : List (Option LoadedUser)) (ids : List ℕ) (other : LoadedUser) (old mid new : Memory) where
   behind : (front : List ℕ) (id : ℕ) → user_of users id ≡ Some other → AreIdled (handles_of_all (kept_outlines users) front) old mid → AreIdled other.handles mid new
       → AreIdled (handles_of_all (kept_outlines users) (front ++ id ∷ [])) old new
   behind front id made so_far idled =

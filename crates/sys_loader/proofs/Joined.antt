@@ -11,7 +11,7 @@ use Rattle.loader_machine.specs.declared.faults.LoaderFault.{LoaderFault}
 use Rattle.loader_machine.specs.declared.faults.LoaderFault.TheVariants as fault
 use Rattle.loader_machine.specs.Heads.{head_of}
 use Rattle.loader_machine.specs.Found.{Stops, Joins}
-use Rattle.loader_agrees.specs.Agrees.{Kept}
+use Rattle.loader_agrees.specs.Agrees.{LoadedUser}
 use Rattle.loader_agrees.specs.Acts.{joined_kept, joined_kepts}
 use Rattle.sys_loader.specs.Calls.{AreRowsRead, JoinStops, AreJoinedUsers}
 use Rattle.loader_users.proofs.Families.{take_more}
@@ -74,18 +74,18 @@ module _ (held : Option FileMap) where
   kepts_behind [] [] path segments good = refl
   kepts_behind [] (s ∷ all) path segments good = absurd good
   kepts_behind (p ∷ paths) [] path segments good = absurd good
-  kepts_behind (p ∷ paths) (s ∷ all) path segments (first, good) = ap (λ (l : List (Option Kept)). Some (joined_kept p (map head_of s)) ∷ l) (kepts_behind paths all path segments good)
+  kepts_behind (p ∷ paths) (s ∷ all) path segments (first, good) = ap (λ (l : List (Option LoadedUser)). Some (joined_kept p (map head_of s)) ∷ l) (kepts_behind paths all path segments good)
 
   pub good_more : (paths : List (List ℕ)) (all : List (List Segment)) (k : ℕ) (path : List ℕ) (segments : List Segment) → slice_get paths k ≡ Some path → AreGood held (take k paths) all → IsGood held path segments
       → AreGood held (take (k + 1) paths) (all ++ segments ∷ [])
   good_more paths all k path segments is good one = subst (λ (ps : List (List ℕ)). AreGood held ps (all ++ segments ∷ [])) (sym (take_more paths k path is)) (good_behind (take k paths) all path segments good one)
 
-  pub users_more : (paths : List (List ℕ)) (all : List (List Segment)) (k : ℕ) (path : List ℕ) (segments : List Segment) (users : List Kept) (user : Kept) → slice_get paths k ≡ Some path → AreGood held (take k paths) all
-      → user ≡ joined_kept path (map head_of segments) → map (λ (u : Kept). Some u) users ≡ joined_kepts (take k paths) all
-      → map (λ (u : Kept). Some u) (users ++ user ∷ []) ≡ joined_kepts (take (k + 1) paths) (all ++ segments ∷ [])
+  pub users_more : (paths : List (List ℕ)) (all : List (List Segment)) (k : ℕ) (path : List ℕ) (segments : List Segment) (users : List LoadedUser) (user : LoadedUser) → slice_get paths k ≡ Some path → AreGood held (take k paths) all
+      → user ≡ joined_kept path (map head_of segments) → map (λ (u : LoadedUser). Some u) users ≡ joined_kepts (take k paths) all
+      → map (λ (u : LoadedUser). Some u) (users ++ user ∷ []) ≡ joined_kepts (take (k + 1) paths) (all ++ segments ∷ [])
   users_more paths all k path segments users user is good made so_far =
-      map-append (λ (u : Kept). Some u) users (user ∷ []) ∙ ap (λ (l : List (Option Kept)). l ++ Some user ∷ []) so_far
-      ∙ ap (λ (u : Kept). joined_kepts (take k paths) all ++ Some u ∷ []) made ∙ sym (kepts_behind (take k paths) all path segments good)
+      map-append (λ (u : LoadedUser). Some u) users (user ∷ []) ∙ ap (λ (l : List (Option LoadedUser)). l ++ Some user ∷ []) so_far
+      ∙ ap (λ (u : LoadedUser). joined_kepts (take k paths) all ++ Some u ∷ []) made ∙ sym (kepts_behind (take k paths) all path segments good)
       ∙ ap (λ (ps : List (List ℕ)). joined_kepts ps (all ++ segments ∷ [])) (sym (take_more paths k path is))
 
   -- ---- all rows
@@ -105,7 +105,7 @@ module _ (held : Option FileMap) where
       subst (λ (x : List Segment). (length x < 2 ^ 16) × ((file : List ℕ) × IsRuntime file x)) (same_Some s segments is) (first.3, (first.0, first.2))
   good_at (p ∷ paths) (s ∷ all) (first, good) (suc j) segments is = good_at paths all good j segments is
 
-  pub good_users : (paths : List (List ℕ)) (all : List (List Segment)) (users : List Kept) → AreGood held paths all → map (λ (u : Kept). Some u) users ≡ joined_kepts paths all → AreJoinedUsers paths all users
+  pub good_users : (paths : List (List ℕ)) (all : List (List Segment)) (users : List LoadedUser) → AreGood held paths all → map (λ (u : LoadedUser). Some u) users ≡ joined_kepts paths all → AreJoinedUsers paths all users
   good_users paths all users good made = record {
     long = good_long paths all good;
     shorts = λ j segments is. (good_at paths all good j segments is).0;

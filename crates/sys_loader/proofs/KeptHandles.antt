@@ -6,7 +6,7 @@ use Rattle.iigs_meaning.specs.declared.handles.Handle.{Handle}
 use Rattle.iigs_meaning.specs.declared.wants.Block.{Block}
 use Rattle.iigs_meaning.specs.Memory.{Memory, bytes_at}
 use Rattle.loader_machine.specs.Presences.{handle_at, presence, there_at, active_at, is_active, lies_in, lies_at}
-use Rattle.loader_agrees.specs.Agrees.{Kept}
+use Rattle.loader_agrees.specs.Agrees.{LoadedUser}
 use Rattle.loader_agrees.specs.laws.Frame.{Keeps, Same, Gone, unlocked}
 use Rattle.loader_agrees.specs.laws.Lists.{set_at, set_apart}
 use Rattle.loader_users.specs.Users.{with_handle}
@@ -57,8 +57,8 @@ module _ (old new : Memory) (k : Handle) (keeps : Keeps old new k) where
 
 -- ---- the handles of a user with one more
 
-module _ (kept : Kept) (number : ℕ) (h : Handle) (inside : number - 1 < length kept.handles) (some : 1 ≤ number) where
-  abbrev kept' : Kept
+module _ (kept : LoadedUser) (number : ℕ) (h : Handle) (inside : number - 1 < length kept.handles) (some : 1 ≤ number) where
+  abbrev kept' : LoadedUser
   kept' = with_handle kept number h
 
   pub handle_here : handle_at kept'.handles number ≡ Some h

@@ -6,7 +6,7 @@ use Rattle.std.specs.FinMap.{get}
 use Rattle.std.proofs.lemmas.List.{length-map}
 use Rattle.std.proofs.lemmas.Bool.Decides.{nat_tests}
 use Rattle.omf_format.specs.File.{Segment}
-use Rattle.omf_io.specs.Counts.{one_more, risen}
+use Rattle.omf_io.specs.Counts.{one_more, saturating_sum}
 use Rattle.omf_io.specs.Files.{FileMap, StoreSeen, IsUnread, max_file}
 use Rattle.load_meaning.specs.Pathnames.{paths_of}
 use Rattle.iigs_meaning.specs.declared.faults.PlaceFault.{PlaceFault}
@@ -18,7 +18,7 @@ use Rattle.loader_machine.specs.declared.faults.LoaderFault.{LoaderFault}
 use Rattle.loader_machine.specs.declared.faults.LoaderFault.TheVariants as fault
 use Rattle.loader_machine.specs.Heads.{head_of, wants_of}
 use Rattle.loader_machine.specs.State.{Machine, User, first_id, max_users}
-use Rattle.loader_machine.specs.Found.{HoldsFile, HoldsLoad, HoldsFault, Found, Unread, Bad, Good, IsFound, Joined, Stops, Joins, joined_behind, AreJoined, reads_of}
+use Rattle.loader_machine.specs.Found.{HoldsFile, HoldsLoad, HoldsFault, FileFound, Unread, Bad, Good, IsFound, Joined, Stops, Joins, joined_behind, AreJoined, reads_of}
 use Rattle.loader_machine.specs.Commands.{Reply, Command, Load, Refused}
 use Rattle.loader_machine.specs.Refusals.{load_refusal, rows_refusal}
 use Rattle.loader_machine.specs.Steps.{NoSlots, Lacks, Begins, LoadsFound, LoadsJoined, Steps, begun_users}
@@ -93,21 +93,21 @@ module _ (held : FileMap) (old : Loaded) (state : Machine) (path : List ℕ) (ag
   first : length old.users < max_users → Needs held state (Load path) (path ∷ [])
   first few = rw (may few) refl
 
-  needed : length old.users < max_users → (rows : List (List ℕ)) (behind : ℕ) → NeedsBehind held state (Load path) rows behind → (reads : ℕ) → reads ≡ 1 + behind → now.asked ≡ risen reads before.asked
+  needed : length old.users < max_users → (rows : List (List ℕ)) (behind : ℕ) → NeedsBehind held state (Load path) rows behind → (reads : ℕ) → reads ≡ 1 + behind → now.asked ≡ saturating_sum reads before.asked
       → ReadsNeeded held state (Load path) 0 before.asked now.asked
   needed few rows behind needs reads is count = (reads, (path ∷ [], first few, inl (refl, rows, behind, needs, is)), count)
 
-  some_needed : length old.users < max_users → (reads : ℕ) → 1 ≤ reads → reads ≤ 17 → now.asked ≡ risen reads before.asked → ReadsNeeded held state (Load path) 1 before.asked now.asked
+  some_needed : length old.users < max_users → (reads : ℕ) → 1 ≤ reads → reads ≤ 17 → now.asked ≡ saturating_sum reads before.asked → ReadsNeeded held state (Load path) 1 before.asked now.asked
   some_needed few reads one most count = (reads, (path ∷ [], first few, inr (omega (arith, one), omega (arith, most), omega arith)), count)
 
   -- the file is found, and no row behind it
-  found_needed : length old.users < max_users → (found : Found) → IsFound held path found → rows_of state found ≡ [] → (reads : ℕ) → reads ≡ 1 → now.asked ≡ risen reads before.asked
+  found_needed : length old.users < max_users → (found : FileFound) → IsFound held path found → rows_of state found ≡ [] → (reads : ℕ) → reads ≡ 1 → now.asked ≡ saturating_sum reads before.asked
       → ReadsNeeded held state (Load path) 0 before.asked now.asked
   found_needed few found is none reads one count = needed few [] 0 (inl (may few, found, is, sym none, Joins [], refl, refl)) reads (omega (arith, one)) count
 
   -- the rows of a file
   rows_needed : length old.users < max_users → (segments : List Segment) → HoldsLoad held path segments → length old.users + 1 + length (paths_of segments) ≤ max_users → (joined : Joined)
-      → AreJoined held (paths_of segments) joined → (reads : ℕ) → reads ≡ 1 + reads_of joined → now.asked ≡ risen reads before.asked → ReadsNeeded held state (Load path) 0 before.asked now.asked
+      → AreJoined held (paths_of segments) joined → (reads : ℕ) → reads ≡ 1 + reads_of joined → now.asked ≡ saturating_sum reads before.asked → ReadsNeeded held state (Load path) 0 before.asked now.asked
   rows_needed few segments holds fit joined are reads is count =
       let joins = can_join (length state.users) (length (paths_of segments)) (omega (arith, fit, same_count)) in
       needed few (paths_of segments) (reads_of joined) (inl (may few, Good segments, holds, rw joins refl, joined, are, refl)) reads is count
@@ -118,18 +118,18 @@ module _ (held : FileMap) (old : Loaded) (state : Machine) (path : List ℕ) (ag
       → MeetsReads RoomRule held state (Load path) (Refused why) old before now
   refused why steps same reads = inl ((state, steps, agrees), same, reads)
 
-  lacks : length old.users < max_users → (reads : ℕ) → 1 ≤ reads → reads ≤ 17 → now.faults ≡ before.faults → now.asked ≡ risen reads before.asked → MeetsReads RoomRule held state (Load path) (Refused fault.Memory) old before now
+  lacks : length old.users < max_users → (reads : ℕ) → 1 ≤ reads → reads ≤ 17 → now.faults ≡ before.faults → now.asked ≡ saturating_sum reads before.asked → MeetsReads RoomRule held state (Load path) (Refused fault.Memory) old before now
   lacks few reads one most same count = inr (inr (refl, agrees, same, some_needed few reads one most count))
 
-  unread : length old.users < max_users → (reads : ℕ) → 1 ≤ reads → reads ≤ 17 → now.faults ≡ one_more before.faults → now.asked ≡ risen reads before.asked
+  unread : length old.users < max_users → (reads : ℕ) → 1 ≤ reads → reads ≤ 17 → now.faults ≡ one_more before.faults → now.asked ≡ saturating_sum reads before.asked
       → MeetsReads RoomRule held state (Load path) (Refused fault.CannotRead) old before now
   unread few reads one most rose count = inr (inl (refl, path ∷ [], first few, (λ none. absurd cc), agrees, rose, some_needed few reads one most count))
 
-  not_found : length old.users < max_users → ((file : List ℕ) → ¬ HoldsFile held path file) → now.faults ≡ before.faults → (reads : ℕ) → reads ≡ 1 → now.asked ≡ risen reads before.asked
+  not_found : length old.users < max_users → ((file : List ℕ) → ¬ HoldsFile held path file) → now.faults ≡ before.faults → (reads : ℕ) → reads ≡ 1 → now.asked ≡ saturating_sum reads before.asked
       → MeetsReads RoomRule held state (Load path) (Refused fault.CannotRead) old before now
   not_found few none same reads one count = refused fault.CannotRead (rw (may few) (Unread, none, (refl, refl))) same (found_needed few Unread none refl reads one count)
 
-  cant_read : length old.users < max_users → IsUnread (Some held) path before.faults now.faults → (reads : ℕ) → reads ≡ 1 → now.asked ≡ risen reads before.asked
+  cant_read : length old.users < max_users → IsUnread (Some held) path before.faults now.faults → (reads : ℕ) → reads ≡ 1 → now.asked ≡ saturating_sum reads before.asked
       → MeetsReads RoomRule held state (Load path) (Refused fault.CannotRead) old before now
   cant_read few (inl none) reads one count = not_found few (λ file holds. absent held path file none.0 holds) none.1 reads one count
   cant_read few (inr (inl long)) reads one count = not_found few (λ file holds. too_long held path file long.0 holds) long.1 reads one count
@@ -151,7 +151,7 @@ module _ (held : FileMap) (old : Loaded) (state : Machine) (path : List ℕ) (ag
 
   -- ---- a file that was read
 
-  module _ (segments : List Segment) (is : IsFileRead (Some held) old path segments) (reads rows : ℕ) (sum : reads ≡ 1 + rows) (count : now.asked ≡ risen reads before.asked) where
+  module _ (segments : List Segment) (is : IsFileRead (Some held) old path segments) (reads rows : ℕ) (sum : reads ≡ 1 + rows) (count : now.asked ≡ saturating_sum reads before.asked) where
     holds : HoldsLoad held path segments
     holds = record { file = is.file; is_held = (is.is_read.1, is.is_read.0); loadable = is.loadable }
 
@@ -203,7 +203,7 @@ module _ (held : FileMap) (old : Loaded) (state : Machine) (path : List ℕ) (ag
           rows_needed is.few segments holds has.begun.few (Joins has.all) are.0 reads (omega (arith, sum, has.rows')) count,
         )
 
-  refuses : (why : LoaderFault) (reads : ℕ) → now.asked ≡ risen reads before.asked → IsLoadRefusal (Some held) old path before.faults now.faults reads why
+  refuses : (why : LoaderFault) (reads : ℕ) → now.asked ≡ saturating_sum reads before.asked → IsLoadRefusal (Some held) old path before.faults now.faults reads why
       → MeetsReads RoomRule held state (Load path) (Refused why) old before now
   refuses why reads count (IsFull full why_is same none) =
       let cant = cant_load (length state.users) (omega (arith, full, same_count)) in
@@ -222,7 +222,7 @@ module _ (held : FileMap) (old : Loaded) (state : Machine) (path : List ℕ) (ag
   refuses why reads count (CantStart segments is rows cant sum) = rows_refused segments is reads rows sum count why cant
 
 pub loads : (store : Option FileMap) (held : FileMap) (old new : Loaded) (state : Machine) (path : List ℕ) (result : Result Started LoaderFault) (before now : StoreSeen) → store ≡ Some held → IsSound old.memory old.users
-    → (reads : ℕ) × HasLoaded store old path result new before.faults now.faults reads × (now.asked ≡ risen reads before.asked) → Agrees held old state
+    → (reads : ℕ) × HasLoaded store old path result new before.faults now.faults reads × (now.asked ≡ saturating_sum reads before.asked) → Agrees held old state
     → MeetsReads RoomRule held state (Load path) (load_reply result) new before now
 loads store held old new state path result before now told sound (reads, loaded, count) agrees = go result (subst (λ (s : Option FileMap). HasLoaded s old path result new before.faults now.faults reads) told loaded)
   where

@@ -4,7 +4,7 @@ use Rattle.std.specs.Option.{option_map_or}
 use Rattle.omf_io.specs.Files.{FileMap}
 use Rattle.iigs_meaning.specs.declared.handles.Handle.{Handle}
 use Rattle.loader_machine.specs.declared.faults.LoaderFault.{LoaderFault}
-use Rattle.loader_machine.specs.declared.seen.Head.{Head}
+use Rattle.loader_machine.specs.declared.seen.SegmentHead.{SegmentHead}
 use Rattle.loader_machine.specs.declared.seen.Presence.{Presence}
 use Rattle.loader_machine.specs.declared.seen.Presence.TheVariants.{Absent, Purged, Idle, Active}
 use Rattle.loader_machine.specs.State.{user_of}
@@ -12,15 +12,15 @@ use Rattle.loader_machine.specs.Presences.{presence, presence_at}
 use Rattle.loader_machine.specs.Refusals.{load_segment_refusal}
 use Rattle.loader_machine.specs.Steps.{active_block}
 use Rattle.loader_machine.specs.Needs.{is_read}
-use Rattle.loader_agrees.specs.Agrees.{Kept, Loaded, seen_by}
+use Rattle.loader_agrees.specs.Agrees.{LoadedUser, Loaded, seen_by}
 use Rattle.sys_loader.specs.Lives.{HasTurned}
 use Rattle.sys_loader.specs.Activating.{segment_reads, CanLoad, DidCome, HasActivated, DidActivate}
 use Rattle.loader_users.proofs.Renewing.{same_idle}
 
-module _ (loader : Loaded) (id number : ℕ) (head : Head) (handle : Option Handle) (can : CanLoad loader id number head handle) where
+module _ (loader : Loaded) (id number : ℕ) (head : SegmentHead) (handle : Option Handle) (can : CanLoad loader id number head handle) where
   -- it is read where it isn't there
   pub reads_is : segment_reads loader id number ≡ is_read (presence loader.memory.slots handle)
-  reads_is = ap (λ (o : Option Kept). option_map_or (λ k. is_read (presence_at loader.memory.slots k.handles number)) o false) can.made
+  reads_is = ap (λ (o : Option LoadedUser). option_map_or (λ k. is_read (presence_at loader.memory.slots k.handles number)) o false) can.made
       ∙ ap (λ (o : Option Handle). is_read (presence loader.memory.slots o)) can.handle'
 
   pub reads_where : (p : Presence) (b : Bool) → presence loader.memory.slots handle ≡ p → is_read p ≡ b → segment_reads loader id number ≡ b
@@ -48,11 +48,11 @@ module _ (loader : Loaded) (id number : ℕ) (head : Head) (handle : Option Hand
     was_idle h at is turned count = activates (Idle h at) (Ok at) is (refl, turned, count)
 
     pub was_purged : (h : Handle) (r : Result ℕ LoaderFault) → presence loader.memory.slots handle ≡ Purged h
-        → ((k : Kept) → user_of loader.users id ≡ Some k → DidCome held loader id number k head handle r new before now) → DidActivate held loader id number r new before now
+        → ((k : LoadedUser) → user_of loader.users id ≡ Some k → DidCome held loader id number k head handle r new before now) → DidActivate held loader id number r new before now
     was_purged h r is came = activates (Purged h) r is (came can.kept can.made)
 
     pub was_absent : (r : Result ℕ LoaderFault) → presence loader.memory.slots handle ≡ Absent
-        → ((k : Kept) → user_of loader.users id ≡ Some k → DidCome held loader id number k head handle r new before now) → DidActivate held loader id number r new before now
+        → ((k : LoadedUser) → user_of loader.users id ≡ Some k → DidCome held loader id number k head handle r new before now) → DidActivate held loader id number r new before now
     was_absent r is came = activates Absent r is (came can.kept can.made)
 
 pub stops : (held : Option FileMap) (loader new : Loaded) (id number : ℕ) (why : LoaderFault) (before now : ℕ) → load_segment_refusal (seen_by loader id) number ≡ Some why → new ≡ loader → now ≡ before

@@ -7,10 +7,10 @@ use Rattle.std.proofs.lemmas.List.{get_or-drop}
 use Rattle.std.proofs.lemmas.List.Elements.{All-append, All-take, All-drop, All-cons, All-nil}
 use Rattle.std.proofs.lemmas.Option.{same_Some, slice_get-map, slice_get_within, get_or_from_slice_get}
 use Rattle.omf_format.specs.Number.{number_at}
-use Rattle.omf_format.specs.Value.{wrapped, shifted}
+use Rattle.omf_format.specs.Value.{wrapped_to_32_bits, shifted_bits}
 use Rattle.omf_format.specs.File.{Segment, segment_at}
 use Rattle.omf_io.specs.Files.{FileMap}
-use Rattle.load_meaning.specs.Cells.{Cell, Byte, Part, Patch, cells, segment_bytes, parts_from, with_patch, patched, byte_of}
+use Rattle.load_meaning.specs.Cells.{Cell, Byte, Part, Patch, cells, segment_bytes, parts_from, with_patch, patched_cells, byte_of}
 use Rattle.load_meaning.specs.laws.CellLaws.{cells-bytes, loadable_has}
 use Rattle.load_meaning.specs.Loadable.{patch_list, IsPatch, IsSoundSegment}
 use Rattle.load_meaning.specs.LoadTable.{is_table, targets_of}
@@ -28,7 +28,7 @@ use Rattle.loader_machine.specs.declared.seen.Presence.TheVariants.{Absent, Purg
 use Rattle.loader_machine.specs.Heads.{head_of, is_static}
 use Rattle.loader_machine.specs.State.{Pokes, User, Machine, handles_of, held_at}
 use Rattle.loader_machine.specs.Presences.{presence_at, there_at, is_active}
-use Rattle.loader_machine.specs.Stands.{Setting, place_in, over_from, over, read_bytes, stands, entries_bytes}
+use Rattle.loader_machine.specs.Stands.{AddressSetting, place_in, over_from, with_pokes, read_bytes, stands, entries_bytes}
 use Rattle.loader_machine.specs.Found.{HoldsLoad}
 use Rattle.loader_machine.specs.Commands.{Where, Lies}
 use Rattle.loader_machine.specs.laws.OnceLaws.{one_load}
@@ -68,7 +68,7 @@ module _ (P : ℕ → Type 0) where
   parts_tell p index zero is = All-nil (Tells P)
   parts_tell p index (suc n) is = All-cons (Tells P) (Part p.file p.segment p.offset p.shift index) (parts_from p (index + 1) n) is (parts_tell p (index + 1) n is)
 
-  patched_tell : (patches : List Patch) (cs : List Cell) → All (Tells P) cs → AllByRecursion (λ (p : Patch). P p.segment) patches → All (Tells P) (patched cs patches)
+  patched_tell : (patches : List Patch) (cs : List Cell) → All (Tells P) cs → AllByRecursion (λ (p : Patch). P p.segment) patches → All (Tells P) (patched_cells cs patches)
   patched_tell [] cs all es = all
   patched_tell (p ∷ patches) cs all es = patched_tell patches (with_patch cs p)
       (All-append (Tells P) (take p.location cs ++ parts_from p 0 p.count) (drop (p.location + p.count) cs)
@@ -118,21 +118,21 @@ module _ (segments : List Segment) (number : ℕ) (s : Segment) (sound : IsSound
       go true is = absurd (no_part (slice_get (segment_bytes s) at)
           (sym (slice_get-map Byte (segment_bytes s) at) ∙ ap (λ (cs : List Cell). slice_get cs at) (sym (cells-bytes s (sound.table is).unpatched)) ∙ part))
 
-plain_bytes : (at : Setting) (s : Segment) → is_table s ≡ false → read_bytes at s ≡ map (byte_of at.place) (cells s)
+plain_bytes : (at : AddressSetting) (s : Segment) → is_table s ≡ false → read_bytes at s ≡ map (byte_of at.place) (cells s)
 unfolding read_bytes
 plain_bytes at s is = ap (λ (b : Bool). cond b (entries_bytes at (targets_of s)) (map (byte_of at.place) (cells s))) is
 
 -- the byte of a cell stands where nothing was written
-pub cell_stands : (where' : Setting) (pokes : Pokes) (s : Segment) (at : ℕ) (c : Cell) → is_table s ≡ false → slice_get (cells s) at ≡ Some c → get pokes at ≡ None
+pub cell_stands : (where' : AddressSetting) (pokes : Pokes) (s : Segment) (at : ℕ) (c : Cell) → is_table s ≡ false → slice_get (cells s) at ≡ Some c → get pokes at ≡ None
     → slice_get (stands where' pokes s) at ≡ Some (byte_of where'.place c)
-unfolding stands over
+unfolding stands with_pokes
 cell_stands where' pokes s at c plain is none = let same : 0 + at ≡ at = omega arith in
     over_at 0 pokes (read_bytes where' s) at (byte_of where'.place c) (ap (get pokes) same ∙ none)
     (ap (λ (bs : List ℕ). slice_get bs at) (plain_bytes where' s plain) ∙ slice_get-map (byte_of where'.place) (cells s) at ∙ ap (option_map (byte_of where'.place)) is)
 
 -- ---- the number
 
-whole : (n : ℕ) → n < 2 ^ 24 → shifted (wrapped n) (pos 0) ≡ n
+whole : (n : ℕ) → n < 2 ^ 24 → shifted_bits (wrapped_to_32_bits n) (pos 0) ≡ n
 whole n small = omega arith
 
 three_bytes : (n : ℕ) → n < 2 ^ 24 → n / 256 ^ 0 % 256 + 256 * (n / 256 ^ 1 % 256 + 256 * (n / 256 ^ 2 % 256 + 256 * 0)) ≡ n
@@ -147,7 +147,7 @@ number_of_three bytes at a b c one two three =
     let z : get_or (drop at bytes) 2 0 ≡ c = get_or-drop at bytes 2 0 ∙ get_or_from_slice_get bytes (at + 2) c 0 three in
     omega (arith, x, y, z)
 
-module _ (setting : Setting) (pokes : Pokes) (s : Segment) (at target offset : ℕ) (plain : is_table s ≡ false)
+module _ (setting : AddressSetting) (pokes : Pokes) (s : Segment) (at target offset : ℕ) (plain : is_table s ≡ false)
     (parts : (k : ℕ) → k < 3 → slice_get (cells s) (at + k) ≡ Some (Part 1 target offset (pos 0) k)) (none : (k : ℕ) → k < 3 → get pokes (at + k) ≡ None)
     (small : setting.place target + offset < 2 ^ 24) where
   pub byte_there : (k : ℕ) → k < 3 → slice_get (stands setting pokes s) (at + k) ≡ Some ((setting.place target + offset) / 256 ^ k % 256)

@@ -2,7 +2,7 @@
 use Rattle.std.proofs.Common.{◌≡◌, ◌⊎◌, inl, inr, ℕ, Bool, true, false, not, ◌||◌, ◌+◌, ◌*◌, ◌<◌, ◌≤◌, ◌^◌, List, [], length, take, drop, Option, Some, None, IsSome, refl, sym, ap, subst, ◌∙◌, arith}
 use Rattle.std.specs.Option.{option_map, option_map_or}
 use Rattle.omf_format.specs.File.{Segment}
-use Rattle.omf_io.specs.Counts.{one_more, risen}
+use Rattle.omf_io.specs.Counts.{one_more, saturating_sum}
 use Rattle.omf_io.specs.Files.{FileMap}
 use Rattle.load_meaning.specs.declared.table.Target.{Target}
 use Rattle.load_meaning.specs.LoadTable.{targets_of}
@@ -12,7 +12,7 @@ use Rattle.loader_machine.specs.Rule.{RoomRule}
 use Rattle.iigs_meaning.specs.Blocks.{AreApart}
 use Rattle.loader_machine.specs.declared.faults.LoaderFault.{LoaderFault}
 use Rattle.loader_machine.specs.Heads.{head_of, is_table}
-use Rattle.loader_machine.specs.State.{User, Machine, Seen, user_of, handles_of, outlines, named_by, is_attached}
+use Rattle.loader_machine.specs.State.{User, Machine, UserSeen, user_of, handles_of, outlines, named_by, is_attached}
 use Rattle.loader_machine.specs.Presences.{presence_at}
 use Rattle.loader_machine.specs.laws.OnceLaws.{IsApartState, segment_same, seen_once, at_once, stands_once}
 use Rattle.loader_machine.specs.Commands.{LoadSegment, Jsl, Restart}
@@ -20,7 +20,7 @@ use Rattle.loader_machine.specs.Refusals.{Refuse, bytes_refusal, load_segment_re
 use Rattle.loader_machine.specs.Steps.{Sees, IsSeen, IsAt, seen_of, are_there, no_jsl, address_of, target_at_code}
 use Rattle.loader_machine.specs.Needs as needs
 use Rattle.loader_machine.specs.Needs.{NeedsOf, IsReadFor, Reaches, is_read, path_if, some_read_again}
-use Rattle.loader_agrees.specs.Agrees.{Kept, Loaded, Outline, kept_outlines, seen_in, seen_by, Agrees, IsSound, ReadsNeeded}
+use Rattle.loader_agrees.specs.Agrees.{LoadedUser, Loaded, Outline, kept_outlines, seen_in, seen_by, Agrees, IsSound, ReadsNeeded}
 use Rattle.loader_agrees.specs.Acts.{HasLent, LiesIn}
 use Rattle.loader_agrees.specs.laws.Apart.{is_apart}
 use Rattle.loader_agrees.specs.laws.Reads.{lies_back}
@@ -35,7 +35,7 @@ use Rattle.sys_loader.proofs.Followed as followed
 
 -- so many paths, by whether the call is refused, and whether it reads
 counted : (r : Refuse) (b : Bool) (path : List ℕ) (before now : ℕ) → (r ≡ None → b ≡ true → now ≡ one_more before) → (b ≡ false → now ≡ before) → (IsSome r → now ≡ before)
-    → now ≡ risen (length (path_if r b path)) before
+    → now ≡ saturating_sum (length (path_if r b path)) before
 counted (Some why) b path before now asked unasked refused = refused refl
 counted None true path before now asked unasked refused = asked refl refl
 counted None false path before now asked unasked refused = unasked refl
@@ -50,44 +50,44 @@ alone count = inl (refl, [], 0, (refl, refl), omega arith)
 
 -- ---- a command on a user
 
-module _ (held : FileMap) (old : Loaded) (state : Machine) (agrees : Agrees held old state) (id : ℕ) (refusal : Option Seen → Refuse) (reads : Seen → User → Bool) (flag : Bool) (before now : ℕ)
+module _ (held : FileMap) (old : Loaded) (state : Machine) (agrees : Agrees held old state) (id : ℕ) (refusal : Option UserSeen → Refuse) (reads : UserSeen → User → Bool) (flag : Bool) (before now : ℕ)
     (same : (sees : Sees held state id) → seen_by old id ≡ Some (seen_of sees.user sees.segments) → reads (seen_of sees.user sees.segments) sees.user ≡ flag)
     (none : seen_by old id ≡ None → flag ≡ false)
     (asked : refusal (seen_by old id) ≡ None → flag ≡ true → now ≡ one_more before) (unasked : flag ≡ false → now ≡ before) (refused : IsSome (refusal (seen_by old id)) → now ≡ before) where
-  abbrev Of : Seen → User → List (List ℕ)
+  abbrev Of : UserSeen → User → List (List ℕ)
   Of seen user = path_if (refusal (Some seen)) (reads seen user) user.path
 
-  user_needs : (reads : ℕ) × ((paths : List (List ℕ)) × NeedsOf held state id Of paths × Alone (length paths) reads) × (now ≡ risen reads before)
+  user_needs : (reads : ℕ) × ((paths : List (List ℕ)) × NeedsOf held state id Of paths × Alone (length paths) reads) × (now ≡ saturating_sum reads before)
   user_needs = go (seen_by old id) refl (is_seen held old state agrees id)
     where
-      go : (o : Option Seen) → seen_by old id ≡ o → IsSeen held state id o
-          → (reads : ℕ) × ((paths : List (List ℕ)) × NeedsOf held state id Of paths × Alone (length paths) reads) × (now ≡ risen reads before)
+      go : (o : Option UserSeen) → seen_by old id ≡ o → IsSeen held state id o
+          → (reads : ℕ) × ((paths : List (List ℕ)) × NeedsOf held state id Of paths × Alone (length paths) reads) × (now ≡ saturating_sum reads before)
       go None e gone = (0, ([], inl (gone, refl), alone 0), unasked (none e))
       go (Some seen) e is =
           let sees = is.0 in
-          let its : Seen = seen_of sees.user sees.segments in
-          let here : seen_by old id ≡ Some its = e ∙ ap (λ (s : Seen). Some s) is.1 in
+          let its : UserSeen = seen_of sees.user sees.segments in
+          let here : seen_by old id ≡ Some its = e ∙ ap (λ (s : UserSeen). Some s) is.1 in
           let flag' : reads its sees.user ≡ flag = same sees here in (
             length (Of its sees.user),
             (Of its sees.user, inr (sees, refl), alone (length (Of its sees.user))),
             counted (refusal (Some its)) (reads its sees.user) sees.user.path before now
                 (λ passes yes. asked (ap refusal here ∙ passes) (sym flag' ∙ yes)) (λ no'. unasked (sym flag' ∙ no'))
-                (λ stops. refused (subst (λ (o : Option Seen). IsSome (refusal o)) (sym here) stops)),
+                (λ stops. refused (subst (λ (o : Option UserSeen). IsSome (refusal o)) (sym here) stops)),
           )
 
 -- a user that is seen is kept
-kept_of : (old : Loaded) (id : ℕ) (seen : Seen) → seen_by old id ≡ Some seen → (kept : Kept) × (user_of old.users id ≡ Some kept) × (seen_in kept ≡ seen)
+kept_of : (old : Loaded) (id : ℕ) (seen : UserSeen) → seen_by old id ≡ Some seen → (kept : LoadedUser) × (user_of old.users id ≡ Some kept) × (seen_in kept ≡ seen)
 kept_of old id seen is = go (user_of old.users id) refl is
   where
-    go : (o : Option Kept) → user_of old.users id ≡ o → option_map seen_in o ≡ Some seen → (kept : Kept) × (user_of old.users id ≡ Some kept) × (seen_in kept ≡ seen)
+    go : (o : Option LoadedUser) → user_of old.users id ≡ o → option_map seen_in o ≡ Some seen → (kept : LoadedUser) × (user_of old.users id ≡ Some kept) × (seen_in kept ≡ seen)
     go None e is' = absurd cc
     go (Some kept) e is' = (kept, e, cc)
 
 -- what is asked of a user that isn't seen
-not_kept : (old : Loaded) (id : ℕ) (f : Kept → Bool) → seen_by old id ≡ None → option_map_or f (user_of old.users id) false ≡ false
+not_kept : (old : Loaded) (id : ℕ) (f : LoadedUser → Bool) → seen_by old id ≡ None → option_map_or f (user_of old.users id) false ≡ false
 not_kept old id f is = go (user_of old.users id) is
   where
-    go : (o : Option Kept) → option_map seen_in o ≡ None → option_map_or f o false ≡ false
+    go : (o : Option LoadedUser) → option_map seen_in o ≡ None → option_map_or f o false ≡ false
     go None e = refl
     go (Some kept) e = absurd cc
 
@@ -101,9 +101,9 @@ module _ (held : FileMap) (old : Loaded) (state : Machine) (agrees : Agrees held
       same : (sees : Sees held state id) → seen_by old id ≡ Some (seen_of sees.user sees.segments) → is_read (presence_at state.slots (handles_of sees.user) number) ≡ segment_reads old id number
       same sees is =
           let kept = kept_of old id (seen_of sees.user sees.segments) is in
-          sym (ap (λ (o : Option Kept). option_map_or (λ k. is_read (presence_at old.memory.slots k.handles number)) o false) kept.1
+          sym (ap (λ (o : Option LoadedUser). option_map_or (λ k. is_read (presence_at old.memory.slots k.handles number)) o false) kept.1
           ∙ ap (λ (t : Slots). is_read (presence_at t kept.0.handles number)) agrees.slots
-          ∙ ap (λ (seen : Seen). is_read (presence_at state.slots seen.handles number)) kept.2)
+          ∙ ap (λ (seen : UserSeen). is_read (presence_at state.slots seen.handles number)) kept.2)
 
   -- whether a user is attached to another
   abbrev its_own : Bool
@@ -119,15 +119,15 @@ module _ (held : FileMap) (old : Loaded) (state : Machine) (agrees : Agrees held
       same (not_kept old id (λ kept. not (are_there old.memory.slots kept.heads kept.handles 1) || some_read_again kept.heads))
       (λ passes. asked (sym (of_own (seen_by old id)) ∙ passes)) unasked (λ stops. refused (subst (λ (r : Refuse). IsSome r) (of_own (seen_by old id)) stops))
     where
-      of_own : (seen : Option Seen) → restart_refusal (is_attached (outlines state.users) id) seen ≡ restart_refusal its_own seen
+      of_own : (seen : Option UserSeen) → restart_refusal (is_attached (outlines state.users) id) seen ≡ restart_refusal its_own seen
       of_own seen = ap (λ (b : Bool). restart_refusal b seen) same_own
 
       same : (sees : Sees held state id) → seen_by old id ≡ Some (seen_of sees.user sees.segments) → needs.restart_reads state (seen_of sees.user sees.segments) ≡ restart_reads old id
       same sees is =
           let kept = kept_of old id (seen_of sees.user sees.segments) is in
-          sym (ap (λ (o : Option Kept). option_map_or (λ k. not (are_there old.memory.slots k.heads k.handles 1) || some_read_again k.heads) o false) kept.1
+          sym (ap (λ (o : Option LoadedUser). option_map_or (λ k. not (are_there old.memory.slots k.heads k.handles 1) || some_read_again k.heads) o false) kept.1
           ∙ ap (λ (t : Slots). not (are_there t kept.0.heads kept.0.handles 1) || some_read_again kept.0.heads) agrees.slots
-          ∙ ap (λ (seen : Seen). needs.restart_reads state seen) kept.2)
+          ∙ ap (λ (seen : UserSeen). needs.restart_reads state seen) kept.2)
 
 -- ---- jsl
 
@@ -162,7 +162,7 @@ module _ (held : FileMap) (old : Loaded) (state : Machine) (sound : IsSound old.
       passes : bytes_refusal old.memory.slots (seen_by old id) number at 4 ≡ None
       passes =
           ap (λ (slots : Slots). bytes_refusal slots (seen_by old id) number at 4) agrees.slots
-          ∙ ap (λ (seen : Option Seen). bytes_refusal state.slots seen number at 4) (seen_once held state id (seen_by old id) r.seen (is_seen held old state agrees id) r.is_seen) ∙ r.passes
+          ∙ ap (λ (seen : Option UserSeen). bytes_refusal state.slots seen number at 4) (seen_once held state id (seen_by old id) r.seen (is_seen held old state agrees id) r.is_seen) ∙ r.passes
 
       same_bytes : (bytes : List ℕ) → HasLent old id number at 4 bytes → bytes ≡ take 4 (drop at r.bytes)
       same_bytes bytes lent =
@@ -177,14 +177,14 @@ module _ (held : FileMap) (old : Loaded) (state : Machine) (sound : IsSound old.
       stops why (NoJsl bytes lent is) = let clash : Some why ≡ None = sym is ∙ ap no_jsl (same_bytes bytes lent) ∙ r.jsl in cc
       stops why (NoPlace address call none is) =
           none r.owner r.table r.offset (lies_back held old state agrees RoomRule sound address r.owner r.table r.offset
-          (subst (λ (n : ℕ). IsAt held state n r.owner r.table r.offset) (same_address address call.bytes call.lent call.address_is) r.is_at))
+          (subst (λ (n : ℕ). IsAt held state n r.owner r.table r.offset) (same_address address call.bytes call.borrow_bytes call.address_is) r.is_at))
       stops why (NoEntry place leads table apart' is) =
           anywhere (λ address id' n offset at'. target_at_code (targets_of at'.s) 0 offset ≡ Some t → ⊥) place leads.lies
           (λ at' found.
           let none : target_at_code (targets_of (followed.s held old state sound agrees place.address place.user place.segment place.offset leads.lies)) 0 place.offset ≡ None =
           followed.none held old state sound agrees place.address place.user place.segment place.offset leads.lies table apart' in
           let clash : Some t ≡ None = sym found ∙ ap (λ (x : Segment). target_at_code (targets_of x) 0 place.offset) (same_segment place leads.lies at') ∙ none in cc)
-          (address_of (take 4 (drop at r.bytes))) r.owner r.table r.offset (same_address place.address leads.call.bytes leads.call.lent leads.call.address_is) r.is_at r.target
+          (address_of (take 4 (drop at r.bytes))) r.owner r.table r.offset (same_address place.address leads.call.bytes leads.call.borrow_bytes leads.call.address_is) r.is_at r.target
 
       leads : (place : answers.Entered) → EntersPlace old id number at place → ⊥
       leads place enters =
@@ -193,7 +193,7 @@ module _ (held : FileMap) (old : Loaded) (state : Machine) (sound : IsSound old.
           (λ at' table.
           let clash : true ≡ false = sym table ∙ ap (λ (x : Segment). is_table (head_of x)) (same_segment place lies at')
           ∙ followed.same_table held old state sound agrees place.address place.user place.segment place.offset lies ∙ enters.plain in cc)
-          (address_of (take 4 (drop at r.bytes))) r.owner r.table r.offset (same_address place.address enters.leads.call.bytes enters.leads.call.lent enters.leads.call.address_is) r.is_at r.is_table
+          (address_of (take 4 (drop at r.bytes))) r.owner r.table r.offset (same_address place.address enters.leads.call.bytes enters.leads.call.borrow_bytes enters.leads.call.address_is) r.is_at r.is_table
 
     none_needed : ((other : ℕ) (t : Target) → ¬ Reaches held state id number at other t) → IsReadFor held state (Jsl id number at) 0 0
     none_needed none = ([], inr (none, refl), alone 0)
@@ -225,7 +225,7 @@ module _ (held : FileMap) (old : Loaded) (state : Machine) (sound : IsSound old.
       same_reads =
           ap (λ (o : Outline). is_read (presence_at state.slots o.handles t.segment)) (sym its.does_agree.same)
           ∙ ap (λ (slots : Slots). is_read (presence_at slots lead.kept.handles t.segment)) (sym agrees.slots)
-          ∙ sym (ap (λ (o : Option Kept). option_map_or (λ k. is_read (presence_at old.memory.slots k.handles t.segment)) o false) lead.made)
+          ∙ sym (ap (λ (o : Option LoadedUser). option_map_or (λ k. is_read (presence_at old.memory.slots k.handles t.segment)) o false) lead.made)
           ∙ ap (λ (n : ℕ). segment_reads old n t.segment) same_other ∙ ap (segment_reads old other) same_number
 
       entry_needs : (b : Bool) → segment_reads old other segment ≡ b → IsReadFor held state (Jsl id number at) 0 (length (path_if None b its.user.path))

@@ -18,9 +18,9 @@ use Rattle.loader_machine.specs.Rule.{RoomRule}
 use Rattle.iigs_meaning.specs.Memory.{Memory, bytes_at}
 use Rattle.loader_machine.specs.declared.faults.LoaderFault.{LoaderFault}
 use Rattle.loader_machine.specs.declared.faults.LoaderFault.TheVariants.{TableByte, OutOfSegment, NotActive}
-use Rattle.loader_machine.specs.declared.seen.Head.{Head}
+use Rattle.loader_machine.specs.declared.seen.SegmentHead.{SegmentHead}
 use Rattle.loader_machine.specs.Heads.{head_of, at_number, is_table}
-use Rattle.loader_machine.specs.State.{Seen, Held, User, Machine, no_pokes, first_id, handles_of, held_at}
+use Rattle.loader_machine.specs.State.{UserSeen, HeldSegment, User, Machine, no_pokes, first_id, handles_of, held_at}
 use Rattle.loader_machine.specs.Presences.{handle_at, presence, is_active}
 use Rattle.loader_machine.specs.Stands.{stands, setting_with}
 use Rattle.loader_machine.specs.laws.StandsLaws.{stands_long}
@@ -28,7 +28,7 @@ use Rattle.loader_machine.specs.laws.PokeLaws.{poked_begins}
 use Rattle.loader_machine.specs.Refusals.{Refuse, of_user, of_running, of_segment, of_active, of_plain, of_inside, poke_refusal}
 use Rattle.loader_machine.specs.Commands.{Okay, Refused, Poke}
 use Rattle.loader_machine.specs.Steps.{with_segment, with_both}
-use Rattle.loader_agrees.specs.Agrees.{Kept, Loaded, Outline, outline_of, seen_by, far_in, UserAgrees, Agrees, IsCall, IsOf, Has, IsSound, Met}
+use Rattle.loader_agrees.specs.Agrees.{LoadedUser, Loaded, Outline, outline_of, seen_by, far_in, UserAgrees, Agrees, IsCall, IsOf, Has, IsSound, Met}
 use Rattle.loader_agrees.specs.Checks.{PassesRunning, PassesSegment}
 use Rattle.loader_agrees.specs.laws.Checking.{active_none, active_passes, inside_none, inside_passes}
 use Rattle.loader_agrees.specs.laws.Lists.{set_map, set_same, set_at, set_apart, length_set, set_like}
@@ -41,27 +41,27 @@ use Rattle.sys_loader.specs.Lives.{with_byte, CanPoke, DidPoke}
 
 -- ---- the refusal, check by check
 
-pub plain_none : (head : Head) (rest : Refuse) → is_table head ≡ true → of_plain head rest ≡ Some TableByte
+pub plain_none : (head : SegmentHead) (rest : Refuse) → is_table head ≡ true → of_plain head rest ≡ Some TableByte
 plain_none head rest is = rw is refl
 
-pub plain_passes : (head : Head) (rest : Refuse) → is_table head ≡ false → of_plain head rest ≡ rest
+pub plain_passes : (head : SegmentHead) (rest : Refuse) → is_table head ≡ false → of_plain head rest ≡ rest
 plain_passes head rest is = rw is refl
 
 module _ (slots : Slots) (number at : ℕ) where
-  abbrev pub after_active : Head → Refuse
+  abbrev pub after_active : SegmentHead → Refuse
   after_active head = of_plain head (of_inside at 1 head None)
 
-  abbrev pub after_segment : Seen → Head → Refuse
+  abbrev pub after_segment : UserSeen → SegmentHead → Refuse
   after_segment seen head = of_active slots seen number (after_active head)
 
-  abbrev pub after_running : Seen → Refuse
+  abbrev pub after_running : UserSeen → Refuse
   after_running seen = of_segment seen number (after_segment seen)
 
-  pub poke_is : (user : Option Seen) → poke_refusal slots user number at ≡ of_user user (λ seen. of_running seen (after_running seen))
+  pub poke_is : (user : Option UserSeen) → poke_refusal slots user number at ≡ of_user user (λ seen. of_running seen (after_running seen))
   unfolding poke_refusal
   poke_is user = refl
 
-  module _ (user : Option Seen) (seen : Seen) (head : Head) (o : Option Handle) (runs : PassesRunning user seen) (has : PassesSegment seen number head) (handle : handle_at seen.handles number ≡ o) where
+  module _ (user : Option UserSeen) (seen : UserSeen) (head : SegmentHead) (o : Option Handle) (runs : PassesRunning user seen) (has : PassesSegment seen number head) (handle : handle_at seen.handles number ≡ o) where
     to_segment : poke_refusal slots user number at ≡ after_segment seen head
     to_segment = poke_is user ∙ runs after_running ∙ has (after_segment seen)
 
@@ -109,8 +109,8 @@ same_length memory slot w other same = elim (cases_eq other slot) [
 ]
 
 -- what is true of every loader stays, where the bytes of a block are written that is no table's
-pub sound_written : (memory : Memory) (users : List (Option Kept)) (slot : ℕ) (w : List ℕ) → IsSound memory users → length w ≡ length (bytes_at memory slot)
-    → ((p n : ℕ) (g : Head) (j : Handle) → Has users p n g j → is_table g ≡ true → j.slot ≢ slot) → IsSound (with_bytes memory slot w) users
+pub sound_written : (memory : Memory) (users : List (Option LoadedUser)) (slot : ℕ) (w : List ℕ) → IsSound memory users → length w ≡ length (bytes_at memory slot)
+    → ((p n : ℕ) (g : SegmentHead) (j : Handle) → Has users p n g j → is_table g ≡ true → j.slot ≢ slot) → IsSound (with_bytes memory slot w) users
 sound_written memory users slot w sound same tables = record {
   few = sound.few;
   lengths = sound.lengths;
@@ -136,15 +136,15 @@ sound_written memory users slot w sound same tables = record {
 }
 
 -- a block in which a byte can be poked is no table's
-pub poked_tables : (old : Loaded) (id number at : ℕ) (h : Handle) → IsSound old.memory old.users → CanPoke old id number at h → (p n : ℕ) (g : Head) (j : Handle) → Has old.users p n g j → is_table g ≡ true → j.slot ≢ h.slot
+pub poked_tables : (old : Loaded) (id number at : ℕ) (h : Handle) → IsSound old.memory old.users → CanPoke old id number at h → (p n : ℕ) (g : SegmentHead) (j : Handle) → Has old.users p n g j → is_table g ≡ true → j.slot ≢ h.slot
 poked_tables old id number at h sound can p n g j it table same =
     let mine = has old sound id number h can.is in
     let both = sound.once p (id - first_id) n number g can.is.head j h it mine same in
     let user : it.kept ≡ mine.kept = one it.kept mine.kept (sym it.made ∙ ap (slice_get old.users) both.0 ∙ mine.made) in
-    let heads : Some g ≡ Some can.is.head = sym it.head' ∙ ap (λ (k : Kept). at_number k.heads n) user ∙ ap (at_number mine.kept.heads) both.1 ∙ mine.head' in
+    let heads : Some g ≡ Some can.is.head = sym it.head' ∙ ap (λ (k : LoadedUser). at_number k.heads n) user ∙ ap (at_number mine.kept.heads) both.1 ∙ mine.head' in
     let clash : true ≡ false = sym table ∙ ap is_table (same_Some g can.is.head heads) ∙ can.plain in cc
   where
-    one : (a b : Kept) → Some (Some a) ≡ Some (Some b) → a ≡ b
+    one : (a b : LoadedUser) → Some (Some a) ≡ Some (Some b) → a ≡ b
     one a b e = cc
 
 -- ---- agreement
@@ -160,13 +160,13 @@ module _ (held : FileMap) (old : Loaded) (state : Machine) (id number at byte : 
   is : IsKept held old state agrees id can.is.kept
   is = kept_is held old state agrees id can.is.kept can.is.made
 
-  abbrev absent_one : Held
+  abbrev absent_one : HeldSegment
   absent_one = record { handle = None; pokes = no_pokes }
 
-  abbrev was : Held
+  abbrev was : HeldSegment
   was = held_at is.user number
 
-  abbrev now : Held
+  abbrev now : HeldSegment
   now = record was { pokes = insert was.pokes at byte }
 
   abbrev next : Machine
@@ -184,7 +184,7 @@ module _ (held : FileMap) (old : Loaded) (state : Machine) (id number at byte : 
   -- ---- the user's segments
 
   -- the number is one of a segment's, from 1
-  number_is : (heads : List Head) (f : Head) (n : ℕ) → at_number heads n ≡ Some f → (n ≡ n - 1 + 1) × (n - 1 < length heads)
+  number_is : (heads : List SegmentHead) (f : SegmentHead) (n : ℕ) → at_number heads n ≡ Some f → (n ≡ n - 1 + 1) × (n - 1 < length heads)
   number_is heads f zero is = absurd cc
   number_is heads f (suc k) is =
       let within = slice_get_within heads k f is in
@@ -205,23 +205,23 @@ module _ (held : FileMap) (old : Loaded) (state : Machine) (id number at byte : 
       go (suc k) e within =
           let back : suc k - 1 ≡ k = omega arith in
           let found : slice_get (slice_set is.user.segments (suc k - 1) now) k ≡ Some now = rw back (set_at is.user.segments k now (omega (arith, within))) in
-          ap (λ (o : Option Held). option_map_or (λ held. held) o (absent_one)) found
+          ap (λ (o : Option HeldSegment). option_map_or (λ held. held) o (absent_one)) found
 
   held_apart : (n : ℕ) → n ≢ number → held_at (with_segment is.user number now) n ≡ held_at is.user n
   held_apart zero ne = refl
   held_apart (suc k) ne =
       let apart : k ≢ number - 1 = λ e. ne (omega (arith, in_range.0)) in
-      ap (λ (o : Option Held). option_map_or (λ held. held) o (absent_one)) (set_apart is.user.segments (number - 1) k now apart)
+      ap (λ (o : Option HeldSegment). option_map_or (λ held. held) o (absent_one)) (set_apart is.user.segments (number - 1) k now apart)
 
   -- the user's handles are as before
   handles_same : handles_of (with_segment is.user number now) ≡ handles_of is.user
   handles_same = go number in_range.0 in_range.1
     where
-      go : (n : ℕ) → n ≡ n - 1 + 1 → n - 1 < length is.user.segments → map (λ (held : Held). held.handle) (slice_set is.user.segments (n - 1) (record (held_at is.user n) { pokes = insert was.pokes at byte })) ≡ map (λ (held : Held). held.handle) is.user.segments
+      go : (n : ℕ) → n ≡ n - 1 + 1 → n - 1 < length is.user.segments → map (λ (held : HeldSegment). held.handle) (slice_set is.user.segments (n - 1) (record (held_at is.user n) { pokes = insert was.pokes at byte })) ≡ map (λ (held : HeldSegment). held.handle) is.user.segments
       go zero e within = absurd (omega arith)
       go (suc k) e within =
           let back : suc k - 1 ≡ k = omega arith in
-          rw back (set_like (λ (held : Held). held.handle) is.user.segments k (record (held_at is.user (suc k)) { pokes = insert was.pokes at byte }) (absent_one) (omega (arith, within)) refl)
+          rw back (set_like (λ (held : HeldSegment). held.handle) is.user.segments k (record (held_at is.user (suc k)) { pokes = insert was.pokes at byte }) (absent_one) (omega (arith, within)) refl)
 
   outline_with : List (Option Handle) → Outline
   outline_with hs = record { path = is.user.path; life = is.user.life; handles = hs; attached = is.user.attached }
@@ -232,9 +232,9 @@ module _ (held : FileMap) (old : Loaded) (state : Machine) (id number at byte : 
 
   -- a segment with the number has the header that is kept
   its_head : (s : Segment) → segment_at is.does_agree.segments number ≡ Some s → can.is.head ≡ head_of s
-  its_head s found = same_Some can.is.head (head_of s) (sym can.is.head' ∙ ap (λ (hs : List Head). at_number hs number) is.does_agree.heads ∙ head_at is.does_agree.segments number s found)
+  its_head s found = same_Some can.is.head (head_of s) (sym can.is.head' ∙ ap (λ (hs : List SegmentHead). at_number hs number) is.does_agree.heads ∙ head_at is.does_agree.segments number s found)
 
-  apart : (place' : ℕ) (kept : Kept) → slice_get old.users place' ≡ Some (Some kept) → (n : ℕ) (k : Handle) → handle_at kept.handles n ≡ Some k → ((place' ≡ place) → (n ≡ number) → ⊥) → k.slot ≢ h.slot
+  apart : (place' : ℕ) (kept : LoadedUser) → slice_get old.users place' ≡ Some (Some kept) → (n : ℕ) (k : Handle) → handle_at kept.handles n ≡ Some k → ((place' ≡ place) → (n ≡ number) → ⊥) → k.slot ≢ h.slot
   apart place' kept made n k found differ same =
       let other = has_any old sound place' kept made n k found in
       let both = sound.once place' place n number other.0 can.is.head k h other.1 (has old sound id number h can.is) same in
@@ -254,7 +254,7 @@ module _ (held : FileMap) (old : Loaded) (state : Machine) (id number at byte : 
     unpoked = λ n s found table. elim (cases_eq n number) [
       | inl eq ↦
           let heads = its_head s (subst (λ (m : ℕ). segment_at is.does_agree.segments m ≡ Some s) eq found) in
-          let plain : is_table (head_of s) ≡ false = subst (λ (f : Head). is_table f ≡ false) heads can.plain in
+          let plain : is_table (head_of s) ≡ false = subst (λ (f : SegmentHead). is_table f ≡ false) heads can.plain in
           absurd cc
       | inr ne ↦ rw (held_apart n ne) (is.does_agree.unpoked n s found table)
     ];
@@ -263,9 +263,9 @@ module _ (held : FileMap) (old : Loaded) (state : Machine) (id number at byte : 
       | inl eq ↦
           let found' : segment_at is.does_agree.segments number ≡ Some s = subst (λ (m : ℕ). segment_at is.does_agree.segments m ≡ Some s) eq found in
           let heads = its_head s found' in
-          let plain : is_table (head_of s) ≡ false = subst (λ (f : Head). is_table f ≡ false) heads can.plain in
+          let plain : is_table (head_of s) ≡ false = subst (λ (f : SegmentHead). is_table f ≡ false) heads can.plain in
           let sized = stands_long is.does_agree.segments n s (setting_with (far_in old id) id old.memory.slots can.is.kept.handles) was.pokes (loadable_has is.does_agree.holds.file is.does_agree.segments is.does_agree.holds.loadable n s found) in
-          let inside : at < s.fields.length = omega (arith, can.inside, ap (λ (f : Head). f.length) heads) in
+          let inside : at < s.fields.length = omega (arith, can.inside, ap (λ (f : SegmentHead). f.length) heads) in
           let handle : k ≡ h = same_Some k h (sym has' ∙ ap (handle_at can.is.kept.handles) eq ∙ can.is.handle) in
           let before : IsFront (stands (setting_with (far_in old id) id old.memory.slots can.is.kept.handles) (held_at is.user n).pokes s) (bytes_at old.memory k.slot) = is.does_agree.begins there n s k found has' present in
           let before' : IsFront (stands (setting_with (far_in old id) id old.memory.slots can.is.kept.handles) was.pokes s) (bytes_at old.memory h.slot) =
@@ -280,7 +280,7 @@ module _ (held : FileMap) (old : Loaded) (state : Machine) (id number at byte : 
   }
 
   -- and so do the others
-  others_agree : (place' : ℕ) (kept : Kept) (user : User) → slice_get old.users place' ≡ Some (Some kept) → place' ≢ place → UserAgrees held old.memory (far_in old (first_id + place')) (first_id + place') kept user
+  others_agree : (place' : ℕ) (kept : LoadedUser) (user : User) → slice_get old.users place' ≡ Some (Some kept) → place' ≢ place → UserAgrees held old.memory (far_in old (first_id + place')) (first_id + place') kept user
       → UserAgrees held new.memory (far_in old (first_id + place')) (first_id + place') kept user
   others_agree place' kept user made ne was' = agrees_still held old.memory new.memory (far_in old (first_id + place')) (far_in old (first_id + place')) (first_id + place') kept user was'
       (λ n k found. Same refl (λ there. others_bytes old.memory h.slot (slice_set (bytes_at old.memory h.slot) at byte) k.slot (apart place' kept made n k found (λ p e. ne p)))) (λ file n above. refl)
@@ -305,7 +305,7 @@ module _ (held : FileMap) (old : Loaded) (state : Machine) (id number at byte : 
           let user_is' : with_segment is.user number now ≡ user = cc (made', ap (slice_get next.users) eq, set_at state.users place (Some (with_segment is.user number now)) inside) in
           let id_is : id ≡ first_id + place' = omega (arith, its_users.1) in
           subst (λ (n : ℕ). UserAgrees held new.memory (far_in old n) n kept user) id_is
-          (subst (λ (u : User). UserAgrees held new.memory (far_in old id) id kept u) user_is' (subst (λ (k : Kept). UserAgrees held new.memory (far_in old id) id k (with_segment is.user number now)) (sym kept_is') user_agrees))
+          (subst (λ (u : User). UserAgrees held new.memory (far_in old id) id kept u) user_is' (subst (λ (k : LoadedUser). UserAgrees held new.memory (far_in old id) id k (with_segment is.user number now)) (sym kept_is') user_agrees))
       | inr ne ↦ others_agree place' kept user made ne (agrees.each place' kept user made (sym (set_apart state.users place place' (Some (with_segment is.user number now)) ne) ∙ made'))
     ];
   }

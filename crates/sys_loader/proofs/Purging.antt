@@ -10,7 +10,7 @@ use Rattle.iigs_meaning.specs.Memory.{Memory, IsPurged}
 use Rattle.loader_machine.specs.Rule.{RoomRule}
 use Rattle.loader_machine.specs.declared.faults.LoaderFault.{LoaderFault}
 use Rattle.loader_machine.specs.declared.faults.LoaderFault.TheVariants.{NoUser}
-use Rattle.loader_machine.specs.State.{Machine, Seen}
+use Rattle.loader_machine.specs.State.{Machine, UserSeen}
 use Rattle.loader_machine.specs.Refusals.{purge_refusal}
 use Rattle.loader_machine.specs.Commands.{Purge, Refused}
 use Rattle.loader_agrees.specs.Agrees.{Loaded, seen_by, Agrees, IsSound, Met}
@@ -23,11 +23,11 @@ use Rattle.sys_loader.specs.Lives.{purge_reply, DidPurge}
 
 -- ---- the refusal
 
-pub of_script : (user : Option Seen) → purge_refusal user 0 ≡ None
+pub of_script : (user : Option UserSeen) → purge_refusal user 0 ≡ None
 unfolding purge_refusal
 of_script user = refl
 
-pub of_made : (user : Option Seen) (seen : Seen) (id : ℕ) → user ≡ Some seen → purge_refusal user id ≡ None
+pub of_made : (user : Option UserSeen) (seen : UserSeen) (id : ℕ) → user ≡ Some seen → purge_refusal user id ≡ None
 unfolding purge_refusal
 of_made user seen id is = go (id == 0)
   where
@@ -35,7 +35,7 @@ of_made user seen id is = go (id == 0)
     go true = refl
     go false = rw is refl
 
-pub of_none : (user : Option Seen) (id : ℕ) → user ≡ None → id ≢ 0 → purge_refusal user id ≡ Some NoUser
+pub of_none : (user : Option UserSeen) (id : ℕ) → user ≡ None → id ≢ 0 → purge_refusal user id ≡ Some NoUser
 unfolding purge_refusal
 of_none user id is some = let no : (id == 0) ≡ false = grind (arith, some) in rw (no, is) refl
 

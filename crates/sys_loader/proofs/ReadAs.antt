@@ -9,7 +9,7 @@ use Rattle.load_meaning.specs.declared.load.LoadFault.{LoadFault}
 use Rattle.load_meaning.specs.Loadable.{Fault, first_in, in_segment, IsLoadable}
 use Rattle.load_meaning.specs.Runtime.{kind_fault, runtime_fault, OfLoading, OfKind}
 use Rattle.load_meaning.specs.laws.LoadableLaws.{loadable_same, loadable_sound}
-use Rattle.loader_machine.specs.declared.seen.Head.{Head}
+use Rattle.loader_machine.specs.declared.seen.SegmentHead.{SegmentHead}
 use Rattle.loader_machine.specs.Heads.{head_of, at_number}
 use Rattle.loader_users.specs.Taken.{IsReadAs, IsFaultAs}
 
@@ -19,8 +19,8 @@ as_loadable true file segments is = is.loadable
 as_loadable false file segments is = is
 
 -- so it is in each header
-abbrev AreCalled : List Head → Type 0
-AreCalled heads = (k : ℕ) (g : Head) → slice_get heads k ≡ Some g → (is_dynamic g.kind ≡ true) × (is_skipped g.kind ≡ false)
+abbrev AreCalled : List SegmentHead → Type 0
+AreCalled heads = (k : ℕ) (g : SegmentHead) → slice_get heads k ≡ Some g → (is_dynamic g.kind ≡ true) × (is_skipped g.kind ≡ false)
 
 none_in : (number : ℕ) (segments : List Segment) → AreCalled (map head_of segments) → first_in kind_fault number segments ≡ None
 none_in number [] called = refl
@@ -36,7 +36,7 @@ none_in number (s ∷ segments) called =
 
 -- such a file has no first fault
 pub no_fault_as : (attached : Bool) (file : List ℕ) (segments : List Segment) (bad : LoadFault) → IsLoadable file segments
-    → (attached ≡ true → (n : ℕ) (g : Head) → at_number (map head_of segments) n ≡ Some g → (is_dynamic g.kind ≡ true) × (is_skipped g.kind ≡ false)) → IsFaultAs attached file bad → ⊥
+    → (attached ≡ true → (n : ℕ) (g : SegmentHead) → at_number (map head_of segments) n ≡ Some g → (is_dynamic g.kind ≡ true) × (is_skipped g.kind ≡ false)) → IsFaultAs attached file bad → ⊥
 unfolding runtime_fault
 no_fault_as false file segments bad loads called first = loadable_sound file segments bad loads first
 no_fault_as true file segments bad loads called (OfLoading first) = loadable_sound file segments bad loads first

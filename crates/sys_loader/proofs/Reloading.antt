@@ -16,18 +16,18 @@ use Rattle.iigs_meaning.specs.Fits.{Slots, block_in}
 use Rattle.iigs_meaning.specs.Memory.{Memory, bytes_at}
 use Rattle.loader_machine.specs.declared.faults.LoaderFault.{LoaderFault}
 use Rattle.loader_machine.specs.declared.faults.LoaderFault.TheVariants as fault
-use Rattle.loader_machine.specs.declared.seen.Head.{Head}
+use Rattle.loader_machine.specs.declared.seen.SegmentHead.{SegmentHead}
 use Rattle.loader_machine.specs.declared.seen.Life.TheVariants.{Running, Dormant}
 use Rattle.loader_machine.specs.declared.seen.Presence.{Presence}
 use Rattle.loader_machine.specs.declared.seen.Presence.TheVariants.{Absent, Purged, Idle, Active}
 use Rattle.loader_machine.specs.Heads.{head_of, at_number, is_static, is_table, entry_in}
-use Rattle.loader_machine.specs.State.{Seen, first_id, user_of, with_user, with_all}
+use Rattle.loader_machine.specs.State.{UserSeen, first_id, user_of, with_user, with_all}
 use Rattle.loader_machine.specs.Presences.{handle_at, presence, presence_at, there_at, is_there, is_active, active_at}
 use Rattle.load_meaning.specs.Loadable.{IsLoadable}
 use Rattle.loader_machine.specs.Refusals.{restart_refusal}
-use Rattle.loader_machine.specs.Stands.{nowhere, place_in, setting, target_with}
+use Rattle.loader_machine.specs.Stands.{no_far_segment, place_in, setting, target_with}
 use Rattle.loader_machine.specs.Steps.{active_block, changed_all, static_handles, is_read_again, lost_refusal}
-use Rattle.loader_agrees.specs.Agrees.{Kept, Loaded, outline, IsCall, Has, IsSound}
+use Rattle.loader_agrees.specs.Agrees.{LoadedUser, Loaded, outline, IsCall, Has, IsSound}
 use Rattle.loader_agrees.specs.laws.Begun.{decide}
 use Rattle.loader_agrees.specs.laws.EntryReads.{its_call}
 use Rattle.loader_agrees.specs.laws.Lists.{number_map}
@@ -51,25 +51,25 @@ use Rattle.sys_loader.proofs.Static.{live_of, same_changed}
 -- ---- the refusal
 
 -- an attached user is refused as if there were none
-pub restart_attached : (attached : Bool) (user : Option Seen) (why : LoaderFault) → why ≡ fault.NoUser → attached ≡ true → restart_refusal attached user ≡ Some why
+pub restart_attached : (attached : Bool) (user : Option UserSeen) (why : LoaderFault) → why ≡ fault.NoUser → attached ≡ true → restart_refusal attached user ≡ Some why
 unfolding restart_refusal
 restart_attached attached None why is own = ap (λ (f : LoaderFault). Some f) (sym is)
 restart_attached attached (Some seen) why is own = rw own (ap (λ (f : LoaderFault). Some f) (sym is))
 
-pub restart_none : (attached : Bool) (user : Option Seen) → user ≡ None → restart_refusal attached user ≡ Some fault.NoUser
+pub restart_none : (attached : Bool) (user : Option UserSeen) → user ≡ None → restart_refusal attached user ≡ Some fault.NoUser
 unfolding restart_refusal
 restart_none attached user is = rw is refl
 
-pub restart_runs : (attached : Bool) (user : Option Seen) (seen : Seen) → attached ≡ false → user ≡ Some seen → seen.life ≡ Running → restart_refusal attached user ≡ Some fault.Running
+pub restart_runs : (attached : Bool) (user : Option UserSeen) (seen : UserSeen) → attached ≡ false → user ≡ Some seen → seen.life ≡ Running → restart_refusal attached user ≡ Some fault.Running
 unfolding restart_refusal
 restart_runs attached user seen own is runs = rw (is, own, runs) refl
 
-pub restart_rests : (attached : Bool) (user : Option Seen) (seen : Seen) → attached ≡ false → user ≡ Some seen → seen.life ≡ Dormant → restart_refusal attached user ≡ None
+pub restart_rests : (attached : Bool) (user : Option UserSeen) (seen : UserSeen) → attached ≡ false → user ≡ Some seen → seen.life ≡ Dormant → restart_refusal attached user ≡ None
 unfolding restart_refusal
 restart_rests attached user seen own is rests = rw (is, own, rests) refl
 
 -- one that passes is attached to no user
-pub restart_alone : (attached : Bool) (user : Option Seen) → restart_refusal attached user ≡ None → attached ≡ false
+pub restart_alone : (attached : Bool) (user : Option UserSeen) → restart_refusal attached user ≡ None → attached ≡ false
 unfolding restart_refusal
 restart_alone true None none = absurd cc
 restart_alone true (Some seen) none = absurd cc
@@ -80,24 +80,24 @@ restart_alone false user none = refl
 pub quiet_same : (memory : Memory) → IsQuiet memory memory
 quiet_same memory = record { banks = refl; slots = refl; sizes = λ slot. refl }
 
-pub has_resumed : (old : Memory) (users' : List (Option Kept)) (id : ℕ) (k : Kept) (items : List users.Segment) (started : Started) (new : Loaded) → heads_of items ≡ k.heads → handles_of items ≡ k.handles → started.user ≡ id
+pub has_resumed : (old : Memory) (users' : List (Option LoadedUser)) (id : ℕ) (k : LoadedUser) (items : List users.Segment) (started : Started) (new : Loaded) → heads_of items ≡ k.heads → handles_of items ≡ k.handles → started.user ≡ id
     → AreActivated (map static_handle items) old new.memory → new.users ≡ with_all (with_life Running) (with_user users' id (Some (record k { life = Running }))) k.attached
     → started.entry ≡ entry_in (heads_of items) (place_in new.memory.slots (handles_of items)) 1 → HasResumed old users' id k started new
 has_resumed old users' id k items started new heads handles user activated runs entry = record {
   user = user;
   slots = activated.slots ∙ same_changed active_block old.slots items
-      ∙ ap (λ (gs : List Head). changed_all active_block old.slots (static_handles gs (handles_of items) 1)) heads
+      ∙ ap (λ (gs : List SegmentHead). changed_all active_block old.slots (static_handles gs (handles_of items) 1)) heads
       ∙ ap (λ (hs : List (Option Handle)). changed_all active_block old.slots (static_handles k.heads hs 1)) handles;
   bytes = activated.bytes;
   users' = runs;
-  entry = entry ∙ ap (λ (gs : List Head). entry_in gs (place_in new.memory.slots (handles_of items)) 1) heads ∙ ap (λ (hs : List (Option Handle)). entry_in k.heads (place_in new.memory.slots hs) 1) handles;
+  entry = entry ∙ ap (λ (gs : List SegmentHead). entry_in gs (place_in new.memory.slots (handles_of items)) 1) heads ∙ ap (λ (hs : List (Option Handle)). entry_in k.heads (place_in new.memory.slots hs) 1) handles;
 }
 
 -- ---- bytes that are written
 
 -- a loader is sound still where nothing but bytes changes, and each entry of a table leads to a segment
-pub quiet_sound : (old new : Memory) (users' : List (Option Kept)) → IsSound old users' → IsQuiet old new
-    → ((p n k : ℕ) (g : Head) (j : Handle) → Has users' p n g j → is_table g ≡ true → IsSome (there_at (presence old.slots (Some j))) → k < entry_count g.length
+pub quiet_sound : (old new : Memory) (users' : List (Option LoadedUser)) → IsSound old users' → IsQuiet old new
+    → ((p n k : ℕ) (g : SegmentHead) (j : Handle) → Has users' p n g j → is_table g ≡ true → IsSome (there_at (presence old.slots (Some j))) → k < entry_count g.length
     → IsCall users' (first_id + p) (target_at (bytes_at new j.slot) k)) → IsSound new users'
 quiet_sound old new users' sound quiet calls = record {
   few = sound.few;
@@ -123,27 +123,27 @@ quiet_sound old new users' sound quiet calls = record {
 }
 
 -- so they do where a user's segments are read again from the file that was loaded
-module _ (old middle : Memory) (users' : List (Option Kept)) (id : ℕ) (kept : Kept) (sound : IsSound old users') (made : user_of users' id ≡ Some kept) (file : List ℕ) (segments : List Segment)
+module _ (old middle : Memory) (users' : List (Option LoadedUser)) (id : ℕ) (kept : LoadedUser) (sound : IsSound old users') (made : user_of users' id ≡ Some kept) (file : List ℕ) (segments : List Segment)
     (taken : IsLoadable file segments) (heads : map head_of segments ≡ kept.heads) (none : lost_refusal (kept_heads users' kept.attached) segments ≡ None) (reread : AreReread segments id kept old middle) where
   its_place : (slice_get users' (id - first_id) ≡ Some (Some kept)) × (first_id + (id - first_id) ≡ id)
   its_place = made_at users' id kept made
 
-  one_kept : (a b : Kept) → Some (Some a) ≡ Some (Some b) → a ≡ b
+  one_kept : (a b : LoadedUser) → Some (Some a) ≡ Some (Some b) → a ≡ b
   one_kept a b e = cc
 
   -- an entry for another file leads to an attached user
   far_call : (t : Target) → 2 ≤ t.file → IsReached (kept_heads users' kept.attached) t → IsCall users' id t × (t.file < 2 ^ 16) × (t.segment < 2 ^ 16)
   far_call t above reached = go (slice_get kept.attached (t.file - 2)) refl (sym (slice_get-map (heads_in users') kept.attached (t.file - 2)) ∙ reached.row)
     where
-      heads_are : (m : ℕ) (u : Kept) → user_of users' m ≡ Some u → heads_in users' m ≡ reached.heads → u.heads ≡ reached.heads
-      heads_are m u is' e' = sym (ap (λ (o : Option Kept). option_map_or (λ (k : Kept). k.heads) o []) is') ∙ e'
+      heads_are : (m : ℕ) (u : LoadedUser) → user_of users' m ≡ Some u → heads_in users' m ≡ reached.heads → u.heads ≡ reached.heads
+      heads_are m u is' e' = sym (ap (λ (o : Option LoadedUser). option_map_or (λ (k : LoadedUser). k.heads) o []) is') ∙ e'
 
       go : (o : Option ℕ) → slice_get kept.attached (t.file - 2) ≡ o → option_map (heads_in users') o ≡ Some reached.heads → IsCall users' id t × (t.file < 2 ^ 16) × (t.segment < 2 ^ 16)
       go None e is = absurd cc
       go (Some m) e is =
           let one = sound.attached.each (id - first_id) (t.file - 2) m kept its_place.0 e in
           let there = made_at users' m one.0 one.1 in
-          let head' : at_number one.0.heads t.segment ≡ Some reached.head = ap (λ (hs : List Head). at_number hs t.segment) (heads_are m one.0 one.1 (same_Some (heads_in users' m) reached.heads is)) ∙ reached.head' in
+          let head' : at_number one.0.heads t.segment ≡ Some reached.head = ap (λ (hs : List SegmentHead). at_number hs t.segment) (heads_are m one.0 one.1 (same_Some (heads_in users' m) reached.heads is)) ∙ reached.head' in
           let kind = one.2.dynamic t.segment reached.head head' in
           let within = slice_get_within kept.attached (t.file - 2) m e in
           let other : (t.file == 1) ≡ false = grind arith in (
@@ -162,33 +162,33 @@ module _ (old middle : Memory) (users' : List (Option Kept)) (id : ℕ) (kept : 
           )
 
   -- a segment that is read again
-  again_call : (p n k : ℕ) (g : Head) (j : Handle) → Has users' p n g j → is_table g ≡ true → k < entry_count g.length → p ≡ id - first_id → is_read_again g ≡ true
+  again_call : (p n k : ℕ) (g : SegmentHead) (j : Handle) → Has users' p n g j → is_table g ≡ true → k < entry_count g.length → p ≡ id - first_id → is_read_again g ≡ true
       → IsCall users' (first_id + p) (target_at (bytes_at middle j.slot) k)
   again_call p n k g j has table inside here again =
       let same : has.kept ≡ kept = one_kept has.kept kept (sym has.made ∙ ap (slice_get users') here ∙ its_place.0) in
-      let head : at_number (map head_of segments) n ≡ Some g = ap (λ (hs : List Head). at_number hs n) heads ∙ ap (λ (x : Kept). at_number x.heads n) (sym same) ∙ has.head' in
-      let handle : handle_at kept.handles n ≡ Some j = ap (λ (x : Kept). handle_at x.handles n) (sym same) ∙ has.handle in
+      let head : at_number (map head_of segments) n ≡ Some g = ap (λ (hs : List SegmentHead). at_number hs n) heads ∙ ap (λ (x : LoadedUser). at_number x.heads n) (sym same) ∙ has.head' in
+      let handle : handle_at kept.handles n ≡ Some j = ap (λ (x : LoadedUser). handle_at x.handles n) (sym same) ∙ has.handle in
       let s = headed segments n g head in
       let short : length segments < 2 ^ 16 = omega (arith, sound.short (id - first_id) kept its_place.0, ap length heads, length-map segments head_of) in
       let front = reread.begins n s.0 j s.1 (ap is_read_again s.2 ∙ again) handle in
       subst (λ (q : ℕ). IsCall users' q (target_at (bytes_at middle j.slot) k)) (omega (arith, its_place.1, here))
       (its_call file segments taken short users' id kept made (sym heads) (setting id old.slots kept.handles) n k s.0 (bytes_at middle j.slot) s.1 (ap is_table s.2 ∙ table) front
-      (omega (arith, inside, ap (λ (x : Head). entry_count x.length) s.2))
+      (omega (arith, inside, ap (λ (x : SegmentHead). entry_count x.length) s.2))
       (λ t found above. far_call t above (all_reached file segments (kept_heads users' kept.attached) taken none n k s.0 t s.1 (ap is_table s.2 ∙ table) found above)))
 
   -- and any other
-  plain_call : (p n k : ℕ) (g : Head) (j : Handle) → Has users' p n g j → is_table g ≡ true → IsSome (there_at (presence old.slots (Some j))) → k < entry_count g.length
+  plain_call : (p n k : ℕ) (g : SegmentHead) (j : Handle) → Has users' p n g j → is_table g ≡ true → IsSome (there_at (presence old.slots (Some j))) → k < entry_count g.length
       → (p ≡ id - first_id → is_read_again g ≡ false) → IsCall users' (first_id + p) (target_at (bytes_at middle j.slot) k)
   plain_call p n k g j has table there inside plain =
       let stays = reread.stay j.slot (λ m f i found again fhandle same.
       let other : Has users' (id - first_id) m f i = record { kept = kept; made = its_place.0; head' = found; handle = fhandle } in
       let both = sound.once (id - first_id) p m n f g i j other has same in
       let user : has.kept ≡ kept = one_kept has.kept kept (sym has.made ∙ ap (slice_get users') (sym both.0) ∙ its_place.0) in
-      let heads' : Some g ≡ Some f = sym has.head' ∙ ap (λ (x : Kept). at_number x.heads n) user ∙ ap (at_number kept.heads) (sym both.1) ∙ found in
+      let heads' : Some g ≡ Some f = sym has.head' ∙ ap (λ (x : LoadedUser). at_number x.heads n) user ∙ ap (at_number kept.heads) (sym both.1) ∙ found in
       let clash : true ≡ false = sym again ∙ ap is_read_again (sym (same_Some g f heads')) ∙ plain (sym both.0) in absurd cc) in
       subst (λ (bs : List ℕ). IsCall users' (first_id + p) (target_at bs k)) (sym stays) (sound.calls p n k g j has table there inside)
 
-  pub reread_calls : (p n k : ℕ) (g : Head) (j : Handle) → Has users' p n g j → is_table g ≡ true → IsSome (there_at (presence old.slots (Some j))) → k < entry_count g.length
+  pub reread_calls : (p n k : ℕ) (g : SegmentHead) (j : Handle) → Has users' p n g j → is_table g ≡ true → IsSome (there_at (presence old.slots (Some j))) → k < entry_count g.length
       → IsCall users' (first_id + p) (target_at (bytes_at middle j.slot) k)
   reread_calls p n k g j has table there inside = elim (cases_eq p (id - first_id)) [
     | inl here ↦ elim (decide (is_read_again g)) [
@@ -215,7 +215,7 @@ again_here segments k s inside is =
 
 -- a handle among them is that of such a segment
 abbrev IsAgain : List users.Segment → ℕ → Handle → Type 0
-IsAgain items n h = (head : Head) × (at_number (heads_of items) n ≡ Some head) × (is_read_again head ≡ true) × (handle_at (handles_of items) n ≡ Some h)
+IsAgain items n h = (head : SegmentHead) × (at_number (heads_of items) n ≡ Some head) × (is_read_again head ≡ true) × (handle_at (handles_of items) n ≡ Some h)
 
 again_of : (items : List users.Segment) (n : ℕ) (h : Handle) → handle_at (map again_handle items) n ≡ Some h → IsAgain items n h
 again_of items zero h is = absurd cc
@@ -227,7 +227,7 @@ again_of items (suc k) h is = go items k is
     go (x ∷ xs) (suc i) e = go xs i e
 
 -- and such a segment's handle is among them
-again_at : (items : List users.Segment) (n : ℕ) (head : Head) (h : Handle) → at_number (heads_of items) n ≡ Some head → is_read_again head ≡ true → handle_at (handles_of items) n ≡ Some h
+again_at : (items : List users.Segment) (n : ℕ) (head : SegmentHead) (h : Handle) → at_number (heads_of items) n ≡ Some head → is_read_again head ≡ true → handle_at (handles_of items) n ≡ Some h
     → handle_at (map again_handle items) n ≡ Some h
 again_at items zero head h found again has = absurd cc
 again_at items (suc k) head h found again has = go items k found has
@@ -248,7 +248,7 @@ module _ (old : Loaded) (id : ℕ) (user : User) (sound : IsSound old.memory old
   its_users : (slice_get old.users place ≡ Some (Some (kept user))) × (first_id + place ≡ id)
   its_users = made_at old.users id (kept user) made
 
-  own : (n : ℕ) (head : Head) (h : Handle) → at_number (heads_of items) n ≡ Some head → handle_at (handles_of items) n ≡ Some h → Has old.users place n head h
+  own : (n : ℕ) (head : SegmentHead) (h : Handle) → at_number (heads_of items) n ≡ Some head → handle_at (handles_of items) n ≡ Some h → Has old.users place n head h
   own n head h found has = record { kept = kept user; made = its_users.0; head' = found; handle = has }
 
   pub its_short : length items < 2 ^ 16
@@ -287,14 +287,14 @@ module _ (old : Loaded) (id : ℕ) (user : User) (sound : IsSound old.memory old
       by_place (Idle h a) e = refl
       by_place (Active h a) e = absurd cc
 
-  no_target : user.life ≡ Dormant → (file n : ℕ) → target_with nowhere old.memory.slots (handles_of items) file n ≡ None
+  no_target : user.life ≡ Dormant → (file n : ℕ) → target_with no_far_segment old.memory.slots (handles_of items) file n ≡ None
   no_target rests file n = go (file == 1) (none_active rests n)
     where
       go : (b : Bool) → active_at (presence_at old.memory.slots (handles_of items) n) ≡ None → cond b (active_at (presence_at old.memory.slots (handles_of items) n)) None ≡ None
       go true e = e
       go false e = refl
 
-  no_targets : user.life ≡ Dormant → (ts : List Target) → AllByRecursion (λ (t : Target). target_with nowhere old.memory.slots (handles_of items) t.file t.segment ≡ None) ts
+  no_targets : user.life ≡ Dormant → (ts : List Target) → AllByRecursion (λ (t : Target). target_with no_far_segment old.memory.slots (handles_of items) t.file t.segment ≡ None) ts
   no_targets rests [] = tt
   no_targets rests (t ∷ ts) = (no_target rests t.file t.segment, no_targets rests ts)
 
@@ -311,7 +311,7 @@ module _ (old : Loaded) (id : ℕ) (user : User) (sound : IsSound old.memory old
     banks = filled.banks;
     slots = filled.slots;
     begins = λ n s h there again has.
-        let found : at_number (heads_of items) n ≡ Some (head_of s) = ap (λ (gs : List Head). at_number gs n) (sym same) ∙ head_at segments n s there in
+        let found : at_number (heads_of items) n ≡ Some (head_of s) = ap (λ (gs : List SegmentHead). at_number gs n) (sym same) ∙ head_at segments n s there in
         filled.filled n h (omega (arith, at_most (heads_of items) n (head_of s) found, length-map items (λ (x : users.Segment). x.head))) (again_at items n (head_of s) h found again has)
         (setting id old.memory.slots (handles_of items)) s (its_setting rests segments) there;
     stay = λ slot apart. filled.stay slot (λ n h le is at. let its = again_of items n h is in apart n its.0 h its.1 its.2 its.3 at);

@@ -6,14 +6,14 @@ use Rattle.omf_io.specs.Files.{FileMap, IsRead}
 use Rattle.loader_machine.specs.declared.faults.LoaderFault.{LoaderFault}
 use Rattle.loader_machine.specs.State.{user_of}
 use Rattle.loader_machine.specs.Needs.{some_read_again}
-use Rattle.loader_agrees.specs.Agrees.{Kept, Loaded}
+use Rattle.loader_agrees.specs.Agrees.{LoadedUser, Loaded}
 use Rattle.sys_loader.specs.declared.answers.Started.{Started}
 use Rattle.sys_loader.specs.Restarting.{CanRestart, is_whole, restart_reads, Reread, Anew, IsAgainRefusal, CantRestart, DidRestart, HasReloaded, HasBegunFrom}
 
-pub reads_is : (old : Loaded) (id : ℕ) (k : Kept) → user_of old.users id ≡ Some k → restart_reads old id ≡ (not (is_whole old k) || some_read_again k.heads)
-reads_is old id k made = ap (λ (o : Option Kept). option_map_or (λ x. not (is_whole old x) || some_read_again x.heads) o false) made
+pub reads_is : (old : Loaded) (id : ℕ) (k : LoadedUser) → user_of old.users id ≡ Some k → restart_reads old id ≡ (not (is_whole old k) || some_read_again k.heads)
+reads_is old id k made = ap (λ (o : Option LoadedUser). option_map_or (λ x. not (is_whole old x) || some_read_again x.heads) o false) made
 
-module _ (held : Option FileMap) (old new : Loaded) (id : ℕ) (k : Kept) (can : CanRestart old id k) (reads : restart_reads old id ≡ true) (file : List ℕ) (is_read : IsRead held k.path file) (before now : ℕ) (same : now ≡ before) where
+module _ (held : Option FileMap) (old new : Loaded) (id : ℕ) (k : LoadedUser) (can : CanRestart old id k) (reads : restart_reads old id ≡ true) (file : List ℕ) (is_read : IsRead held k.path file) (before now : ℕ) (same : now ≡ before) where
   again_needed : is_whole old k ≡ true → some_read_again k.heads ≡ true
   again_needed whole = ap (λ (b : Bool). not b || some_read_again k.heads) (sym whole) ∙ sym (reads_is old id k can.made) ∙ reads
 

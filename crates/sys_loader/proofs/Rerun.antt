@@ -4,14 +4,14 @@ use Rattle.std.specs.Prelude.{slice_get}
 use Rattle.std.specs.Option.{option_and_then}
 use Rattle.omf_io.specs.Files.{FileMap}
 use Rattle.iigs_meaning.specs.Memory.{Memory}
-use Rattle.loader_machine.specs.declared.seen.Head.{Head}
+use Rattle.loader_machine.specs.declared.seen.SegmentHead.{SegmentHead}
 use Rattle.loader_machine.specs.declared.seen.Life.TheVariants.{Running, Dormant}
 use Rattle.loader_machine.specs.Heads.{head_of, at_number, is_static}
 use Rattle.loader_machine.specs.State.{User, Machine, Outline, outline_of, first_id, with_all, attached_at, handles_in}
 use Rattle.loader_machine.specs.State as state_of
 use Rattle.loader_machine.specs.Presences.{presence_at, active_at, is_active}
 use Rattle.loader_machine.specs.Stands.{far_of}
-use Rattle.loader_agrees.specs.Agrees.{Kept, Loaded, outline, kept_outlines, far_in, UserAgrees, Agrees, IsSound}
+use Rattle.loader_agrees.specs.Agrees.{LoadedUser, Loaded, outline, kept_outlines, far_in, UserAgrees, Agrees, IsSound}
 use Rattle.loader_agrees.specs.laws.Frame.{Same, agrees_still}
 use Rattle.loader_agrees.specs.laws.Reads.{head_at}
 use Rattle.loader_agrees.specs.laws.RowUsers.{user_there}
@@ -20,34 +20,34 @@ use Rattle.loader_users.specs.Users.{with_life}
 use Rattle.sys_loader.proofs.Relived as relived
 use Rattle.sys_loader.proofs.Together.{is_in, Was, with_all_get, map_all, length_all}
 
-module _ (memory : Memory) (old new : List (Option Kept)) (ids : List ℕ) (are : new ≡ with_all (with_life Running) old ids) (sound : IsSound memory old)
-    (together : (p i n : ℕ) (k : Kept) → slice_get old p ≡ Some (Some k) → slice_get k.attached i ≡ Some n → is_in ids (first_id + p) ≡ is_in ids n)
-    (quiet : (p : ℕ) (k : Kept) → slice_get old p ≡ Some (Some k) → is_in ids (first_id + p) ≡ true → (n : ℕ) (head : Head) → at_number k.heads n ≡ Some head → is_static head ≡ true → ⊥) where
-  users_now : (p : ℕ) (k : Kept) → slice_get new p ≡ Some (Some k) → Was (with_life Running) (relived.life_again Running) old ids p k
+module _ (memory : Memory) (old new : List (Option LoadedUser)) (ids : List ℕ) (are : new ≡ with_all (with_life Running) old ids) (sound : IsSound memory old)
+    (together : (p i n : ℕ) (k : LoadedUser) → slice_get old p ≡ Some (Some k) → slice_get k.attached i ≡ Some n → is_in ids (first_id + p) ≡ is_in ids n)
+    (quiet : (p : ℕ) (k : LoadedUser) → slice_get old p ≡ Some (Some k) → is_in ids (first_id + p) ≡ true → (n : ℕ) (head : SegmentHead) → at_number k.heads n ≡ Some head → is_static head ≡ true → ⊥) where
+  users_now : (p : ℕ) (k : LoadedUser) → slice_get new p ≡ Some (Some k) → Was (with_life Running) (relived.life_again Running) old ids p k
   users_now p k made = relived.users_now old new Running ids are p k made
 
-  statics_now : (p : ℕ) (k : Kept) (n : ℕ) (head : Head) → slice_get new p ≡ Some (Some k) → k.life ≡ Running → at_number k.heads n ≡ Some head → is_static head ≡ true
+  statics_now : (p : ℕ) (k : LoadedUser) (n : ℕ) (head : SegmentHead) → slice_get new p ≡ Some (Some k) → k.life ≡ Running → at_number k.heads n ≡ Some head → is_static head ≡ true
       → is_active (presence_at memory.slots k.handles n) ≡ true
   statics_now p k n head made life found static = go (users_now p k made)
     where
       go : Was (with_life Running) (relived.life_again Running) old ids p k → is_active (presence_at memory.slots k.handles n) ≡ true
       go w = elim w.is [
-        | inl inside ↦ absurd (quiet p w.was w.made inside.0 n head (ap (λ (x : Kept). at_number x.heads n) (sym inside.1) ∙ found) static)
-        | inr outside ↦ sound.statics p k n head (w.made ∙ ap (λ (x : Kept). Some (Some x)) (sym outside.1)) life found static
+        | inl inside ↦ absurd (quiet p w.was w.made inside.0 n head (ap (λ (x : LoadedUser). at_number x.heads n) (sym inside.1) ∙ found) static)
+        | inr outside ↦ sound.statics p k n head (w.made ∙ ap (λ (x : LoadedUser). Some (Some x)) (sym outside.1)) life found static
       ]
 
-  rests_now : (p : ℕ) (k : Kept) (n : ℕ) → slice_get new p ≡ Some (Some k) → k.life ≡ Dormant → is_active (presence_at memory.slots k.handles n) ≡ false
+  rests_now : (p : ℕ) (k : LoadedUser) (n : ℕ) → slice_get new p ≡ Some (Some k) → k.life ≡ Dormant → is_active (presence_at memory.slots k.handles n) ≡ false
   rests_now p k n made life = go (users_now p k made)
     where
       go : Was (with_life Running) (relived.life_again Running) old ids p k → is_active (presence_at memory.slots k.handles n) ≡ false
       go w = elim w.is [
-        | inl inside ↦ (let clash : Running ≡ Dormant = ap (λ (x : Kept). x.life) (sym inside.1) ∙ life in absurd cc)
-        | inr outside ↦ sound.rests p k n (w.made ∙ ap (λ (x : Kept). Some (Some x)) (sym outside.1)) life
+        | inl inside ↦ (let clash : Running ≡ Dormant = ap (λ (x : LoadedUser). x.life) (sym inside.1) ∙ life in absurd cc)
+        | inr outside ↦ sound.rests p k n (w.made ∙ ap (λ (x : LoadedUser). Some (Some x)) (sym outside.1)) life
       ]
 
   pub rerun_sound : IsSound memory new
   rerun_sound = record {
-    few = omega (arith, sound.few, ap (λ (us : List (Option Kept)). length us) are, length_all (with_life Running) old ids);
+    few = omega (arith, sound.few, ap (λ (us : List (Option LoadedUser)). length us) are, length_all (with_life Running) old ids);
     lengths = λ p k made. let w = relived.users_now old new Running ids are p k made in let same = relived.same_but old new Running ids are p k made in omega (arith, sound.lengths p w.was w.made, ap length same.0, ap length same.1);
     short = λ p k made. let w = relived.users_now old new Running ids are p k made in let same = relived.same_but old new Running ids are p k made in omega (arith, sound.short p w.was w.made, ap length same.1);
     statics = statics_now;
@@ -60,7 +60,7 @@ module _ (memory : Memory) (old new : List (Option Kept)) (ids : List ℕ) (are 
   }
 
   -- attached segments are where they were
-  pub far_same : (p : ℕ) (k : Kept) → slice_get old p ≡ Some (Some k) → (f n : ℕ) → far_of memory.slots (kept_outlines new) (first_id + p) f n ≡ far_of memory.slots (kept_outlines old) (first_id + p) f n
+  pub far_same : (p : ℕ) (k : LoadedUser) → slice_get old p ≡ Some (Some k) → (f n : ℕ) → far_of memory.slots (kept_outlines new) (first_id + p) f n ≡ far_of memory.slots (kept_outlines old) (first_id + p) f n
   far_same p k made f n =
       let now = relived.user_then old new Running ids are (first_id + p) k (user_there old p k made) in
       let row : attached_at (kept_outlines new) (first_id + p) f ≡ slice_get k.attached (f - 2) = rw (user_is outline new (first_id + p), now.1) (ap (λ (ns : List ℕ). slice_get ns (f - 2)) now.3) in
@@ -88,10 +88,10 @@ module _ (memory : Memory) (old new : List (Option Kept)) (ids : List ℕ) (are 
     abbrev now_loader : Loaded
     now_loader = record { memory = memory; users = new }
 
-    still : (p : ℕ) (k : Kept) (u : User) → slice_get old p ≡ Some (Some k) → UserAgrees held memory (far_in was_loader (first_id + p)) (first_id + p) k u → UserAgrees held memory (far_in now_loader (first_id + p)) (first_id + p) k u
+    still : (p : ℕ) (k : LoadedUser) (u : User) → slice_get old p ≡ Some (Some k) → UserAgrees held memory (far_in was_loader (first_id + p)) (first_id + p) k u → UserAgrees held memory (far_in now_loader (first_id + p)) (first_id + p) k u
     still p k u made was = agrees_still held memory memory (far_in was_loader (first_id + p)) (far_in now_loader (first_id + p)) (first_id + p) k u was (λ n j found. Same refl (λ there. refl)) (λ f n above. far_same p k made f n)
 
-    runs : (p : ℕ) (k : Kept) (u : User) → slice_get old p ≡ Some (Some k) → is_in ids (first_id + p) ≡ true → UserAgrees held memory (far_in was_loader (first_id + p)) (first_id + p) k u
+    runs : (p : ℕ) (k : LoadedUser) (u : User) → slice_get old p ≡ Some (Some k) → is_in ids (first_id + p) ≡ true → UserAgrees held memory (far_in was_loader (first_id + p)) (first_id + p) k u
         → UserAgrees held memory (far_in now_loader (first_id + p)) (first_id + p) (with_life Running k) (state_of.runs_again u)
     runs p k u made inside was =
         let one = still p k u made was in
@@ -102,7 +102,7 @@ module _ (memory : Memory) (old new : List (Option Kept)) (ids : List ℕ) (are 
           heads = one.heads;
           count = one.count;
           unpoked = one.unpoked;
-          statics = λ life n s found static. absurd (quiet p k made inside n (head_of s) (ap (λ (hs : List Head). at_number hs n) one.heads ∙ head_at one.segments n s found) static);
+          statics = λ life n s found static. absurd (quiet p k made inside n (head_of s) (ap (λ (hs : List SegmentHead). at_number hs n) one.heads ∙ head_at one.segments n s found) static);
           begins = one.begins;
         }
 
@@ -121,12 +121,12 @@ module _ (memory : Memory) (old new : List (Option Kept)) (ids : List ℕ) (are 
       each = λ p k user made made'. each_agrees p k user (users_now p k made) (with_all_get state_of.runs_again (λ u. refl) ids state.users p user made');
     }
       where
-        each_agrees : (p : ℕ) (k : Kept) (user : User) → Was (with_life Running) (relived.life_again Running) old ids p k → Was state_of.runs_again (λ u. refl) state.users ids p user
+        each_agrees : (p : ℕ) (k : LoadedUser) (user : User) → Was (with_life Running) (relived.life_again Running) old ids p k → Was state_of.runs_again (λ u. refl) state.users ids p user
             → UserAgrees held memory (far_in now_loader (first_id + p)) (first_id + p) k user
         each_agrees p k user w v = elim w.is [
           | inl inside ↦ elim v.is [
             | inl inside' ↦
-                subst (λ (x : Kept). UserAgrees held memory (far_in now_loader (first_id + p)) (first_id + p) x user) (sym inside.1)
+                subst (λ (x : LoadedUser). UserAgrees held memory (far_in now_loader (first_id + p)) (first_id + p) x user) (sym inside.1)
                 (subst (λ (x : User). UserAgrees held memory (far_in now_loader (first_id + p)) (first_id + p) (with_life Running w.was) x) (sym inside'.1)
                 (runs p w.was v.was w.made inside.0 (agrees.each p w.was v.was w.made v.made)))
             | inr outside' ↦ (let clash : true ≡ false = sym inside.0 ∙ outside'.0 in absurd cc)
@@ -134,7 +134,7 @@ module _ (memory : Memory) (old new : List (Option Kept)) (ids : List ℕ) (are 
           | inr outside ↦ elim v.is [
             | inl inside' ↦ (let clash : true ≡ false = sym inside'.0 ∙ outside.0 in absurd cc)
             | inr outside' ↦
-                subst (λ (x : Kept). UserAgrees held memory (far_in now_loader (first_id + p)) (first_id + p) x user) (sym outside.1)
+                subst (λ (x : LoadedUser). UserAgrees held memory (far_in now_loader (first_id + p)) (first_id + p) x user) (sym outside.1)
                 (subst (λ (x : User). UserAgrees held memory (far_in now_loader (first_id + p)) (first_id + p) w.was x) (sym outside'.1)
                 (still p w.was v.was w.made (agrees.each p w.was v.was w.made v.made)))
           ]

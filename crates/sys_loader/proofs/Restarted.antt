@@ -17,9 +17,9 @@ use Rattle.loader_machine.specs.Rule.{RoomRule}
 use Rattle.iigs_meaning.specs.Memory.{Memory}
 use Rattle.loader_machine.specs.declared.faults.LoaderFault.{LoaderFault}
 use Rattle.loader_machine.specs.declared.faults.LoaderFault.TheVariants as fault
-use Rattle.loader_machine.specs.declared.seen.Head.{Head}
+use Rattle.loader_machine.specs.declared.seen.SegmentHead.{SegmentHead}
 use Rattle.loader_machine.specs.Heads.{head_of, at_number, wants_of}
-use Rattle.loader_machine.specs.State.{Machine, Seen, first_id, user_of, with_user, handles_of, outlines, attached_at, is_attached}
+use Rattle.loader_machine.specs.State.{Machine, UserSeen, first_id, user_of, with_user, handles_of, outlines, attached_at, is_attached}
 use Rattle.loader_machine.specs.Found.{HoldsLoad, Bad, Good}
 use Rattle.loader_machine.specs.laws.OnceLaws.{one_load, found_once}
 use Rattle.loader_machine.specs.Commands.{Reply, Started, Restart, Refused}
@@ -27,7 +27,7 @@ use Rattle.loader_machine.specs.Refusals.{Refuse, restart_refusal}
 use Rattle.loader_machine.specs.Steps.{Sees, seen_of, NoSlots, Lacks, Begins, Either, StepsRestart, Steps, active_block, changed_all, are_there, static_handles, is_read_again, entry_of, again_users, lost_refusal}
 use Rattle.loader_machine.specs.Needs as needs
 use Rattle.loader_machine.specs.Needs.{Needs, some_read_again, path_if}
-use Rattle.loader_agrees.specs.Agrees.{Kept, Loaded, Outline, kept_outlines, AreAttached, seen_in, seen_by, Agrees, IsSound, Meets}
+use Rattle.loader_agrees.specs.Agrees.{LoadedUser, Loaded, Outline, kept_outlines, AreAttached, seen_in, seen_by, Agrees, IsSound, Meets}
 use Rattle.loader_agrees.specs.laws.Seeing.{IsKept, kept_is, made_at, refuses, does}
 use Rattle.sys_loader.specs.declared.answers.Started as answers
 use Rattle.sys_loader.specs.Replies.{load_reply}
@@ -44,11 +44,11 @@ use Rattle.loader_users.proofs.Losing.{entries_none}
 use Rattle.sys_loader.proofs.Reloading.{restart_alone}
 
 -- where none is read again, no header is of such a segment
-none_again : (heads : List Head) (n : ℕ) (head : Head) → some_read_again heads ≡ false → at_number heads n ≡ Some head → is_read_again head ≡ true → ⊥
+none_again : (heads : List SegmentHead) (n : ℕ) (head : SegmentHead) → some_read_again heads ≡ false → at_number heads n ≡ Some head → is_read_again head ≡ true → ⊥
 none_again heads zero head none found again = absurd cc
 none_again heads (suc k) head none found again = go heads k none found
   where
-    go : (gs : List Head) (i : ℕ) → some_read_again gs ≡ false → slice_get gs i ≡ Some head → ⊥
+    go : (gs : List SegmentHead) (i : ℕ) → some_read_again gs ≡ false → slice_get gs i ≡ Some head → ⊥
     go [] i none' e = absurd cc
     go (g ∷ gs) zero none' e =
         let both = or_parts (is_read_again g) (some_read_again gs) none' in
@@ -56,10 +56,10 @@ none_again heads (suc k) head none found again = go heads k none found
     go (g ∷ gs) (suc i) none' e = go gs i (or_parts (is_read_again g) (some_read_again gs) none').1 e
 
 -- those that are attached to a user are there where it is another
-pub its_there : (users : List (Option Kept)) → AreAttached users → (id : ℕ) (k b : Kept) → user_of users id ≡ Some k → b.attached ≡ k.attached → HasItsUsers (with_user users id (Some b)) id
+pub its_there : (users : List (Option LoadedUser)) → AreAttached users → (id : ℕ) (k b : LoadedUser) → user_of users id ≡ Some k → b.attached ≡ k.attached → HasItsUsers (with_user users id (Some b)) id
 its_there users attached id k b made same = λ now place n is row.
     let one : now ≡ b = same_Some now b (sym is ∙ user_set users id k made (Some b)) in
-    let row' : slice_get k.attached place ≡ Some n = ap (λ (ns : List ℕ). slice_get ns place) (sym (ap (λ (x : Kept). x.attached) one ∙ same)) ∙ row in
+    let row' : slice_get k.attached place ≡ Some n = ap (λ (ns : List ℕ). slice_get ns place) (sym (ap (λ (x : LoadedUser). x.attached) one ∙ same)) ∙ row in
     let other = attached.each (id - first_id) place n k (made_at users id k made).0 row' in
     elim (cases_eq n id) [
       | inl eq ↦ (let there : user_of (with_user users id (Some b)) n ≡ Some b = ap (user_of (with_user users id (Some b))) eq ∙ user_set users id k made (Some b) in rw there refl)
@@ -67,10 +67,10 @@ its_there users attached id k b made same = λ now place n is row.
     ]
 
 -- no row names a user that can be restarted
-pub can_top : (old : Loaded) (id : ℕ) (kept : Kept) → IsSound old.memory old.users → CanRestart old id kept → (q f : ℕ) → attached_at (kept_outlines old.users) q f ≡ Some id → ⊥
+pub can_top : (old : Loaded) (id : ℕ) (kept : LoadedUser) → IsSound old.memory old.users → CanRestart old id kept → (q f : ℕ) → attached_at (kept_outlines old.users) q f ≡ Some id → ⊥
 can_top old id kept sound can = no_row old.users id kept sound.attached can.made (restart_alone (is_attached (kept_outlines old.users) id) (seen_by old id) can.passes)
 
-module _ (held : FileMap) (old : Loaded) (state : Machine) (id : ℕ) (sound : IsSound old.memory old.users) (agrees : Agrees held old state) (kept : Kept) (can : CanRestart old id kept) where
+module _ (held : FileMap) (old : Loaded) (state : Machine) (id : ℕ) (sound : IsSound old.memory old.users) (agrees : Agrees held old state) (kept : LoadedUser) (can : CanRestart old id kept) where
   abbrev is : IsKept held old state agrees id kept
   is = kept_is held old state agrees id kept can.made
 
@@ -82,7 +82,7 @@ module _ (held : FileMap) (old : Loaded) (state : Machine) (id : ℕ) (sound : I
 
   whole_same : is_whole old kept ≡ are_there state.slots (map head_of is.does_agree.segments) (handles_of is.user) 1
   whole_same =
-      ap (λ (t : Slots). are_there t kept.heads kept.handles 1) agrees.slots ∙ ap (λ (hs : List Head). are_there state.slots hs kept.handles 1) is.does_agree.heads
+      ap (λ (t : Slots). are_there t kept.heads kept.handles 1) agrees.slots ∙ ap (λ (hs : List SegmentHead). are_there state.slots hs kept.handles 1) is.does_agree.heads
       ∙ ap (λ (o : Outline). are_there state.slots (map head_of is.does_agree.segments) o.handles 1) is.does_agree.same
 
   -- as the machine has it
@@ -107,11 +107,11 @@ module _ (held : FileMap) (old : Loaded) (state : Machine) (id : ℕ) (sound : I
   needs_path reads =
       let seen_same : seen_in kept ≡ seen_of is.user is.does_agree.segments = same_seen in
       let passes : restart_refusal (is_attached (outlines state.users) id) (Some (seen_of is.user is.does_agree.segments)) ≡ None =
-      ap (λ (s : Seen). restart_refusal (is_attached (outlines state.users) id) (Some s)) (sym seen_same) ∙ ap (restart_refusal (is_attached (outlines state.users) id)) (sym (ap (option_map seen_in) can.made)) ∙ passes_there in
+      ap (λ (s : UserSeen). restart_refusal (is_attached (outlines state.users) id) (Some s)) (sym seen_same) ∙ ap (restart_refusal (is_attached (outlines state.users) id)) (sym (ap (option_map seen_in) can.made)) ∙ passes_there in
       let here : needs.restart_reads state (seen_of is.user is.does_agree.segments) ≡ true =
       ap (λ (b : Bool). not b || some_read_again (map head_of is.does_agree.segments)) (sym whole_same)
-      ∙ ap (λ (hs : List Head). not (is_whole old kept) || some_read_again hs) (sym is.does_agree.heads)
-      ∙ sym (ap (λ (o : Option Kept). option_map_or (λ k. not (is_whole old k) || some_read_again k.heads) o false) can.made) ∙ reads in
+      ∙ ap (λ (hs : List SegmentHead). not (is_whole old kept) || some_read_again hs) (sym is.does_agree.heads)
+      ∙ sym (ap (λ (o : Option LoadedUser). option_map_or (λ k. not (is_whole old k) || some_read_again k.heads) o false) can.made) ∙ reads in
       inr (
         sees,
         sym (ap (λ (r : Refuse). path_if r (needs.restart_reads state (seen_of is.user is.does_agree.segments)) is.user.path) passes ∙ ap (λ (b : Bool). path_if None b is.user.path) here),
@@ -146,10 +146,10 @@ module _ (held : FileMap) (old : Loaded) (state : Machine) (id : ℕ) (sound : I
       let slots = changed_all active_block state.slots (static_handles (map head_of is.does_agree.segments) (handles_of is.user) 1) in
       let slots_are : new.memory.slots ≡ slots =
       did.slots ∙ ap (λ (t : Slots). changed_all active_block t (static_handles kept.heads kept.handles 1)) (reread.slots ∙ agrees.slots)
-      ∙ ap (λ (hs : List Head). changed_all active_block state.slots (static_handles hs kept.handles 1)) is.does_agree.heads
+      ∙ ap (λ (hs : List SegmentHead). changed_all active_block state.slots (static_handles hs kept.handles 1)) is.does_agree.heads
       ∙ ap (λ (o : Outline). changed_all active_block state.slots (static_handles (map head_of is.does_agree.segments) o.handles 1)) is.does_agree.same in
       let entry : started.entry ≡ entry_of id slots (map head_of is.does_agree.segments) (handles_of is.user) =
-      did.entry ∙ ap (λ (t : Slots). entry_of id t kept.heads kept.handles) slots_are ∙ ap (λ (hs : List Head). entry_of id slots hs kept.handles) is.does_agree.heads
+      did.entry ∙ ap (λ (t : Slots). entry_of id t kept.heads kept.handles) slots_are ∙ ap (λ (hs : List SegmentHead). entry_of id slots hs kept.handles) is.does_agree.heads
       ∙ ap (λ (o : Outline). entry_of id slots (map head_of is.does_agree.segments) o.handles) is.does_agree.same in
       inl (
         (
@@ -190,7 +190,7 @@ module _ (held : FileMap) (old : Loaded) (state : Machine) (id : ℕ) (sound : I
     banks = refl;
     slots = refl;
     begins = λ n s h found again has. absurd (none_again kept.heads n (Rattle.loader_machine.specs.Heads.head_of s) none
-        (ap (λ (hs : List Head). at_number hs n) is.does_agree.heads ∙ Rattle.loader_agrees.specs.laws.Reads.head_at is.does_agree.segments n s found) again);
+        (ap (λ (hs : List SegmentHead). at_number hs n) is.does_agree.heads ∙ Rattle.loader_agrees.specs.laws.Reads.head_at is.does_agree.segments n s found) again);
     stay = λ slot apart. refl;
     sizes = λ slot. refl;
   }) did
@@ -221,7 +221,7 @@ module _ (held : FileMap) (old : Loaded) (state : Machine) (id : ℕ) (sound : I
       moved : (f : PlaceFault) → IsPlaceAllRefusal RoomRule old.memory.banks id (without_user old.memory.slots id) (wants_of kept.heads) f
           → IsPlaceAllRefusal RoomRule state.banks id (without_user state.slots id) (wants_of (map head_of is.does_agree.segments)) f
       moved f p =
-          subst (λ (hs : List Head). IsPlaceAllRefusal RoomRule state.banks id (without_user state.slots id) (wants_of hs) f) is.does_agree.heads
+          subst (λ (hs : List SegmentHead). IsPlaceAllRefusal RoomRule state.banks id (without_user state.slots id) (wants_of hs) f) is.does_agree.heads
           (subst (λ (t : Slots). IsPlaceAllRefusal RoomRule state.banks id (without_user t id) (wants_of kept.heads) f) agrees.slots
           (subst (λ (b : List ℕ). IsPlaceAllRefusal RoomRule b id (without_user old.memory.slots id) (wants_of kept.heads) f) agrees.banks p))
 
@@ -231,7 +231,7 @@ module _ (held : FileMap) (old : Loaded) (state : Machine) (id : ℕ) (sound : I
       go (inr room) = record {
         put = Lacks room.0;
         is_put = moved (place.NoRoom room.0) room.2;
-        lands = (ap (λ (f : LoaderFault). Refused f) room.1 ∙ ap (λ (hs : List Head). Refused (fault.NoRoom (Rattle.loader_machine.specs.Heads.number_of 1 hs room.0))) is.does_agree.heads, refl);
+        lands = (ap (λ (f : LoaderFault). Refused f) room.1 ∙ ap (λ (hs : List SegmentHead). Refused (fault.NoRoom (Rattle.loader_machine.specs.Heads.number_of 1 hs room.0))) is.does_agree.heads, refl);
       }
 
   none_again_from : (file : List ℕ) (why : LoaderFault) (now : ℕ) → IsRead (Some held) kept.path file → IsAgainRefusal file old id kept why → Meets RoomRule held state (Restart id) (Refused why) old now now

@@ -17,19 +17,19 @@ use Rattle.loader_machine.specs.Rule.{RoomRule}
 use Rattle.iigs_meaning.specs.Memory.{Memory, bytes_at}
 use Rattle.loader_machine.specs.declared.faults.LoaderFault.{LoaderFault}
 use Rattle.loader_machine.specs.declared.faults.LoaderFault.TheVariants.{NoUser}
-use Rattle.loader_machine.specs.declared.seen.Head.{Head}
+use Rattle.loader_machine.specs.declared.seen.SegmentHead.{SegmentHead}
 use Rattle.loader_machine.specs.declared.seen.Life.TheVariants.{Running, Dormant}
 use Rattle.loader_machine.specs.declared.seen.Presence.{Presence}
 use Rattle.loader_machine.specs.declared.seen.Presence.TheVariants.{Absent, Purged, Idle, Active}
 use Rattle.loader_machine.specs.Heads.{head_of, at_number, is_static, is_table}
-use Rattle.loader_machine.specs.State.{User, Machine, Seen, Outline, outline_of, outlines, first_id, user_of, family, handles_in, handles_of_all, with_all, attached_at, is_attached}
+use Rattle.loader_machine.specs.State.{User, Machine, UserSeen, Outline, outline_of, outlines, first_id, user_of, family, handles_in, handles_of_all, with_all, attached_at, is_attached}
 use Rattle.loader_machine.specs.State as state_of
 use Rattle.loader_machine.specs.Presences.{handle_at, presence, presence_at, there_at, active_at, is_active, lies_in, lies_at}
 use Rattle.loader_machine.specs.Stands.{setting_with, far_of}
 use Rattle.loader_machine.specs.Refusals.{shut_down_refusal}
 use Rattle.loader_machine.specs.Commands.{Okay, ShutDown}
 use Rattle.loader_machine.specs.Steps.{let_go, changed_all, kept_state}
-use Rattle.loader_agrees.specs.Agrees.{Kept, Loaded, outline, kept_outlines, far_in, seen_by, IsJoined, AreAttached, IsCall, UserAgrees, Agrees, IsOf, Has, IsSound, Met}
+use Rattle.loader_agrees.specs.Agrees.{LoadedUser, Loaded, outline, kept_outlines, far_in, seen_by, IsJoined, AreAttached, IsCall, UserAgrees, Agrees, IsOf, Has, IsSound, Met}
 use Rattle.loader_agrees.specs.laws.Begun.{decide}
 use Rattle.loader_agrees.specs.Checks.{PassesRunning, StopsRunning}
 use Rattle.loader_agrees.specs.laws.RowUsers.{user_there}
@@ -51,14 +51,14 @@ use Rattle.sys_loader.proofs.ChangedAll.{all_here, all_apart, all_in, let_go_aga
 none_in : (place : ℕ) → ¬ Contains {X = ℕ} [] place
 none_in place found = omega (arith, found.1)
 
-abbrev rests : Kept → Kept
+abbrev rests : LoadedUser → LoadedUser
 rests = with_life Dormant
 
 module _ (old new : Loaded) (id : ℕ) (sound : IsSound old.memory old.users) (did : HasKept old id new) (top : (q f : ℕ) → attached_at (kept_outlines old.users) q f ≡ Some id → ⊥) where
   abbrev place : ℕ
   place = id - first_id
 
-  abbrev kept : Kept
+  abbrev kept : LoadedUser
   kept = did.kept
 
   abbrev ids : List ℕ
@@ -70,10 +70,10 @@ module _ (old new : Loaded) (id : ℕ) (sound : IsSound old.memory old.users) (d
   its_users : (slice_get old.users place ≡ Some (Some kept)) × (first_id + place ≡ id)
   its_users = made_at old.users id kept did.made
 
-  kept_one : (p : ℕ) (k : Kept) → slice_get old.users p ≡ Some (Some k) → p ≡ place → k ≡ kept
+  kept_one : (p : ℕ) (k : LoadedUser) → slice_get old.users p ≡ Some (Some k) → p ≡ place → k ≡ kept
   kept_one p k found eq = go k kept (sym found ∙ ap (slice_get old.users) eq ∙ its_users.0)
     where
-      go : (a b : Kept) → Some (Some a) ≡ Some (Some b) → a ≡ b
+      go : (a b : LoadedUser) → Some (Some a) ≡ Some (Some b) → a ≡ b
       go a b e = cc
 
   place_in : In place ≡ true
@@ -83,27 +83,27 @@ module _ (old new : Loaded) (id : ℕ) (sound : IsSound old.memory old.users) (d
   slots_are = did.idled.slots ∙ ap (λ (t : Slots). changed_all let_go t (handles_of_all (kept_outlines old.users) ids)) did.renewed.slots
 
   -- a user of the family is the user itself, or an attached one
-  which : (p : ℕ) (k : Kept) → slice_get old.users p ≡ Some (Some k) → In p ≡ true → ((p ≡ place) × (k ≡ kept)) ⊎ ((i : ℕ) × (slice_get kept.attached i ≡ Some (first_id + p)) × IsJoined kept.life k)
+  which : (p : ℕ) (k : LoadedUser) → slice_get old.users p ≡ Some (Some k) → In p ≡ true → ((p ≡ place) × (k ≡ kept)) ⊎ ((i : ℕ) × (slice_get kept.attached i ≡ Some (first_id + p)) × IsJoined kept.life k)
   which p k made inside = relived.which old.users sound.attached id kept did.made top ids (in_last kept.attached id) (in_front kept.attached id) (in_either kept.attached id) p k made inside
 
-  users_now : (p : ℕ) (k : Kept) → slice_get new.users p ≡ Some (Some k) → Was rests (relived.life_again Dormant) old.users ids p k
+  users_now : (p : ℕ) (k : LoadedUser) → slice_get new.users p ≡ Some (Some k) → Was rests (relived.life_again Dormant) old.users ids p k
   users_now p k made = relived.users_now old.users new.users Dormant ids did.users p k made
 
-  has_before : (p n : ℕ) (head : Head) (h : Handle) → Has new.users p n head h → Has old.users p n head h
+  has_before : (p n : ℕ) (head : SegmentHead) (h : Handle) → Has new.users p n head h → Has old.users p n head h
   has_before p n head h has = relived.has_before old.users new.users Dormant ids did.users p n head h has
 
-  user_then : (n : ℕ) (k : Kept) → user_of old.users n ≡ Some k
-      → (v : Kept) × (user_of new.users n ≡ Some v) × (v.heads ≡ k.heads) × (v.attached ≡ k.attached) × (v.handles ≡ k.handles) × (((is_in ids n ≡ true) × (v ≡ rests k)) ⊎ ((is_in ids n ≡ false) × (v ≡ k)))
+  user_then : (n : ℕ) (k : LoadedUser) → user_of old.users n ≡ Some k
+      → (v : LoadedUser) × (user_of new.users n ≡ Some v) × (v.heads ≡ k.heads) × (v.attached ≡ k.attached) × (v.handles ≡ k.handles) × (((is_in ids n ≡ true) × (v ≡ rests k)) ⊎ ((is_in ids n ≡ false) × (v ≡ k)))
   user_then n k is = relived.user_then old.users new.users Dormant ids did.users n k is
 
   -- ---- blocks
 
-  family_get : (p n : ℕ) (head : Head) (h : Handle) (b : Block) → Has old.users p n head h → In p ≡ true → get old.memory.slots h ≡ Some b → get new.memory.slots h ≡ Some (let_go b)
+  family_get : (p n : ℕ) (head : SegmentHead) (h : Handle) (b : Block) → Has old.users p n head h → In p ≡ true → get old.memory.slots h ≡ Some b → get new.memory.slots h ≡ Some (let_go b)
   family_get p n head h b has inside live =
       let i = among old.users ids (first_id + p) n has.kept h inside (user_there old.users p has.kept has.made) has.handle in
       ap (λ (t : Slots). get t h) slots_are ∙ all_here let_go let_go_again old.memory.slots (handles_of_all (kept_outlines old.users) ids) h b i.0 live i.1
 
-  other_get : (p n : ℕ) (head : Head) (h : Handle) → Has old.users p n head h → In p ≡ false → get new.memory.slots h ≡ get old.memory.slots h
+  other_get : (p n : ℕ) (head : SegmentHead) (h : Handle) → Has old.users p n head h → In p ≡ false → get new.memory.slots h ≡ get old.memory.slots h
   other_get p n head h has outside = ap (λ (t : Slots). get t h) slots_are ∙ all_apart let_go let_go_again old.memory.slots (handles_of_all (kept_outlines old.users) ids) h (λ i k found same.
       let it = from_among old.users ids i k found in
       let there = made_at old.users it.0 it.1 it.4 in
@@ -117,12 +117,12 @@ module _ (old new : Loaded) (id : ℕ) (sound : IsSound old.memory old.users) (d
   bytes_middle : (h : Handle) → IsSome (there_at (presence new.memory.slots (Some h))) → bytes_at new.memory h.slot ≡ bytes_at did.middle h.slot
   bytes_middle h there = did.idled.bytes.bytes h.slot (none_in h.slot) (is_there new.memory h there)
 
-  plain_bytes : (p n : ℕ) (g : Head) (k : Handle) → Has old.users p n g k → ((p ≡ place) → is_table g ≡ false) → bytes_at did.middle k.slot ≡ bytes_at old.memory k.slot
+  plain_bytes : (p n : ℕ) (g : SegmentHead) (k : Handle) → Has old.users p n g k → ((p ≡ place) → is_table g ≡ false) → bytes_at did.middle k.slot ≡ bytes_at old.memory k.slot
   plain_bytes p n g k has plain = did.renewed.stay k.slot (λ m f j le fhead fhandle table same.
       let other : Has old.users place m f j = record { kept = kept; made = its_users.0; head' = fhead; handle = fhandle } in
       let both = sound.once place p m n f g j k other has same in
       let kept_same : has.kept ≡ kept = kept_one p has.kept has.made (sym both.0) in
-      let heads : Some g ≡ Some f = sym has.head' ∙ ap (λ (x : Kept). at_number x.heads n) kept_same ∙ ap (at_number kept.heads) (sym both.1) ∙ fhead in
+      let heads : Some g ≡ Some f = sym has.head' ∙ ap (λ (x : LoadedUser). at_number x.heads n) kept_same ∙ ap (at_number kept.heads) (sym both.1) ∙ fhead in
       let clash : true ≡ false = sym table ∙ ap is_table (sym (same_Some g f heads)) ∙ plain (sym both.0) in absurd cc)
 
   sizes : (h : Handle) → IsSome (there_at (presence new.memory.slots (Some h))) → length (bytes_at new.memory h.slot) ≡ length (bytes_at old.memory h.slot)
@@ -136,7 +136,7 @@ module _ (old new : Loaded) (id : ℕ) (sound : IsSound old.memory old.users) (d
   by_in : (p : ℕ) → (In p ≡ true) ⊎ (In p ≡ false)
   by_in p = decide (In p)
 
-  each_before : (p n : ℕ) (head : Head) (h : Handle) → Has old.users p n head h → IsOf new.memory (first_id + p) head h
+  each_before : (p n : ℕ) (head : SegmentHead) (h : Handle) → Has old.users p n head h → IsOf new.memory (first_id + p) head h
   each_before p n head h has =
       let of' = sound.each p n head h has in
       elim (by_in p) [
@@ -165,8 +165,8 @@ module _ (old new : Loaded) (id : ℕ) (sound : IsSound old.memory old.users) (d
   lies_alike h (Some a) false true = refl
   lies_alike h (Some a) false false = refl
 
-  module _ (p : ℕ) (k : Kept) (made : slice_get old.users p ≡ Some (Some k)) where
-    own : (n : ℕ) (h : Handle) → handle_at k.handles n ≡ Some h → (head : Head) × Has old.users p n head h
+  module _ (p : ℕ) (k : LoadedUser) (made : slice_get old.users p ≡ Some (Some k)) where
+    own : (n : ℕ) (h : Handle) → handle_at k.handles n ≡ Some h → (head : SegmentHead) × Has old.users p n head h
     own n h found = has_any old sound p k made n h found
 
     other_same : In p ≡ false → (n : ℕ) (o : Option Handle) → handle_at k.handles n ≡ o → presence new.memory.slots o ≡ presence old.memory.slots o
@@ -205,50 +205,50 @@ module _ (old new : Loaded) (id : ℕ) (sound : IsSound old.memory old.users) (d
   attached_now = relived.attached_now old.users new.users Dormant ids did.users sound.attached
       (relived.together old.users sound.attached id kept did.made top ids (in_last kept.attached id) (in_front kept.attached id) (in_either kept.attached id))
 
-  has_now : (p n : ℕ) (head : Head) (h : Handle) → Has old.users p n head h → Has new.users p n head h
+  has_now : (p n : ℕ) (head : SegmentHead) (h : Handle) → Has old.users p n head h → Has new.users p n head h
   has_now p n head h has = relived.has_now old.users new.users Dormant ids did.users p n head h has
 
-  statics_now : (p : ℕ) (k : Kept) (n : ℕ) (head : Head) → slice_get new.users p ≡ Some (Some k) → k.life ≡ Running → at_number k.heads n ≡ Some head → is_static head ≡ true
+  statics_now : (p : ℕ) (k : LoadedUser) (n : ℕ) (head : SegmentHead) → slice_get new.users p ≡ Some (Some k) → k.life ≡ Running → at_number k.heads n ≡ Some head → is_static head ≡ true
       → is_active (presence_at new.memory.slots k.handles n) ≡ true
   statics_now p k n head made runs found static = go (users_now p k made)
     where
       go : Was rests (relived.life_again Dormant) old.users ids p k → is_active (presence_at new.memory.slots k.handles n) ≡ true
       go w = elim w.is [
-        | inl inside ↦ (let clash : Dormant ≡ Running = ap (λ (x : Kept). x.life) (sym inside.1) ∙ runs in absurd cc)
+        | inl inside ↦ (let clash : Dormant ≡ Running = ap (λ (x : LoadedUser). x.life) (sym inside.1) ∙ runs in absurd cc)
         | inr outside ↦
-            (let made' : slice_get old.users p ≡ Some (Some k) = w.made ∙ ap (λ (x : Kept). Some (Some x)) (sym outside.1) in
+            (let made' : slice_get old.users p ≡ Some (Some k) = w.made ∙ ap (λ (x : LoadedUser). Some (Some x)) (sym outside.1) in
             let before = sound.statics p k n head made' runs found static in
             ap is_active (other_same p k made' outside.0 n (handle_at k.handles n) refl) ∙ before)
       ]
 
-  rests_now : (p : ℕ) (k : Kept) (n : ℕ) → slice_get new.users p ≡ Some (Some k) → k.life ≡ Dormant → is_active (presence_at new.memory.slots k.handles n) ≡ false
+  rests_now : (p : ℕ) (k : LoadedUser) (n : ℕ) → slice_get new.users p ≡ Some (Some k) → k.life ≡ Dormant → is_active (presence_at new.memory.slots k.handles n) ≡ false
   rests_now p k n made life = go (users_now p k made)
     where
       go : Was rests (relived.life_again Dormant) old.users ids p k → is_active (presence_at new.memory.slots k.handles n) ≡ false
       go w = elim w.is [
         | inl inside ↦
-            ap (λ (x : Kept). is_active (presence_at new.memory.slots x.handles n)) inside.1
+            ap (λ (x : LoadedUser). is_active (presence_at new.memory.slots x.handles n)) inside.1
             ∙ by_place (presence_at new.memory.slots w.was.handles n) (none_active p w.was w.made inside.0 n (handle_at w.was.handles n) refl)
         | inr outside ↦
-            (let made' : slice_get old.users p ≡ Some (Some k) = w.made ∙ ap (λ (x : Kept). Some (Some x)) (sym outside.1) in
+            (let made' : slice_get old.users p ≡ Some (Some k) = w.made ∙ ap (λ (x : LoadedUser). Some (Some x)) (sym outside.1) in
             ap is_active (other_same p k made' outside.0 n (handle_at k.handles n) refl) ∙ sound.rests p k n made' life)
       ]
 
   only_now : (slot : ℕ) (b : Block) → block_in (slot_at new.memory.slots slot) ≡ Some b → b.user ≢ 0
-      → (p : ℕ) × (n : ℕ) × (head : Head) × (h : Handle) × Has new.users p n head h × (h.slot ≡ slot)
+      → (p : ℕ) × (n : ℕ) × (head : SegmentHead) × (h : Handle) × Has new.users p n head h × (h.slot ≡ slot)
   only_now slot b found user =
       let was = all_in let_go let_go_again let_go_user old.memory.slots (handles_of_all (kept_outlines old.users) ids) slot b (sym (ap (λ (t : Slots). block_in (slot_at t slot)) slots_are) ∙ found) in
       let it = sound.only slot was.0 was.1 (λ e. user (sym was.2 ∙ e)) in
       (it.0, it.1, it.2, it.3, has_now it.0 it.1 it.2 it.3 it.4, it.5)
 
-  was_there : (p n : ℕ) (g : Head) (j : Handle) → Has old.users p n g j → IsSome (there_at (presence new.memory.slots (Some j))) → IsSome (there_at (presence old.memory.slots (Some j)))
+  was_there : (p n : ℕ) (g : SegmentHead) (j : Handle) → Has old.users p n g j → IsSome (there_at (presence new.memory.slots (Some j))) → IsSome (there_at (presence old.memory.slots (Some j)))
   was_there p n g j has there = elim (by_in p) [
     | inl inside ↦
         (let same = there_same p has.kept has.made inside n (Some j) has.handle in subst (λ (o : Option ℕ). IsSome o) same there)
     | inr outside ↦ subst (λ (x : Presence). IsSome (there_at x)) (other_same p has.kept has.made outside n (Some j) has.handle) there
   ]
 
-  calls_now : (p n k : ℕ) (g : Head) (j : Handle) → Has new.users p n g j → is_table g ≡ true → IsSome (there_at (presence new.memory.slots (Some j))) → k < entry_count g.length
+  calls_now : (p n k : ℕ) (g : SegmentHead) (j : Handle) → Has new.users p n g j → is_table g ≡ true → IsSome (there_at (presence new.memory.slots (Some j))) → k < entry_count g.length
       → IsCall new.users (first_id + p) (target_at (bytes_at new.memory j.slot) k)
   calls_now p n k g j has' table there inside =
       let has = has_before p n g j has' in
@@ -257,8 +257,8 @@ module _ (old new : Loaded) (id : ℕ) (sound : IsSound old.memory old.users) (d
       elim (cases_eq p place) [
         | inl eq ↦
             let user = kept_one p has.kept has.made eq in
-            let ghead : at_number kept.heads n ≡ Some g = ap (λ (x : Kept). at_number x.heads n) (sym user) ∙ has.head' in
-            let ghandle : handle_at kept.handles n ≡ Some j = ap (λ (x : Kept). handle_at x.handles n) (sym user) ∙ has.handle in
+            let ghead : at_number kept.heads n ≡ Some g = ap (λ (x : LoadedUser). at_number x.heads n) (sym user) ∙ has.head' in
+            let ghandle : handle_at kept.handles n ≡ Some j = ap (λ (x : LoadedUser). handle_at x.handles n) (sym user) ∙ has.handle in
             let follows = did.renewed.follow n g j (at_most kept.heads n g ghead) ghead ghandle table was in
             let of' = sound.each p n g j has in
             let room = of'.room (block_at j of'.block of'.live was) in
@@ -295,7 +295,7 @@ module _ (old new : Loaded) (id : ℕ) (sound : IsSound old.memory old.users) (d
   far_none : (f n : ℕ) → far_of new.memory.slots (kept_outlines new.users) id f n ≡ None
   far_none f n = go (attached_at (kept_outlines new.users) id f) refl
     where
-      its_new : (v : Kept) × (user_of new.users id ≡ Some v) × (v.heads ≡ kept.heads) × (v.attached ≡ kept.attached) × (v.handles ≡ kept.handles) × (((is_in ids id ≡ true) × (v ≡ rests kept)) ⊎ ((is_in ids id ≡ false) × (v ≡ kept)))
+      its_new : (v : LoadedUser) × (user_of new.users id ≡ Some v) × (v.heads ≡ kept.heads) × (v.attached ≡ kept.attached) × (v.handles ≡ kept.handles) × (((is_in ids id ≡ true) × (v ≡ rests kept)) ⊎ ((is_in ids id ≡ false) × (v ≡ kept)))
       its_new = user_then id kept did.made
 
       row : (m : ℕ) → slice_get kept.attached (f - 2) ≡ Some m → active_at (presence_at new.memory.slots (handles_in (kept_outlines new.users) m) n) ≡ None
@@ -316,18 +316,18 @@ module _ (old new : Loaded) (id : ℕ) (sound : IsSound old.memory old.users) (d
       go (Some m) e = row m (sym is_row ∙ e)
 
   -- an attached user has none itself
-  far_alone : (p : ℕ) (k : Kept) → slice_get old.users p ≡ Some (Some k) → k.attached ≡ [] → (f n : ℕ) → far_of new.memory.slots (kept_outlines new.users) (first_id + p) f n ≡ None
+  far_alone : (p : ℕ) (k : LoadedUser) → slice_get old.users p ≡ Some (Some k) → k.attached ≡ [] → (f n : ℕ) → far_of new.memory.slots (kept_outlines new.users) (first_id + p) f n ≡ None
   far_alone p k made alone f n =
       let now = user_then (first_id + p) k (user_there old.users p k made) in
       let row : attached_at (kept_outlines new.users) (first_id + p) f ≡ None = rw (user_is outline new.users (first_id + p), now.1) (ap (λ (ns : List ℕ). slice_get ns (f - 2)) (now.3 ∙ alone)) in
       rw row refl
 
   -- those of any other user are where they were
-  far_other : (p : ℕ) (k : Kept) → slice_get old.users p ≡ Some (Some k) → In p ≡ false → (f n : ℕ)
+  far_other : (p : ℕ) (k : LoadedUser) → slice_get old.users p ≡ Some (Some k) → In p ≡ false → (f n : ℕ)
       → far_of new.memory.slots (kept_outlines new.users) (first_id + p) f n ≡ far_of old.memory.slots (kept_outlines old.users) (first_id + p) f n
   far_other p k made outside f n = rw (row_new, row_old) (go (slice_get k.attached (f - 2)) refl)
     where
-      now : (v : Kept) × (user_of new.users (first_id + p) ≡ Some v) × (v.heads ≡ k.heads) × (v.attached ≡ k.attached) × (v.handles ≡ k.handles) × (((is_in ids (first_id + p) ≡ true) × (v ≡ rests k)) ⊎ ((is_in ids (first_id + p) ≡ false) × (v ≡ k)))
+      now : (v : LoadedUser) × (user_of new.users (first_id + p) ≡ Some v) × (v.heads ≡ k.heads) × (v.attached ≡ k.attached) × (v.handles ≡ k.handles) × (((is_in ids (first_id + p) ≡ true) × (v ≡ rests k)) ⊎ ((is_in ids (first_id + p) ≡ false) × (v ≡ k)))
       now = user_then (first_id + p) k (user_there old.users p k made)
 
       row_new : attached_at (kept_outlines new.users) (first_id + p) f ≡ slice_get k.attached (f - 2)
@@ -369,10 +369,10 @@ module _ (old new : Loaded) (id : ℕ) (sound : IsSound old.memory old.users) (d
 
   module _ (held : FileMap) (state : Machine) (agrees : Agrees held old state) where
     -- a user of the family agrees, dormant
-    module _ (p : ℕ) (k : Kept) (user : User) (made : slice_get old.users p ≡ Some (Some k)) (inside : In p ≡ true)
+    module _ (p : ℕ) (k : LoadedUser) (user : User) (made : slice_get old.users p ≡ Some (Some k)) (inside : In p ≡ true)
         (was : UserAgrees held old.memory (far_in old (first_id + p)) (first_id + p) k user) where
       heads_at : (n : ℕ) (s : Segment) → segment_at was.segments n ≡ Some s → at_number k.heads n ≡ Some (head_of s)
-      heads_at n s found = ap (λ (hs : List Head). at_number hs n) was.heads ∙ head_at was.segments n s found
+      heads_at n s found = ap (λ (hs : List SegmentHead). at_number hs n) was.heads ∙ head_at was.segments n s found
 
       here_or_plain : (n : ℕ) (s : Segment) → segment_at was.segments n ≡ Some s → load.is_table s ≡ true → (p ≡ place)
       here_or_plain n s found table = elim (which p k made inside) [
@@ -388,7 +388,7 @@ module _ (old new : Loaded) (id : ℕ) (sound : IsSound old.memory old.users) (d
       ]
 
       becomes : (n : ℕ) (s : Segment) (j : Handle) → segment_at was.segments n ≡ Some s → handle_at k.handles n ≡ Some j → IsSome (there_at (presence_at new.memory.slots k.handles n))
-          → Becomes (setting_with (far_in old (first_id + p)) (first_id + p) old.memory.slots k.handles) (setting_with (far_in new (first_id + p)) (first_id + p) new.memory.slots k.handles) None None old.memory new.memory k user (state_of.rests user) n s j
+          → Becomes (setting_with (far_in old (first_id + p)) (first_id + p) old.memory.slots k.handles) (setting_with (far_in new (first_id + p)) (first_id + p) new.memory.slots k.handles) None None old.memory new.memory k user (state_of.dormant_user user) n s j
       becomes n s j found has present =
           let present' : IsSome (there_at (presence new.memory.slots (Some j))) = subst (λ (o : Option Handle). IsSome (there_at (presence new.memory.slots o))) has present in
           let before : IsSome (there_at (presence_at old.memory.slots k.handles n)) = rw (← there_now p k made inside n) present in
@@ -396,14 +396,14 @@ module _ (old new : Loaded) (id : ℕ) (sound : IsSound old.memory old.users) (d
           elim (decide (load.is_table s)) [
             | inl table ↦
                 let same : k ≡ kept = kept_one p k made (here_or_plain n s found table) in
-                let fhead : at_number kept.heads n ≡ Some (head_of s) = ap (λ (x : Kept). at_number x.heads n) (sym same) ∙ heads_at n s found in
-                let fhandle : handle_at kept.handles n ≡ Some j = ap (λ (x : Kept). handle_at x.handles n) (sym same) ∙ has in
+                let fhead : at_number kept.heads n ≡ Some (head_of s) = ap (λ (x : LoadedUser). at_number x.heads n) (sym same) ∙ heads_at n s found in
+                let fhandle : handle_at kept.handles n ≡ Some j = ap (λ (x : LoadedUser). handle_at x.handles n) (sym same) ∙ has in
                 Turns table has before (bytes_middle j present' ∙ did.renewed.follow n (head_of s) j (at_most kept.heads n (head_of s) fhead) fhead fhandle table before')
             | inr plain ↦ Stays plain has before (ap (λ (o : Option ℕ). unwrap_or o 0) (there_now p k made inside n)) refl (bytes_middle j present'
                 ∙ plain_bytes p n (head_of s) j (record { kept = k; made = made; head' = heads_at n s found; handle = has }) (λ e. plain))
           ]
 
-      turned : Turned old.memory new.memory (far_in old (first_id + p)) (far_in new (first_id + p)) (first_id + p) None None k (rests k) user (state_of.rests user) was.segments
+      turned : Turned old.memory new.memory (far_in old (first_id + p)) (far_in new (first_id + p)) (first_id + p) None None k (rests k) user (state_of.dormant_user user) was.segments
       turned = record {
         same = ap (λ (o : Outline). let new : Outline = record o { life = Dormant } in new) was.same;
         path = refl;
@@ -421,12 +421,12 @@ module _ (old new : Loaded) (id : ℕ) (sound : IsSound old.memory old.users) (d
         each = λ there n s j found has present. becomes n s j found has present;
       }
 
-      family_agrees : UserAgrees held new.memory (far_in new (first_id + p)) (first_id + p) (rests k) (state_of.rests user)
-      family_agrees = turned_agrees held old.memory new.memory (far_in old (first_id + p)) (far_in new (first_id + p)) (first_id + p) None None k (rests k) user (state_of.rests user) was
+      family_agrees : UserAgrees held new.memory (far_in new (first_id + p)) (first_id + p) (rests k) (state_of.dormant_user user)
+      family_agrees = turned_agrees held old.memory new.memory (far_in old (first_id + p)) (far_in new (first_id + p)) (first_id + p) None None k (rests k) user (state_of.dormant_user user) was
           (entries_lead held old state agrees sound (first_id + p) k (user_there old.users p k made) None None (λ t above far c some. absurd cc) was.segments was.holds) (sound.short p k made) turned
 
     -- every other user agrees still
-    others_agree : (p : ℕ) (k : Kept) (user : User) → slice_get old.users p ≡ Some (Some k) → In p ≡ false
+    others_agree : (p : ℕ) (k : LoadedUser) (user : User) → slice_get old.users p ≡ Some (Some k) → In p ≡ false
         → UserAgrees held old.memory (far_in old (first_id + p)) (first_id + p) k user → UserAgrees held new.memory (far_in new (first_id + p)) (first_id + p) k user
     others_agree p k user made outside was = agrees_still held old.memory new.memory (far_in old (first_id + p)) (far_in new (first_id + p)) (first_id + p) k user was (λ n j found.
         let one = has_any old sound p k made n j found in
@@ -445,7 +445,7 @@ module _ (old new : Loaded) (id : ℕ) (sound : IsSound old.memory old.users) (d
     next_of family = record {
       banks = state.banks;
       slots = changed_all let_go state.slots (handles_of_all (outlines state.users) family);
-      users = with_all state_of.rests state.users family;
+      users = with_all state_of.dormant_user state.users family;
     }
 
     agrees_of : Agrees held new (next_of ids)
@@ -454,18 +454,18 @@ module _ (old new : Loaded) (id : ℕ) (sound : IsSound old.memory old.users) (d
       banks = did.idled.bytes.banks ∙ did.renewed.banks ∙ agrees.banks;
       slots = slots_are ∙ ap (λ (t : Slots). changed_all let_go t (handles_of_all (kept_outlines old.users) ids)) agrees.slots ∙ ap (λ (os : List (Option Outline)). changed_all let_go state.slots (handles_of_all os ids)) agrees.users;
       users = ap kept_outlines did.users ∙ map_all outline rests rests_outline (λ k. refl) old.users ids ∙ ap (λ (os : List (Option Outline)). with_all rests_outline os ids) agrees.users
-          ∙ sym (map_all outline_of state_of.rests rests_outline (λ u. refl) state.users ids);
+          ∙ sym (map_all outline_of state_of.dormant_user rests_outline (λ u. refl) state.users ids);
       attached = attached_now;
       entries = relived.entries_now old.users new.users Dormant ids did.users held agrees.entries;
-      each = λ p k user made made'. each_agrees p k user (users_now p k made) (with_all_get state_of.rests (λ u. refl) ids state.users p user made');
+      each = λ p k user made made'. each_agrees p k user (users_now p k made) (with_all_get state_of.dormant_user (λ u. refl) ids state.users p user made');
     }
       where
-        each_agrees : (p : ℕ) (k : Kept) (user : User) → Was rests (relived.life_again Dormant) old.users ids p k → Was state_of.rests (λ u. refl) state.users ids p user
+        each_agrees : (p : ℕ) (k : LoadedUser) (user : User) → Was rests (relived.life_again Dormant) old.users ids p k → Was state_of.dormant_user (λ u. refl) state.users ids p user
             → UserAgrees held new.memory (far_in new (first_id + p)) (first_id + p) k user
         each_agrees p k user w v = elim w.is [
           | inl inside ↦ elim v.is [
             | inl inside' ↦
-                subst (λ (x : Kept). UserAgrees held new.memory (far_in new (first_id + p)) (first_id + p) x user) (sym inside.1)
+                subst (λ (x : LoadedUser). UserAgrees held new.memory (far_in new (first_id + p)) (first_id + p) x user) (sym inside.1)
                 (subst (λ (x : User). UserAgrees held new.memory (far_in new (first_id + p)) (first_id + p) (rests w.was) x) (sym inside'.1)
                 (family_agrees p w.was v.was w.made inside.0 (agrees.each p w.was v.was w.made v.made)))
             | inr outside' ↦ (let clash : true ≡ false = sym inside.0 ∙ outside'.0 in absurd cc)
@@ -473,7 +473,7 @@ module _ (old new : Loaded) (id : ℕ) (sound : IsSound old.memory old.users) (d
           | inr outside ↦ elim v.is [
             | inl inside' ↦ (let clash : true ≡ false = sym inside'.0 ∙ outside.0 in absurd cc)
             | inr outside' ↦
-                subst (λ (x : Kept). UserAgrees held new.memory (far_in new (first_id + p)) (first_id + p) x user) (sym outside.1)
+                subst (λ (x : LoadedUser). UserAgrees held new.memory (far_in new (first_id + p)) (first_id + p) x user) (sym outside.1)
                 (subst (λ (x : User). UserAgrees held new.memory (far_in new (first_id + p)) (first_id + p) w.was x) (sym outside'.1)
                 (others_agree p w.was v.was w.made outside.0 (agrees.each p w.was v.was w.made v.made)))
           ]
@@ -493,37 +493,37 @@ module _ (old new : Loaded) (id : ℕ) (sound : IsSound old.memory old.users) (d
 -- ---- the refusal
 
 -- one that passes is attached to no user
-pub alone_of : (attached : Bool) (user : Option Seen) (keep : Bool) → shut_down_refusal attached user keep ≡ None → attached ≡ false
+pub alone_of : (attached : Bool) (user : Option UserSeen) (keep : Bool) → shut_down_refusal attached user keep ≡ None → attached ≡ false
 unfolding shut_down_refusal
 alone_of true None keep none = absurd cc
 alone_of true (Some seen) keep none = absurd cc
 alone_of false user keep none = refl
 
 -- an attached user is refused as if there were none
-pub alone_stops : (attached : Bool) (user : Option Seen) (keep : Bool) (fault : LoaderFault) → fault ≡ NoUser → attached ≡ true → shut_down_refusal attached user keep ≡ Some fault
+pub alone_stops : (attached : Bool) (user : Option UserSeen) (keep : Bool) (fault : LoaderFault) → fault ≡ NoUser → attached ≡ true → shut_down_refusal attached user keep ≡ Some fault
 unfolding shut_down_refusal
 alone_stops attached None keep fault is own = ap (λ (f : LoaderFault). Some f) (sym is)
 alone_stops attached (Some seen) keep fault is own = rw own (ap (λ (f : LoaderFault). Some f) (sym is))
 
-pub keep_stops : (attached : Bool) (user : Option Seen) (fault : LoaderFault) → attached ≡ false → StopsRunning user fault → shut_down_refusal attached user true ≡ Some fault
+pub keep_stops : (attached : Bool) (user : Option UserSeen) (fault : LoaderFault) → attached ≡ false → StopsRunning user fault → shut_down_refusal attached user true ≡ Some fault
 unfolding shut_down_refusal
 keep_stops attached user fault own stops = rw own (stops (λ seen. None))
 
-pub keep_passes : (attached : Bool) (user : Option Seen) (seen : Seen) → attached ≡ false → PassesRunning user seen → shut_down_refusal attached user true ≡ None
+pub keep_passes : (attached : Bool) (user : Option UserSeen) (seen : UserSeen) → attached ≡ false → PassesRunning user seen → shut_down_refusal attached user true ≡ None
 unfolding shut_down_refusal
 keep_passes attached user seen own runs = rw own (runs (λ seen. None))
 
-pub drop_none : (attached : Bool) (user : Option Seen) → user ≡ None → shut_down_refusal attached user false ≡ Some NoUser
+pub drop_none : (attached : Bool) (user : Option UserSeen) → user ≡ None → shut_down_refusal attached user false ≡ Some NoUser
 unfolding shut_down_refusal
 drop_none attached user is = rw is refl
 
-pub drop_passes : (attached : Bool) (user : Option Seen) (seen : Seen) → attached ≡ false → user ≡ Some seen → shut_down_refusal attached user false ≡ None
+pub drop_passes : (attached : Bool) (user : Option UserSeen) (seen : UserSeen) → attached ≡ false → user ≡ Some seen → shut_down_refusal attached user false ≡ None
 unfolding shut_down_refusal
 drop_passes attached user seen own is = rw (is, own) refl
 
 -- ---- as it is done
 
-pub has_kept : (old last : Loaded) (id : ℕ) (k : Kept) (middle : Memory) (count : ℕ) → user_of old.users id ≡ Some k → k.life ≡ Running → count ≡ length k.heads
+pub has_kept : (old last : Loaded) (id : ℕ) (k : LoadedUser) (middle : Memory) (count : ℕ) → user_of old.users id ≡ Some k → k.life ≡ Running → count ≡ length k.heads
     → AreRenewed k.heads k.handles None None old.memory middle count → AreIdled (handles_of_all (kept_outlines old.users) (family id k.attached)) middle last.memory
     → last.users ≡ with_all rests old.users (family id k.attached) → HasKept old id last
 has_kept old last id k middle count made runs long renewed idled users = record {
@@ -537,5 +537,5 @@ has_kept old last id k middle count made runs long renewed idled users = record 
 }
 
 -- the user that was found is the one that runs
-pub found_runs : (users : List (Option Kept)) (id : ℕ) (a b : Kept) → user_of users id ≡ Some a → user_of users id ≡ Some b → a.life ≡ Running → b.life ≡ Running
-found_runs users id a b p q runs = ap (λ (k : Kept). k.life) (same_Some b a (sym q ∙ p)) ∙ runs
+pub found_runs : (users : List (Option LoadedUser)) (id : ℕ) (a b : LoadedUser) → user_of users id ≡ Some a → user_of users id ≡ Some b → a.life ≡ Running → b.life ≡ Running
+found_runs users id a b p q runs = ap (λ (k : LoadedUser). k.life) (same_Some b a (sym q ∙ p)) ∙ runs

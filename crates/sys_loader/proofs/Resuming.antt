@@ -15,18 +15,18 @@ use Rattle.iigs_meaning.specs.declared.wants.Block.{Block}
 use Rattle.iigs_meaning.specs.Slots.{slot_at, get}
 use Rattle.iigs_meaning.specs.Fits.{Slots, block_in}
 use Rattle.iigs_meaning.specs.Memory.{Memory, bytes_at}
-use Rattle.loader_machine.specs.declared.seen.Head.{Head}
+use Rattle.loader_machine.specs.declared.seen.SegmentHead.{SegmentHead}
 use Rattle.loader_machine.specs.declared.seen.Life.TheVariants.{Running, Dormant}
 use Rattle.loader_machine.specs.Heads.{head_of, at_number, is_static, is_table}
-use Rattle.loader_machine.specs.State.{Held, User, Machine, fresh, absent, no_pokes, first_id, user_of, with_user, with_all, handles_of, held_at, attached_at, handles_in, Outline, outline_of}
+use Rattle.loader_machine.specs.State.{HeldSegment, User, Machine, fresh, absent, no_pokes, first_id, user_of, with_user, with_all, handles_of, held_at, attached_at, handles_in, Outline, outline_of}
 use Rattle.loader_machine.specs.State as state_of
 use Rattle.loader_machine.specs.declared.seen.Presence.{Presence}
 use Rattle.loader_machine.specs.declared.seen.Presence.TheVariants.{Absent, Purged, Idle, Active}
 use Rattle.loader_machine.specs.Presences.{handle_at, presence, presence_at, there_at, active_at, is_active, is_there, lies_in, lies_at}
-use Rattle.loader_machine.specs.Stands.{Setting, setting, setting_with, far_of, stands}
+use Rattle.loader_machine.specs.Stands.{AddressSetting, setting, setting_with, far_of, stands}
 use Rattle.loader_machine.specs.laws.StandsLaws.{AreAlike, stands_alike}
 use Rattle.loader_machine.specs.Steps.{active_block, changed_all, are_there, static_handles, is_read_again, read_again}
-use Rattle.loader_agrees.specs.Agrees.{Kept, Loaded, outline, kept_outlines, IsSegments, AreThere, far_in, IsJoined, AreAttached, UserAgrees, Agrees, IsCall, IsOf, Has, IsSound}
+use Rattle.loader_agrees.specs.Agrees.{LoadedUser, Loaded, outline, kept_outlines, IsSegments, AreThere, far_in, IsJoined, AreAttached, UserAgrees, Agrees, IsCall, IsOf, Has, IsSound}
 use Rattle.loader_agrees.specs.laws.Begun.{decide}
 use Rattle.loader_agrees.specs.laws.Frame.{Same, agrees_still}
 use Rattle.loader_agrees.specs.laws.Lists.{set_map, set_at, set_apart}
@@ -50,15 +50,15 @@ has_handle handles first = let same : first + 0 ≡ first = omega arith in ap (h
 pub next_number : (first k : ℕ) → first + suc k ≡ first + 1 + k
 next_number first k = omega arith
 
-pub statics_cons : (g : Head) (heads : List Head) (handles : List (Option Handle)) (first : ℕ) → is_static g ≡ true
+pub statics_cons : (g : SegmentHead) (heads : List SegmentHead) (handles : List (Option Handle)) (first : ℕ) → is_static g ≡ true
     → static_handles (g ∷ heads) handles first ≡ handle_at handles first ∷ static_handles heads handles (first + 1)
 statics_cons g heads handles first is = rw is refl
 
-pub statics_pass : (g : Head) (heads : List Head) (handles : List (Option Handle)) (first : ℕ) → is_static g ≡ false → static_handles (g ∷ heads) handles first ≡ static_handles heads handles (first + 1)
+pub statics_pass : (g : SegmentHead) (heads : List SegmentHead) (handles : List (Option Handle)) (first : ℕ) → is_static g ≡ false → static_handles (g ∷ heads) handles first ≡ static_handles heads handles (first + 1)
 statics_pass g heads handles first is = rw is refl
 
 -- the handle of a static segment is one of them
-in_statics : (heads : List Head) (handles : List (Option Handle)) (first k : ℕ) (head : Head) (h : Handle) → slice_get heads k ≡ Some head → is_static head ≡ true → handle_at handles (first + k) ≡ Some h
+in_statics : (heads : List SegmentHead) (handles : List (Option Handle)) (first k : ℕ) (head : SegmentHead) (h : Handle) → slice_get heads k ≡ Some head → is_static head ≡ true → handle_at handles (first + k) ≡ Some h
     → (i : ℕ) × (slice_get (static_handles heads handles first) i ≡ Some (Some h))
 in_statics [] handles first k head h is static has = absurd cc
 in_statics (g ∷ heads) handles first zero head h is static has =
@@ -71,13 +71,13 @@ in_statics (g ∷ heads) handles first (suc k) head h is static has =
     ]
 
 -- and each of them is that of one
-abbrev IsStatics : List Head → List (Option Handle) → ℕ → Handle → Type 0
-IsStatics heads handles first h = (k : ℕ) × (head : Head) × (slice_get heads k ≡ Some head) × (is_static head ≡ true) × (handle_at handles (first + k) ≡ Some h)
+abbrev IsStatics : List SegmentHead → List (Option Handle) → ℕ → Handle → Type 0
+IsStatics heads handles first h = (k : ℕ) × (head : SegmentHead) × (slice_get heads k ≡ Some head) × (is_static head ≡ true) × (handle_at handles (first + k) ≡ Some h)
 
-one_behind : (g : Head) (heads : List Head) (handles : List (Option Handle)) (first : ℕ) (h : Handle) → IsStatics heads handles (first + 1) h → IsStatics (g ∷ heads) handles first h
+one_behind : (g : SegmentHead) (heads : List SegmentHead) (handles : List (Option Handle)) (first : ℕ) (h : Handle) → IsStatics heads handles (first + 1) h → IsStatics (g ∷ heads) handles first h
 one_behind g heads handles first h was = (suc was.0, was.1, was.2, was.3, ap (handle_at handles) (next_number first was.0) ∙ was.4)
 
-statics_in : (heads : List Head) (handles : List (Option Handle)) (first i : ℕ) (h : Handle) → slice_get (static_handles heads handles first) i ≡ Some (Some h) → IsStatics heads handles first h
+statics_in : (heads : List SegmentHead) (handles : List (Option Handle)) (first i : ℕ) (h : Handle) → slice_get (static_handles heads handles first) i ≡ Some (Some h) → IsStatics heads handles first h
 statics_in [] handles first i h is = absurd cc
 statics_in (g ∷ heads) handles first i h is = elim (decide (is_static g)) [
   | inl static ↦ here i static (λ j e. statics_in heads handles (first + 1) j h e) (sym (ap (λ (l : List (Option Handle)). slice_get l i) (statics_cons g heads handles first static)) ∙ is)
@@ -90,7 +90,7 @@ statics_in (g ∷ heads) handles first i h is = elim (decide (is_static g)) [
     here (suc j) static later e = one_behind g heads handles first h (later j e)
 
 -- where all static segments are there, each one is
-pub there_all : (slots : Slots) (heads : List Head) (handles : List (Option Handle)) (first k : ℕ) (head : Head) → are_there slots heads handles first ≡ true → slice_get heads k ≡ Some head → is_static head ≡ true
+pub there_all : (slots : Slots) (heads : List SegmentHead) (handles : List (Option Handle)) (first k : ℕ) (head : SegmentHead) → are_there slots heads handles first ≡ true → slice_get heads k ≡ Some head → is_static head ≡ true
     → is_there (presence_at slots handles (first + k)) ≡ true
 there_all slots [] handles first k head all is static = absurd cc
 there_all slots (g ∷ heads) handles first zero head all is static =
@@ -111,32 +111,32 @@ there_some (Purged h) e = absurd cc
 there_some (Idle h a) e = refl
 there_some (Active h a) e = refl
 
-pub number_suc : (heads : List Head) (n : ℕ) (head : Head) → at_number heads n ≡ Some head → (k : ℕ) × (n ≡ 1 + k) × (slice_get heads k ≡ Some head)
+pub number_suc : (heads : List SegmentHead) (n : ℕ) (head : SegmentHead) → at_number heads n ≡ Some head → (k : ℕ) × (n ≡ 1 + k) × (slice_get heads k ≡ Some head)
 number_suc heads zero head is = absurd cc
 number_suc heads (suc k) head is = (k, omega arith, is)
 
 -- ---- what is held of segments that are read again
 
-again_get : (heads : List Head) (held : List Held) (k : ℕ) (head : Head) → length held ≡ length heads → slice_get heads k ≡ Some head
-    → option_map_or (λ (x : Held). x) (slice_get (read_again heads held) k) absent ≡ cond (is_read_again head) (fresh (option_map_or (λ (x : Held). x) (slice_get held k) absent).handle) (option_map_or (λ (x : Held). x) (slice_get held k) absent)
+again_get : (heads : List SegmentHead) (held : List HeldSegment) (k : ℕ) (head : SegmentHead) → length held ≡ length heads → slice_get heads k ≡ Some head
+    → option_map_or (λ (x : HeldSegment). x) (slice_get (read_again heads held) k) absent ≡ cond (is_read_again head) (fresh (option_map_or (λ (x : HeldSegment). x) (slice_get held k) absent).handle) (option_map_or (λ (x : HeldSegment). x) (slice_get held k) absent)
 again_get [] held k head long is = absurd cc
 again_get (g ∷ heads) [] k head long is = absurd (omega (arith, long))
-again_get (g ∷ heads) (x ∷ held) zero head long is = ap (λ (b : Head). cond (is_read_again b) (fresh x.handle) x) (same_Some g head is)
+again_get (g ∷ heads) (x ∷ held) zero head long is = ap (λ (b : SegmentHead). cond (is_read_again b) (fresh x.handle) x) (same_Some g head is)
 again_get (g ∷ heads) (x ∷ held) (suc k) head long is = again_get heads held k head (omega (arith, long)) is
 
-again_length : (heads : List Head) (held : List Held) → length held ≡ length heads → length (read_again heads held) ≡ length held
+again_length : (heads : List SegmentHead) (held : List HeldSegment) → length held ≡ length heads → length (read_again heads held) ≡ length held
 again_length [] [] long = refl
 again_length [] (x ∷ held) long = absurd (omega (arith, long))
 again_length (g ∷ heads) [] long = refl
 again_length (g ∷ heads) (x ∷ held) long = ap suc (again_length heads held (omega (arith, long)))
 
-again_handles : (heads : List Head) (held : List Held) → length held ≡ length heads → map (λ (x : Held). x.handle) (read_again heads held) ≡ map (λ (x : Held). x.handle) held
+again_handles : (heads : List SegmentHead) (held : List HeldSegment) → length held ≡ length heads → map (λ (x : HeldSegment). x.handle) (read_again heads held) ≡ map (λ (x : HeldSegment). x.handle) held
 again_handles [] [] long = refl
 again_handles [] (x ∷ held) long = absurd (omega (arith, long))
 again_handles (g ∷ heads) [] long = refl
 again_handles (g ∷ heads) (x ∷ held) long =
     let rest = again_handles heads held (omega (arith, long)) in
-    ap (λ (o : Option Handle). o ∷ map (λ (y : Held). y.handle) (read_again heads held)) (by (is_read_again g)) ∙ ap (λ (l : List (Option Handle)). x.handle ∷ l) rest
+    ap (λ (o : Option Handle). o ∷ map (λ (y : HeldSegment). y.handle) (read_again heads held)) (by (is_read_again g)) ∙ ap (λ (l : List (Option Handle)). x.handle ∷ l) rest
   where
     by : (b : Bool) → (cond b (fresh x.handle) x).handle ≡ x.handle
     by true = refl
@@ -153,16 +153,16 @@ pub record IsQuiet (old new : Memory) : Type 0 where
   pub slots : new.slots ≡ old.slots
   pub sizes : (slot : ℕ) → length (bytes_at new slot) ≡ length (bytes_at old slot)
 
-pub quiet_reread : (segments : List Segment) (id : ℕ) (kept : Kept) (old new : Memory) → AreReread segments id kept old new → IsQuiet old new
+pub quiet_reread : (segments : List Segment) (id : ℕ) (kept : LoadedUser) (old new : Memory) → AreReread segments id kept old new → IsQuiet old new
 quiet_reread segments id kept old new reread = record { banks = reread.banks; slots = reread.slots; sizes = reread.sizes }
 
-module _ (old new : Loaded) (id : ℕ) (kept : Kept) (started : Started) (sound : IsSound old.memory old.users) (made : user_of old.users id ≡ Some kept)
+module _ (old new : Loaded) (id : ℕ) (kept : LoadedUser) (started : Started) (sound : IsSound old.memory old.users) (made : user_of old.users id ≡ Some kept)
     (rests : kept.life ≡ Dormant) (top : (q f : ℕ) → attached_at (kept_outlines old.users) q f ≡ Some id → ⊥)
     (whole : are_there old.memory.slots kept.heads kept.handles 1 ≡ true) (middle : Memory) (quiet : IsQuiet old.memory middle) (did : HasResumed middle old.users id kept started new) where
   abbrev place : ℕ
   place = id - first_id
 
-  abbrev runs : Kept
+  abbrev runs : LoadedUser
   runs = with_life Running kept
 
   -- it and those that are attached to it
@@ -181,11 +181,11 @@ module _ (old new : Loaded) (id : ℕ) (kept : Kept) (started : Started) (sound 
   slots_are : new.memory.slots ≡ changed_all active_block old.memory.slots (static_handles kept.heads kept.handles 1)
   slots_are = did.slots ∙ ap (λ (t : Slots). changed_all active_block t (static_handles kept.heads kept.handles 1)) quiet.slots
 
-  kept_one : (a b : Kept) → Some (Some a) ≡ Some (Some b) → a ≡ b
+  kept_one : (a b : LoadedUser) → Some (Some a) ≡ Some (Some b) → a ≡ b
   kept_one a b e = cc
 
   are : new.users ≡ with_all (with_life Running) old.users ids
-  are = did.users' ∙ sym (ap (λ (o : Option Kept). with_all (with_life Running) (option_map_or (λ (u : Kept). with_user old.users id (Some (with_life Running u))) o old.users) kept.attached) made)
+  are = did.users' ∙ sym (ap (λ (o : Option LoadedUser). with_all (with_life Running) (option_map_or (λ (u : LoadedUser). with_user old.users id (Some (with_life Running u))) o old.users) kept.attached) made)
 
   has_id : is_in ids id ≡ true
   has_id = let test : (id == id) ≡ true = grind arith in rw test refl
@@ -203,24 +203,24 @@ module _ (old new : Loaded) (id : ℕ) (kept : Kept) (started : Started) (sound 
     | inr ne ↦ (let test : (id == n) ≡ false = grind arith in inr (in_rows kept.attached n (rw test at inside)))
   ]
 
-  which : (p : ℕ) (k : Kept) → slice_get old.users p ≡ Some (Some k) → In p ≡ true → ((p ≡ place) × (k ≡ kept)) ⊎ ((i : ℕ) × (slice_get kept.attached i ≡ Some (first_id + p)) × IsJoined kept.life k)
+  which : (p : ℕ) (k : LoadedUser) → slice_get old.users p ≡ Some (Some k) → In p ≡ true → ((p ≡ place) × (k ≡ kept)) ⊎ ((i : ℕ) × (slice_get kept.attached i ≡ Some (first_id + p)) × IsJoined kept.life k)
   which p k made' inside = relived.which old.users sound.attached id kept made top ids has_id has_rows either p k made' inside
 
   place_in : In place ≡ true
   place_in = ap (is_in ids) its_users.1 ∙ has_id
 
-  users_now : (p : ℕ) (k : Kept) → slice_get new.users p ≡ Some (Some k) → Was (with_life Running) (relived.life_again Running) old.users ids p k
+  users_now : (p : ℕ) (k : LoadedUser) → slice_get new.users p ≡ Some (Some k) → Was (with_life Running) (relived.life_again Running) old.users ids p k
   users_now p k made' = relived.users_now old.users new.users Running ids are p k made'
 
-  has_before : (p n : ℕ) (head : Head) (h : Handle) → Has new.users p n head h → Has old.users p n head h
+  has_before : (p n : ℕ) (head : SegmentHead) (h : Handle) → Has new.users p n head h → Has old.users p n head h
   has_before p n head h has = relived.has_before old.users new.users Running ids are p n head h has
 
-  abbrev own : (n : ℕ) (head : Head) (h : Handle) → at_number kept.heads n ≡ Some head → handle_at kept.handles n ≡ Some h → Has old.users place n head h
+  abbrev own : (n : ℕ) (head : SegmentHead) (h : Handle) → at_number kept.heads n ≡ Some head → handle_at kept.handles n ≡ Some h → Has old.users place n head h
   own n head h found has = record { kept = kept; made = its_users.0; head' = found; handle = has }
 
   -- ---- blocks
 
-  static_get : (n : ℕ) (head : Head) (h : Handle) (b : Block) → at_number kept.heads n ≡ Some head → is_static head ≡ true → handle_at kept.handles n ≡ Some h → get old.memory.slots h ≡ Some b
+  static_get : (n : ℕ) (head : SegmentHead) (h : Handle) (b : Block) → at_number kept.heads n ≡ Some head → is_static head ≡ true → handle_at kept.handles n ≡ Some h → get old.memory.slots h ≡ Some b
       → get new.memory.slots h ≡ Some (active_block b)
   static_get n head h b found static has live =
       let at = number_suc kept.heads n head found in
@@ -228,14 +228,14 @@ module _ (old new : Loaded) (id : ℕ) (kept : Kept) (started : Started) (sound 
       ap (λ (t : Slots). get t h) slots_are ∙ all_here active_block again_is old.memory.slots (static_handles kept.heads kept.handles 1) h b i.0 live i.1
 
   -- any other segment's is as before
-  apart_get : (p n : ℕ) (head : Head) (h : Handle) → Has old.users p n head h → ((p ≡ place) → is_static head ≡ false) → get new.memory.slots h ≡ get old.memory.slots h
+  apart_get : (p n : ℕ) (head : SegmentHead) (h : Handle) → Has old.users p n head h → ((p ≡ place) → is_static head ≡ false) → get new.memory.slots h ≡ get old.memory.slots h
   apart_get p n head h has other = ap (λ (t : Slots). get t h) slots_are ∙ all_apart active_block again_is old.memory.slots (static_handles kept.heads kept.handles 1) h (λ i k found same.
       let one = statics_in kept.heads kept.handles 1 i k found in
       let more : 1 + one.0 ≡ suc one.0 = omega arith in
       let has' : Has old.users place (1 + one.0) one.1 k = own (1 + one.0) one.1 k (ap (at_number kept.heads) more ∙ one.2) one.4 in
       let both = sound.once p place n (1 + one.0) head one.1 h k has has' same in
       let kept_same : has.kept ≡ kept = kept_one has.kept kept (sym has.made ∙ ap (slice_get old.users) both.0 ∙ its_users.0) in
-      let heads' : Some head ≡ Some one.1 = sym has.head' ∙ ap (λ (x : Kept). at_number x.heads n) kept_same ∙ ap (at_number kept.heads) both.1 ∙ has'.head' in
+      let heads' : Some head ≡ Some one.1 = sym has.head' ∙ ap (λ (x : LoadedUser). at_number x.heads n) kept_same ∙ ap (at_number kept.heads) both.1 ∙ has'.head' in
       let clash : true ≡ false = sym one.3 ∙ ap is_static (sym (same_Some head one.1 heads')) ∙ other both.0 in absurd cc)
 
   none_in : (n : ℕ) → ¬ Contains {X = ℕ} [] n
@@ -257,13 +257,13 @@ module _ (old new : Loaded) (id : ℕ) (kept : Kept) (started : Started) (sound 
     movable : after.movable ≡ b.movable
     form : IsSegments b → IsSegments after
 
-  after_get : (p n : ℕ) (head : Head) (h : Handle) (b : Block) → Has old.users p n head h → get old.memory.slots h ≡ Some b → IsAfter h b
+  after_get : (p n : ℕ) (head : SegmentHead) (h : Handle) (b : Block) → Has old.users p n head h → get old.memory.slots h ≡ Some b → IsAfter h b
   after_get p n head h b has live = elim (cases_eq p place) [
     | inl eq ↦ elim (decide (is_static head)) [
       | inl static ↦
           let same : has.kept ≡ kept = kept_one has.kept kept (sym has.made ∙ ap (slice_get old.users) eq ∙ its_users.0) in
-          let head' : at_number kept.heads n ≡ Some head = ap (λ (k : Kept). at_number k.heads n) (sym same) ∙ has.head' in
-          let handle : handle_at kept.handles n ≡ Some h = ap (λ (k : Kept). handle_at k.handles n) (sym same) ∙ has.handle in
+          let head' : at_number kept.heads n ≡ Some head = ap (λ (k : LoadedUser). at_number k.heads n) (sym same) ∙ has.head' in
+          let handle : handle_at kept.handles n ≡ Some h = ap (λ (k : LoadedUser). handle_at k.handles n) (sym same) ∙ has.handle in
           record { after = active_block b; live = static_get n head h b head' static handle live; at = refl; user = refl; want = refl; movable = refl; form = λ was. inl (refl, refl) }
       | inr other ↦ as_was (apart_get p n head h has (λ e. other))
     ]
@@ -273,7 +273,7 @@ module _ (old new : Loaded) (id : ℕ) (kept : Kept) (started : Started) (sound 
       as_was : get new.memory.slots h ≡ get old.memory.slots h → IsAfter h b
       as_was same = record { after = b; live = same ∙ live; at = refl; user = refl; want = refl; movable = refl; form = λ was. was }
 
-  each_before : (p n : ℕ) (head : Head) (h : Handle) → Has old.users p n head h → IsOf new.memory (first_id + p) head h
+  each_before : (p n : ℕ) (head : SegmentHead) (h : Handle) → Has old.users p n head h → IsOf new.memory (first_id + p) head h
   each_before p n head h has =
       let of' = sound.each p n head h has in
       let it = after_get p n head h of'.block has of'.live in
@@ -290,13 +290,13 @@ module _ (old new : Loaded) (id : ℕ) (kept : Kept) (started : Started) (sound 
       }
 
   -- the static segments were there
-  was_there : (n : ℕ) (head : Head) → at_number kept.heads n ≡ Some head → is_static head ≡ true → IsSome (there_at (presence_at old.memory.slots kept.handles n))
+  was_there : (n : ℕ) (head : SegmentHead) → at_number kept.heads n ≡ Some head → is_static head ≡ true → IsSome (there_at (presence_at old.memory.slots kept.handles n))
   was_there n head found static =
       let at = number_suc kept.heads n head found in
       there_some (presence_at old.memory.slots kept.handles n)
       (ap (λ (m : ℕ). is_there (presence_at old.memory.slots kept.handles m)) at.1 ∙ there_all old.memory.slots kept.heads kept.handles 1 at.0 head whole at.2 static)
 
-  static_active : (n : ℕ) (head : Head) → at_number kept.heads n ≡ Some head → is_static head ≡ true → is_active (presence_at new.memory.slots kept.handles n) ≡ true
+  static_active : (n : ℕ) (head : SegmentHead) → at_number kept.heads n ≡ Some head → is_static head ≡ true → is_active (presence_at new.memory.slots kept.handles n) ≡ true
   static_active n head found static = go (handle_at kept.handles n) refl (was_there n head found static)
     where
       active_here : (h : Handle) (at : Option ℕ) → IsSome at → is_active (lies_at h at true) ≡ true
@@ -316,7 +316,7 @@ module _ (old new : Loaded) (id : ℕ) (kept : Kept) (started : Started) (sound 
           ∙ ap (λ (o : Option Block). is_active (lies_in h o)) (static_get n head h of'.block found static e of'.live) ∙ active_here h of'.block.at some
 
   -- the segments of any other user are as before
-  other_same : (p : ℕ) (k : Kept) → slice_get old.users p ≡ Some (Some k) → p ≢ place → (n : ℕ) (o : Option Handle) → handle_at k.handles n ≡ o → presence new.memory.slots o ≡ presence old.memory.slots o
+  other_same : (p : ℕ) (k : LoadedUser) → slice_get old.users p ≡ Some (Some k) → p ≢ place → (n : ℕ) (o : Option Handle) → handle_at k.handles n ≡ o → presence new.memory.slots o ≡ presence old.memory.slots o
   other_same p k made' ne n None e = refl
   other_same p k made' ne n (Some h) e = let one = has_any old sound p k made' n h e in ap (lies_in h) (apart_get p n one.0 h one.1 (λ eq. absurd (ne eq)))
 
@@ -324,7 +324,7 @@ module _ (old new : Loaded) (id : ℕ) (kept : Kept) (started : Started) (sound 
   none_static true s e e' = cc
   none_static false s e e' = cc
 
-  statics_now : (p : ℕ) (k : Kept) (n : ℕ) (head : Head) → slice_get new.users p ≡ Some (Some k) → k.life ≡ Running → at_number k.heads n ≡ Some head → is_static head ≡ true
+  statics_now : (p : ℕ) (k : LoadedUser) (n : ℕ) (head : SegmentHead) → slice_get new.users p ≡ Some (Some k) → k.life ≡ Running → at_number k.heads n ≡ Some head → is_static head ≡ true
       → is_active (presence_at new.memory.slots k.handles n) ≡ true
   statics_now p k n head made' life found static = go (users_now p k made')
     where
@@ -333,31 +333,31 @@ module _ (old new : Loaded) (id : ℕ) (kept : Kept) (started : Started) (sound 
         | inl inside ↦ elim (which p w.was w.made inside.0) [
           | inl here ↦
               let it : k ≡ runs = inside.1 ∙ ap (with_life Running) here.1 in
-              subst (λ (x : Kept). is_active (presence_at new.memory.slots x.handles n) ≡ true) (sym it) (static_active n head (ap (λ (x : Kept). at_number x.heads n) (sym it) ∙ found) static)
+              subst (λ (x : LoadedUser). is_active (presence_at new.memory.slots x.handles n) ≡ true) (sym it) (static_active n head (ap (λ (x : LoadedUser). at_number x.heads n) (sym it) ∙ found) static)
           | inr row ↦
-              let kind = row.2.dynamic n head (ap (λ (x : Kept). at_number x.heads n) (sym inside.1) ∙ found) in
+              let kind = row.2.dynamic n head (ap (λ (x : LoadedUser). at_number x.heads n) (sym inside.1) ∙ found) in
               absurd (none_static (is_dynamic head.kind) (is_skipped head.kind) kind.0 static)
         ]
         | inr outside ↦
-            let made'' : slice_get old.users p ≡ Some (Some k) = w.made ∙ ap (λ (x : Kept). Some (Some x)) (sym outside.1) in
+            let made'' : slice_get old.users p ≡ Some (Some k) = w.made ∙ ap (λ (x : LoadedUser). Some (Some x)) (sym outside.1) in
             let ne : p ≢ place = λ eq. (let clash : false ≡ true = sym outside.0 ∙ ap In eq ∙ place_in in absurd cc) in
             ap is_active (other_same p k made'' ne n (handle_at k.handles n) refl) ∙ sound.statics p k n head made'' life found static
       ]
 
-  rests_now : (p : ℕ) (k : Kept) (n : ℕ) → slice_get new.users p ≡ Some (Some k) → k.life ≡ Dormant → is_active (presence_at new.memory.slots k.handles n) ≡ false
+  rests_now : (p : ℕ) (k : LoadedUser) (n : ℕ) → slice_get new.users p ≡ Some (Some k) → k.life ≡ Dormant → is_active (presence_at new.memory.slots k.handles n) ≡ false
   rests_now p k n made' life = go (users_now p k made')
     where
       go : Was (with_life Running) (relived.life_again Running) old.users ids p k → is_active (presence_at new.memory.slots k.handles n) ≡ false
       go w = elim w.is [
-        | inl inside ↦ (let clash : Running ≡ Dormant = ap (λ (x : Kept). x.life) (sym inside.1) ∙ life in absurd cc)
+        | inl inside ↦ (let clash : Running ≡ Dormant = ap (λ (x : LoadedUser). x.life) (sym inside.1) ∙ life in absurd cc)
         | inr outside ↦
-            let made'' : slice_get old.users p ≡ Some (Some k) = w.made ∙ ap (λ (x : Kept). Some (Some x)) (sym outside.1) in
+            let made'' : slice_get old.users p ≡ Some (Some k) = w.made ∙ ap (λ (x : LoadedUser). Some (Some x)) (sym outside.1) in
             let ne : p ≢ place = λ eq. (let clash : false ≡ true = sym outside.0 ∙ ap In eq ∙ place_in in absurd cc) in
             ap is_active (other_same p k made'' ne n (handle_at k.handles n) refl) ∙ sound.rests p k n made'' life
       ]
 
   only_now : (slot : ℕ) (b : Block) → block_in (slot_at new.memory.slots slot) ≡ Some b → b.user ≢ 0
-      → (p : ℕ) × (n : ℕ) × (head : Head) × (h : Handle) × Has new.users p n head h × (h.slot ≡ slot)
+      → (p : ℕ) × (n : ℕ) × (head : SegmentHead) × (h : Handle) × Has new.users p n head h × (h.slot ≡ slot)
   only_now slot b found user =
       let was = all_in active_block again_is (λ x. refl) old.memory.slots (static_handles kept.heads kept.handles 1) slot b (sym (ap (λ (t : Slots). block_in (slot_at t slot)) slots_are) ∙ found) in
       let it = sound.only slot was.0 was.1 (λ e. user (sym was.2 ∙ e)) in
@@ -367,7 +367,7 @@ module _ (old new : Loaded) (id : ℕ) (kept : Kept) (started : Started) (sound 
   attached_now = relived.attached_now old.users new.users Running ids are sound.attached (relived.together old.users sound.attached id kept made top ids has_id has_rows either)
 
   -- where each segment is stays
-  place_same : (p n : ℕ) (g : Head) (j : Handle) → Has old.users p n g j → there_at (presence new.memory.slots (Some j)) ≡ there_at (presence old.memory.slots (Some j))
+  place_same : (p n : ℕ) (g : SegmentHead) (j : Handle) → Has old.users p n g j → there_at (presence new.memory.slots (Some j)) ≡ there_at (presence old.memory.slots (Some j))
   place_same p n g j has =
       let of' = sound.each p n g j has in
       let it = after_get p n g j of'.block has of'.live in
@@ -383,10 +383,10 @@ module _ (old new : Loaded) (id : ℕ) (kept : Kept) (started : Started) (sound 
 
   -- where each entry leads to a segment before the call
   abbrev AreCalls : Type 0
-  AreCalls = (p n k : ℕ) (g : Head) (j : Handle) → Has old.users p n g j → is_table g ≡ true → IsSome (there_at (presence old.memory.slots (Some j))) → k < load.entry_count g.length
+  AreCalls = (p n k : ℕ) (g : SegmentHead) (j : Handle) → Has old.users p n g j → is_table g ≡ true → IsSome (there_at (presence old.memory.slots (Some j))) → k < load.entry_count g.length
       → IsCall old.users (first_id + p) (load.target_at (bytes_at middle j.slot) k)
 
-  calls_now : AreCalls → (p n k : ℕ) (g : Head) (j : Handle) → Has new.users p n g j → is_table g ≡ true → IsSome (there_at (presence new.memory.slots (Some j))) → k < load.entry_count g.length
+  calls_now : AreCalls → (p n k : ℕ) (g : SegmentHead) (j : Handle) → Has new.users p n g j → is_table g ≡ true → IsSome (there_at (presence new.memory.slots (Some j))) → k < load.entry_count g.length
       → IsCall new.users (first_id + p) (load.target_at (bytes_at new.memory j.slot) k)
   calls_now calls p n k g j has' table there inside =
       let has = has_before p n g j has' in
@@ -396,7 +396,7 @@ module _ (old new : Loaded) (id : ℕ) (kept : Kept) (started : Started) (sound 
 
   pub resumed_sound : AreCalls → IsSound new.memory new.users
   resumed_sound calls = record {
-    few = omega (arith, sound.few, ap (λ (us : List (Option Kept)). length us) are, length_all (with_life Running) old.users ids);
+    few = omega (arith, sound.few, ap (λ (us : List (Option LoadedUser)). length us) are, length_all (with_life Running) old.users ids);
     lengths = λ p k made'. let w = relived.users_now old.users new.users Running ids are p k made' in let same = relived.same_but old.users new.users Running ids are p k made' in omega (arith, sound.lengths p w.was w.made, ap length same.0, ap length same.1);
     short = λ p k made'. let w = relived.users_now old.users new.users Running ids are p k made' in let same = relived.same_but old.users new.users Running ids are p k made' in omega (arith, sound.short p w.was w.made, ap length same.1);
     statics = statics_now;
@@ -416,11 +416,11 @@ module _ (old new : Loaded) (id : ℕ) (kept : Kept) (started : Started) (sound 
   by_place (Idle h a) e = refl
   by_place (Active h a) e = absurd cc
 
-  is_row : (p : ℕ) (k : Kept) (f : ℕ) → slice_get old.users p ≡ Some (Some k) → attached_at (kept_outlines old.users) (first_id + p) f ≡ slice_get k.attached (f - 2)
+  is_row : (p : ℕ) (k : LoadedUser) (f : ℕ) → slice_get old.users p ≡ Some (Some k) → attached_at (kept_outlines old.users) (first_id + p) f ≡ slice_get k.attached (f - 2)
   is_row p k f made' = rw (user_is outline old.users (first_id + p), user_there old.users p k made') refl
 
   -- they are where they were
-  far_same : (p : ℕ) (k : Kept) → slice_get old.users p ≡ Some (Some k) → (f n : ℕ) → far_of new.memory.slots (kept_outlines new.users) (first_id + p) f n ≡ far_of old.memory.slots (kept_outlines old.users) (first_id + p) f n
+  far_same : (p : ℕ) (k : LoadedUser) → slice_get old.users p ≡ Some (Some k) → (f n : ℕ) → far_of new.memory.slots (kept_outlines new.users) (first_id + p) f n ≡ far_of old.memory.slots (kept_outlines old.users) (first_id + p) f n
   far_same p k made' f n =
       let now = relived.user_then old.users new.users Running ids are (first_id + p) k (user_there old.users p k made') in
       let row : attached_at (kept_outlines new.users) (first_id + p) f ≡ slice_get k.attached (f - 2) = rw (user_is outline new.users (first_id + p), now.1) (ap (λ (ns : List ℕ). slice_get ns (f - 2)) now.3) in
@@ -478,7 +478,7 @@ module _ (old new : Loaded) (id : ℕ) (kept : Kept) (started : Started) (sound 
           ∙ lies_alike h of'.block.at it.after.locked of'.block.locked ∙ sym (ap (λ (o : Option Block). there_at (lies_in h o)) of'.live)
 
   -- a dynamic segment is as before
-  dynamic_now : (n : ℕ) (head : Head) → at_number kept.heads n ≡ Some head → is_static head ≡ false → presence_at new.memory.slots kept.handles n ≡ presence_at old.memory.slots kept.handles n
+  dynamic_now : (n : ℕ) (head : SegmentHead) → at_number kept.heads n ≡ Some head → is_static head ≡ false → presence_at new.memory.slots kept.handles n ≡ presence_at old.memory.slots kept.handles n
   dynamic_now n head found other = go (handle_at kept.handles n) refl
     where
       go : (o : Option Handle) → handle_at kept.handles n ≡ o → presence new.memory.slots o ≡ presence old.memory.slots o
@@ -488,12 +488,12 @@ module _ (old new : Loaded) (id : ℕ) (kept : Kept) (started : Started) (sound 
   module _ (segments : List Segment) (reread : AreReread segments id kept old.memory middle)
       (held : FileMap) (state : Machine) (agrees : Agrees held old state) (same_segments : (kept_is held old state agrees id kept made).does_agree.segments ≡ segments) where
     -- the bytes of a segment that isn't read again stay
-    plain_bytes : (p n : ℕ) (g : Head) (k : Handle) → Has old.users p n g k → ((p ≡ place) → is_read_again g ≡ false) → bytes_at middle k.slot ≡ bytes_at old.memory k.slot
+    plain_bytes : (p n : ℕ) (g : SegmentHead) (k : Handle) → Has old.users p n g k → ((p ≡ place) → is_read_again g ≡ false) → bytes_at middle k.slot ≡ bytes_at old.memory k.slot
     plain_bytes p n g k has plain = reread.stay k.slot (λ m f j fhead again fhandle same.
         let other = own m f j fhead fhandle in
         let both = sound.once place p m n f g j k other has same in
         let kept_same : has.kept ≡ kept = kept_one has.kept kept (sym has.made ∙ ap (slice_get old.users) (sym both.0) ∙ its_users.0) in
-        let heads' : Some g ≡ Some f = sym has.head' ∙ ap (λ (x : Kept). at_number x.heads n) kept_same ∙ ap (at_number kept.heads) (sym both.1) ∙ fhead in
+        let heads' : Some g ≡ Some f = sym has.head' ∙ ap (λ (x : LoadedUser). at_number x.heads n) kept_same ∙ ap (at_number kept.heads) (sym both.1) ∙ fhead in
         let clash : true ≡ false = sym again ∙ ap is_read_again (sym (same_Some g f heads')) ∙ plain (sym both.0) in absurd cc)
 
     abbrev is : IsKept held old state agrees id kept
@@ -509,12 +509,12 @@ module _ (old new : Loaded) (id : ℕ) (kept : Kept) (started : Started) (sound 
     count = is.does_agree.count ∙ sym (Rattle.std.proofs.lemmas.List.length-map is.does_agree.segments head_of)
 
     heads_at : (n : ℕ) (s : Segment) → segment_at is.does_agree.segments n ≡ Some s → at_number kept.heads n ≡ Some (head_of s)
-    heads_at n s found = ap (λ (hs : List Head). at_number hs n) is.does_agree.heads ∙ head_at is.does_agree.segments n s found
+    heads_at n s found = ap (λ (hs : List SegmentHead). at_number hs n) is.does_agree.heads ∙ head_at is.does_agree.segments n s found
 
-    abbrev a : Setting
+    abbrev a : AddressSetting
     a = setting_with (far_in old id) id old.memory.slots kept.handles
 
-    abbrev b : Setting
+    abbrev b : AddressSetting
     b = setting_with (far_in new id) id new.memory.slots kept.handles
 
     not_static : (s : Segment) → is_dynamic s.fields.kind ≡ true → is_static (head_of s) ≡ false
@@ -561,21 +561,21 @@ module _ (old new : Loaded) (id : ℕ) (kept : Kept) (started : Started) (sound 
         elim (decide (is_read_again (head_of s))) [
           | inl again ↦
               let front = reread.begins n s h (subst (λ (ss : List Segment). segment_at ss n ≡ Some s) same_segments found) again has in
-              let pokes : (held_at user' n).pokes ≡ no_pokes = ap (λ (x : Held). x.pokes) (pokes_now n s found) ∙ ap (λ (t : Bool). (cond t (fresh (held_at user n).handle) (held_at user n)).pokes) again in
+              let pokes : (held_at user' n).pokes ≡ no_pokes = ap (λ (x : HeldSegment). x.pokes) (pokes_now n s found) ∙ ap (λ (t : Bool). (cond t (fresh (held_at user n).handle) (held_at user n)).pokes) again in
               let front' = subst (λ (bs : List ℕ). IsFront bs (bytes_at middle h.slot)) (alone_stands n s found) front in
               rw (pokes, ← alike_stands n s no_pokes found, bytes_middle h present') front'
           | inr plain ↦
               let before : IsSome (there_at (presence_at old.memory.slots kept.handles n)) = rw (← there_now n) present in
               let front = is.does_agree.begins there n s h found has before in
-              let pokes : (held_at user' n).pokes ≡ (held_at user n).pokes = ap (λ (x : Held). x.pokes) (pokes_now n s found) ∙ ap (λ (t : Bool). (cond t (fresh (held_at user n).handle) (held_at user n)).pokes) plain in
+              let pokes : (held_at user' n).pokes ≡ (held_at user n).pokes = ap (λ (x : HeldSegment). x.pokes) (pokes_now n s found) ∙ ap (λ (t : Bool). (cond t (fresh (held_at user n).handle) (held_at user n)).pokes) plain in
               let bytes : bytes_at new.memory h.slot ≡ bytes_at old.memory h.slot = bytes_middle h present' ∙ plain_bytes place n (head_of s) h (own n (head_of s) h (heads_at n s found) has) (λ e. plain) in
               rw (pokes, ← alike_stands n s (held_at user n).pokes found, bytes) front
         ]
 
     unpoked : (n : ℕ) (s : Segment) → segment_at is.does_agree.segments n ≡ Some s → load.is_table s ≡ true → (held_at user' n).pokes ≡ no_pokes
     unpoked n s found table = elim (decide (is_read_again (head_of s))) [
-      | inl again ↦ ap (λ (x : Held). x.pokes) (pokes_now n s found) ∙ ap (λ (t : Bool). (cond t (fresh (held_at user n).handle) (held_at user n)).pokes) again
-      | inr plain ↦ ap (λ (x : Held). x.pokes) (pokes_now n s found) ∙ ap (λ (t : Bool). (cond t (fresh (held_at user n).handle) (held_at user n)).pokes) plain ∙ is.does_agree.unpoked n s found table
+      | inl again ↦ ap (λ (x : HeldSegment). x.pokes) (pokes_now n s found) ∙ ap (λ (t : Bool). (cond t (fresh (held_at user n).handle) (held_at user n)).pokes) again
+      | inr plain ↦ ap (λ (x : HeldSegment). x.pokes) (pokes_now n s found) ∙ ap (λ (t : Bool). (cond t (fresh (held_at user n).handle) (held_at user n)).pokes) plain ∙ is.does_agree.unpoked n s found table
     ]
 
     outlines : outline runs ≡ outline_of user'
@@ -597,14 +597,14 @@ module _ (old new : Loaded) (id : ℕ) (kept : Kept) (started : Started) (sound 
     }
 
     -- the others agree still, and those that are attached run
-    others_agree : (p : ℕ) (k : Kept) (u : User) → slice_get old.users p ≡ Some (Some k) → p ≢ place → UserAgrees held old.memory (far_in old (first_id + p)) (first_id + p) k u → UserAgrees held new.memory (far_in new (first_id + p)) (first_id + p) k u
+    others_agree : (p : ℕ) (k : LoadedUser) (u : User) → slice_get old.users p ≡ Some (Some k) → p ≢ place → UserAgrees held old.memory (far_in old (first_id + p)) (first_id + p) k u → UserAgrees held new.memory (far_in new (first_id + p)) (first_id + p) k u
     others_agree p k u made' ne was = agrees_still held old.memory new.memory (far_in old (first_id + p)) (far_in new (first_id + p)) (first_id + p) k u was
         (λ n j found.
         let one = has_any old sound p k made' n j found in
         Same (apart_get p n one.0 j one.1 (λ e. absurd (ne e))) (λ there. bytes_middle j there ∙ plain_bytes p n one.0 j one.1 (λ e. absurd (ne e))))
         (λ f n above. far_same p k made' f n)
 
-    row_agrees : (p : ℕ) (k : Kept) (u : User) → slice_get old.users p ≡ Some (Some k) → p ≢ place → IsJoined kept.life k → UserAgrees held old.memory (far_in old (first_id + p)) (first_id + p) k u
+    row_agrees : (p : ℕ) (k : LoadedUser) (u : User) → slice_get old.users p ≡ Some (Some k) → p ≢ place → IsJoined kept.life k → UserAgrees held old.memory (far_in old (first_id + p)) (first_id + p) k u
         → UserAgrees held new.memory (far_in new (first_id + p)) (first_id + p) (with_life Running k) (state_of.runs_again u)
     row_agrees p k u made' ne joined was =
         let still = others_agree p k u made' ne was in
@@ -617,7 +617,7 @@ module _ (old new : Loaded) (id : ℕ) (kept : Kept) (started : Started) (sound 
           unpoked = still.unpoked;
           statics = λ life n s found static.
               absurd (none_static (is_dynamic (head_of s).kind) (is_skipped (head_of s).kind)
-              (joined.dynamic n (head_of s) (ap (λ (hs : List Head). at_number hs n) still.heads ∙ head_at still.segments n s found)).0 static);
+              (joined.dynamic n (head_of s) (ap (λ (hs : List SegmentHead). at_number hs n) still.heads ∙ head_at still.segments n s found)).0 static);
           begins = still.begins;
         }
 
@@ -626,7 +626,7 @@ module _ (old new : Loaded) (id : ℕ) (kept : Kept) (started : Started) (sound 
 
     next_slots : new.memory.slots ≡ changed_all active_block state.slots (static_handles (map head_of is.does_agree.segments) (handles_of is.user) 1)
     next_slots = slots_are ∙ ap (λ (t : Slots). changed_all active_block t (static_handles kept.heads kept.handles 1)) agrees.slots
-        ∙ ap (λ (hs : List Head). changed_all active_block state.slots (static_handles hs kept.handles 1)) is.does_agree.heads
+        ∙ ap (λ (hs : List SegmentHead). changed_all active_block state.slots (static_handles hs kept.handles 1)) is.does_agree.heads
         ∙ ap (λ (o : Outline). changed_all active_block state.slots (static_handles (map head_of is.does_agree.segments) o.handles 1)) is.does_agree.same
 
     runs_outline : Outline → Outline
@@ -668,7 +668,7 @@ module _ (old new : Loaded) (id : ℕ) (kept : Kept) (started : Started) (sound 
             go true e = absurd cc
             go false e = e
 
-        each_agrees : (p : ℕ) (k : Kept) (u : User) → Was (with_life Running) (relived.life_again Running) old.users ids p k → Was state_of.runs_again (λ x. refl) (with_user state.users id (Some user')) kept.attached p u
+        each_agrees : (p : ℕ) (k : LoadedUser) (u : User) → Was (with_life Running) (relived.life_again Running) old.users ids p k → Was state_of.runs_again (λ x. refl) (with_user state.users id (Some user')) kept.attached p u
             → UserAgrees held new.memory (far_in new (first_id + p)) (first_id + p) k u
         each_agrees p k u w v = elim (cases_eq p place) [
           | inl eq ↦
@@ -682,7 +682,7 @@ module _ (old new : Loaded) (id : ℕ) (kept : Kept) (started : Started) (sound 
               ] in
               let id_is : id ≡ first_id + p = omega (arith, its_users.1, eq) in
               subst (λ (n : ℕ). UserAgrees held new.memory (far_in new n) n k u) id_is
-              (subst (λ (x : User). UserAgrees held new.memory (far_in new id) id k x) (sym user_same) (subst (λ (x : Kept). UserAgrees held new.memory (far_in new id) id x user') (sym k_same) user_agrees))
+              (subst (λ (x : User). UserAgrees held new.memory (far_in new id) id k x) (sym user_same) (subst (λ (x : LoadedUser). UserAgrees held new.memory (far_in new id) id x user') (sym k_same) user_agrees))
           | inr ne ↦
               let made' : slice_get state.users p ≡ Some (Some v.was) = sym (set_apart state.users place p (Some user') ne) ∙ v.made in
               let before = agrees.each p w.was v.was w.made made' in
@@ -695,7 +695,7 @@ module _ (old new : Loaded) (id : ℕ) (kept : Kept) (started : Started) (sound 
                         | inr l ↦ (let clash : true ≡ false = sym (in_row kept.attached row.0 (first_id + p) row.1) ∙ l.0 in absurd cc)
                       ] in
                       subst (λ (x : User). UserAgrees held new.memory (far_in new (first_id + p)) (first_id + p) k x) (sym user_same)
-                      (subst (λ (x : Kept). UserAgrees held new.memory (far_in new (first_id + p)) (first_id + p) x (state_of.runs_again v.was)) (sym inside.1) (row_agrees p w.was v.was w.made ne row.2 before))
+                      (subst (λ (x : LoadedUser). UserAgrees held new.memory (far_in new (first_id + p)) (first_id + p) x (state_of.runs_again v.was)) (sym inside.1) (row_agrees p w.was v.was w.made ne row.2 before))
                 ]
                 | inr outside ↦
                     let user_same : u ≡ v.was = elim v.is [
@@ -703,7 +703,7 @@ module _ (old new : Loaded) (id : ℕ) (kept : Kept) (started : Started) (sound 
                       | inr l ↦ l.1
                     ] in
                     subst (λ (x : User). UserAgrees held new.memory (far_in new (first_id + p)) (first_id + p) k x) (sym user_same)
-                    (subst (λ (x : Kept). UserAgrees held new.memory (far_in new (first_id + p)) (first_id + p) x v.was) (sym outside.1) (others_agree p w.was v.was w.made ne before))
+                    (subst (λ (x : LoadedUser). UserAgrees held new.memory (far_in new (first_id + p)) (first_id + p) x v.was) (sym outside.1) (others_agree p w.was v.was w.made ne before))
               ]
         ]
 

@@ -17,7 +17,7 @@ use Rattle.iigs_meaning.specs.declared.faults.BlockFault.{BlockFault}
 use Rattle.iigs_meaning.specs.declared.faults.BlockFault.TheVariants.{Stale as BlockStale, Empty as BlockEmpty}
 use Rattle.iigs_meaning.specs.Blocks.{state_of, IsStale}
 use Rattle.iigs_meaning.specs.Memory.{Memory, IsPlaced, IsFreed, Changes, bytes_at}
-use Rattle.iigs_meaning.specs.declared.slots.Content.TheVariants.{Used}
+use Rattle.iigs_meaning.specs.declared.slots.SlotContent.TheVariants.{Used}
 use Rattle.loader_machine.specs.Steps.{StepsChange}
 use Rattle.loader_machine.specs.declared.faults.LoaderFault.{LoaderFault}
 use Rattle.loader_machine.specs.declared.faults.LoaderFault.TheVariants.{Empty, LoaderOwned}

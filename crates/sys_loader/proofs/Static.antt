@@ -6,7 +6,7 @@ use Rattle.std.proofs.Math.Seq.{drop-cons}
 use Rattle.std.proofs.Math.ListN.{drop_of_length-le}
 use Rattle.std.proofs.lemmas.Option.{slice_get-get_or, slice_get-map}
 use Rattle.iigs_meaning.specs.declared.handles.Handle.{Handle}
-use Rattle.iigs_meaning.specs.declared.slots.Content.TheVariants.{Used}
+use Rattle.iigs_meaning.specs.declared.slots.SlotContent.TheVariants.{Used}
 use Rattle.iigs_meaning.specs.declared.wants.Block.{Block}
 use Rattle.iigs_meaning.specs.Slots.{slot_at, get, with_value}
 use Rattle.iigs_meaning.specs.Fits.{Slots}
@@ -14,7 +14,7 @@ use Rattle.iigs_meaning.specs.Blocks.{address_in}
 use Rattle.iigs_meaning.specs.Memory.{Memory, Changes}
 use Rattle.loader_machine.specs.Heads.{at_number, is_static}
 use Rattle.loader_machine.specs.Presences.{handle_at, presence, is_there, lies_in, lies_at}
-use Rattle.loader_machine.specs.Steps.{active_block, changed, changed_all, are_there, static_handles, is_read_again}
+use Rattle.loader_machine.specs.Steps.{active_block, with_block_changed, changed_all, are_there, static_handles, is_read_again}
 use Rattle.loader_machine.specs.Needs.{some_read_again}
 use Rattle.loader_agrees.specs.laws.Begun.{decide}
 use Rattle.loader_agrees.specs.laws.Lists.{number_map}
@@ -112,7 +112,7 @@ none_again_left segments xs i same sought past = sym sought ∙ ap (λ (l : List
 
 -- a change of blocks that leaves their places leaves all places
 module _ (f : Block → Block) (same_at : (b : Block) → (f b).at ≡ b.at) where
-  pub address_same : (slots : Slots) (h : Handle) (n : ℕ) → address_in (slot_at (changed f slots h) n) ≡ address_in (slot_at slots n)
+  pub address_same : (slots : Slots) (h : Handle) (n : ℕ) → address_in (slot_at (with_block_changed f slots h) n) ≡ address_in (slot_at slots n)
   address_same slots h n = go (get slots h) refl
     where
       go : (o : Option Block) → get slots h ≡ o → address_in (slot_at (option_map_or (λ b. with_value slots h (f b)) o slots) n) ≡ address_in (slot_at slots n)
@@ -175,10 +175,10 @@ module _ (handles : List (Option Handle)) (k : ℕ) (o : Option Handle) (found :
 
   pub activated_some : (h : Handle) → o ≡ Some h → (new : Memory) → Changes now h active_block new → AreActivated (take (k + 1) handles) old new
   activated_some h is new changes =
-      let one : new.slots ≡ changed active_block now.slots h =
+      let one : new.slots ≡ with_block_changed active_block now.slots h =
       changes.slots ∙ sym (ap (λ (x : Option Block). option_map_or (λ b. with_value now.slots h (active_block b)) x now.slots) changes.was) in
       record {
-        slots = one ∙ ap (λ (t : Slots). changed active_block t h) so_far.slots
+        slots = one ∙ ap (λ (t : Slots). with_block_changed active_block t h) so_far.slots
             ∙ sym (ap (changed_all active_block old.slots) (take_more handles k o found ∙ ap (λ (x : Option Handle). take k handles ++ x ∷ []) is)
             ∙ all_more active_block again_is old.slots (take k handles) h);
         bytes = record {
@@ -199,7 +199,7 @@ same_changed f slots segments = go segments (handles_of segments) 1 (λ i s is. 
 
     step : (o : Option Handle) (a b : List (Option Handle)) (t : Slots) → ((u : Slots) → changed_all f u a ≡ changed_all f u b) → changed_all f t (o ∷ a) ≡ changed_all f t (o ∷ b)
     step None a b t rest = rest t
-    step (Some h) a b t rest = rest (changed f t h)
+    step (Some h) a b t rest = rest (with_block_changed f t h)
 
     go : (xs : List Segment) (handles : List (Option Handle)) (n : ℕ) → ((i : ℕ) (s : Segment) → slice_get xs i ≡ Some s → handle_at handles (n + i) ≡ s.handle) → (t : Slots)
         → changed_all f t (map static_handle xs) ≡ changed_all f t (static_handles (heads_of xs) handles n)

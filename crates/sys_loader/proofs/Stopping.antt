@@ -7,7 +7,7 @@ use Rattle.loader_machine.specs.declared.faults.LoaderFault.{LoaderFault}
 use Rattle.loader_machine.specs.State.{Machine, outlines, is_attached}
 use Rattle.loader_machine.specs.Refusals.{shut_down_refusal}
 use Rattle.loader_machine.specs.Commands.{Refused, ShutDown}
-use Rattle.loader_agrees.specs.Agrees.{Kept, Loaded, Outline, kept_outlines, seen_by, Agrees, IsSound, Met}
+use Rattle.loader_agrees.specs.Agrees.{LoadedUser, Loaded, Outline, kept_outlines, seen_by, Agrees, IsSound, Met}
 use Rattle.loader_agrees.specs.laws.Seeing.{refuses}
 use Rattle.sys_loader.specs.Replies.{done_reply}
 use Rattle.sys_loader.specs.Lives.{DidShutDown}
@@ -25,7 +25,7 @@ refused_meet old new id keep fault is same held state agrees = subst (λ (l : Lo
 )
 
 -- no row names a user that is shut down
-pub top_of : (old : Loaded) (id : ℕ) (keep : Bool) (kept : Kept) → IsSound old.memory old.users → Rattle.loader_machine.specs.State.user_of old.users id ≡ Some kept
+pub top_of : (old : Loaded) (id : ℕ) (keep : Bool) (kept : LoadedUser) → IsSound old.memory old.users → Rattle.loader_machine.specs.State.user_of old.users id ≡ Some kept
     → shut_down_refusal (is_attached (kept_outlines old.users) id) (seen_by old id) keep ≡ None → (q f : ℕ) → Rattle.loader_machine.specs.State.attached_at (kept_outlines old.users) q f ≡ Some id → ⊥
 top_of old id keep kept sound made passes = no_row old.users id kept sound.attached made (alone_of (is_attached (kept_outlines old.users) id) (seen_by old id) keep passes)
 

@@ -8,7 +8,7 @@ use Rattle.std.proofs.lemmas.List.Concat.{flat_map-cons}
 use Rattle.iigs_meaning.specs.declared.handles.Handle.{Handle}
 use Rattle.loader_machine.specs.State.{first_id, user_of, with_user, with_all, handles_in, handles_of_all}
 use Rattle.loader_machine.specs.Presences.{handle_at}
-use Rattle.loader_agrees.specs.Agrees.{Kept, outline, kept_outlines}
+use Rattle.loader_agrees.specs.Agrees.{LoadedUser, outline, kept_outlines}
 use Rattle.loader_agrees.specs.laws.Lists.{set_map, set_at, set_apart, length_set}
 use Rattle.loader_agrees.specs.laws.Seeing.{made_at, user_is}
 
@@ -226,8 +226,8 @@ place_of handles (suc i) h is = (i, refl, go (slice_get handles i) refl is)
     go None e found = absurd cc
     go (Some x) e found = e ∙ ap (λ (y : Option Handle). Some y) found
 
-module _ (users : List (Option Kept)) where
-  pub its_handles : (id : ℕ) (k : Kept) → user_of users id ≡ Some k → handles_in (kept_outlines users) id ≡ k.handles
+module _ (users : List (Option LoadedUser)) where
+  pub its_handles : (id : ℕ) (k : LoadedUser) → user_of users id ≡ Some k → handles_in (kept_outlines users) id ≡ k.handles
   its_handles id k is = rw (user_is outline users id, is) refl
 
   -- those of one user more
@@ -239,7 +239,7 @@ module _ (users : List (Option Kept)) where
       ∙ ap (λ (hs : List (Option Handle)). hs ++ handles_in (kept_outlines users) id) (sym (flat_map-cons (handles_in (kept_outlines users)) one ids))
 
   -- the handle of a segment of one of them is among all
-  pub among : (ids : List ℕ) (id n : ℕ) (k : Kept) (h : Handle) → is_in ids id ≡ true → user_of users id ≡ Some k → handle_at k.handles n ≡ Some h
+  pub among : (ids : List ℕ) (id n : ℕ) (k : LoadedUser) (h : Handle) → is_in ids id ≡ true → user_of users id ≡ Some k → handle_at k.handles n ≡ Some h
       → (i : ℕ) × (slice_get (handles_of_all (kept_outlines users) ids) i ≡ Some (Some h))
   among [] id n k h inside made is = absurd cc
   among (one ∷ ids) id n k h inside made is = elim (cases_eq one id) [
@@ -256,7 +256,7 @@ module _ (users : List (Option Kept)) where
 
   -- and one that is among all is of one of them
   pub from_among : (ids : List ℕ) (i : ℕ) (h : Handle) → slice_get (handles_of_all (kept_outlines users) ids) i ≡ Some (Some h)
-      → (id : ℕ) × (k : Kept) × (n : ℕ) × (is_in ids id ≡ true) × (user_of users id ≡ Some k) × (handle_at k.handles n ≡ Some h)
+      → (id : ℕ) × (k : LoadedUser) × (n : ℕ) × (is_in ids id ≡ true) × (user_of users id ≡ Some k) × (handle_at k.handles n ≡ Some h)
   from_among [] i h is = absurd cc
   from_among (one ∷ ids) i h is =
       elim (app_split (handles_in (kept_outlines users) one) (handles_of_all (kept_outlines users) ids) i (Some h)
@@ -269,8 +269,8 @@ module _ (users : List (Option Kept)) where
       or_true true b e = refl
       or_true false b e = e
 
-      own : (o : Option Kept) → user_of users one ≡ o → slice_get (handles_in (kept_outlines users) one) i ≡ Some (Some h)
-          → (id : ℕ) × (k : Kept) × (n : ℕ) × ((one == id || is_in ids id) ≡ true) × (user_of users id ≡ Some k) × (handle_at k.handles n ≡ Some h)
+      own : (o : Option LoadedUser) → user_of users one ≡ o → slice_get (handles_in (kept_outlines users) one) i ≡ Some (Some h)
+          → (id : ℕ) × (k : LoadedUser) × (n : ℕ) × ((one == id || is_in ids id) ≡ true) × (user_of users id ≡ Some k) × (handle_at k.handles n ≡ Some h)
       own None e is =
           let none : slice_get {X = Option Handle} [] i ≡ Some (Some h) = ap (λ (hs : List (Option Handle)). slice_get hs i) (sym (nothing e)) ∙ is in absurd cc
         where

@@ -10,13 +10,13 @@ use Rattle.loader_machine.specs.Rule.{RoomRule}
 use Rattle.iigs_meaning.specs.Memory.{Memory, Changes}
 use Rattle.loader_machine.specs.declared.faults.LoaderFault.{LoaderFault}
 use Rattle.loader_machine.specs.declared.faults.LoaderFault.TheVariants.{Static, NotActive}
-use Rattle.loader_machine.specs.declared.seen.Head.{Head}
-use Rattle.loader_machine.specs.State.{Seen, Machine, user_of, handles_of, led_by}
+use Rattle.loader_machine.specs.declared.seen.SegmentHead.{SegmentHead}
+use Rattle.loader_machine.specs.State.{UserSeen, Machine, user_of, handles_of, led_by}
 use Rattle.loader_machine.specs.Presences.{handle_at, presence, there_at, active_at, is_active, lies_at}
 use Rattle.loader_machine.specs.Refusals.{Refuse, of_user, of_running, of_segment, of_dynamic, of_active, unload_refusal}
 use Rattle.loader_machine.specs.Commands.{Okay, Refused, UnloadSegment}
-use Rattle.loader_machine.specs.Steps.{changed, idled, idle_block, with_slots}
-use Rattle.loader_agrees.specs.Agrees.{Kept, Loaded, Outline, kept_outlines, seen_by, Agrees, Has, IsSound, Met}
+use Rattle.loader_machine.specs.Steps.{with_block_changed, with_segment_idle, idle_block, with_slots}
+use Rattle.loader_agrees.specs.Agrees.{LoadedUser, Loaded, Outline, kept_outlines, seen_by, Agrees, Has, IsSound, Met}
 use Rattle.loader_agrees.specs.Checks.{PassesRunning, StopsRunning, PassesSegment, StopsSegment}
 use Rattle.loader_agrees.specs.laws.Checking.{active_none, active_passes}
 use Rattle.loader_agrees.specs.laws.Seeing.{IsKept, kept_is, refuses, does, has_any}
@@ -28,31 +28,31 @@ use Rattle.loader_users.proofs.Shifting.{IsTurn, shifted_sound, shifted_agrees}
 
 -- ---- the refusal, check by check
 
-pub dynamic_none : (head : Head) (rest : Refuse) → is_dynamic head.kind ≡ false → of_dynamic head rest ≡ Some Static
+pub dynamic_none : (head : SegmentHead) (rest : Refuse) → is_dynamic head.kind ≡ false → of_dynamic head rest ≡ Some Static
 dynamic_none head rest is = rw is refl
 
-pub dynamic_passes : (head : Head) (rest : Refuse) → is_dynamic head.kind ≡ true → of_dynamic head rest ≡ rest
+pub dynamic_passes : (head : SegmentHead) (rest : Refuse) → is_dynamic head.kind ≡ true → of_dynamic head rest ≡ rest
 dynamic_passes head rest is = rw is refl
 
 module _ (slots : Slots) (number : ℕ) where
-  abbrev pub after_segment : Seen → Head → Refuse
+  abbrev pub after_segment : UserSeen → SegmentHead → Refuse
   after_segment seen head = of_dynamic head (of_active slots seen number None)
 
-  abbrev pub after_running : Seen → Refuse
+  abbrev pub after_running : UserSeen → Refuse
   after_running seen = of_segment seen number (after_segment seen)
 
-  pub unload_is : (user : Option Seen) → unload_refusal slots user number ≡ of_user user (λ seen. of_running seen (after_running seen))
+  pub unload_is : (user : Option UserSeen) → unload_refusal slots user number ≡ of_user user (λ seen. of_running seen (after_running seen))
   unfolding unload_refusal
   unload_is user = refl
 
-  pub stops_running : (user : Option Seen) (fault : LoaderFault) → StopsRunning user fault → unload_refusal slots user number ≡ Some fault
+  pub stops_running : (user : Option UserSeen) (fault : LoaderFault) → StopsRunning user fault → unload_refusal slots user number ≡ Some fault
   stops_running user fault stops = unload_is user ∙ stops after_running
 
-  module _ (user : Option Seen) (seen : Seen) (runs : PassesRunning user seen) where
+  module _ (user : Option UserSeen) (seen : UserSeen) (runs : PassesRunning user seen) where
     pub stops_segment : (fault : LoaderFault) → StopsSegment seen number fault → unload_refusal slots user number ≡ Some fault
     stops_segment fault stops = unload_is user ∙ runs after_running ∙ stops (after_segment seen)
 
-    module _ (head : Head) (o : Option Handle) (has : PassesSegment seen number head) (handle : handle_at seen.handles number ≡ o) where
+    module _ (head : SegmentHead) (o : Option Handle) (has : PassesSegment seen number head) (handle : handle_at seen.handles number ≡ o) where
       to_segment : unload_refusal slots user number ≡ after_segment seen head
       to_segment = unload_is user ∙ runs after_running ∙ has (after_segment seen)
 
@@ -96,13 +96,13 @@ module _ (old new : Loaded) (id number : ℕ) (sound : IsSound old.memory old.us
     is = kept_is held old state agrees id did.can.is.kept did.can.is.made
 
     abbrev next : Machine
-    next = with_slots state (idled state.slots (handle_at (handles_of is.user) number))
+    next = with_slots state (with_segment_idle state.slots (handle_at (handles_of is.user) number))
 
     handle_in_state : handle_at (handles_of is.user) number ≡ Some did.h
     handle_in_state = ap (λ (o : Outline). handle_at o.handles number) (sym is.does_agree.same) ∙ did.can.is.handle
 
-    slots_same : changed idle_block state.slots did.h ≡ idled state.slots (handle_at (handles_of is.user) number)
-    slots_same = ap (idled state.slots) (sym handle_in_state)
+    slots_same : with_block_changed idle_block state.slots did.h ≡ with_segment_idle state.slots (handle_at (handles_of is.user) number)
+    slots_same = ap (with_segment_idle state.slots) (sym handle_in_state)
 
     agrees_next : Agrees held new next
     agrees_next = subst (λ (t : Slots). Agrees held new (with_slots state t)) slots_same
@@ -126,7 +126,7 @@ unloads_meet old new id number (Err fault) sound did held state agrees = subst (
 
 -- ---- room for the tables
 
-pub roomy : (old : Loaded) (place : ℕ) (kept : Kept) → IsSound old.memory old.users → slice_get old.users place ≡ Some (Some kept) → AreRoomy old.memory kept.heads kept.handles
+pub roomy : (old : Loaded) (place : ℕ) (kept : LoadedUser) → IsSound old.memory old.users → slice_get old.users place ≡ Some (Some kept) → AreRoomy old.memory kept.heads kept.handles
 roomy old place kept sound made = record {
   each = λ n head h found handle there.
       let has : Has old.users place n head h = record { kept = kept; made = made; head' = found; handle = handle } in
@@ -147,7 +147,7 @@ roomy old place kept sound made = record {
 
 -- ---- as it is done
 
-module _ (old : Loaded) (id number : ℕ) (h : Handle) (can : CanUnload old id number h) (lead : Kept) (leads : user_of old.users (led_by (kept_outlines old.users) id).0 ≡ Some lead) where
+module _ (old : Loaded) (id number : ℕ) (h : Handle) (can : CanUnload old id number h) (lead : LoadedUser) (leads : user_of old.users (led_by (kept_outlines old.users) id).0 ≡ Some lead) where
   abbrev choice : Choice
   choice = Some ((led_by (kept_outlines old.users) id).1, number)
 

@@ -10,7 +10,7 @@ use Rattle.iigs_meaning.specs.Slots.{get}
 use Rattle.iigs_meaning.specs.Fits.{Slots}
 use Rattle.iigs_meaning.specs.Memory.{Memory, Changes}
 use Rattle.loader_machine.specs.declared.faults.LoaderFault.{LoaderFault}
-use Rattle.loader_machine.specs.declared.seen.Head.{Head}
+use Rattle.loader_machine.specs.declared.seen.SegmentHead.{SegmentHead}
 use Rattle.loader_machine.specs.declared.seen.Presence.{Presence}
 use Rattle.loader_machine.specs.declared.seen.Presence.TheVariants.{Idle}
 use Rattle.loader_machine.specs.Heads.{head_of}
@@ -18,7 +18,7 @@ use Rattle.loader_machine.specs.State.{first_id, user_of, is_attached, led_by}
 use Rattle.loader_machine.specs.Presences.{presence, lies_in, lies_at}
 use Rattle.loader_machine.specs.Steps.{active_block}
 use Rattle.loader_machine.specs.Needs.{is_read}
-use Rattle.loader_agrees.specs.Agrees.{Kept, Loaded, kept_outlines, Has, IsSound}
+use Rattle.loader_agrees.specs.Agrees.{LoadedUser, Loaded, kept_outlines, Has, IsSound}
 use Rattle.loader_agrees.specs.laws.Seeing.{made_at}
 use Rattle.loader_users.specs.Renewing.{AreRenewed}
 use Rattle.loader_users.specs.Taken.{IsReadAs}
@@ -29,11 +29,11 @@ use Rattle.sys_loader.specs.Activating.{CanLoad, IsBringRefusal, HasCome, HasCom
 -- ---- a loader, and its fields
 
 -- what can be made active by the one can by the other
-pub can_load : (old now : Loaded) (id number : ℕ) (head : Head) (handle : Option Handle) → old ≡ now → CanLoad now id number head handle → CanLoad old id number head handle
+pub can_load : (old now : Loaded) (id number : ℕ) (head : SegmentHead) (handle : Option Handle) → old ≡ now → CanLoad now id number head handle → CanLoad old id number head handle
 can_load old now id number head handle same can = subst (λ (l : Loaded). CanLoad l id number head handle) (sym same) can
 
 -- the user that is found in the one is the user of the other
-pub one_kept : (old now : Loaded) (id : ℕ) (found k : Kept) → old ≡ now → user_of old.users id ≡ Some found → user_of now.users id ≡ Some k → found ≡ k
+pub one_kept : (old now : Loaded) (id : ℕ) (found k : LoadedUser) → old ≡ now → user_of old.users id ≡ Some found → user_of now.users id ≡ Some k → found ≡ k
 one_kept old now id found k same is made = same_Some found k (sym is ∙ ap (λ (l : Loaded). user_of l.users id) same ∙ made)
 
 -- a segment is in the one where it is in the other
@@ -42,7 +42,7 @@ one_presence old now handle p same is = subst (λ (l : Loaded). presence l.memor
 
 -- ---- a segment that wakes
 
-module _ (old : Loaded) (id number : ℕ) (h : Handle) (address : ℕ) (lead : Kept) (leads : user_of old.users (led_by (kept_outlines old.users) id).0 ≡ Some lead) where
+module _ (old : Loaded) (id number : ℕ) (h : Handle) (address : ℕ) (lead : LoadedUser) (leads : user_of old.users (led_by (kept_outlines old.users) id).0 ≡ Some lead) where
   pub has_woken : (middle new : Memory) (last : Loaded) (count : ℕ) → count ≡ length lead.heads
       → AreRenewed lead.heads lead.handles (Some ((led_by (kept_outlines old.users) id).1, number)) (Some address) old.memory middle count → Changes middle h active_block new
       → last.memory ≡ new → last.users ≡ old.users → HasTurned old id number h active_block (Some address) last
@@ -70,7 +70,7 @@ idle_there slots now h address same is = subst (λ (t : Slots). IsSomeAnd (get t
     go (Some b) e = at_block b.at b.locked e
 
 -- the block of a segment that has a handle and isn't there is empty
-pub gone_empty : (old : Loaded) (id number : ℕ) (head : Head) (handle : Option Handle) → IsSound old.memory old.users → CanLoad old id number head handle → is_read (presence old.memory.slots handle) ≡ true
+pub gone_empty : (old : Loaded) (id number : ℕ) (head : SegmentHead) (handle : Option Handle) → IsSound old.memory old.users → CanLoad old id number head handle → is_read (presence old.memory.slots handle) ≡ true
     → (k : Handle) → handle ≡ Some k → IsSomeAnd (get old.memory.slots k) (λ block. block.at ≡ None)
 gone_empty old id number head handle sound can gone k is =
     let it : Has old.users (id - first_id) number head k = record { kept = can.kept; made = (made_at old.users id can.kept can.made).0; head' = can.head'; handle = can.handle' ∙ is } in
@@ -86,7 +86,7 @@ gone_empty old id number head handle sound can gone k is =
 
 -- ---- a segment of a file
 
-module _ (file : List ℕ) (old : Loaded) (id number : ℕ) (k : Kept) (head : Head) (handle : Option Handle) (segments : List Segment) (taken : IsReadAs (is_attached (kept_outlines old.users) id) file segments) where
+module _ (file : List ℕ) (old : Loaded) (id number : ℕ) (k : LoadedUser) (head : SegmentHead) (handle : Option Handle) (segments : List Segment) (taken : IsReadAs (is_attached (kept_outlines old.users) id) file segments) where
   pub come_from : (new : Loaded) (r : Result ℕ LoaderFault) → map head_of segments ≡ k.heads → IfOk r (λ address. HasCome old id number k head handle segments address new)
       → IfOk r (λ address. HasComeFrom file old id number k head handle address new)
   come_from new (Ok address) same did = (segments, taken, same, did)
@@ -99,7 +99,7 @@ module _ (file : List ℕ) (old : Loaded) (id number : ℕ) (k : Kept) (head : H
   pub file_changed : (why : LoaderFault) → IsChanged k.heads (map head_of segments) why → IsComeRefusal file old id number k head handle why
   file_changed why is = inr (segments, taken, inl is)
 
-pub did_come : (held : Option FileMap) (old new : Loaded) (id number : ℕ) (k : Kept) (head : Head) (handle : Option Handle) (file : List ℕ) (r : Result ℕ LoaderFault) (before now : ℕ) → IsRead held k.path file → now ≡ before
+pub did_come : (held : Option FileMap) (old new : Loaded) (id number : ℕ) (k : LoadedUser) (head : SegmentHead) (handle : Option Handle) (file : List ℕ) (r : Result ℕ LoaderFault) (before now : ℕ) → IsRead held k.path file → now ≡ before
     → IfOk r (λ address. HasComeFrom file old id number k head handle address new) → IfErr r (IsComeRefusal file old id number k head handle) → OnErr r (new ≡ old)
     → DidCome held old id number k head handle r new before now
 did_come held old new id number k head handle file (Ok address) before now is_read same come none kept = ((file, is_read, come), same)

@@ -12,7 +12,7 @@ use Rattle.loader_machine.specs.Rule.{RoomRule}
 use Rattle.iigs_meaning.specs.Memory.{Memory, IsPlaced, IsReplaced, Changes, bytes_at}
 use Rattle.loader_machine.specs.declared.faults.LoaderFault.{LoaderFault}
 use Rattle.loader_machine.specs.declared.faults.LoaderFault.TheVariants as fault
-use Rattle.loader_machine.specs.declared.seen.Head.{Head}
+use Rattle.loader_machine.specs.declared.seen.SegmentHead.{SegmentHead}
 use Rattle.loader_machine.specs.declared.seen.Life.TheVariants.{Running}
 use Rattle.loader_machine.specs.declared.seen.Presence.{Presence}
 use Rattle.loader_machine.specs.declared.seen.Presence.TheVariants.{Absent, Purged, Idle, Active}
@@ -23,7 +23,7 @@ use Rattle.loader_machine.specs.Stands.{setting, stands}
 use Rattle.loader_machine.specs.Refusals.{load_segment_refusal}
 use Rattle.loader_machine.specs.Steps.{active_block}
 use Rattle.loader_machine.specs.Needs.{is_read}
-use Rattle.loader_agrees.specs.Agrees.{Kept, Loaded, kept_outlines, seen_by}
+use Rattle.loader_agrees.specs.Agrees.{LoadedUser, Loaded, kept_outlines, seen_by}
 use Rattle.loader_users.specs.Taken.{IsReadAs, IsBadFile}
 use Rattle.loader_users.specs.Renewing.{AreRenewed}
 use Rattle.loader_users.specs.Bytes.{with_bytes}
@@ -36,9 +36,9 @@ use Rattle.loader_users.specs.Users.{with_handle}
 -- ---- a segment that can be made active
 
 -- a dynamic segment of a user that runs, with this header and handle
-pub record CanLoad (loader : Loaded) (id number : ℕ) (head : Head) (handle : Option Handle) : Type 0 where
+pub record CanLoad (loader : Loaded) (id number : ℕ) (head : SegmentHead) (handle : Option Handle) : Type 0 where
   pub passes : load_segment_refusal (seen_by loader id) number ≡ None
-  pub kept : Kept
+  pub kept : LoadedUser
   pub made : user_of loader.users id ≡ Some kept
   pub runs : kept.life ≡ Running
   pub head' : at_number kept.heads number ≡ Some head
@@ -49,27 +49,27 @@ pub record CanLoad (loader : Loaded) (id number : ℕ) (head : Head) (handle : O
 -- ---- a segment that is read
 
 -- its block is placed, locked with level 0: under a new handle, or anew under the one that it has
-abbrev pub IsBrought : Memory → ℕ → Head → Option Handle → Handle → ℕ → Memory → Type 0
+abbrev pub IsBrought : Memory → ℕ → SegmentHead → Option Handle → Handle → ℕ → Memory → Type 0
 IsBrought old id head None h address new = (is : IsPlaced RoomRule old (want_of head) id true 0 false h new) × (is.puts.address ≡ address)
 IsBrought old id head (Some k) h address new =
     (k ≡ h) × (middle : Memory) × (is : IsReplaced RoomRule old h (want_of head) middle) × (is.puts.address ≡ address) × Changes middle h active_block new
 
 -- why it isn't: no slot is free, or there is no room
-abbrev pub IsBringRefusal : Memory → Head → Option Handle → ℕ → LoaderFault → Type 0
+abbrev pub IsBringRefusal : Memory → SegmentHead → Option Handle → ℕ → LoaderFault → Type 0
 IsBringRefusal memory head None number why = ((why ≡ fault.NoHandle) × (new_handle memory.slots ≡ None))
     ⊎ ((why ≡ fault.NoRoom number) × IsSome (new_handle memory.slots) × LacksRoom RoomRule memory.banks memory.slots (want_of head))
 IsBringRefusal memory head (Some h) number why = (why ≡ fault.NoRoom number) × LacksRoom RoomRule memory.banks memory.slots (want_of head)
 
 -- The block of a segment of these is placed and begins with what stands in it, and the entries for it in the tables of the user that
 -- leads to it follow, by file and number; nothing else is written.
-pub record HasCome (old : Loaded) (id number : ℕ) (kept : Kept) (head : Head) (handle : Option Handle) (segments : List Segment) (address : ℕ) (new : Loaded) : Type 0 where
+pub record HasCome (old : Loaded) (id number : ℕ) (kept : LoadedUser) (head : SegmentHead) (handle : Option Handle) (segments : List Segment) (address : ℕ) (new : Loaded) : Type 0 where
   pub h : Handle
   pub placed : Memory
   pub brought : IsBrought old.memory id head handle h address placed
   pub content : List ℕ
   pub same : length content ≡ length (bytes_at placed h.slot)
   pub begins : (s : Segment) → segment_at segments number ≡ Some s → IsFront (stands (setting id placed.slots (with_handle kept number h).handles) no_pokes s) content
-  pub lead : Kept
+  pub lead : LoadedUser
   pub leads : user_of old.users (led_by (kept_outlines old.users) id).0 ≡ Some lead
   pub renewed : AreRenewed lead.heads lead.handles (Some ((led_by (kept_outlines old.users) id).1, number)) (Some address) (with_bytes placed h.slot content) new.memory
       (length lead.heads)
@@ -77,25 +77,25 @@ pub record HasCome (old : Loaded) (id number : ℕ) (kept : Kept) (head : Head) 
 
 -- why a segment of a file that was read doesn't come: the file isn't loaded, or not the one that was loaded, or there is no handle or
 -- room; or memory ran out
-abbrev pub IsComeRefusal : List ℕ → Loaded → ℕ → ℕ → Kept → Head → Option Handle → LoaderFault → Type 0
+abbrev pub IsComeRefusal : List ℕ → Loaded → ℕ → ℕ → LoadedUser → SegmentHead → Option Handle → LoaderFault → Type 0
 IsComeRefusal file old id number kept head handle why = IsBadFile (is_attached (kept_outlines old.users) id) file why
     ⊎ ((segments : List Segment) × IsReadAs (is_attached (kept_outlines old.users) id) file segments × (IsChanged kept.heads (map head_of segments) why
     ⊎ ((map head_of segments ≡ kept.heads) × IsBringRefusal old.memory head handle number why)))
 
 -- a segment of a file that was read has come
-abbrev pub HasComeFrom : List ℕ → Loaded → ℕ → ℕ → Kept → Head → Option Handle → ℕ → Loaded → Type 0
+abbrev pub HasComeFrom : List ℕ → Loaded → ℕ → ℕ → LoadedUser → SegmentHead → Option Handle → ℕ → Loaded → Type 0
 HasComeFrom file old id number kept head handle address new =
     (segments : List Segment) × IsReadAs (is_attached (kept_outlines old.users) id) file segments × (map head_of segments ≡ kept.heads) × HasCome old id number kept head handle segments address new
 
 -- why a segment of the file at a user's path doesn't come: the read is refused, memory ran out, or the file that was read gives none
-pub data IsReadRefusal (held : Option FileMap) (old : Loaded) (id number : ℕ) (kept : Kept) (head : Head) (handle : Option Handle) (before now : ℕ) (why : LoaderFault) : Type 0 where
+pub data IsReadRefusal (held : Option FileMap) (old : Loaded) (id number : ℕ) (kept : LoadedUser) (head : SegmentHead) (handle : Option Handle) (before now : ℕ) (why : LoaderFault) : Type 0 where
   CantRead : IsUnread held kept.path before now → why ≡ fault.CannotRead → IsReadRefusal held old id number kept head handle before now why
   LacksMemory : why ≡ fault.Memory → now ≡ before → IsReadRefusal held old id number kept head handle before now why
   CantCome : (file : List ℕ) → IsRead held kept.path file → IsComeRefusal file old id number kept head handle why → now ≡ before
       → IsReadRefusal held old id number kept head handle before now why
 
 -- what came of reading the file at a user's path: its segment has come, or none has and all stays
-abbrev pub DidCome : Option FileMap → Loaded → ℕ → ℕ → Kept → Head → Option Handle → Result ℕ LoaderFault → Loaded → ℕ → ℕ → Type 0
+abbrev pub DidCome : Option FileMap → Loaded → ℕ → ℕ → LoadedUser → SegmentHead → Option Handle → Result ℕ LoaderFault → Loaded → ℕ → ℕ → Type 0
 DidCome held old id number kept head handle (Ok address) new before now =
     ((file : List ℕ) × IsRead held kept.path file × HasComeFrom file old id number kept head handle address new) × (now ≡ before)
 DidCome held old id number kept head handle (Err why) new before now = IsReadRefusal held old id number kept head handle before now why × (new ≡ old)
@@ -107,7 +107,7 @@ abbrev pub segment_reads : Loaded → ℕ → ℕ → Bool
 segment_reads loader id number = option_map_or (λ kept. is_read (presence_at loader.memory.slots kept.handles number)) (user_of loader.users id) false
 
 -- what came of a segment that can be made active, by where it is: nothing is done, it wakes, or it comes
-abbrev pub HasActivated : Option FileMap → Loaded → ℕ → ℕ → Kept → Head → Option Handle → Presence → Result ℕ LoaderFault → Loaded → ℕ → ℕ → Type 0
+abbrev pub HasActivated : Option FileMap → Loaded → ℕ → ℕ → LoadedUser → SegmentHead → Option Handle → Presence → Result ℕ LoaderFault → Loaded → ℕ → ℕ → Type 0
 HasActivated held old id number kept head handle (Active h at) result new before now = (result ≡ Ok at) × (new ≡ old) × (now ≡ before)
 HasActivated held old id number kept head handle (Idle h at) result new before now =
     (result ≡ Ok at) × HasTurned old id number h active_block (Some at) new × (now ≡ before)
@@ -118,5 +118,5 @@ HasActivated held old id number kept head handle Absent result new before now = 
 abbrev pub DidActivate : Option FileMap → Loaded → ℕ → ℕ → Result ℕ LoaderFault → Loaded → ℕ → ℕ → Type 0
 DidActivate held old id number result new before now =
     ((why : LoaderFault) × (load_segment_refusal (seen_by old id) number ≡ Some why) × (result ≡ Err why) × (new ≡ old) × (now ≡ before))
-    ⊎ ((head : Head) × (handle : Option Handle) × (can : CanLoad old id number head handle)
+    ⊎ ((head : SegmentHead) × (handle : Option Handle) × (can : CanLoad old id number head handle)
     × HasActivated held old id number can.kept head handle (presence old.memory.slots handle) result new before now)

@@ -1,7 +1,7 @@
 -- What a load does, whether the store tells its files or not.
 use Rattle.std.specs.Prelude.{◌≡◌, ◌≢◌, ◌⊎◌, ℕ, ◌+◌, ◌^◌, ◌<◌, ◌≤◌, List, [], ◌∷◌, length, map, Option, Some, None, Result, Ok, Err, slice_get}
 use Rattle.omf_format.specs.File.{Segment, segment_at}
-use Rattle.omf_io.specs.Counts.{IsFront, risen}
+use Rattle.omf_io.specs.Counts.{IsFront, saturating_sum}
 use Rattle.omf_io.specs.Files.{FileMap, StoreSeen, IsRead, IsUnread}
 use Rattle.load_meaning.specs.declared.load.LoadFault.{LoadFault}
 use Rattle.load_meaning.specs.Pathnames.{most_paths, paths_of}
@@ -12,7 +12,7 @@ use Rattle.iigs_meaning.specs.declared.faults.PlaceFault.TheVariants as place
 use Rattle.iigs_meaning.specs.Puts.{IsPlaceAllRefusal}
 use Rattle.loader_machine.specs.Rule.{RoomRule}
 use Rattle.iigs_meaning.specs.Memory.{Memory, bytes_at}
-use Rattle.loader_machine.specs.declared.seen.Head.{Head}
+use Rattle.loader_machine.specs.declared.seen.SegmentHead.{SegmentHead}
 use Rattle.loader_machine.specs.declared.faults.LoaderFault.{LoaderFault}
 use Rattle.loader_machine.specs.declared.faults.LoaderFault.TheVariants as fault
 use Rattle.loader_machine.specs.Heads.{head_of, wants_of, number_of}
@@ -21,7 +21,7 @@ use Rattle.loader_machine.specs.Presences.{handle_at}
 use Rattle.loader_machine.specs.Stands.{setting, stands}
 use Rattle.loader_machine.specs.Found.{Joined, Stops, Joins, joined_behind}
 use Rattle.loader_machine.specs.Steps.{lost_refusal}
-use Rattle.loader_agrees.specs.Agrees.{Kept, Loaded}
+use Rattle.loader_agrees.specs.Agrees.{LoadedUser, Loaded}
 use Rattle.loader_agrees.specs.Acts.{HasBegun, joined_kept, joined_kepts}
 use Rattle.sys_loader.specs.declared.answers.Started.{Started}
 use Rattle.loader_users.specs.Planned.{spread_handles}
@@ -29,7 +29,7 @@ use Rattle.loader_users.specs.Planned.{spread_handles}
 -- ---- a program of a load file
 
 -- why a program doesn't begin: too few slots are free; or, once the segments before it are placed, one has no room
-abbrev pub IsBeginRefusal : Memory → ℕ → List Head → LoaderFault → Type 0
+abbrev pub IsBeginRefusal : Memory → ℕ → List SegmentHead → LoaderFault → Type 0
 IsBeginRefusal memory id heads why =
     ((why ≡ fault.NoHandle) × IsPlaceAllRefusal RoomRule memory.banks id memory.slots (wants_of heads) place.NoHandle)
     ⊎ ((i : ℕ) × (why ≡ fault.NoRoom (number_of 1 heads i)) × IsPlaceAllRefusal RoomRule memory.banks id memory.slots (wants_of heads) (place.NoRoom i))
@@ -108,7 +108,7 @@ pub record IsSettled (segments : List Segment) (user : ℕ) (hs : List Handle) (
 -- ---- rows, on the way
 
 -- the user of a row, whose file was read
-abbrev pub HasJoined : Option FileMap → List ℕ → Kept → Type 0
+abbrev pub HasJoined : Option FileMap → List ℕ → LoadedUser → Type 0
 HasJoined held path user = (file : List ℕ) × (segments : List Segment) × IsRead held path file × IsRuntime file segments × (length segments < 2 ^ 16)
     × (user ≡ joined_kept path (map head_of segments))
 
@@ -119,7 +119,7 @@ JoinStops held path before now why = ((why ≡ fault.CannotRead) × IsUnread hel
     ⊎ ((why ≡ fault.Memory) × (now ≡ before)))
 
 -- the users of rows
-pub record AreJoinedUsers (paths : List (List ℕ)) (all : List (List Segment)) (users : List Kept) : Type 0 where
+pub record AreJoinedUsers (paths : List (List ℕ)) (all : List (List Segment)) (users : List LoadedUser) : Type 0 where
   pub long : length all ≡ length paths
   pub shorts : (j : ℕ) (other : List Segment) → slice_get all j ≡ Some other → length other < 2 ^ 16
   pub runtimes : (j : ℕ) (other : List Segment) → slice_get all j ≡ Some other → (file : List ℕ) × IsRuntime file other
@@ -128,8 +128,8 @@ pub record AreJoinedUsers (paths : List (List ℕ)) (all : List (List Segment)) 
 -- the reads of the files of rows stop, or memory ran out
 abbrev pub RowsStop : Option FileMap → List (List ℕ) → StoreSeen → StoreSeen → LoaderFault → Type 0
 RowsStop held paths before now why =
-    ((rows : ℕ) × AreRowsRead held paths before.faults now.faults (Stops rows why) × (now.asked ≡ risen rows before.asked))
-    ⊎ ((why ≡ fault.Memory) × (now.faults ≡ before.faults) × (rows : ℕ) × (rows ≤ length paths) × (now.asked ≡ risen rows before.asked))
+    ((rows : ℕ) × AreRowsRead held paths before.faults now.faults (Stops rows why) × (now.asked ≡ saturating_sum rows before.asked))
+    ⊎ ((why ≡ fault.Memory) × (now.faults ≡ before.faults) × (rows : ℕ) × (rows ≤ length paths) × (now.asked ≡ saturating_sum rows before.asked))
 
 -- a load of a load file, once it was read
 abbrev pub HasLoadedRows : Option FileMap → Loaded → List ℕ → List Segment → Result Started LoaderFault → Loaded → ℕ → ℕ → ℕ → Type 0

@@ -11,7 +11,7 @@ use Rattle.loader_machine.specs.Commands.{Reply, Counted, Refused}
 use Rattle.loader_machine.specs.declared.seen.Life.TheVariants.{Running, Dormant}
 use Rattle.loader_machine.specs.State.{user_of, led_by, is_attached, family, handles_of_all, with_all, without_all}
 use Rattle.loader_machine.specs.Steps.{idle_block, let_go, changed_all, without_users}
-use Rattle.loader_agrees.specs.Agrees.{Kept, Loaded, kept_outlines, seen_by}
+use Rattle.loader_agrees.specs.Agrees.{LoadedUser, Loaded, kept_outlines, seen_by}
 use Rattle.loader_agrees.specs.Acts.{IsActive}
 use Rattle.loader_users.specs.Renewing.{AreRenewed}
 use Rattle.loader_users.specs.Users.{with_life}
@@ -57,7 +57,7 @@ DidPoke old id number at byte (Err fault) new = (poke_refusal old.memory.slots (
 
 -- the user's segment wakes or idles, and the entries for it follow in the tables of the user that leads to it
 pub record HasTurned (old : Loaded) (id number : ℕ) (h : Handle) (change : Block → Block) (address : Option ℕ) (new : Loaded) : Type 0 where
-  pub lead : Kept
+  pub lead : LoadedUser
   pub leads : user_of old.users (led_by (kept_outlines old.users) id).0 ≡ Some lead
   pub shifted : HasShifted old lead ((led_by (kept_outlines old.users) id).1, number) h change address new
 
@@ -89,7 +89,7 @@ pub record AreReleased (ids : List ℕ) (old new : Memory) : Type 0 where
 
 -- the handles of the user and of those attached to it are released, and they are gone
 pub record HasDropped (old : Loaded) (id : ℕ) (new : Loaded) : Type 0 where
-  pub kept : Kept
+  pub kept : LoadedUser
   pub made : user_of old.users id ≡ Some kept
   pub released : AreReleased (family id kept.attached) old.memory new.memory
   pub users : new.users ≡ without_all old.users (family id kept.attached)
@@ -101,7 +101,7 @@ pub record AreIdled (handles : List (Option Handle)) (old new : Memory) : Type 0
 
 -- the user's tables call the loader, its active segments and those of the users attached to it are idle, and they are dormant
 pub record HasKept (old : Loaded) (id : ℕ) (new : Loaded) : Type 0 where
-  pub kept : Kept
+  pub kept : LoadedUser
   pub made : user_of old.users id ≡ Some kept
   pub runs : kept.life ≡ Running
   pub middle : Memory

@@ -121,7 +121,7 @@ impl Loader {
         ensures refused { IfErr result (IsAllocRefusal self.old.memory want.now) }
         ensures err { OnErr result (self.new ≡ self.old) }
     {
-        self.is_sound();
+        self.recall_invariant();
         self.put_block(want, locked, level, movable)
     }
 
@@ -145,7 +145,7 @@ impl Loader {
         ensures none_rises { NoAddressRises self.old.memory.banks self.old.memory.slots self.new.memory.slots }
         ensures others { OthersStay self.old.memory self.new.memory }
     {
-        self.is_sound();
+        self.recall_invariant();
         self.slide()
     }
 
@@ -160,7 +160,7 @@ impl Loader {
         ensures refused { IfErr result (λ fault. free_refusal self.old.memory.slots h ≡ Some fault) }
         ensures err { OnErr result (self.new ≡ self.old) }
     {
-        self.is_sound();
+        self.recall_invariant();
         self.release(h)
     }
 
@@ -188,7 +188,7 @@ impl Loader {
         ensures refused { IfErr result (λ fault. change_refusal self.old.memory.slots h ≡ Some fault) }
         ensures err { OnErr result (self.new ≡ self.old) }
     {
-        self.is_sound();
+        self.recall_invariant();
         self.lock_block(h)
     }
 
@@ -216,7 +216,7 @@ impl Loader {
         ensures refused { IfErr result (λ fault. change_refusal self.old.memory.slots h ≡ Some fault) }
         ensures err { OnErr result (self.new ≡ self.old) }
     {
-        self.is_sound();
+        self.recall_invariant();
         self.unlock_block(h)
     }
 
@@ -244,7 +244,7 @@ impl Loader {
         ensures refused { IfErr result (λ fault. change_refusal self.old.memory.slots h ≡ Some fault) }
         ensures err { OnErr result (self.new ≡ self.old) }
     {
-        self.is_sound();
+        self.recall_invariant();
         self.set_level(h, n)
     }
 

@@ -13,7 +13,7 @@ ghost use Rattle.loader_machine.specs.Steps.{active_block};
 ghost use Rattle.loader_machine.specs.Needs.{is_read};
 ghost use Rattle.loader_machine.specs.Commands.{LoadSegment, MadeActive};
 ghost use Rattle.loader_machine.specs.Refusals.{load_segment_refusal};
-ghost use Rattle.loader_agrees.specs.Agrees.{Kept, Agrees, Meets, ReadsNeeded, seen_by};
+ghost use Rattle.loader_agrees.specs.Agrees.{LoadedUser, Agrees, Meets, ReadsNeeded, seen_by};
 ghost use Rattle.sys_loader.specs.Lives.{HasTurned};
 ghost use Rattle.sys_loader.specs.Replies.{activation_reply};
 ghost use Rattle.sys_loader.specs.Activating.{segment_reads, CanLoad, IsBrought, IsBringRefusal, HasCome, HasComeFrom, IsComeRefusal, DidCome, DidActivate};
@@ -21,9 +21,9 @@ ghost use Rattle.sys_loader.specs.Activating.{segment_reads, CanLoad, IsBrought,
 use crate::loader::Loader;
 use iigs_compact_memory::CompactBanks;
 use iigs_meaning::{Handle, PlaceFault};
-use loader_machine::{Head, LoaderFault, Presence};
+use loader_machine::{LoaderFault, Presence, SegmentHead};
 use loader_users::{
-    Segment, activate, compare, fill_block, is_dynamic, load_of, place_of, presence, renew_tables,
+    Segment, activate, compare, fill_block, is_dynamic, load_of, place_of, presence, relink_tables,
     set_handle, set_places, user_in, want_of,
 };
 use omf_cells::{LoadFile, Places, PlacesFault};
@@ -35,7 +35,7 @@ fn place_first(
     banks: &mut CompactBanks,
     user: u16,
     number: u16,
-    head: &Head,
+    head: &SegmentHead,
 ) -> Result<Handle, LoaderFault>
     ensures brought { IfOk result (λ h. (address : ℕ) × IsBrought banks.old user head.now None h address banks.new) }
     ensures refused { IfErr result (IsBringRefusal banks.old head.now None number) }
@@ -56,7 +56,7 @@ fn place_again(
     banks: &mut CompactBanks,
     user: u16,
     number: u16,
-    head: &Head,
+    head: &SegmentHead,
     h: Handle,
 ) -> Result<Handle, LoaderFault>
     requires empty { IsSomeAnd (get banks.old.slots h) (λ block. block.at ≡ None) }
@@ -120,15 +120,15 @@ impl Loader {
     }
 
     // An idle segment wakes: the entries for it lead to it, and its block is locked.
-    fn wake(&mut self, user: u16, number: u16, h: Handle, address: u32)
-        requires can { (head : Head) × CanLoad self.old user number head (Some h) }
+    fn reactivate(&mut self, user: u16, number: u16, h: Handle, address: u32)
+        requires can { (head : SegmentHead) × CanLoad self.old user number head (Some h) }
         requires idle { presences.presence self.old.memory.slots (Some h) ≡ Presence.Idle h address }
         ensures { HasTurned self.old user number h active_block (Some address) self.new }
     {
-        self.is_sound();
+        self.recall_invariant();
         let (owner, file) = self.led_by(user);
         let lead = user_in(&self.users, owner);
-        renew_tables(
+        relink_tables(
             &mut self.banks,
             &lead.segments,
             Some((file, number)),
@@ -138,7 +138,7 @@ impl Loader {
     }
 
     // A segment of a load file gets a block, and is written into it.
-    fn bring(
+    fn place_and_fill(
         &mut self,
         load: &LoadFile<'_>,
         mut places: Places,
@@ -150,13 +150,13 @@ impl Loader {
         requires room { length places ≡ length load.now }
         requires can { CanLoad self.old user number segment.now.head segment.now.handle }
         requires gone { is_read (presences.presence self.old.memory.slots segment.now.handle) ≡ true }
-        requires same { (k : Kept) → user_of self.old.users user ≡ Some k → map head_of load.now ≡ k.heads }
-        ensures come { (k : Kept) → user_of self.old.users user ≡ Some k
+        requires same { (k : LoadedUser) → user_of self.old.users user ≡ Some k → map head_of load.now ≡ k.heads }
+        ensures come { (k : LoadedUser) → user_of self.old.users user ≡ Some k
             → IfOk result (λ address. HasCome self.old user number k segment.now.head segment.now.handle load.now address self.new) }
         ensures refused { IfErr result (IsBringRefusal self.old.memory segment.now.head segment.now.handle number) }
         ensures err { OnErr result (self.new ≡ self.old) }
     {
-        self.is_sound();
+        self.recall_invariant();
         let (owner, file) = self.led_by(user);
         let h = place_segment(&mut self.banks, user, number, segment)?;
         let address = place_of(&self.banks, Some(h));
@@ -173,7 +173,7 @@ impl Loader {
             user,
         );
         let lead = user_in(&self.users, owner);
-        renew_tables(
+        relink_tables(
             &mut self.banks,
             &lead.segments,
             Some((file, number)),
@@ -184,7 +184,7 @@ impl Loader {
     }
 
     // A segment of a file that was read comes.
-    fn come(
+    fn load_from(
         &mut self,
         file: &[u8],
         user: u16,
@@ -194,22 +194,22 @@ impl Loader {
         requires short { length file.now < 2 ^ 32 }
         requires can { CanLoad self.old user number segment.now.head segment.now.handle }
         requires gone { is_read (presences.presence self.old.memory.slots segment.now.handle) ≡ true }
-        ensures come { (k : Kept) → user_of self.old.users user ≡ Some k
+        ensures come { (k : LoadedUser) → user_of self.old.users user ≡ Some k
             → IfOk result (λ address. HasComeFrom file.now self.old user number k segment.now.head segment.now.handle address self.new) }
-        ensures refused { (k : Kept) → user_of self.old.users user ≡ Some k
+        ensures refused { (k : LoadedUser) → user_of self.old.users user ≡ Some k
             → IfErr result (IsComeRefusal file.now self.old user number k segment.now.head segment.now.handle) }
         ensures err { OnErr result (self.new ≡ self.old) }
     {
-        self.is_sound();
+        self.recall_invariant();
         let load = load_of(self.alloc, file, self.is_attached(user))?;
         let places = places_of(self.alloc, &load)?;
         let found = user_in(&self.users, user);
         compare(&load, &found.segments)?;
-        self.bring(&load, places, user, number, segment)
+        self.place_and_fill(&load, places, user, number, segment)
     }
 
     // The file at the user's path is read, and a segment of it comes.
-    fn read_and_come<F: Files>(
+    fn read_and_load<F: Files>(
         &mut self,
         files: &mut F,
         user: u16,
@@ -221,7 +221,7 @@ impl Loader {
         ensures held { (F.seen files.new).held ≡ (F.seen files.old).held }
         ensures never_falls { (F.seen files.old).faults ≤ (F.seen files.new).faults }
         ensures asked { (F.seen files.new).asked ≡ one_more (F.seen files.old).asked }
-        ensures came { (k : Kept) → user_of self.old.users user ≡ Some k
+        ensures came { (k : LoadedUser) → user_of self.old.users user ≡ Some k
             → DidCome (F.seen files.old).held self.old user number k segment.now.head segment.now.handle result self.new (F.seen files.old).faults (F.seen files.new).faults }
     {
         let found = user_in(&self.users, user);
@@ -232,7 +232,7 @@ impl Loader {
             Err(ReadFault::Failed) => return Err(LoaderFault::CannotRead),
             Err(ReadFault::Memory) => return Err(LoaderFault::Memory),
         };
-        self.come(&bytes, user, number, segment)
+        self.load_from(&bytes, user, number, segment)
     }
 
     // A dynamic segment of a user that runs is made active.
@@ -254,11 +254,11 @@ impl Loader {
         match presence(&self.banks, segment.handle) {
             Presence::Active(_, address) => Ok(address),
             Presence::Idle(h, address) => {
-                self.wake(user, number, h, address);
+                self.reactivate(user, number, h, address);
                 Ok(address)
             }
-            Presence::Purged(_) => self.read_and_come(files, user, number, &segment),
-            Presence::Absent => self.read_and_come(files, user, number, &segment),
+            Presence::Purged(_) => self.read_and_load(files, user, number, &segment),
+            Presence::Absent => self.read_and_load(files, user, number, &segment),
         }
     }
 
@@ -290,7 +290,7 @@ impl Loader {
         // And so much is true of it over any files.
         ensures did { DidActivate (F.seen files.old).held self.old user segment result self.new (F.seen files.old).faults (F.seen files.new).faults }
     {
-        self.is_sound();
+        self.recall_invariant();
         self.make_active(files, user, segment)
     }
 }

@@ -99,8 +99,8 @@ impl Loader {
         ensures leads { IfOk result (LeadsTo self.now user segment at) }
         ensures refused { IfErr result (IsJslRefusal self.now user segment at) }
     {
-        self.is_sound();
-        let four = self.lent(user, segment, at, 4)?;
+        self.recall_invariant();
+        let four = self.borrow_bytes(user, segment, at, 4)?;
         let address = called(four)?;
         match self.located(address) {
             Some(place) => Ok(place),
@@ -114,7 +114,7 @@ impl Loader {
         ensures reached { (user segment at : ℕ) → LeadsTo self.now user segment at place → IfOk result (HasReached self.now user segment at) }
         ensures refused { (user segment at : ℕ) → LeadsTo self.now user segment at place → IfErr result (IsJslRefusal self.now user segment at) }
     {
-        self.is_sound();
+        self.recall_invariant();
         let found = segment_in(user_in(&self.users, place.user), place.segment);
         if !is_table(&found.head) {
             return Ok(Reached::Place(place));
@@ -136,7 +136,7 @@ impl Loader {
         ensures { self.new ≡ self.old }
     {
         match self.banks.holder(place.address) {
-            Some(h) => self.firsts[usize::from(h.slot % 256)] = place.segment,
+            Some(h) => self.last_hits[usize::from(h.slot % 256)] = place.segment,
             None => {}
         }
     }
@@ -234,11 +234,11 @@ impl Loader {
         // And so much is true of it over any files.
         ensures did { DidJsl (F.seen files.old).held self.old user segment at result self.new (F.seen files.old).faults (F.seen files.new).faults }
     {
-        self.is_sound();
-        self.is_apart();
+        self.recall_invariant();
+        self.recall_blocks_apart();
         let entered = self.follow(files, user, segment, at);
-        self.is_sound();
-        self.is_apart();
+        self.recall_invariant();
+        self.recall_blocks_apart();
         entered
     }
 }

@@ -2,7 +2,7 @@
 
 ghost use Rattle.std.specs.Prelude.{◌≡◌, ◌⊎◌, ◌+◌, ◌++◌, ◌<◌, ◌≤◌, ◌^◌, ℕ, List, map, option_map, length, slice_get, string_bytes, vec_capacity, All, Some, None, false, IfOk, IfErr, OnOk, OnErr};
 ghost use Rattle.omf_format.specs.File as omf;
-ghost use Rattle.omf_io.specs.Counts.{one_more, risen};
+ghost use Rattle.omf_io.specs.Counts.{one_more, saturating_sum};
 ghost use Rattle.omf_io.specs.Files.{FileMap};
 ghost use Rattle.load_meaning.specs.Pathnames.{paths_of};
 ghost use Rattle.load_meaning.specs.Loadable.{IsLoadable};
@@ -13,7 +13,7 @@ ghost use Rattle.loader_machine.specs.Heads.{head_of, wants_of};
 ghost use Rattle.loader_machine.specs.Found.{Joins};
 ghost use Rattle.loader_machine.specs.State as state;
 ghost use Rattle.loader_machine.specs.State.{Machine, first_id, max_users};
-ghost use Rattle.loader_machine.specs.Steps.{spread, lost_refusal};
+ghost use Rattle.loader_machine.specs.Steps.{held_of_heads, lost_refusal};
 ghost use Rattle.loader_machine.specs.Commands.{Load};
 ghost use Rattle.loader_agrees.specs.Agrees.{Agrees, Meets, MeetsReads};
 ghost use Rattle.loader_agrees.specs.Acts.{HasBegun, joined_kept};
@@ -28,8 +28,8 @@ use iigs_compact_memory::CompactBanks;
 use iigs_meaning::{Handle, PlaceFault, Want};
 use loader_machine::{Life, LoaderFault};
 use loader_users::{
-    FIRST_ID, Plan, Segment, User, deal, entry_of, fill_all, load_of, lost, number_of, plan_of,
-    read_file, runtime_load, segments_of, set_places,
+    FIRST_ID, LoadPlan, Segment, User, assign_handles, entry_of, fill_all, first_dangling_entry,
+    load_of, number_of, plan_of, read_file, runtime_load, segments_of, set_places,
 };
 use omf_cells::{LoadFile, Places};
 use omf_io::Files;
@@ -62,7 +62,7 @@ fn place_all(
 }
 
 /// Writes the static segments into their new blocks, once all of these are placed.
-pub fn settle(
+pub fn write_all(
     banks: &mut CompactBanks,
     load: &LoadFile<'_>,
     segments: &mut Vec<Segment>,
@@ -76,10 +76,10 @@ pub fn settle(
     requires room { length places.old ≡ length segments.old.items }
     requires placed { (before : Memory) × AreAllPlaced RoomRule before user false (wants_of (map head_of load.now)) handles.now banks.old }
     ensures heads { map (λ s. s.head) segments.new.items ≡ map head_of load.now }
-    ensures handles { map (λ s. s.handle) segments.new.items ≡ map (λ held. held.handle) (spread (map head_of load.now) handles.now) }
+    ensures handles { map (λ s. s.handle) segments.new.items ≡ map (λ held. held.handle) (held_of_heads (map head_of load.now) handles.now) }
     ensures settled { IsSettled load.now user handles.now banks.old banks.new }
 {
-    deal(segments, handles);
+    assign_handles(segments, handles);
     set_places(banks, segments, places);
     fill_all(banks, load, segments, places, user);
 }
@@ -152,7 +152,7 @@ fn join_all<F: Files>(
     ensures held { (F.seen files.new).held ≡ (F.seen files.old).held }
     ensures never_falls { (F.seen files.old).faults ≤ (F.seen files.new).faults }
     ensures joins { IfOk result (λ users. (all : List (List omf.Segment)) × AreRowsRead (F.seen files.old).held (paths_of load.now) (F.seen files.old).faults (F.seen files.new).faults (Joins all)
-        × AreJoinedUsers (paths_of load.now) all (map kept users.items) × ((F.seen files.new).asked ≡ risen (length all) (F.seen files.old).asked)) }
+        × AreJoinedUsers (paths_of load.now) all (map kept users.items) × ((F.seen files.new).asked ≡ saturating_sum (length all) (F.seen files.old).asked)) }
     ensures stops { IfErr result (RowsStop (F.seen files.old).held (paths_of load.now) (F.seen files.old) (F.seen files.new)) }
 {
     let mut users = Vec::new(alloc);
@@ -194,7 +194,7 @@ impl Loader {
     fn start(
         &mut self,
         load: &LoadFile<'_>,
-        plan: Plan,
+        plan: LoadPlan,
         path: String,
         joined: Vec<User>,
         attached: Vec<u16>,
@@ -210,7 +210,7 @@ impl Loader {
         ensures refused { IfErr result (IsBeginRefusal self.old.memory (first_id + length self.old.users) (map head_of load.now)) }
         ensures err { OnErr result (self.new ≡ self.old) }
     {
-        let Plan {
+        let LoadPlan {
             mut segments,
             wants,
             mut handles,
@@ -224,7 +224,7 @@ impl Loader {
             wants.as_slice(),
             handles.as_mut_slice(),
         )?;
-        settle(
+        write_all(
             &mut self.banks,
             load,
             &mut segments,
@@ -287,13 +287,13 @@ impl Loader {
         ensures held { (F.seen files.new).held ≡ (F.seen files.old).held }
         ensures never_falls { (F.seen files.old).faults ≤ (F.seen files.new).faults }
         ensures loaded { (more : ℕ) × HasLoadedRows (F.seen files.old).held self.old path.now load.now result self.new (F.seen files.old).faults (F.seen files.new).faults more
-            × ((F.seen files.new).asked ≡ risen more (F.seen files.old).asked) }
+            × ((F.seen files.new).asked ≡ saturating_sum more (F.seen files.old).asked) }
     {
         if self.users.len() + 1 + load.paths() as usize > MAX_USERS {
             return Err(LoaderFault::TooManyUsers);
         }
         let joined = join_all(self.alloc, files, load)?;
-        match lost(load, &joined) {
+        match first_dangling_entry(load, &joined) {
             Some(fault) => return Err(LoaderFault::BadFile(fault)),
             None => {}
         }
@@ -312,7 +312,7 @@ impl Loader {
         ensures held { (F.seen files.new).held ≡ (F.seen files.old).held }
         ensures never_falls { (F.seen files.old).faults ≤ (F.seen files.new).faults }
         ensures loaded { (more : ℕ) × HasLoadedFile (F.seen files.old).held self.old path.now file.now result self.new (F.seen files.old).faults (F.seen files.new).faults more
-            × ((F.seen files.new).asked ≡ risen more (F.seen files.old).asked) }
+            × ((F.seen files.new).asked ≡ saturating_sum more (F.seen files.old).asked) }
     {
         let load = load_of(self.alloc, file, false)?;
         self.join_and_start(files, &load, path)
@@ -327,7 +327,7 @@ impl Loader {
         ensures held { (F.seen files.new).held ≡ (F.seen files.old).held }
         ensures never_falls { (F.seen files.old).faults ≤ (F.seen files.new).faults }
         ensures loaded { (reads : ℕ) × HasLoaded (F.seen files.old).held self.old path.now result self.new (F.seen files.old).faults (F.seen files.new).faults reads
-            × ((F.seen files.new).asked ≡ risen reads (F.seen files.old).asked) }
+            × ((F.seen files.new).asked ≡ saturating_sum reads (F.seen files.old).asked) }
     {
         if self.users.len() >= MAX_USERS {
             return Err(LoaderFault::TooManyUsers);
@@ -352,9 +352,9 @@ impl Loader {
 
         // And so much is true of it over any files, with how many of them were read.
         ensures loaded { (reads : ℕ) × HasLoaded (F.seen files.old).held self.old path.now result self.new (F.seen files.old).faults (F.seen files.new).faults reads
-            × ((F.seen files.new).asked ≡ risen reads (F.seen files.old).asked) }
+            × ((F.seen files.new).asked ≡ saturating_sum reads (F.seen files.old).asked) }
     {
-        self.is_sound();
+        self.recall_invariant();
         self.read_and_begin(files, path)
     }
 }

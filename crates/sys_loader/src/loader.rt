@@ -38,7 +38,7 @@ pub struct Loader {
     // With room for all users. None is gone.
     pub(crate) users: Vec<Option<User>>,
     // For the last byte of a slot, the number of the segment in whose block a call's address was found last: the first to be asked.
-    pub(crate) firsts: [u16; 256],
+    pub(crate) last_hits: [u16; 256],
 }
 
 impl Model for Loader {
@@ -73,21 +73,21 @@ impl Loader {
                 alloc,
                 banks: memory,
                 users,
-                firsts: [0; 256],
+                last_hits: [0; 256],
             }),
             Err(AllocError) => Err(BanksFault::Memory),
         }
     }
 
     // What is true of every loader.
-    pub(crate) fn is_sound(&self)
+    pub(crate) fn recall_invariant(&self)
         ensures { IsSound self.now.memory self.now.users }
     {
         let _users = &self.users;
     }
 
     // What is true of every loader's blocks.
-    pub(crate) fn is_apart(&self)
+    pub(crate) fn recall_blocks_apart(&self)
         ensures apart { AreApart self.now.memory.banks self.now.memory.slots }
         ensures below { (place address : ℕ) → HoldsByte address (slot_at self.now.memory.slots place) → address < 2 ^ 24 }
     {
@@ -113,7 +113,7 @@ impl Loader {
     pub(crate) fn led_by(&self, id: u16) -> (u16, u16)
         ensures { result ≡ led_by (kept_outlines self.now.users) id }
     {
-        self.is_sound();
+        self.recall_invariant();
         match holder_of(&self.users, id) {
             Some(lead) => lead,
             None => (id, 1),
@@ -124,7 +124,7 @@ impl Loader {
     pub(crate) fn is_attached(&self, id: u16) -> bool
         ensures { result ≡ is_attached (kept_outlines self.now.users) id }
     {
-        self.is_sound();
+        self.recall_invariant();
         match holder_of(&self.users, id) {
             Some(_) => true,
             None => false,
@@ -161,7 +161,7 @@ impl Loader {
     }
 
     // The bytes of an active segment, so many from an offset on.
-    pub(crate) fn lent(
+    pub(crate) fn borrow_bytes(
         &self,
         user: u16,
         segment: u16,
@@ -171,7 +171,7 @@ impl Loader {
         ensures lent { IfOk result (λ bytes. HasLent self.now user segment at count bytes.now) }
         ensures refused { IfErr result (λ fault. bytes_refusal self.now.memory.slots (seen_by self.now user) segment at count ≡ Some fault) }
     {
-        self.is_sound();
+        self.recall_invariant();
         let h = self.readable(user, segment, at, count)?;
         match self.banks.block(h) {
             Ok(bytes) => Ok(slice(bytes, at as usize, count as usize)),
@@ -192,7 +192,7 @@ impl Loader {
         ensures lent { IfOk result (λ bytes. HasLent self.now user segment at length bytes.now) }
         ensures refused { IfErr result (λ fault. bytes_refusal self.now.memory.slots (seen_by self.now user) segment at length ≡ Some fault) }
     {
-        self.lent(user, segment, at, length)
+        self.borrow_bytes(user, segment, at, length)
     }
 
     // What is known of a segment.
@@ -238,7 +238,7 @@ impl Loader {
             &self.users,
             user,
             h,
-            self.firsts[usize::from(h.slot % 256)],
+            self.last_hits[usize::from(h.slot % 256)],
             address,
         ) {
             Some((segment, offset)) => Some(Entered {
@@ -263,8 +263,8 @@ impl Loader {
         // Three bytes that were patched with a place are an address there.
         ensures names { (held : FileMap) (state : Machine) → Agrees held self.now state → NamesPlace held state address result }
     {
-        self.is_sound();
-        self.is_apart();
+        self.recall_invariant();
+        self.recall_blocks_apart();
         self.located(address)
     }
 }

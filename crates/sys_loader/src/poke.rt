@@ -66,7 +66,7 @@ impl Loader {
         // And so much is true of it over any files.
         ensures did { DidPoke self.old user segment at byte result self.new }
     {
-        self.is_sound();
+        self.recall_invariant();
         self.write_byte(user, segment, at, byte)
     }
 }

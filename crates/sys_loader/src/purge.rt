@@ -47,7 +47,7 @@ impl Loader {
         // And so much is true of it over any files.
         ensures did { DidPurge self.old user result self.new }
     {
-        self.is_sound();
+        self.recall_invariant();
         self.purge_blocks(user)
     }
 }

@@ -16,7 +16,7 @@ ghost use Rattle.loader_machine.specs.Steps as steps;
 ghost use Rattle.loader_machine.specs.Steps.{lost_refusal};
 ghost use Rattle.loader_machine.specs.Needs as needs;
 ghost use Rattle.loader_machine.specs.Commands.{Restart};
-ghost use Rattle.loader_agrees.specs.Agrees.{Kept, Agrees, Meets, ReadsNeeded, kept_outlines, seen_by};
+ghost use Rattle.loader_agrees.specs.Agrees.{LoadedUser, Agrees, Meets, ReadsNeeded, kept_outlines, seen_by};
 ghost use Rattle.loader_users.specs.View.{kept};
 ghost use Rattle.loader_users.specs.Filling.{AreSound, AreReady, AreFilled};
 ghost use Rattle.loader_users.specs.Planned.{IsPlan};
@@ -28,15 +28,15 @@ ghost use Rattle.sys_loader.specs.Restarting as restarting;
 
 use crate::answers::Started;
 use crate::dynamic::places_of;
-use crate::load::{count_of, settle};
+use crate::load::{count_of, write_all};
 use crate::loader::Loader;
 use iigs_compact_memory::CompactBanks;
 use iigs_meaning::{Handle, PlaceFault, Want};
 use loader_machine::{Life, LoaderFault, Presence};
 use loader_users::{
-    Plan, Segment, User, activate, compare, entry_of, fill_block, is_read_again, is_static,
-    load_of, lost_in, number_of, plan_of, presence, set_life, set_lives, set_places, set_segments,
-    user_in,
+    LoadPlan, Segment, User, activate, compare, entry_of, fill_block, first_dangling_entry_of,
+    is_read_again, is_static, load_of, number_of, plan_of, presence, set_life, set_lives,
+    set_places, set_segments, user_in,
 };
 use omf_cells::{LoadFile, Places};
 use omf_io::{Files, ReadFault};
@@ -194,11 +194,11 @@ impl Loader {
 
     // The static segments of a user, all of which are there, become active, and it runs, with those attached to it.
     fn resume(&mut self, user: u16) -> Started
-        requires can { (k : Kept) × CanRestart self.old user k }
-        requires whole { (k : Kept) → user_of self.old.users user ≡ Some k → is_whole self.old k ≡ true }
-        ensures { (k : Kept) → user_of self.old.users user ≡ Some k → HasResumed self.old.memory self.old.users user k result self.new }
+        requires can { (k : LoadedUser) × CanRestart self.old user k }
+        requires whole { (k : LoadedUser) → user_of self.old.users user ≡ Some k → is_whole self.old k ≡ true }
+        ensures { (k : LoadedUser) → user_of self.old.users user ≡ Some k → HasResumed self.old.memory self.old.users user k result self.new }
     {
-        self.is_sound();
+        self.recall_invariant();
         let found = user_in(&self.users, user);
         activate_all(&mut self.banks, &found.segments);
         let entry = entry_of(&self.banks, &found.segments);
@@ -211,13 +211,13 @@ impl Loader {
     fn resume_from(&mut self, load: &LoadFile<'_>, mut places: Places, user: u16) -> Started
         requires taken { (file : List ℕ) × IsLoadable file load.now }
         requires room { length places ≡ length load.now }
-        requires can { (k : Kept) × CanRestart self.old user k }
-        requires whole { (k : Kept) → user_of self.old.users user ≡ Some k → is_whole self.old k ≡ true }
-        requires same { (k : Kept) → user_of self.old.users user ≡ Some k
+        requires can { (k : LoadedUser) × CanRestart self.old user k }
+        requires whole { (k : LoadedUser) → user_of self.old.users user ≡ Some k → is_whole self.old k ≡ true }
+        requires same { (k : LoadedUser) → user_of self.old.users user ≡ Some k
             → (lost_refusal (kept_heads self.old.users k.attached) load.now ≡ None) × (map head_of load.now ≡ k.heads) }
-        ensures { (file : List ℕ) (k : Kept) → IsLoadable file load.now → user_of self.old.users user ≡ Some k → HasReloaded file self.old user k result self.new }
+        ensures { (file : List ℕ) (k : LoadedUser) → IsLoadable file load.now → user_of self.old.users user ≡ Some k → HasReloaded file self.old user k result self.new }
     {
-        self.is_sound();
+        self.recall_invariant();
         let found = user_in(&self.users, user);
         set_places(&self.banks, &found.segments, &mut places);
         fill_again(&mut self.banks, load, &found.segments, &places, user);
@@ -228,13 +228,13 @@ impl Loader {
     fn is_same_file(&self, load: &LoadFile<'_>, user: u16) -> Result<(), LoaderFault>
         requires loadable { (file : List ℕ) × IsLoadable file load.now }
         requires made { IsSome (user_of self.now.users user) }
-        ensures same { (k : Kept) → user_of self.now.users user ≡ Some k
+        ensures same { (k : LoadedUser) → user_of self.now.users user ≡ Some k
             → IfOk result (λ _. (lost_refusal (kept_heads self.now.users k.attached) load.now ≡ None) × (map head_of load.now ≡ k.heads)) }
-        ensures other { (k : Kept) → user_of self.now.users user ≡ Some k → IfErr result (IsOtherFile self.now.users k load.now) }
+        ensures other { (k : LoadedUser) → user_of self.now.users user ≡ Some k → IfErr result (IsOtherFile self.now.users k load.now) }
     {
-        self.is_sound();
+        self.recall_invariant();
         let found = user_in(&self.users, user);
-        match lost_in(load, &self.users, &found.attached) {
+        match first_dangling_entry_of(load, &self.users, &found.attached) {
             Some(fault) => return Err(LoaderFault::BadFile(fault)),
             None => {}
         }
@@ -244,13 +244,13 @@ impl Loader {
     // The same once they are as a file that was read has them, if it is the one that was loaded.
     fn reload(&mut self, file: &[u8], user: u16) -> Result<Started, LoaderFault>
         requires short { length file.now < 2 ^ 32 }
-        requires can { (k : Kept) × CanRestart self.old user k }
-        requires whole { (k : Kept) → user_of self.old.users user ≡ Some k → is_whole self.old k ≡ true }
-        ensures reloaded { (k : Kept) → user_of self.old.users user ≡ Some k → IfOk result (λ started. HasReloaded file.now self.old user k started self.new) }
-        ensures refused { (k : Kept) → user_of self.old.users user ≡ Some k → IfErr result (IsAgainRefusal file.now self.old user k) }
+        requires can { (k : LoadedUser) × CanRestart self.old user k }
+        requires whole { (k : LoadedUser) → user_of self.old.users user ≡ Some k → is_whole self.old k ≡ true }
+        ensures reloaded { (k : LoadedUser) → user_of self.old.users user ≡ Some k → IfOk result (λ started. HasReloaded file.now self.old user k started self.new) }
+        ensures refused { (k : LoadedUser) → user_of self.old.users user ≡ Some k → IfErr result (IsAgainRefusal file.now self.old user k) }
         ensures err { OnErr result (self.new ≡ self.old) }
     {
-        self.is_sound();
+        self.recall_invariant();
         let load = load_of(self.alloc, file, false)?;
         let _count = count_of(&load);
         let places = places_of(self.alloc, &load)?;
@@ -262,20 +262,20 @@ impl Loader {
     fn begin_anew(
         &mut self,
         load: &LoadFile<'_>,
-        plan: Plan,
+        plan: LoadPlan,
         user: u16,
     ) -> Result<Started, LoaderFault>
-        requires can { (k : Kept) × CanRestart self.old user k }
+        requires can { (k : LoadedUser) × CanRestart self.old user k }
         requires taken { (file : List ℕ) × IsLoadable file load.now }
-        requires same { (k : Kept) → user_of self.old.users user ≡ Some k
+        requires same { (k : LoadedUser) → user_of self.old.users user ≡ Some k
             → (lost_refusal (kept_heads self.old.users k.attached) load.now ≡ None) × (map head_of load.now ≡ k.heads) }
         requires short { length load.now < 2 ^ 16 }
         requires plan { IsPlan load.now plan }
-        ensures begun { (k : Kept) → user_of self.old.users user ≡ Some k → IfOk result (λ started. HasBegunAnew self.old user k load.now started self.new) }
+        ensures begun { (k : LoadedUser) → user_of self.old.users user ≡ Some k → IfOk result (λ started. HasBegunAnew self.old user k load.now started self.new) }
         ensures refused { IfErr result (IsBeginRefusal (released_memory self.old.memory user) user (map head_of load.now)) }
         ensures err { OnErr result (self.new ≡ self.old) }
     {
-        let Plan {
+        let LoadPlan {
             mut segments,
             wants,
             mut handles,
@@ -288,7 +288,7 @@ impl Loader {
             wants.as_slice(),
             handles.as_mut_slice(),
         )?;
-        settle(
+        write_all(
             &mut self.banks,
             load,
             &mut segments,
@@ -305,13 +305,13 @@ impl Loader {
     // The same of a file that was read, if it is the one that was loaded.
     fn start_anew(&mut self, file: &[u8], user: u16) -> Result<Started, LoaderFault>
         requires short { length file.now < 2 ^ 32 }
-        requires can { (k : Kept) × CanRestart self.old user k }
-        requires gone { (k : Kept) → user_of self.old.users user ≡ Some k → is_whole self.old k ≡ false }
-        ensures begun { (k : Kept) → user_of self.old.users user ≡ Some k → IfOk result (λ started. HasBegunFrom file.now self.old user k started self.new) }
-        ensures refused { (k : Kept) → user_of self.old.users user ≡ Some k → IfErr result (IsAgainRefusal file.now self.old user k) }
+        requires can { (k : LoadedUser) × CanRestart self.old user k }
+        requires gone { (k : LoadedUser) → user_of self.old.users user ≡ Some k → is_whole self.old k ≡ false }
+        ensures begun { (k : LoadedUser) → user_of self.old.users user ≡ Some k → IfOk result (λ started. HasBegunFrom file.now self.old user k started self.new) }
+        ensures refused { (k : LoadedUser) → user_of self.old.users user ≡ Some k → IfErr result (IsAgainRefusal file.now self.old user k) }
         ensures err { OnErr result (self.new ≡ self.old) }
     {
-        self.is_sound();
+        self.recall_invariant();
         let load = load_of(self.alloc, file, false)?;
         let _count = count_of(&load);
         self.is_same_file(&load, user)?;
@@ -329,8 +329,8 @@ impl Loader {
         user: u16,
         in_place: bool,
     ) -> Result<Started, LoaderFault>
-        requires can { (k : Kept) × CanRestart self.old user k }
-        requires whole { (k : Kept) → user_of self.old.users user ≡ Some k → is_whole self.old k ≡ in_place }
+        requires can { (k : LoadedUser) × CanRestart self.old user k }
+        requires whole { (k : LoadedUser) → user_of self.old.users user ≡ Some k → is_whole self.old k ≡ in_place }
         requires reads { restart_reads self.old user ≡ true }
         ensures held { (F.seen files.new).held ≡ (F.seen files.old).held }
         ensures never_falls { (F.seen files.old).faults ≤ (F.seen files.new).faults }
@@ -394,7 +394,7 @@ impl Loader {
         // And so much is true of it over any files.
         ensures did { DidRestart (F.seen files.old).held self.old user result self.new (F.seen files.old).faults (F.seen files.new).faults }
     {
-        self.is_sound();
+        self.recall_invariant();
         self.restart_user(files, user)
     }
 }

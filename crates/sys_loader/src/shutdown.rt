@@ -8,7 +8,7 @@ ghost use Rattle.iigs_meaning.specs.Memory.{AreAllPlaced};
 ghost use Rattle.loader_machine.specs.State.{Machine, user_of, is_attached, family, handles_of_all, without_all};
 ghost use Rattle.loader_machine.specs.Refusals.{shut_down_refusal};
 ghost use Rattle.loader_machine.specs.Commands.{ShutDown};
-ghost use Rattle.loader_agrees.specs.Agrees.{Kept, AreAttached, Agrees, Met, kept_outlines, seen_by};
+ghost use Rattle.loader_agrees.specs.Agrees.{LoadedUser, AreAttached, Agrees, Met, kept_outlines, seen_by};
 ghost use Rattle.loader_users.specs.View.{kept};
 ghost use Rattle.sys_loader.specs.Replies.{done_reply};
 ghost use Rattle.sys_loader.specs.Lives.{AreIdled, AreReleased, DidShutDown};
@@ -18,7 +18,7 @@ use iigs_compact_memory::CompactBanks;
 use iigs_meaning::PlaceFault;
 use loader_machine::{Life, LoaderFault, Presence};
 use loader_users::{
-    Segment, User, attached_count, attached_in, idle, presence, remove, renew_tables, set_life,
+    Segment, User, attached_count, attached_in, idle, presence, relink_tables, remove, set_life,
     set_lives, user_in,
 };
 
@@ -54,7 +54,7 @@ fn idle_all(banks: &mut CompactBanks, segments: &Vec<Segment>)
 fn idle_family(banks: &mut CompactBanks, users: &Vec<Option<User>>, id: u16)
     requires made { IsSome (user_of (map (option_map kept) users.now.items) id) }
     requires attached { AreAttached (map (option_map kept) users.now.items) }
-    ensures { (k : Kept) → user_of (map (option_map kept) users.now.items) id ≡ Some k
+    ensures { (k : LoadedUser) → user_of (map (option_map kept) users.now.items) id ≡ Some k
         → AreIdled (handles_of_all (kept_outlines (map (option_map kept) users.now.items)) (family id k.attached)) banks.old banks.new }
 {
     'places: for place in 0..attached_count(users, id) {
@@ -68,8 +68,8 @@ fn idle_family(banks: &mut CompactBanks, users: &Vec<Option<User>>, id: u16)
 fn drop_attached(banks: &mut CompactBanks, users: &mut Vec<Option<User>>, id: u16)
     requires made { IsSome (user_of (map (option_map kept) users.old.items) id) }
     requires attached { AreAttached (map (option_map kept) users.old.items) }
-    ensures released { (k : Kept) → user_of (map (option_map kept) users.old.items) id ≡ Some k → AreReleased k.attached banks.old banks.new }
-    ensures gone { (k : Kept) → user_of (map (option_map kept) users.old.items) id ≡ Some k
+    ensures released { (k : LoadedUser) → user_of (map (option_map kept) users.old.items) id ≡ Some k → AreReleased k.attached banks.old banks.new }
+    ensures gone { (k : LoadedUser) → user_of (map (option_map kept) users.old.items) id ≡ Some k
         → map (option_map kept) users.new.items ≡ without_all (map (option_map kept) users.old.items) k.attached }
     ensures room { vec_capacity users.new ≡ vec_capacity users.old }
 {
@@ -108,7 +108,7 @@ impl Loader {
 
     // Whether the ID has a user that runs, which is attached to none.
     fn keepable(&self, user: u16) -> Result<(), LoaderFault>
-        ensures ok { IfOk result (λ _. (k : Kept) × (user_of self.now.users user ≡ Some k) × (k.life ≡ Life.Running)
+        ensures ok { IfOk result (λ _. (k : LoadedUser) × (user_of self.now.users user ≡ Some k) × (k.life ≡ Life.Running)
             × (shut_down_refusal (is_attached (kept_outlines self.now.users) user) (seen_by self.now user) true ≡ None)) }
         ensures err { IfErr result (λ fault. shut_down_refusal (is_attached (kept_outlines self.now.users) user) (seen_by self.now user) true ≡ Some fault) }
     {
@@ -121,7 +121,7 @@ impl Loader {
     fn drop_user(&mut self, user: u16) -> Result<(), LoaderFault>
         ensures did { DidShutDown self.old user false result self.new }
     {
-        self.is_sound();
+        self.recall_invariant();
         self.droppable(user)?;
         drop_attached(&mut self.banks, &mut self.users, user);
         release_all(&mut self.banks, user);
@@ -133,9 +133,9 @@ impl Loader {
     fn keep_user(&mut self, user: u16) -> Result<(), LoaderFault>
         ensures did { DidShutDown self.old user true result self.new }
     {
-        self.is_sound();
+        self.recall_invariant();
         self.keepable(user)?;
-        renew_tables(
+        relink_tables(
             &mut self.banks,
             &user_in(&self.users, user).segments,
             None,
@@ -158,7 +158,7 @@ impl Loader {
         // And so much is true of it over any files.
         ensures did { DidShutDown self.old user keep result self.new }
     {
-        self.is_sound();
+        self.recall_invariant();
         if keep {
             self.keep_user(user)
         } else {

@@ -13,7 +13,7 @@ ghost use Rattle.sys_loader.specs.Lives.{CanUnload, DidUnload};
 use crate::loader::Loader;
 use iigs_meaning::Handle;
 use loader_machine::LoaderFault;
-use loader_users::{active, idle, is_dynamic, renew_tables, user_in};
+use loader_users::{active, idle, is_dynamic, relink_tables, user_in};
 
 impl Loader {
     // The handle of an active segment that can be let go.
@@ -33,11 +33,11 @@ impl Loader {
     fn let_go(&mut self, user: u16, segment: u16) -> Result<(), LoaderFault>
         ensures did { DidUnload self.old user segment result self.new }
     {
-        self.is_sound();
+        self.recall_invariant();
         let h = self.unloadable(user, segment)?;
         let (owner, file) = self.led_by(user);
         let lead = user_in(&self.users, owner);
-        renew_tables(&mut self.banks, &lead.segments, Some((file, segment)), None);
+        relink_tables(&mut self.banks, &lead.segments, Some((file, segment)), None);
         idle(&mut self.banks, h);
         Ok(())
     }
@@ -52,7 +52,7 @@ impl Loader {
         // And so much is true of it over any files.
         ensures did { DidUnload self.old user segment result self.new }
     {
-        self.is_sound();
+        self.recall_invariant();
         self.let_go(user, segment)
     }
 }

@@ -3,7 +3,7 @@
 ghost use Rattle.std.specs.Prelude.{◌≤◌, map, length};
 ghost use Rattle.std.specs.Bool.{OnTrue};
 ghost use Rattle.load_meaning.specs.WrittenBody.{AreWritten, IsWrittenPatch};
-ghost use Rattle.written_bodies.specs.WrittenParts.{seen};
+ghost use Rattle.load_writer.specs.WrittenParts.{seen};
 
 use crate::ending::{Ended, done};
 use omf_cells::{Body, BodyFault, Patch, body_of};

@@ -9,7 +9,7 @@ use Rattle.omf_format.specs.Reading.{Reader, next_answer, after_next, records_of
 use Rattle.omf_format.specs.File.{Segment}
 use Rattle.w65_list.proofs.RecordRuns.{rest_of}
 use Rattle.omf_records.specs.WalkLaws.{walk_on, walk_ends}
-use Rattle.link_meaning.specs.Sizes.{size_at, located, place_behind, body_size}
+use Rattle.link_meaning.specs.Sizes.{size_at, records_with_offsets, place_behind, body_size}
 use Rattle.list_meaning.specs.Listing.{greatest_length, is_lost, has_lost_place}
 use Rattle.w65_list.specs.FrontView.{has_listable_length, is_lost_from, HaveCells, AreOver, Counted}
 
@@ -77,7 +77,7 @@ counted_over start at most place behind found body counted e is over =
 -- ---- LENGTH
 
 lost_is : (s : Segment) → has_lost_place s ≡ is_lost_from 0 s.records
-unfolding located
+unfolding records_with_offsets
 lost_is s = refl
 
 size_is : (s : Segment) → body_size s ≡ place_behind 0 s.records

@@ -6,11 +6,11 @@ use Rattle.omf_format.specs.Expression.{Tree, terms_of, Spells}
 use Rattle.omf_format.specs.Header.{Fields}
 use Rattle.omf_format.specs.Record as format
 use Rattle.link_meaning.specs.laws.TreeInLaws.{tree_in-again}
-use Rattle.list_meaning.specs.Listed.{Said, Wanted}
+use Rattle.list_meaning.specs.Listed.{ListedStatement, Wanted}
 use Rattle.list_meaning.specs.Listing as listing
-use Rattle.list_meaning.specs.Listing.{Given, are_short, if_short, then_said, flushed, split_last, behind_byte, is_held, held_back, apart, weak_of, simple_of, number_of, formula_given, formula_listable, expr_listable, term_listable, term_may_stand, is_open, is_some_name, is_some_wanted, follows_opcode, equate_given, on_tree, given_by}
+use Rattle.list_meaning.specs.Listing.{Given, are_short, if_short, then_said, with_run_written, split_last, behind_byte, is_held, held_back, dc_of_formula, weak_of, simple_of, number_of, formula_given, formula_listable, expr_listable, term_listable, term_may_stand, is_open, is_some_name, is_some_wanted, follows_opcode, equate_given, on_tree, given_by}
 use Rattle.list_lines.specs.declared.output.Output.{Output}
-use Rattle.w65_list.specs.declared.records.Before.{Before}
+use Rattle.w65_list.specs.declared.records.PendingRun.{PendingRun}
 use Rattle.w65_list.specs.Giving.{Gave, IsGiven, held_by, held_with, equate_by}
 use Rattle.list_lines.specs.LineView.{Wrote, WroteAll}
 use Rattle.list_lines.proofs.Written.{wrote_one, wrote_both}
@@ -32,15 +32,15 @@ none_split (byte ∷ run) none = absurd (omega (arith, none))
 
 -- ---- lines behind a run
 
-pub lines_gave : (g : Given) (more : List Said) (old mid new : Output) (after : Before) → Gave g old mid after → WroteAll more mid new → Gave (then_said more g) old new after
+pub lines_gave : (g : Given) (more : List ListedStatement) (old mid new : Output) (after : PendingRun) → Gave g old mid after → WroteAll more mid new → Gave (then_said more g) old new after
 lines_gave g more old mid new after gave wrote = record { wrote = wrote_both g.0 more old mid new gave.wrote wrote; left = gave.left }
 
-pub line_gave : (g : Given) (said : Said) (old mid new : Output) (after : Before) → Gave g old mid after → Wrote said mid new → Gave (then_said (said ∷ []) g) old new after
+pub line_gave : (g : Given) (said : ListedStatement) (old mid new : Output) (after : PendingRun) → Gave g old mid after → Wrote said mid new → Gave (then_said (said ∷ []) g) old new after
 line_gave g said old mid new after gave wrote = lines_gave g (said ∷ []) old mid new after gave (wrote_one said mid new wrote)
 
 -- ---- what can be listed
 
-pub given_of : (holds : Bool) (given : Given) (old new : Output) (after : Before) → holds ≡ true → Gave given old new after → IsGiven (if_short holds given) old new after
+pub given_of : (holds : Bool) (given : Given) (old new : Output) (after : PendingRun) → holds ≡ true → Gave given old new after → IsGiven (if_short holds given) old new after
 given_of holds given old new after e gave = record { all = given; is = rw (e, gave.wrote.short) refl; gave = gave }
 
 pub too_long : (holds : Bool) (given : Given) → are_short given ≡ false → if_short holds given ≡ None
@@ -51,17 +51,17 @@ three_hold : (a b c : Bool) → a ≡ true → (b && c) ≡ true → ((a && b) &
 three_hold a b c p q = ap (λ (x : Bool). (x && b) && c) p ∙ q
 
 -- a label or an equate with a new name
-pub named_given : (may is_new a l n : Bool) (given : Given) (old new : Output) (after : Before) → may ≡ a → may ≡ true → is_new ≡ (l && n) → is_new ≡ true → Gave given old new after → IsGiven (if_short ((a && l) && n) given) old new after
+pub named_given : (may is_new a l n : Bool) (given : Given) (old new : Output) (after : PendingRun) → may ≡ a → may ≡ true → is_new ≡ (l && n) → is_new ≡ true → Gave given old new after → IsGiven (if_short ((a && l) && n) given) old new after
 named_given may is_new a l n given old new after p q r s gave = given_of ((a && l) && n) given old new after (three_hold a l n (sym p ∙ q) (sym r ∙ s)) gave
 
 -- ---- an opcode that is held back
 
-pub record Held (b : listing.Before) (code count n : ℕ) (found : Option (List ℕ × ℕ)) (opcode : ℕ) : Type 0 where
+pub record Held (b : listing.PendingRun) (code count n : ℕ) (found : Option (List ℕ × ℕ)) (opcode : ℕ) : Type 0 where
   pub rest : List ℕ
   pub is : found ≡ Some (rest, opcode)
   pub held : is_held b code count n (rest, opcode) ≡ true
 
-pub held_some : (b : listing.Before) (code count n : ℕ) (found : Option (List ℕ × ℕ)) (opcode : ℕ) → Some opcode ≡ held_by b code count n found → Held b code count n found opcode
+pub held_some : (b : listing.PendingRun) (code count n : ℕ) (found : Option (List ℕ × ℕ)) (opcode : ℕ) → Some opcode ≡ held_by b code count n found → Held b code count n found opcode
 held_some b code count n None opcode e = absurd cc
 held_some b code count n (Some found) opcode e = by (is_held b code count n found) refl e
   where
@@ -102,20 +102,20 @@ split_back (byte ∷ run) rest x e = by (split_back run) (split_last run) refl e
         some_same : {p q : List ℕ × ℕ} → Some p ≡ Some q → p ≡ q
         some_same e = cc
 
-pub formula_held : (b : listing.Before) (code count n : ℕ) (tree : Tree) (rest : List ℕ) (opcode : ℕ) (wanted : Wanted) → is_held b code count n (rest, opcode) ≡ true
+pub formula_held : (b : listing.PendingRun) (code count n : ℕ) (tree : Tree) (rest : List ℕ) (opcode : ℕ) (wanted : Wanted) → is_held b code count n (rest, opcode) ≡ true
     → formula_given b code count n tree (Some (rest, opcode)) (Some wanted) ≡ held_back b rest opcode wanted
 unfolding formula_given
 formula_held b code count n tree rest opcode wanted held = rw held refl
 
-pub formula_beside : (b : listing.Before) (code count n : ℕ) (tree : Tree) (found : Option (List ℕ × ℕ)) (wanted : Option Wanted) → None ≡ held_with (held_by b code count n found) wanted
-    → formula_given b code count n tree found wanted ≡ then_said (apart count tree (weak_of tree) ∷ []) (flushed b)
+pub formula_beside : (b : listing.PendingRun) (code count n : ℕ) (tree : Tree) (found : Option (List ℕ × ℕ)) (wanted : Option Wanted) → None ≡ held_with (held_by b code count n found) wanted
+    → formula_given b code count n tree found wanted ≡ then_said (dc_of_formula count tree (weak_of tree) ∷ []) (with_run_written b)
 unfolding formula_given
 formula_beside b code count n tree None wanted e = refl
 formula_beside b code count n tree (Some found) None e = refl
 formula_beside b code count n tree (Some found) (Some wanted) e = by (is_held b code count n found) refl e
   where
     by : (x : Bool) → is_held b code count n found ≡ x → None ≡ held_with (cond x (Some found.1) None) (Some wanted)
-        → cond x (held_back b found.0 found.1 wanted) (then_said (apart count tree (weak_of tree) ∷ []) (flushed b)) ≡ then_said (apart count tree (weak_of tree) ∷ []) (flushed b)
+        → cond x (held_back b found.0 found.1 wanted) (then_said (dc_of_formula count tree (weak_of tree) ∷ []) (with_run_written b)) ≡ then_said (dc_of_formula count tree (weak_of tree) ∷ []) (with_run_written b)
     by true is e = absurd cc
     by false is e = refl
 
@@ -127,14 +127,14 @@ held_both opcode wanted (Some k) (Some v) e =
     (ap (λ (p : ℕ × Wanted). Some p.0) pair, ap (λ (p : ℕ × Wanted). Some p.1) pair)
 
 -- the lines of an opcode that is held back are those of the record
-pub held_is : (b : listing.Before) (code count n : ℕ) (tree : Tree) (opcode : ℕ) (wanted : Wanted) (simple : Option Wanted) (h : Held b code count n (split_last b.run) opcode) → simple ≡ Some wanted
+pub held_is : (b : listing.PendingRun) (code count n : ℕ) (tree : Tree) (opcode : ℕ) (wanted : Wanted) (simple : Option Wanted) (h : Held b code count n (split_last b.run) opcode) → simple ≡ Some wanted
     → formula_given b code count n tree (split_last b.run) simple ≡ held_back b h.rest opcode wanted
 held_is b code count n tree opcode wanted simple h e =
     ap (λ (f : Option (List ℕ × ℕ)). formula_given b code count n tree f simple) h.is ∙ ap (formula_given b code count n tree (Some (h.rest, opcode))) e ∙ formula_held b code count n tree h.rest opcode wanted h.held
 
 -- ---- which expression records can be listed
 
-pub listable_same : (all : List (List ℕ)) (b : listing.Before) (code count n : ℕ) (tree : Tree) (named written varies : Bool) (weak : Option (List ℕ)) (simple : Option Wanted) (run : List ℕ)
+pub listable_same : (all : List (List ℕ)) (b : listing.PendingRun) (code count n : ℕ) (tree : Tree) (named written varies : Bool) (weak : Option (List ℕ)) (simple : Option Wanted) (run : List ℕ)
     → named ≡ list_all (term_listable all) (terms_of tree) → written ≡ list_all term_may_stand (terms_of tree) → varies ≡ list_any is_open (terms_of tree) → weak ≡ weak_of tree → simple ≡ simple_of tree → run ≡ b.run
     → (named && cond (code == 0xEB) (cond (is_some_name weak) (count == 2) (written && varies)) (is_some_wanted simple && follows_opcode code count n (split_last run))) ≡ formula_listable all b code count n tree
 unfolding formula_listable
@@ -148,14 +148,14 @@ listable_same all b code count n tree named written varies weak simple run p q r
 
 -- ---- an equate
 
-pub equate_is : (f : Fields) (all : List (List ℕ)) (b : listing.Before) (global : Bool) (name : List ℕ) (size form private : ℕ) (expr : List ℕ) (tree : Tree) (number : Option ℕ) → Spells f.lab_len expr tree → number ≡ number_of tree
+pub equate_is : (f : Fields) (all : List (List ℕ)) (b : listing.PendingRun) (global : Bool) (name : List ℕ) (size form private : ℕ) (expr : List ℕ) (tree : Tree) (number : Option ℕ) → Spells f.lab_len expr tree → number ≡ number_of tree
     → given_by f all b (format.Equate global name size form private expr) ≡ equate_by (not global || private == 0) (equate_given b global name number)
 unfolding given_by
 equate_is f all b global name size form private expr tree number spells e =
     ap (λ (t : Option Tree). cond (not global || private == 0) (on_tree t (λ (t : Tree). equate_given b global name (number_of t))) None) (tree_in-again f.lab_len expr tree spells)
     ∙ ap (λ (k : Option ℕ). equate_by (not global || private == 0) (equate_given b global name k)) (sym e)
 
-pub formula_is : (f : Fields) (all : List (List ℕ)) (b : listing.Before) (code count n : ℕ) (expr : List ℕ) (tree : Tree) → Spells f.lab_len expr tree
+pub formula_is : (f : Fields) (all : List (List ℕ)) (b : listing.PendingRun) (code count n : ℕ) (expr : List ℕ) (tree : Tree) → Spells f.lab_len expr tree
     → given_by f all b (format.Formula code count n expr) ≡ if_short (formula_listable all b code count n tree) (formula_given b code count n tree (split_last b.run) (simple_of tree))
 unfolding given_by
 formula_is f all b code count n expr tree spells =

@@ -4,7 +4,7 @@ use Rattle.std.specs.Prelude.{◌&&◌}
 use Rattle.std.specs.List.{flat_map}
 use Rattle.std.proofs.lemmas.Bool.{le-leb, lt-leb, leb-false, ltb-true, ltb-false}
 use Rattle.std.proofs.lemmas.List.Concat.{flat_map-cons, flat_map-append}
-use Rattle.list_meaning.specs.Listed.{Said, said_text, line_text, listing_text}
+use Rattle.list_meaning.specs.Listed.{ListedStatement, said_text, line_text, listing_text}
 use Rattle.list_lines.specs.Kept.{Kept, so_far, with_line, with_lines}
 
 same_test : (a b : ℕ) → ltb a b ≡ leb (a + 1) b
@@ -17,15 +17,15 @@ same_test a b = by (ltb a b) refl
 stays : (a k b : ℕ) → leb a b ≡ false → leb (a + k) b ≡ false
 stays a k b e = lt-leb (a + k) b (omega (arith, leb-false a b e))
 
-one_more : (all : List Said) (said : Said) → listing_text (all ++ said ∷ []) ≡ listing_text all ++ (said_text said ++ 0x0A ∷ [])
+one_more : (all : List ListedStatement) (said : ListedStatement) → listing_text (all ++ said ∷ []) ≡ listing_text all ++ (said_text said ++ 0x0A ∷ [])
 unfolding listing_text
 one_more all said =
     flat_map-append line_text all (said ∷ []) ∙ ap (λ (l : List ℕ). flat_map line_text all ++ l) (flat_map-cons line_text said [] ∙ append-nil (line_text said))
 
-more_lines : (all : List Said) (said : Said) → length (all ++ said ∷ []) ≡ length all + 1
+more_lines : (all : List ListedStatement) (said : ListedStatement) → length (all ++ said ∷ []) ≡ length all + 1
 more_lines all said = length-append all (said ∷ [])
 
-more_bytes : (all : List Said) (said : Said) → length (listing_text (all ++ said ∷ [])) ≡ length (listing_text all) + length (said_text said) + 1
+more_bytes : (all : List ListedStatement) (said : ListedStatement) → length (listing_text (all ++ said ∷ [])) ≡ length (listing_text all) + length (said_text said) + 1
 more_bytes all said = ap length (one_more all said) ∙ omega (arith, length-append (listing_text all) (said_text said ++ 0x0A ∷ []), length-append (said_text said) (0x0A ∷ []))
 
 abbrev whole : List ℕ → ℕ → Kept
@@ -34,7 +34,7 @@ whole text n = Some (text, n)
 abbrev none : Kept
 none = None
 
-pub line_kept : (all : List Said) (said : Said) → with_line (said_text said) (so_far all) ≡ so_far (all ++ said ∷ [])
+pub line_kept : (all : List ListedStatement) (said : ListedStatement) → with_line (said_text said) (so_far all) ≡ so_far (all ++ said ∷ [])
 unfolding with_line
 line_kept all said = by (leb (length all) 65536) (leb (length (listing_text all)) 16777216) refl refl
   where
@@ -63,11 +63,11 @@ line_kept all said = by (leb (length all) 65536) (leb (length (listing_text all)
         let many : leb (length (all ++ said ∷ [])) 65536 ≡ false = ap (λ (n : ℕ). leb n 65536) (more_lines all said) ∙ stays (length all) 1 65536 p in
         sym (large (leb (length (all ++ said ∷ [])) 65536 && leb (length (listing_text (all ++ said ∷ []))) 16777216) (ap (λ (x : Bool). x && leb (length (listing_text (all ++ said ∷ []))) 16777216) many))
 
-kept_from : (before all : List Said) → with_lines all (so_far before) ≡ so_far (before ++ all)
+kept_from : (before all : List ListedStatement) → with_lines all (so_far before) ≡ so_far (before ++ all)
 kept_from before [] = ap so_far (sym (append-nil before))
 kept_from before (said ∷ all) = ap (with_lines all) (line_kept before said) ∙ kept_from (before ++ said ∷ []) all ∙ ap so_far (append_assoc before (said ∷ []) all)
 
 -- all lines, from nothing on
-pub kept_all : (all : List Said) → with_lines all (Some ([], 0)) ≡ so_far all
+pub kept_all : (all : List ListedStatement) → with_lines all (Some ([], 0)) ≡ so_far all
 unfolding listing_text
 kept_all all = kept_from [] all

@@ -4,12 +4,12 @@ use Rattle.std.specs.Prelude.{◌&&◌, ◌==◌}
 use Rattle.std.specs.List.{list_all}
 use Rattle.std.proofs.lemmas.List.Folds.{list_all-append}
 use Rattle.asm_meaning.specs.Instruction.{Widths}
-use Rattle.list_meaning.specs.Listed.{Said}
+use Rattle.list_meaning.specs.Listed.{ListedStatement}
 use Rattle.list_meaning.specs.Listing.{is_short, behind_opcode, said_instruction, widths_past, said_rest, widths_rest}
 use Rattle.list_lines.specs.declared.output.Output.{Output}
 use Rattle.list_lines.specs.Kept.{with_lines}
 use Rattle.list_lines.specs.LineView.{WroteAll}
-use Rattle.list_lines.specs.OutputView.{kept}
+use Rattle.list_lines.specs.OutputView.{finished_lines}
 use Rattle.list_lines.proofs.Written.{with_lines-append, long_first}
 use Rattle.w65_list.specs.RunView.{IsOn}
 
@@ -33,7 +33,7 @@ pub rest_first : (w : Widths) (opcode : ℕ) (behind : List ℕ) → said_rest w
 unfolding said_rest
 rest_first w opcode behind =
     let bytes = take (behind_opcode w opcode) behind in
-    ap (λ (l : List Said). said_instruction w opcode bytes ++ l) (rest-taken (widths_past w opcode bytes) (length bytes) behind)
+    ap (λ (l : List ListedStatement). said_instruction w opcode bytes ++ l) (rest-taken (widths_past w opcode bytes) (length bytes) behind)
 
 pub widths_first : (w : Widths) (opcode : ℕ) (behind : List ℕ) → widths_rest w 0 (opcode ∷ behind)
     ≡ widths_rest (widths_past w opcode (take (behind_opcode w opcode) behind)) 0 (drop (length (take (behind_opcode w opcode) behind)) behind)
@@ -64,7 +64,7 @@ on_step w run old v u left front a b on some is wrote past =
     let ys = said_rest (widths_past v (get_or front 0 0) (drop 1 front)) 0 (drop (length front) left) in
     subst (λ (x : Widths). IsOn w run old x (drop (length front) left) b) (sym past) (record {
       line = wrote.line;
-      whole = ap (with_lines ys) wrote.whole ∙ sym (with_lines-append xs ys (kept a)) ∙ ap (λ (l : List Said). with_lines l (kept a)) (sym two.0) ∙ on.whole;
+      whole = ap (with_lines ys) wrote.whole ∙ sym (with_lines-append xs ys (finished_lines a)) ∙ ap (λ (l : List ListedStatement). with_lines l (finished_lines a)) (sym two.0) ∙ on.whole;
       short = sym (ap (λ (b : Bool). b && list_all is_short ys) wrote.short) ∙ sym (list_all-append is_short xs ys) ∙ ap (list_all is_short) (sym two.0) ∙ on.short;
       widths = sym two.1 ∙ on.widths;
     })

@@ -17,21 +17,21 @@ use Rattle.omf_records.specs.WalkLaws.{walk_on, walk_ends}
 use Rattle.list_meaning.specs.declared.faults.ListCause.TheVariants as causes
 use Rattle.list_meaning.specs.declared.faults.ListFault.{ListFault}
 use Rattle.list_meaning.specs.Answer.{IsListing, IsListFault, OutOfMemory, InFile, InSegment, InSize, cause_of}
-use Rattle.list_meaning.specs.Listed.{Said, listing_text}
-use Rattle.list_meaning.specs.Listing.{Before, Given, is_among, equate_name, equates_of, given_by, or_record, said_from, at_front, front_of, has_listable_header, is_short, listing_of, in_segment, listing_from, is_small}
+use Rattle.list_meaning.specs.Listed.{ListedStatement, listing_text}
+use Rattle.list_meaning.specs.Listing.{PendingRun, Given, is_among, equate_name, equates_of, given_by, or_record, said_from, at_front, front_of, has_listable_header, is_short, listing_of, in_segment, listing_from, is_small}
 use Rattle.list_lines.specs.declared.names.Names.{Names}
 use Rattle.list_lines.specs.declared.output.Output.{Output}
-use Rattle.w65_list.specs.declared.records.Before as kept_before
+use Rattle.w65_list.specs.declared.records.PendingRun as kept_before
 use Rattle.w65_list.specs.declared.source.Refusal.{Refusal}
 use Rattle.w65_list.specs.declared.source.Refusal.TheVariants as refusals
-use Rattle.list_lines.specs.declared.stop.Stop.{Stop}
-use Rattle.list_lines.specs.declared.stop.Stop.TheVariants as stops
+use Rattle.list_lines.specs.declared.stop.LineStop.{LineStop}
+use Rattle.list_lines.specs.declared.stop.LineStop.TheVariants as stops
 use Rattle.w65_list.specs.BeforeView.{IsBefore}
 use Rattle.w65_list.specs.Giving.{IsGiven, HasExpression}
 use Rattle.list_lines.specs.Kept.{with_lines}
 use Rattle.list_lines.specs.LineView.{WroteAll}
 use Rattle.list_lines.specs.NamesView.{AreNames}
-use Rattle.list_lines.specs.OutputView.{kept, open_line}
+use Rattle.list_lines.specs.OutputView.{finished_lines, open_line}
 use Rattle.w65_list.specs.SourceView.{WroteRecords, WroteSegment, WroteFile, equates_in, IsStop, IsRefusal, IsSegmentFault, IsTold, EquatesOn, RecordsOn, SegmentsOn}
 use Rattle.w65_list.proofs.KeptLaws.{kept_all}
 use Rattle.w65_list.proofs.RecordRuns.{rest_of, layout_same}
@@ -86,17 +86,17 @@ expression_of l (Equate global name size form private expr) is = is.2
 expression_of l (Formula code count n expr) is = is.3
 expression_of l (Entry segment offset name) is = tt
 
-pub expression_here : (f : Fields) (names : Names) (start at : Reader) (first before : kept_before.Before) (old now : Output) (r : Record) → RecordsOn f names start at first before old now → start.layout.lab_len ≡ f.lab_len → IsRecord at.layout r
+pub expression_here : (f : Fields) (names : Names) (start at : Reader) (first before : kept_before.PendingRun) (old now : Output) (r : Record) → RecordsOn f names start at first before old now → start.layout.lab_len ≡ f.lab_len → IsRecord at.layout r
     → HasExpression f.lab_len r
 expression_here f names start at first before old now r on same is =
     subst (λ (n : ℕ). HasExpression n r) (ap (λ (l : Layout). l.lab_len) (layout_same start on.so_far at on.run) ∙ same) (expression_of at.layout r is)
 
 -- lines behind lines
-then_again : (x : Result (List Said) ℕ) (a b : List Said) → ((x >>= λ more. Ok (b ++ more)) >>= λ more. Ok (a ++ more)) ≡ (x >>= λ more. Ok ((a ++ b) ++ more))
-then_again (Ok more) a b = ap (λ (l : List Said). Ok l) (sym (append_assoc a b more))
+then_again : (x : Result (List ListedStatement) ℕ) (a b : List ListedStatement) → ((x >>= λ more. Ok (b ++ more)) >>= λ more. Ok (a ++ more)) ≡ (x >>= λ more. Ok ((a ++ b) ++ more))
+then_again (Ok more) a b = ap (λ (l : List ListedStatement). Ok l) (sym (append_assoc a b more))
 then_again (Err e) a b = refl
 
-step_said : (f : Fields) (equates : List (List ℕ)) (b left : Before) (before : List (ℕ × Record)) (found : ℕ × Record) (lines : List Said) (given : Given) → given_by f equates left found.1 ≡ Some given
+step_said : (f : Fields) (equates : List (List ℕ)) (b left : PendingRun) (before : List (ℕ × Record)) (found : ℕ × Record) (lines : List ListedStatement) (given : Given) → given_by f equates left found.1 ≡ Some given
     → ((rest : List (ℕ × Record)) → said_from f equates b (before ++ rest) ≡ (said_from f equates left rest >>= λ more. Ok (lines ++ more)))
     → (rest : List (ℕ × Record)) → said_from f equates b ((before ++ found ∷ []) ++ rest) ≡ (said_from f equates given.1 rest >>= λ more. Ok ((lines ++ given.0) ++ more))
 unfolding said_from
@@ -105,7 +105,7 @@ step_said f equates b left before found lines given is on rest =
     ∙ ap (λ (g : Option Given). (or_record found.0 g >>= λ given. said_from f equates given.1 rest >>= λ more. Ok (given.0 ++ more)) >>= λ more. Ok (lines ++ more)) is
     ∙ then_again (said_from f equates given.1 rest) lines given.0
 
-stop_said : (f : Fields) (equates : List (List ℕ)) (b left : Before) (before : List (ℕ × Record)) (found : ℕ × Record) (lines : List Said) → given_by f equates left found.1 ≡ None
+stop_said : (f : Fields) (equates : List (List ℕ)) (b left : PendingRun) (before : List (ℕ × Record)) (found : ℕ × Record) (lines : List ListedStatement) → given_by f equates left found.1 ≡ None
     → ((rest : List (ℕ × Record)) → said_from f equates b (before ++ rest) ≡ (said_from f equates left rest >>= λ more. Ok (lines ++ more)))
     → (rest : List (ℕ × Record)) → said_from f equates b (before ++ found ∷ rest) ≡ Err found.0
 unfolding said_from
@@ -115,11 +115,11 @@ stop_said f equates b left before found lines is on rest =
 wrote_nothing : (a : Output) → open_line a ≡ [] → WroteAll [] a a
 wrote_nothing a line = record { whole = refl; line = line; short = refl }
 
-same_again : (x : Result (List Said) ℕ) → x ≡ (x >>= λ more. Ok ([] ++ more))
+same_again : (x : Result (List ListedStatement) ℕ) → x ≡ (x >>= λ more. Ok ([] ++ more))
 same_again (Ok more) = refl
 same_again (Err e) = refl
 
-pub records_begin : (f : Fields) (names : Names) (start : Reader) (first : kept_before.Before) (out : Output) → open_line out ≡ [] → RecordsOn f names start start first first out out
+pub records_begin : (f : Fields) (names : Names) (start : Reader) (first : kept_before.PendingRun) (out : Output) → open_line out ≡ [] → RecordsOn f names start start first first out out
 records_begin f names start first out line = record {
   line = line;
   so_far = [];
@@ -127,8 +127,8 @@ records_begin f names start first out line = record {
   each = λ b all is are. record { lines = []; left = b; is = is; wrote = wrote_nothing out line; on = λ rest. same_again (said_from f all b rest) };
 }
 
-pub records_on : (f : Fields) (names : Names) (start at next : Reader) (first before after : kept_before.Before) (old now new : Output) (found : ℕ × Record) → RecordsOn f names start at first before old now → next_answer at ≡ Ok (Some found)
-    → next ≡ after_next at → ((b : Before) (all : List (List ℕ)) → IsBefore before b → AreNames names all → IsGiven (given_by f all b found.1) now new after) → (b : Before) (all : List (List ℕ)) → IsBefore first b → AreNames names all
+pub records_on : (f : Fields) (names : Names) (start at next : Reader) (first before after : kept_before.PendingRun) (old now new : Output) (found : ℕ × Record) → RecordsOn f names start at first before old now → next_answer at ≡ Ok (Some found)
+    → next ≡ after_next at → ((b : PendingRun) (all : List (List ℕ)) → IsBefore before b → AreNames names all → IsGiven (given_by f all b found.1) now new after) → (b : PendingRun) (all : List (List ℕ)) → IsBefore first b → AreNames names all
     → RecordsOn f names start next first after old new
 records_on f names start at next first before after old now new found on e moved gives b all is are = record {
   line = let u = on.each b all is are in (gives u.left all u.is are).gave.wrote.line;
@@ -146,28 +146,28 @@ records_on f names start at next first before after old now new found on e moved
       };
 }
 
-pub records_end : (f : Fields) (names : Names) (start at : Reader) (first before : kept_before.Before) (old now : Output) → IsBody start → RecordsOn f names start at first before old now → next_answer at ≡ Ok None
-    → (b : Before) (all : List (List ℕ)) → IsBefore first b → AreNames names all → WroteRecords f all b (records_of start) old now
+pub records_end : (f : Fields) (names : Names) (start at : Reader) (first before : kept_before.PendingRun) (old now : Output) → IsBody start → RecordsOn f names start at first before old now → next_answer at ≡ Ok None
+    → (b : PendingRun) (all : List (List ℕ)) → IsBefore first b → AreNames names all → WroteRecords f all b (records_of start) old now
 unfolding said_from
 records_end f names start at first before old now body on e b all is are =
     let u = on.each b all is are in
     let whole : on.so_far ≡ records_of start = walk_ends start at body.last on.so_far (records_of start) on.run e body.run body.ended in
-    record { lines = u.lines; are = ap (said_from f all b) (sym whole ∙ sym (append-nil on.so_far)) ∙ u.on [] ∙ ap (λ (l : List Said). Ok l) (append-nil u.lines); wrote = u.wrote }
+    record { lines = u.lines; are = ap (said_from f all b) (sym whole ∙ sym (append-nil on.so_far)) ∙ u.on [] ∙ ap (λ (l : List ListedStatement). Ok l) (append-nil u.lines); wrote = u.wrote }
 
-pub records_stop : (f : Fields) (names : Names) (start at : Reader) (first before : kept_before.Before) (old now : Output) (found : ℕ × Record) → IsBody start → RecordsOn f names start at first before old now → next_answer at ≡ Ok (Some found)
-    → ((b : Before) (all : List (List ℕ)) → IsBefore before b → AreNames names all → given_by f all b found.1 ≡ None)
-    → (b : Before) (all : List (List ℕ)) → IsBefore first b → AreNames names all → said_from f all b (records_of start) ≡ Err found.0
+pub records_stop : (f : Fields) (names : Names) (start at : Reader) (first before : kept_before.PendingRun) (old now : Output) (found : ℕ × Record) → IsBody start → RecordsOn f names start at first before old now → next_answer at ≡ Ok (Some found)
+    → ((b : PendingRun) (all : List (List ℕ)) → IsBefore before b → AreNames names all → given_by f all b found.1 ≡ None)
+    → (b : PendingRun) (all : List (List ℕ)) → IsBefore first b → AreNames names all → said_from f all b (records_of start) ≡ Err found.0
 records_stop f names start at first before old now found body on e none b all is are =
     let u = on.each b all is are in
     let rest = rest_of start on.so_far (records_of start) at body.last found on.run body.run body.ended e in
     ap (said_from f all b) rest.whole ∙ stop_said f all b u.left on.so_far found u.lines (none u.left all u.is are) u.on rest.behind
 
 -- an answer that stopped
-abbrev pub failed : Stop → Result (Unit {0}) Stop
+abbrev pub failed : LineStop → Result (Unit {0}) LineStop
 failed stop = Err stop
 
 -- where it stopped
-pub refusal_of : (stop : Stop) (refusal : Refusal) (place : ℕ) (P : ℕ → Type 0) → IsStop place stop refusal → (stop ≡ stops.NotListable → P place) → IsRefusal refusal P
+pub refusal_of : (stop : LineStop) (refusal : Refusal) (place : ℕ) (P : ℕ → Type 0) → IsStop place stop refusal → (stop ≡ stops.NotListable → P place) → IsRefusal refusal P
 refusal_of stops.NotListable refusal place P is here = subst (λ (r : Refusal). IsRefusal r P) (sym is) (here refl)
 refusal_of stops.Memory refusal place P is here = subst (λ (r : Refusal). IsRefusal r P) (sym is) tt
 
@@ -177,7 +177,7 @@ refusal_weaker refusals.Memory P Q f is = tt
 
 -- ---- a segment
 
-pub segment_lines : (s : Segment) (lines : List Said) → (has_listable_header s && list_all is_short (front_of s.fields)) ≡ true → said_from s.fields (equates_of s) (at_front s.fields) s.records ≡ Ok lines
+pub segment_lines : (s : Segment) (lines : List ListedStatement) → (has_listable_header s && list_all is_short (front_of s.fields)) ≡ true → said_from s.fields (equates_of s) (at_front s.fields) s.records ≡ Ok lines
     → listing_of s ≡ Ok (front_of s.fields ++ lines)
 unfolding listing_of
 segment_lines s lines holds are = rw (holds, are) refl
@@ -197,17 +197,17 @@ segment_wrote s old middle new holds front records =
 
 -- ---- a file
 
-file_again : (x : Result (List Said) (ℕ × ℕ)) (a b : List Said) → ((x >>= λ more. Ok (b ++ more)) >>= λ more. Ok (a ++ more)) ≡ (x >>= λ more. Ok ((a ++ b) ++ more))
-file_again (Ok more) a b = ap (λ (l : List Said). Ok l) (sym (append_assoc a b more))
+file_again : (x : Result (List ListedStatement) (ℕ × ℕ)) (a b : List ListedStatement) → ((x >>= λ more. Ok (b ++ more)) >>= λ more. Ok (a ++ more)) ≡ (x >>= λ more. Ok ((a ++ b) ++ more))
+file_again (Ok more) a b = ap (λ (l : List ListedStatement). Ok l) (sym (append_assoc a b more))
 file_again (Err e) a b = refl
 
-one_on : (n : ℕ) (s : Segment) (rest : List Segment) (lines : List Said) → listing_of s ≡ Ok lines → listing_from n (s ∷ rest) ≡ (listing_from (n + 1) rest >>= λ more. Ok (lines ++ more))
+one_on : (n : ℕ) (s : Segment) (rest : List Segment) (lines : List ListedStatement) → listing_of s ≡ Ok lines → listing_from n (s ∷ rest) ≡ (listing_from (n + 1) rest >>= λ more. Ok (lines ++ more))
 unfolding listing_from
-one_on n s rest lines is = ap (λ (r : Result (List Said) ℕ). in_segment n r >>= λ first. listing_from (n + 1) rest >>= λ more. Ok (first ++ more)) is
+one_on n s rest lines is = ap (λ (r : Result (List ListedStatement) ℕ). in_segment n r >>= λ first. listing_from (n + 1) rest >>= λ more. Ok (first ++ more)) is
 
 one_stop : (n : ℕ) (s : Segment) (rest : List Segment) (at : ℕ) → listing_of s ≡ Err at → listing_from n (s ∷ rest) ≡ Err (n, at)
 unfolding listing_from
-one_stop n s rest at is = ap (λ (r : Result (List Said) ℕ). in_segment n r >>= λ first. listing_from (n + 1) rest >>= λ more. Ok (first ++ more)) is
+one_stop n s rest at is = ap (λ (r : Result (List ListedStatement) ℕ). in_segment n r >>= λ first. listing_from (n + 1) rest >>= λ more. Ok (first ++ more)) is
 
 take_next : (segments : List Segment) (place : ℕ) (s : Segment) → slice_get segments place ≡ Some s → take (place + 1) segments ≡ take place segments ++ s ∷ []
 take_next segments place s is = let more : place + 1 ≡ suc place = omega arith in ap (λ (n : ℕ). take n segments) more ∙ by segments place is
@@ -234,7 +234,7 @@ segments_on segments place s now new on found wrote = record {
   on = λ rest.
       let number : 1 + place + 1 ≡ 1 + (place + 1) = omega arith in
       ap (λ (l : List Segment). listing_from 1 (l ++ rest)) (take_next segments place s found) ∙ ap (listing_from 1) (append_assoc (take place segments) (s ∷ []) rest) ∙ on.on (s ∷ rest)
-      ∙ ap (λ (r : Result (List Said) (ℕ × ℕ)). r >>= λ more. Ok (on.lines ++ more)) (one_on (1 + place) s rest wrote.lines wrote.are)
+      ∙ ap (λ (r : Result (List ListedStatement) (ℕ × ℕ)). r >>= λ more. Ok (on.lines ++ more)) (one_on (1 + place) s rest wrote.lines wrote.are)
       ∙ file_again (listing_from (1 + place + 1) rest) on.lines wrote.lines ∙ ap (λ (n : ℕ). listing_from n rest >>= λ more. Ok ((on.lines ++ wrote.lines) ++ more)) number;
 }
 
@@ -242,7 +242,7 @@ pub segments_end : (segments : List Segment) (place : ℕ) (out : Output) → Se
 unfolding listing_from
 segments_end segments place out on all = record {
   lines = on.lines;
-  are = ap (listing_from 1) (sym (take_all segments place all) ∙ sym (append-nil (take place segments))) ∙ on.on [] ∙ ap (λ (l : List Said). Ok l) (append-nil on.lines);
+  are = ap (listing_from 1) (sym (take_all segments place all) ∙ sym (append-nil (take place segments))) ∙ on.on [] ∙ ap (λ (l : List ListedStatement). Ok l) (append-nil on.lines);
   wrote = on.wrote;
 }
   where
@@ -258,7 +258,7 @@ segments_stop segments place s now (refusals.NotListable at) fault on found is t
     let parts = parts_at segments place s found in
     let number : 1 + place ≡ place + 1 = omega arith in
     let stops : listing_from 1 segments ≡ Err (place + 1, at) =
-    ap (listing_from 1) parts.whole ∙ on.on (s ∷ parts.behind) ∙ ap (λ (r : Result (List Said) (ℕ × ℕ)). r >>= λ more. Ok (on.lines ++ more)) (one_stop (1 + place) s parts.behind at is)
+    ap (listing_from 1) parts.whole ∙ on.on (s ∷ parts.behind) ∙ ap (λ (r : Result (List ListedStatement) (ℕ × ℕ)). r >>= λ more. Ok (on.lines ++ more)) (one_stop (1 + place) s parts.behind at is)
     ∙ ap (λ (n : ℕ). Err (n, at)) number in
     inr (place + 1, at, stops, told)
 segments_stop segments place s now refusals.Memory fault on found is told = inl told
@@ -281,21 +281,21 @@ pub segment_refused : (file : List ℕ) (segments : List Segment) (fault : ListF
 segment_refused file segments fault is (inl e) = OutOfMemory e
 segment_refused file segments fault is (inr found) = InSegment found.0 found.1 (record { segments = segments; is_file = is; refused = found.2 }) found.3
 
-kept_is : (segments : List Segment) (out : Output) (wrote : WroteFile segments out) → option_map (λ found. found.0) (kept out) ≡ cond (is_small wrote.lines) (Some (listing_text wrote.lines)) None
+kept_is : (segments : List Segment) (out : Output) (wrote : WroteFile segments out) → option_map (λ found. found.0) (finished_lines out) ≡ cond (is_small wrote.lines) (Some (listing_text wrote.lines)) None
 kept_is segments out wrote = ap (option_map (λ (found : List ℕ × ℕ). found.0)) (wrote.wrote ∙ kept_all wrote.lines) ∙ by (is_small wrote.lines)
   where
     by : (b : Bool) → option_map (λ (found : List ℕ × ℕ). found.0) (cond b (Some (listing_text wrote.lines, length wrote.lines)) None) ≡ cond b (Some (listing_text wrote.lines)) None
     by true = refl
     by false = refl
 
-pub file_listed : (file : List ℕ) (segments : List Segment) (out : Output) (text : List ℕ) → IsFile segments file → WroteFile segments out → Some text ≡ option_map (λ found. found.0) (kept out) → IsListing file text
+pub file_listed : (file : List ℕ) (segments : List Segment) (out : Output) (text : List ℕ) → IsFile segments file → WroteFile segments out → Some text ≡ option_map (λ found. found.0) (finished_lines out) → IsListing file text
 file_listed file segments out text is wrote e = by (is_small wrote.lines) refl (e ∙ kept_is segments out wrote)
   where
     by : (b : Bool) → is_small wrote.lines ≡ b → Some text ≡ cond b (Some (listing_text wrote.lines)) None → IsListing file text
     by true small e = record { segments = segments; is_file = is; all = wrote.lines; lines = wrote.are; small = small; is = cc }
     by false small e = absurd cc
 
-pub file_too_long : (file : List ℕ) (segments : List Segment) (out : Output) → IsFile segments file → WroteFile segments out → None ≡ option_map (λ found. found.0) (kept out)
+pub file_too_long : (file : List ℕ) (segments : List Segment) (out : Output) → IsFile segments file → WroteFile segments out → None ≡ option_map (λ found. found.0) (finished_lines out)
     → IsListFault file (record { cause = causes.TooLong; segment = 0; at = 0 })
 file_too_long file segments out is wrote e = by (is_small wrote.lines) refl (e ∙ kept_is segments out wrote)
   where
@@ -307,16 +307,16 @@ file_too_long file segments out is wrote e = by (is_small wrote.lines) refl (e �
 pub names_of : (start : Reader) (s : Segment) (names : Names) → records_of start ≡ s.records → AreNames names (equates_in (records_of start)) → AreNames names (equates_of s)
 names_of start s names same are = subst (λ (l : List (ℕ × Record)). AreNames names (equates_in l)) same are
 
-pub segment_answer : {U E : Type 0} (r : Result U E) (s : Segment) (start : Reader) (names : Names) (first : kept_before.Before) (old middle new : Output) → records_of start ≡ s.records → (has_listable_header s && list_all is_short (front_of s.fields)) ≡ true
+pub segment_answer : {U E : Type 0} (r : Result U E) (s : Segment) (start : Reader) (names : Names) (first : kept_before.PendingRun) (old middle new : Output) → records_of start ≡ s.records → (has_listable_header s && list_all is_short (front_of s.fields)) ≡ true
     → WroteAll (front_of s.fields) old middle → IsBefore first (at_front s.fields) → AreNames names (equates_of s)
-    → OnOk r ((b : Before) (all : List (List ℕ)) → IsBefore first b → AreNames names all → WroteRecords s.fields all b (records_of start) middle new) → OnOk r (WroteSegment s old new)
+    → OnOk r ((b : PendingRun) (all : List (List ℕ)) → IsBefore first b → AreNames names all → WroteRecords s.fields all b (records_of start) middle new) → OnOk r (WroteSegment s old new)
 segment_answer (Ok u) s start names first old middle new same holds front is are wrote =
     segment_wrote s old middle new holds front (subst (λ (l : List (ℕ × Record)). WroteRecords s.fields (equates_of s) (at_front s.fields) l middle new) same (wrote (at_front s.fields) (equates_of s) is are))
 segment_answer (Err e) s start names first old middle new same holds front is are wrote = tt
 
-pub segment_refusal : {U : Type 0} (r : Result U Refusal) (s : Segment) (start : Reader) (names : Names) (first : kept_before.Before) → records_of start ≡ s.records → (has_listable_header s && list_all is_short (front_of s.fields)) ≡ true
+pub segment_refusal : {U : Type 0} (r : Result U Refusal) (s : Segment) (start : Reader) (names : Names) (first : kept_before.PendingRun) → records_of start ≡ s.records → (has_listable_header s && list_all is_short (front_of s.fields)) ≡ true
     → IsBefore first (at_front s.fields) → AreNames names (equates_of s)
-    → IfErr r (λ refusal. (b : Before) (all : List (List ℕ)) → IsBefore first b → AreNames names all → IsRefusal refusal (λ at. said_from s.fields all b (records_of start) ≡ Err at))
+    → IfErr r (λ refusal. (b : PendingRun) (all : List (List ℕ)) → IsBefore first b → AreNames names all → IsRefusal refusal (λ at. said_from s.fields all b (records_of start) ≡ Err at))
     → IfErr r (λ refusal. IsRefusal refusal (λ at. listing_of s ≡ Err at))
 segment_refusal (Ok u) s start names first same holds is are stops = tt
 segment_refusal (Err refusal) s start names first same holds is are stops =

@@ -6,28 +6,28 @@ use Rattle.list_meaning.specs.Listed.{Wanted}
 use Rattle.list_meaning.specs.Listing as listing
 use Rattle.list_meaning.specs.Listing.{Given, is_held}
 use Rattle.list_lines.specs.declared.output.Output.{Output}
-use Rattle.w65_list.specs.declared.records.Before.{Before}
-use Rattle.w65_list.specs.declared.records.Formula as declared
+use Rattle.w65_list.specs.declared.records.PendingRun.{PendingRun}
+use Rattle.w65_list.specs.declared.records.ListedFormula as declared
 use Rattle.w65_list.specs.BeforeView.{IsBefore}
 use Rattle.list_lines.specs.LineView.{WroteAll}
 
 -- these lines were written, and this is left
-pub record Gave (all : Given) (old new : Output) (after : Before) : Type 0 where
+pub record Gave (all : Given) (old new : Output) (after : PendingRun) : Type 0 where
   pub wrote : WroteAll all.0 old new
   pub left : IsBefore after all.1
 
 -- it can be listed: its lines were written, and what it leaves is left
-pub record IsGiven (given : Option Given) (old new : Output) (after : Before) : Type 0 where
+pub record IsGiven (given : Option Given) (old new : Output) (after : PendingRun) : Type 0 where
   pub all : Given
   pub is : given ≡ Some all
   pub gave : Gave all old new after
 
 -- the code, the count and the n of a record
-abbrev pub formula_seen : declared.Formula → ℕ × ℕ × ℕ
+abbrev pub formula_seen : declared.ListedFormula → ℕ × ℕ × ℕ
 formula_seen formula = (formula.code, formula.count, formula.n)
 
 -- the last byte of a run, where it is an opcode that has this record
-abbrev pub held_by : listing.Before → ℕ → ℕ → ℕ → Option (List ℕ × ℕ) → Option ℕ
+abbrev pub held_by : listing.PendingRun → ℕ → ℕ → ℕ → Option (List ℕ × ℕ) → Option ℕ
 held_by b code count n None = None
 held_by b code count n (Some found) = if is_held b code count n found then Some found.1 else None
 

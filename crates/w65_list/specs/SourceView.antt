@@ -8,45 +8,45 @@ use Rattle.omf_format.specs.Reading.{Reader, HandsOut}
 use Rattle.omf_format.specs.Record.{Record}
 use Rattle.list_meaning.specs.declared.faults.ListCause.TheVariants.{NotListable, Memory}
 use Rattle.list_meaning.specs.declared.faults.ListFault.{ListFault}
-use Rattle.list_meaning.specs.Listed.{Said}
-use Rattle.list_meaning.specs.Listing.{Before, equate_name, said_from, listing_of, listing_from}
+use Rattle.list_meaning.specs.Listed.{ListedStatement}
+use Rattle.list_meaning.specs.Listing.{PendingRun, equate_name, said_from, listing_of, listing_from}
 use Rattle.list_lines.specs.declared.names.Names.{Names}
 use Rattle.list_lines.specs.declared.output.Output.{Output}
-use Rattle.w65_list.specs.declared.records.Before as kept_before
+use Rattle.w65_list.specs.declared.records.PendingRun as kept_before
 use Rattle.w65_list.specs.declared.source.Refusal.{Refusal}
 use Rattle.w65_list.specs.declared.source.Refusal.TheVariants as refusals
-use Rattle.list_lines.specs.declared.stop.Stop.{Stop}
-use Rattle.list_lines.specs.declared.stop.Stop.TheVariants as stops
+use Rattle.list_lines.specs.declared.stop.LineStop.{LineStop}
+use Rattle.list_lines.specs.declared.stop.LineStop.TheVariants as stops
 use Rattle.w65_list.specs.BeforeView.{IsBefore}
 use Rattle.list_lines.specs.Kept.{with_lines}
 use Rattle.list_lines.specs.LineView.{WroteAll}
 use Rattle.list_lines.specs.NamesView.{AreNames}
-use Rattle.list_lines.specs.OutputView.{kept, open_line}
+use Rattle.list_lines.specs.OutputView.{finished_lines, open_line}
 
 -- the lines of these records were written
-pub record WroteRecords (f : Fields) (equates : List (List ℕ)) (b : Before) (founds : List (ℕ × Record)) (old new : Output) : Type 0 where
-  pub lines : List Said
+pub record WroteRecords (f : Fields) (equates : List (List ℕ)) (b : PendingRun) (founds : List (ℕ × Record)) (old new : Output) : Type 0 where
+  pub lines : List ListedStatement
   pub are : said_from f equates b founds ≡ Ok lines
   pub wrote : WroteAll lines old new
 
 -- the lines of the segment were written
 pub record WroteSegment (s : Segment) (old new : Output) : Type 0 where
-  pub lines : List Said
+  pub lines : List ListedStatement
   pub are : listing_of s ≡ Ok lines
   pub wrote : WroteAll lines old new
 
 -- the lines of these segments were written, from nothing on
 pub record WroteFile (segments : List Segment) (out : Output) : Type 0 where
-  pub lines : List Said
+  pub lines : List ListedStatement
   pub are : listing_from 1 segments ≡ Ok lines
-  pub wrote : kept out ≡ with_lines lines (Some ([], 0))
+  pub wrote : finished_lines out ≡ with_lines lines (Some ([], 0))
 
 -- the names of the equates among records
 abbrev pub equates_in : List (ℕ × Record) → List (List ℕ)
 equates_in founds = flat_map (λ found. equate_name found.1) founds
 
 -- what stopped stands at this place
-abbrev pub IsStop : ℕ → Stop → Refusal → Type 0
+abbrev pub IsStop : ℕ → LineStop → Refusal → Type 0
 IsStop place stops.NotListable refusal = refusal ≡ refusals.NotListable place
 IsStop place stops.Memory refusal = refusal ≡ refusals.Memory
 
@@ -75,22 +75,22 @@ pub record EquatesOn (start at : Reader) (names : Names) : Type 0 where
   pub are : AreNames names (equates_in before)
 
 -- the lines of the records so far were written, and what is left gives the lines that are left
-pub record LinesOn (f : Fields) (equates : List (List ℕ)) (b : Before) (so_far : List (ℕ × Record)) (old now : Output) (before : kept_before.Before) : Type 0 where
-  pub lines : List Said
-  pub left : Before
+pub record LinesOn (f : Fields) (equates : List (List ℕ)) (b : PendingRun) (so_far : List (ℕ × Record)) (old now : Output) (before : kept_before.PendingRun) : Type 0 where
+  pub lines : List ListedStatement
+  pub left : PendingRun
   pub is : IsBefore before left
   pub wrote : WroteAll lines old now
   pub on : (rest : List (ℕ × Record)) → said_from f equates b (so_far ++ rest) ≡ (said_from f equates left rest >>= λ more. Ok (lines ++ more))
 
-pub record RecordsOn (f : Fields) (names : Names) (start at : Reader) (first before : kept_before.Before) (old now : Output) : Type 0 where
+pub record RecordsOn (f : Fields) (names : Names) (start at : Reader) (first before : kept_before.PendingRun) (old now : Output) : Type 0 where
   pub line : open_line now ≡ []
   pub so_far : List (ℕ × Record)
   pub run : HandsOut start so_far at
-  pub each : (b : Before) (all : List (List ℕ)) → IsBefore first b → AreNames names all → LinesOn f all b so_far old now before
+  pub each : (b : PendingRun) (all : List (List ℕ)) → IsBefore first b → AreNames names all → LinesOn f all b so_far old now before
 
 -- the lines of the segments before this place were written, and the segments that are left give the lines that are left
 pub record SegmentsOn (segments : List Segment) (place : ℕ) (out : Output) : Type 0 where
   pub line : open_line out ≡ []
-  pub lines : List Said
-  pub wrote : kept out ≡ with_lines lines (Some ([], 0))
+  pub lines : List ListedStatement
+  pub wrote : finished_lines out ≡ with_lines lines (Some ([], 0))
   pub on : (rest : List Segment) → listing_from 1 (take place segments ++ rest) ≡ (listing_from (1 + place) rest >>= λ more. Ok (lines ++ more))

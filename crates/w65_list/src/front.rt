@@ -7,17 +7,18 @@ ghost use Rattle.omf_format.specs.Reading.{records_of, IsBody};
 ghost use Rattle.link_meaning.specs.Sizes.{size_at, place_behind, body_size};
 ghost use Rattle.omf_header.specs.View.{fields};
 ghost use Rattle.omf_records.specs.View.{view};
-ghost use Rattle.omf_records.specs.Segments.{IsSound, shown};
+ghost use Rattle.omf_records.specs.Segments.{IsSound, segment_of_view};
 ghost use Rattle.asm_meaning.specs.declared.directives.Switch.TheVariants.{LongA, LongI};
-ghost use Rattle.list_meaning.specs.Listed.{NextAlign, NextOrg, Begins, Kinds, Turns};
-ghost use Rattle.list_meaning.specs.Listing.{greatest_length, is_lost, has_lost_place, has_listable_header, unpadded, is_listable_load_name, unless_zero, front_of, is_short, is_listable};
+ghost use Rattle.list_meaning.specs.Listed.{NextAlignIs, NextOrg, StartIs, KindIs, SwitchIs};
+ghost use Rattle.list_meaning.specs.Listing.{greatest_length, is_lost, has_lost_place, has_listable_header, without_padding, is_listable_load_name, unless_zero, front_of, is_short, is_listable};
 ghost use Rattle.w65_list.specs.FrontView.{can_align, has_listable_fields, has_listable_length, HaveCells, AreOver};
 ghost use Rattle.list_lines.specs.LineView.{WroteAll};
 ghost use Rattle.list_lines.specs.OutputView.{open_line};
 
 use asm_meaning::Switch;
 use list_lines::{
-    Output, Stop, begins, first_bytes, is_listable, kinds, next_align, next_org, turns,
+    LineStop, Output, first_bytes, is_listable, put_kind, put_next_align, put_next_org, put_start,
+    put_switch,
 };
 use omf_base::padding;
 use omf_header::Header;
@@ -35,7 +36,7 @@ fn name_size(text: &[u8]) -> usize
 
 /// LOADNAME without the spaces behind it.
 fn unpadded(load_name: &[u8]) -> &[u8]
-    ensures { result.now ≡ unpadded load_name.now }
+    ensures { result.now ≡ without_padding load_name.now }
 {
     first_bytes(load_name, name_size(load_name))
 }
@@ -162,7 +163,7 @@ fn cells(records: Records, most: u32) -> Option<u32>
 /// Whether LENGTH is the number of cells, RESSPC among them, and isn't too great.
 fn has_listable_length(view: &SegmentView) -> bool
     requires { IsSound view.now }
-    ensures { result ≡ has_listable_length (shown view.now) }
+    ensures { result ≡ has_listable_length (segment_of_view view.now) }
 {
     let header = &view.header;
     if header.length > greatest_length(header.bank_size) {
@@ -192,63 +193,63 @@ fn has_listable_fields(header: &Header) -> bool
 
 /// The lines before START.
 #[tactic(auto, using(list_lines::proofs::Written::wrote_one, list_lines::proofs::Written::wrote_none, list_lines::proofs::Written::wrote_both, list_lines::proofs::Written::long_one, list_lines::proofs::Written::long_first, list_lines::proofs::Written::long_second))]
-fn put_align(out: &mut Output, align: u32) -> Result<(), Stop>
+fn put_align(out: &mut Output, align: u32) -> Result<(), LineStop>
     requires { open_line out.old ≡ [] }
-    ensures wrote { OnOk result (WroteAll (unless_zero NextAlign align) out.old out.new) }
-    ensures long { IsErrOf result Stop.NotListable → list_all is_short (unless_zero NextAlign align) ≡ false }
+    ensures wrote { OnOk result (WroteAll (unless_zero NextAlignIs align) out.old out.new) }
+    ensures long { IsErrOf result LineStop.NotListable → list_all is_short (unless_zero NextAlignIs align) ≡ false }
 {
     if align == 0 {
         return Ok(());
     }
-    next_align(out, align)
+    put_next_align(out, align)
 }
 
 /// The lines before START.
 #[tactic(auto, using(list_lines::proofs::Written::wrote_one, list_lines::proofs::Written::wrote_none, list_lines::proofs::Written::wrote_both, list_lines::proofs::Written::long_one, list_lines::proofs::Written::long_first, list_lines::proofs::Written::long_second))]
-fn put_org(out: &mut Output, org: u32) -> Result<(), Stop>
+fn put_org(out: &mut Output, org: u32) -> Result<(), LineStop>
     requires { open_line out.old ≡ [] }
     ensures wrote { OnOk result (WroteAll (unless_zero NextOrg org) out.old out.new) }
-    ensures long { IsErrOf result Stop.NotListable → list_all is_short (unless_zero NextOrg org) ≡ false }
+    ensures long { IsErrOf result LineStop.NotListable → list_all is_short (unless_zero NextOrg org) ≡ false }
 {
     if org == 0 {
         return Ok(());
     }
-    next_org(out, org)
+    put_next_org(out, org)
 }
 
 /// START or DATA, and KIND.
 #[tactic(auto, using(list_lines::proofs::Written::wrote_two, list_lines::proofs::Written::long_front, list_lines::proofs::Written::long_behind))]
-fn put_begin(out: &mut Output, header: &Header) -> Result<(), Stop>
+fn put_begin(out: &mut Output, header: &Header) -> Result<(), LineStop>
     requires { open_line out.old ≡ [] }
-    ensures wrote { OnOk result (WroteAll (Begins (header.now.bank_size == 0) header.now.name (unpadded header.now.load_name) ∷ Kinds header.now.kind.bits ∷ []) out.old out.new) }
-    ensures long { IsErrOf result Stop.NotListable → list_all is_short (Begins (header.now.bank_size == 0) header.now.name (unpadded header.now.load_name) ∷ Kinds header.now.kind.bits ∷ []) ≡ false }
+    ensures wrote { OnOk result (WroteAll (StartIs (header.now.bank_size == 0) header.now.name (without_padding header.now.load_name) ∷ KindIs header.now.kind.bits ∷ []) out.old out.new) }
+    ensures long { IsErrOf result LineStop.NotListable → list_all is_short (StartIs (header.now.bank_size == 0) header.now.name (without_padding header.now.load_name) ∷ KindIs header.now.kind.bits ∷ []) ≡ false }
 {
-    begins(
+    put_start(
         out,
         header.bank_size == 0,
         header.name.bytes(),
         unpadded(&header.load_name),
     )?;
-    kinds(out, header.kind.bits)
+    put_kind(out, header.kind.bits)
 }
 
 /// LONGA and LONGI, which are on.
 #[tactic(auto, using(list_lines::proofs::Written::wrote_two, list_lines::proofs::Written::long_front, list_lines::proofs::Written::long_behind))]
-fn put_widths(out: &mut Output) -> Result<(), Stop>
+fn put_widths(out: &mut Output) -> Result<(), LineStop>
     requires { open_line out.old ≡ [] }
-    ensures wrote { OnOk result (WroteAll (Turns LongA true ∷ Turns LongI true ∷ []) out.old out.new) }
-    ensures long { IsErrOf result Stop.NotListable → list_all is_short (Turns LongA true ∷ Turns LongI true ∷ []) ≡ false }
+    ensures wrote { OnOk result (WroteAll (SwitchIs LongA true ∷ SwitchIs LongI true ∷ []) out.old out.new) }
+    ensures long { IsErrOf result LineStop.NotListable → list_all is_short (SwitchIs LongA true ∷ SwitchIs LongI true ∷ []) ≡ false }
 {
-    turns(out, Switch::LongA, true)?;
-    turns(out, Switch::LongI, true)
+    put_switch(out, Switch::LongA, true)?;
+    put_switch(out, Switch::LongI, true)
 }
 
 /// The lines from START or DATA on.
 #[tactic(auto, using(list_lines::proofs::Written::wrote_both, list_lines::proofs::Written::long_first, list_lines::proofs::Written::long_second))]
-fn put_open(out: &mut Output, header: &Header) -> Result<(), Stop>
+fn put_open(out: &mut Output, header: &Header) -> Result<(), LineStop>
     requires { open_line out.old ≡ [] }
-    ensures wrote { OnOk result (WroteAll ((Begins (header.now.bank_size == 0) header.now.name (unpadded header.now.load_name) ∷ Kinds header.now.kind.bits ∷ []) ++ (Turns LongA true ∷ Turns LongI true ∷ [])) out.old out.new) }
-    ensures long { IsErrOf result Stop.NotListable → list_all is_short ((Begins (header.now.bank_size == 0) header.now.name (unpadded header.now.load_name) ∷ Kinds header.now.kind.bits ∷ []) ++ (Turns LongA true ∷ Turns LongI true ∷ [])) ≡ false }
+    ensures wrote { OnOk result (WroteAll ((StartIs (header.now.bank_size == 0) header.now.name (without_padding header.now.load_name) ∷ KindIs header.now.kind.bits ∷ []) ++ (SwitchIs LongA true ∷ SwitchIs LongI true ∷ [])) out.old out.new) }
+    ensures long { IsErrOf result LineStop.NotListable → list_all is_short ((StartIs (header.now.bank_size == 0) header.now.name (without_padding header.now.load_name) ∷ KindIs header.now.kind.bits ∷ []) ++ (SwitchIs LongA true ∷ SwitchIs LongI true ∷ [])) ≡ false }
 {
     put_begin(out, header)?;
     put_widths(out)
@@ -256,10 +257,10 @@ fn put_open(out: &mut Output, header: &Header) -> Result<(), Stop>
 
 /// The lines from ORG on.
 #[tactic(auto, using(list_lines::proofs::Written::wrote_both, list_lines::proofs::Written::long_first, list_lines::proofs::Written::long_second))]
-fn put_from_org(out: &mut Output, header: &Header) -> Result<(), Stop>
+fn put_from_org(out: &mut Output, header: &Header) -> Result<(), LineStop>
     requires { open_line out.old ≡ [] }
-    ensures wrote { OnOk result (WroteAll (unless_zero NextOrg header.now.org ++ ((Begins (header.now.bank_size == 0) header.now.name (unpadded header.now.load_name) ∷ Kinds header.now.kind.bits ∷ []) ++ (Turns LongA true ∷ Turns LongI true ∷ []))) out.old out.new) }
-    ensures long { IsErrOf result Stop.NotListable → list_all is_short (unless_zero NextOrg header.now.org ++ ((Begins (header.now.bank_size == 0) header.now.name (unpadded header.now.load_name) ∷ Kinds header.now.kind.bits ∷ []) ++ (Turns LongA true ∷ Turns LongI true ∷ []))) ≡ false }
+    ensures wrote { OnOk result (WroteAll (unless_zero NextOrg header.now.org ++ ((StartIs (header.now.bank_size == 0) header.now.name (without_padding header.now.load_name) ∷ KindIs header.now.kind.bits ∷ []) ++ (SwitchIs LongA true ∷ SwitchIs LongI true ∷ []))) out.old out.new) }
+    ensures long { IsErrOf result LineStop.NotListable → list_all is_short (unless_zero NextOrg header.now.org ++ ((StartIs (header.now.bank_size == 0) header.now.name (without_padding header.now.load_name) ∷ KindIs header.now.kind.bits ∷ []) ++ (SwitchIs LongA true ∷ SwitchIs LongI true ∷ []))) ≡ false }
 {
     put_org(out, header.org)?;
     put_open(out, header)
@@ -267,28 +268,28 @@ fn put_from_org(out: &mut Output, header: &Header) -> Result<(), Stop>
 
 /// The lines before those of the records.
 #[tactic(auto, using(list_lines::proofs::Written::wrote_both, list_lines::proofs::Written::long_first, list_lines::proofs::Written::long_second), unfolding(list_meaning::specs::Listing::front_of))]
-fn put_lines(out: &mut Output, header: &Header) -> Result<(), Stop>
+fn put_lines(out: &mut Output, header: &Header) -> Result<(), LineStop>
     requires { open_line out.old ≡ [] }
     ensures wrote { OnOk result (WroteAll (front_of (fields header.now)) out.old out.new) }
-    ensures long { IsErrOf result Stop.NotListable → list_all is_short (front_of (fields header.now)) ≡ false }
+    ensures long { IsErrOf result LineStop.NotListable → list_all is_short (front_of (fields header.now)) ≡ false }
 {
     put_align(out, header.align)?;
     put_from_org(out, header)
 }
 
 /// The lines before those of the records, where the header can be listed.
-pub(crate) fn put_front(out: &mut Output, view: &SegmentView) -> Result<(), Stop>
+pub(crate) fn put_front(out: &mut Output, view: &SegmentView) -> Result<(), LineStop>
     requires line { open_line out.old ≡ [] }
     requires sound { IsSound view.now }
-    ensures listable { OnOk result ((has_listable_header (shown view.now) && list_all is_short (front_of (shown view.now).fields)) ≡ true) }
-    ensures wrote { OnOk result (WroteAll (front_of (shown view.now).fields) out.old out.new) }
-    ensures refused { IsErrOf result Stop.NotListable → (has_listable_header (shown view.now) && list_all is_short (front_of (shown view.now).fields)) ≡ false }
+    ensures listable { OnOk result ((has_listable_header (segment_of_view view.now) && list_all is_short (front_of (segment_of_view view.now).fields)) ≡ true) }
+    ensures wrote { OnOk result (WroteAll (front_of (segment_of_view view.now).fields) out.old out.new) }
+    ensures refused { IsErrOf result LineStop.NotListable → (has_listable_header (segment_of_view view.now) && list_all is_short (front_of (segment_of_view view.now).fields)) ≡ false }
 {
     if !has_listable_fields(&view.header) {
-        return Err(Stop::NotListable);
+        return Err(LineStop::NotListable);
     }
     if !has_listable_length(view) {
-        return Err(Stop::NotListable);
+        return Err(LineStop::NotListable);
     }
     put_lines(out, &view.header)
 }

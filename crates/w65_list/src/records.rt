@@ -11,9 +11,9 @@ ghost use Rattle.omf_records.specs.View.{view};
 ghost use Rattle.omf_expr.specs.View.{view as seen};
 ghost use Rattle.asm_meaning.specs.Instruction.{kind_of, address_code};
 ghost use Rattle.link_meaning.specs.Terms.{tree_in};
-ghost use Rattle.list_meaning.specs.Listed.{Said, Aligns, Moves, Spaces, Uses, Asks, Labels, Equates, Sums, Weakly, Ends};
+ghost use Rattle.list_meaning.specs.Listed.{ListedStatement, Aligns, OrgIs, Ds, UsingIs, StrongIs, Labels, Equates, FormulaIs, WeakIs, EndIs};
 ghost use Rattle.list_meaning.specs.Listing as listing;
-ghost use Rattle.list_meaning.specs.Listing.{Given, is_record, record_by, record_of_opcode, flushed, then_said, with_name, is_among, is_listable, is_short, are_short, if_short, unless_zero, equate_given, number_of, both_long, follows_opcode, is_some_name, is_some_wanted, apart, weak_of, simple_of, split_last, is_held, held_back, formula_listable, formula_given, given_by};
+ghost use Rattle.list_meaning.specs.Listing.{Given, is_record, record_by, record_of_opcode, with_run_written, then_said, with_name, is_among, is_listable, is_short, are_short, if_short, unless_zero, equate_given, number_of, both_long, follows_opcode, is_some_name, is_some_wanted, dc_of_formula, weak_of, simple_of, split_last, is_held, held_back, formula_listable, formula_given, given_by};
 ghost use Rattle.w65_list.specs.BeforeView.{IsBefore};
 ghost use Rattle.list_lines.specs.FormulaView.{IsFront, simple_four, weak_two};
 ghost use Rattle.w65_list.specs.Giving.{Gave, IsGiven, formula_seen, held_by, held_with, equate_by, HasExpression};
@@ -24,8 +24,9 @@ ghost use Rattle.w65_list.specs.RunView.{widths_view};
 
 use crate::run::{Widths, instruction_of, operand_size, put_rest, widths_behind};
 use list_lines::{
-    Facts, Front, Names, Output, Stop, Wanted, aligns, asks, ends, equates, facts_of, first_bytes,
-    front_of, instructs, is_listable, labels, moves, spaces, sums, text_of, uses, weakly,
+    Facts, Front, LineStop, Names, Output, Wanted, facts_of, first_bytes, front_of, is_listable,
+    put_align, put_dc_formula, put_dc_strong, put_dc_weak, put_ds, put_end, put_equate,
+    put_instruction, put_label, put_org, put_using, text_of,
 };
 use omf_expr::Expr;
 use omf_header::Header;
@@ -36,7 +37,7 @@ use std::alloc::{AllocError, Global};
 /// What the lines so far leave: the present widths, the constant bytes that stand directly before, and the names that were
 /// defined.
 #[derive(Drop)]
-pub(crate) struct Before<'a> {
+pub(crate) struct PendingRun<'a> {
     widths: Widths,
     run: Vec<u8>,
     names: Names<'a>,
@@ -50,7 +51,7 @@ const BOTH_LONG: Widths = Widths {
 
 /// An expression record without its expression.
 #[derive(Clone, Copy)]
-struct Formula {
+struct ListedFormula {
     code: u8,
     count: u8,
     n: u32,
@@ -68,7 +69,7 @@ fn address_code(mnemonic: Mnemonic) -> u8
 
 /// The code, the count and the n of the record of an operand that is no constant.
 #[tactic(auto, unfolding(asm_meaning::specs::Instruction::kind_of, list_meaning::specs::Listing::record_by))]
-fn record_by(mnemonic: Mnemonic, mode: Mode, bytes: u8) -> Option<Formula>
+fn record_by(mnemonic: Mnemonic, mode: Mode, bytes: u8) -> Option<ListedFormula>
     ensures { option_map formula_seen result ≡ record_by mnemonic (kind_of mode) bytes }
 {
     let (code, n) = match mode {
@@ -93,7 +94,7 @@ fn record_by(mnemonic: Mnemonic, mode: Mode, bytes: u8) -> Option<Formula>
         | Mode::Stack
         | Mode::StackIndirectY => (0xEC, 0),
     };
-    Some(Formula {
+    Some(ListedFormula {
         code,
         count: bytes,
         n,
@@ -101,7 +102,7 @@ fn record_by(mnemonic: Mnemonic, mode: Mode, bytes: u8) -> Option<Formula>
 }
 
 /// Whether an opcode has this record for its operand, at these widths.
-fn follows(widths: Widths, opcode: u8, formula: Formula) -> bool
+fn follows(widths: Widths, opcode: u8, formula: ListedFormula) -> bool
     ensures { result ≡ is_record formula.code formula.count formula.n (record_of_opcode (widths_view widths) opcode) }
 {
     let (mnemonic, mode) = instruction_of(opcode);
@@ -120,18 +121,18 @@ fn put_apart(
     count: u8,
     expr: &Expr,
     front: Front,
-) -> Result<(), Stop>
+) -> Result<(), LineStop>
     requires line { open_line out.old ≡ [] }
     requires spelled { IsExpression expr.now.lab_len expr.now.text }
     requires front { IsFront expr.now front }
-    ensures wrote { OnOk result ((tree : Tree) → Spells expr.now.lab_len expr.now.text tree → Wrote (apart count tree (weak_of tree)) out.old out.new) }
-    ensures long { IsErrOf result Stop.NotListable → (tree : Tree) → Spells expr.now.lab_len expr.now.text tree → is_short (apart count tree (weak_of tree)) ≡ false }
+    ensures wrote { OnOk result ((tree : Tree) → Spells expr.now.lab_len expr.now.text tree → Wrote (dc_of_formula count tree (weak_of tree)) out.old out.new) }
+    ensures long { IsErrOf result LineStop.NotListable → (tree : Tree) → Spells expr.now.lab_len expr.now.text tree → is_short (dc_of_formula count tree (weak_of tree)) ≡ false }
 {
     match front.weak() {
-        Some(name) => weakly(out, name),
+        Some(name) => put_dc_weak(out, name),
         None => {
             let formula = text_of(alloc, expr)?;
-            sums(out, u32::from(count), first_bytes(formula.bytes(), 256))
+            put_dc_formula(out, u32::from(count), first_bytes(formula.bytes(), 256))
         }
     }
 }
@@ -148,7 +149,7 @@ fn split_last(run: &[u8]) -> Option<(&[u8], u8)>
 }
 
 /// Whether a record that isn't EXPR follows on an opcode that has it.
-fn follows_last(run: &[u8], formula: Formula) -> bool
+fn follows_last(run: &[u8], formula: ListedFormula) -> bool
     ensures { result ≡ follows_opcode formula.code formula.count formula.n (split_last run.now) }
 {
     match split_last(run) {
@@ -184,7 +185,7 @@ fn is_listable_expr(known: Facts, count: u8, front: Front) -> bool
 }
 
 /// Whether another expression record can be listed whose names can: it is simple, and follows on an opcode that has it.
-fn is_listable_operand(run: &[u8], formula: Formula, front: Front) -> bool
+fn is_listable_operand(run: &[u8], formula: ListedFormula, front: Front) -> bool
     ensures { result ≡ (is_some_wanted (simple_four (option_map seen front.entry.first) (option_map seen front.entry.second) (option_map seen front.entry.third) (option_map seen front.entry.fourth))
         && follows_opcode formula.code formula.count formula.n (split_last run.now)) }
 {
@@ -195,7 +196,7 @@ fn is_listable_operand(run: &[u8], formula: Formula, front: Front) -> bool
 }
 
 /// Whether an expression record can be listed whose names can.
-fn is_listable_by_kind(known: Facts, run: &[u8], formula: Formula, front: Front) -> bool
+fn is_listable_by_kind(known: Facts, run: &[u8], formula: ListedFormula, front: Front) -> bool
     ensures { result ≡ (if formula.code == 0xEB
         then (if is_some_name (weak_two (option_map seen front.entry.first) (option_map seen front.entry.second)) then formula.count == 2 else (known.written && known.varies))
         else (is_some_wanted (simple_four (option_map seen front.entry.first) (option_map seen front.entry.second) (option_map seen front.entry.third) (option_map seen front.entry.fourth))
@@ -212,12 +213,12 @@ fn is_listable_by_kind(known: Facts, run: &[u8], formula: Formula, front: Front)
 fn is_formula_listable(
     equated: &Names,
     run: &[u8],
-    formula: Formula,
+    formula: ListedFormula,
     expr: &Expr,
     front: Front,
 ) -> bool
     requires { IsFront expr.now front }
-    ensures { (b : listing.Before) (all : List (List ℕ)) (tree : Tree) → b.run ≡ run.now → AreNames equated.now all → Spells expr.now.lab_len expr.now.text tree
+    ensures { (b : listing.PendingRun) (all : List (List ℕ)) (tree : Tree) → b.run ≡ run.now → AreNames equated.now all → Spells expr.now.lab_len expr.now.text tree
         → result ≡ formula_listable all b formula.code formula.count formula.n tree }
 {
     let known = facts_of(expr, equated);
@@ -226,25 +227,25 @@ fn is_formula_listable(
 
 /// The lines of END, with DS for RESSPC.
 #[tactic(auto, using(list_lines::proofs::Written::wrote_one, list_lines::proofs::Written::wrote_both, list_lines::proofs::Written::long_one, list_lines::proofs::Written::long_first, list_lines::proofs::Written::long_second))]
-fn put_end(out: &mut Output, res_spc: u32) -> Result<(), Stop>
+fn put_reserved_and_end(out: &mut Output, res_spc: u32) -> Result<(), LineStop>
     requires { open_line out.old ≡ [] }
-    ensures wrote { OnOk result (WroteAll (unless_zero Spaces res_spc ++ Ends ∷ []) out.old out.new) }
-    ensures long { IsErrOf result Stop.NotListable → list_all is_short (unless_zero Spaces res_spc ++ Ends ∷ []) ≡ false }
+    ensures wrote { OnOk result (WroteAll (unless_zero Ds res_spc ++ EndIs ∷ []) out.old out.new) }
+    ensures long { IsErrOf result LineStop.NotListable → list_all is_short (unless_zero Ds res_spc ++ EndIs ∷ []) ≡ false }
 {
     if res_spc != 0 {
-        spaces(out, res_spc)?;
+        put_ds(out, res_spc)?;
     }
-    ends(out)
+    put_end(out)
 }
 
-impl<'a> Before<'a> {
+impl<'a> PendingRun<'a> {
     /// Before the first record: both registers have 16 bits, and the segment's name is the first that it defines.
-    pub(crate) fn new(alloc: Global, name: &'a [u8]) -> Result<Before<'a>, AllocError>
+    pub(crate) fn new(alloc: Global, name: &'a [u8]) -> Result<PendingRun<'a>, AllocError>
         ensures { IfOk result (λ before. IsBefore before (record { widths = both_long; run = []; names = name.now ∷ [] })) }
     {
         let mut names = Names::new(alloc);
         names.add(name)?;
-        Ok(Before {
+        Ok(PendingRun {
             widths: BOTH_LONG,
             run: Vec::new(alloc),
             names,
@@ -252,10 +253,10 @@ impl<'a> Before<'a> {
     }
 
     /// Writes the run.
-    fn flush(&mut self, out: &mut Output) -> Result<(), Stop>
+    fn flush(&mut self, out: &mut Output) -> Result<(), LineStop>
         requires { open_line out.old ≡ [] }
-        ensures gave { OnOk result ((b : listing.Before) → IsBefore self.old b → Gave (flushed b) out.old out.new self.new) }
-        ensures long { IsErrOf result Stop.NotListable → (b : listing.Before) → IsBefore self.old b → are_short (flushed b) ≡ false }
+        ensures gave { OnOk result ((b : listing.PendingRun) → IsBefore self.old b → Gave (with_run_written b) out.old out.new self.new) }
+        ensures long { IsErrOf result LineStop.NotListable → (b : listing.PendingRun) → IsBefore self.old b → are_short (with_run_written b) ≡ false }
         ensures line { OnOk result (open_line out.new ≡ []) }
     {
         self.widths = put_rest(out, self.widths, self.run.as_slice())?;
@@ -265,108 +266,114 @@ impl<'a> Before<'a> {
 
     /// One more name is defined.
     fn define(&mut self, name: &'a [u8]) -> Result<(), AllocError>
-        ensures { OnOk result ((b : listing.Before) → IsBefore self.old b → IsBefore self.new (record b { names = name.now ∷ b.names })) }
+        ensures { OnOk result ((b : listing.PendingRun) → IsBefore self.old b → IsBefore self.new (record b { names = name.now ∷ b.names })) }
     {
         self.names.add(name)
     }
 
     /// Whether a name can be listed and wasn't defined yet.
     fn is_new(&self, name: &[u8]) -> bool
-        ensures { (b : listing.Before) → IsBefore self.now b → result ≡ (is_listable name.now && not (is_among b.names name.now)) }
+        ensures { (b : listing.PendingRun) → IsBefore self.now b → result ≡ (is_listable name.now && not (is_among b.names name.now)) }
     {
         is_listable(name) && !self.names.has(name)
     }
 
     /// Constant bytes.
     fn take_bytes(&mut self, bytes: &[u8]) -> Result<(), AllocError>
-        ensures { OnOk result ((b : listing.Before) → IsBefore self.old b → IsBefore self.new (record b { run = b.run ++ bytes.now })) }
+        ensures { OnOk result ((b : listing.PendingRun) → IsBefore self.old b → IsBefore self.new (record b { run = b.run ++ bytes.now })) }
     {
         self.run.extend_from_slice(bytes)
     }
 
     /// The lines of END, with DS for RESSPC.
-    fn end(&mut self, out: &mut Output, res_spc: u32) -> Result<(), Stop>
+    fn end(&mut self, out: &mut Output, res_spc: u32) -> Result<(), LineStop>
         requires { open_line out.old ≡ [] }
-        ensures gave { OnOk result ((b : listing.Before) → IsBefore self.old b → Gave (then_said (unless_zero Spaces res_spc ++ Ends ∷ []) (flushed b)) out.old out.new self.new) }
-        ensures long { IsErrOf result Stop.NotListable → (b : listing.Before) → IsBefore self.old b → are_short (then_said (unless_zero Spaces res_spc ++ Ends ∷ []) (flushed b)) ≡ false }
+        ensures gave { OnOk result ((b : listing.PendingRun) → IsBefore self.old b → Gave (then_said (unless_zero Ds res_spc ++ EndIs ∷ []) (with_run_written b)) out.old out.new self.new) }
+        ensures long { IsErrOf result LineStop.NotListable → (b : listing.PendingRun) → IsBefore self.old b → are_short (then_said (unless_zero Ds res_spc ++ EndIs ∷ []) (with_run_written b)) ≡ false }
     {
         self.flush(out)?;
-        put_end(out, res_spc)
+        put_reserved_and_end(out, res_spc)
     }
 
     /// The line of ALIGN.
-    fn align(&mut self, out: &mut Output, n: u32) -> Result<(), Stop>
+    fn align(&mut self, out: &mut Output, n: u32) -> Result<(), LineStop>
         requires { open_line out.old ≡ [] }
-        ensures gave { OnOk result ((b : listing.Before) → IsBefore self.old b → Gave (then_said (Aligns n ∷ []) (flushed b)) out.old out.new self.new) }
-        ensures long { IsErrOf result Stop.NotListable → (b : listing.Before) → IsBefore self.old b → are_short (then_said (Aligns n ∷ []) (flushed b)) ≡ false }
+        ensures gave { OnOk result ((b : listing.PendingRun) → IsBefore self.old b → Gave (then_said (Aligns n ∷ []) (with_run_written b)) out.old out.new self.new) }
+        ensures long { IsErrOf result LineStop.NotListable → (b : listing.PendingRun) → IsBefore self.old b → are_short (then_said (Aligns n ∷ []) (with_run_written b)) ≡ false }
     {
         self.flush(out)?;
-        aligns(out, n)
+        put_align(out, n)
     }
 
     /// The line of ORG.
-    fn move_on(&mut self, out: &mut Output, n: u32) -> Result<(), Stop>
+    fn move_on(&mut self, out: &mut Output, n: u32) -> Result<(), LineStop>
         requires { open_line out.old ≡ [] }
-        ensures gave { OnOk result ((b : listing.Before) → IsBefore self.old b → Gave (then_said (Moves n ∷ []) (flushed b)) out.old out.new self.new) }
-        ensures long { IsErrOf result Stop.NotListable → (b : listing.Before) → IsBefore self.old b → are_short (then_said (Moves n ∷ []) (flushed b)) ≡ false }
+        ensures gave { OnOk result ((b : listing.PendingRun) → IsBefore self.old b → Gave (then_said (OrgIs n ∷ []) (with_run_written b)) out.old out.new self.new) }
+        ensures long { IsErrOf result LineStop.NotListable → (b : listing.PendingRun) → IsBefore self.old b → are_short (then_said (OrgIs n ∷ []) (with_run_written b)) ≡ false }
     {
         self.flush(out)?;
-        moves(out, n)
+        put_org(out, n)
     }
 
     /// The line of DS.
-    fn space(&mut self, out: &mut Output, n: u32) -> Result<(), Stop>
+    fn space(&mut self, out: &mut Output, n: u32) -> Result<(), LineStop>
         requires { open_line out.old ≡ [] }
-        ensures gave { OnOk result ((b : listing.Before) → IsBefore self.old b → Gave (then_said (Spaces n ∷ []) (flushed b)) out.old out.new self.new) }
-        ensures long { IsErrOf result Stop.NotListable → (b : listing.Before) → IsBefore self.old b → are_short (then_said (Spaces n ∷ []) (flushed b)) ≡ false }
+        ensures gave { OnOk result ((b : listing.PendingRun) → IsBefore self.old b → Gave (then_said (Ds n ∷ []) (with_run_written b)) out.old out.new self.new) }
+        ensures long { IsErrOf result LineStop.NotListable → (b : listing.PendingRun) → IsBefore self.old b → are_short (then_said (Ds n ∷ []) (with_run_written b)) ≡ false }
     {
         self.flush(out)?;
-        spaces(out, n)
+        put_ds(out, n)
     }
 
     /// The line of USING.
-    fn using(&mut self, out: &mut Output, name: &[u8]) -> Result<(), Stop>
+    fn using(&mut self, out: &mut Output, name: &[u8]) -> Result<(), LineStop>
         requires { open_line out.old ≡ [] }
-        ensures gave { OnOk result ((b : listing.Before) → IsBefore self.old b → Gave (then_said (Uses name.now ∷ []) (flushed b)) out.old out.new self.new) }
-        ensures long { IsErrOf result Stop.NotListable → (b : listing.Before) → IsBefore self.old b → are_short (then_said (Uses name.now ∷ []) (flushed b)) ≡ false }
+        ensures gave { OnOk result ((b : listing.PendingRun) → IsBefore self.old b → Gave (then_said (UsingIs name.now ∷ []) (with_run_written b)) out.old out.new self.new) }
+        ensures long { IsErrOf result LineStop.NotListable → (b : listing.PendingRun) → IsBefore self.old b → are_short (then_said (UsingIs name.now ∷ []) (with_run_written b)) ≡ false }
     {
         self.flush(out)?;
-        uses(out, name)
+        put_using(out, name)
     }
 
     /// The line of STRONG.
-    fn strong(&mut self, out: &mut Output, name: &[u8]) -> Result<(), Stop>
+    fn strong(&mut self, out: &mut Output, name: &[u8]) -> Result<(), LineStop>
         requires { open_line out.old ≡ [] }
-        ensures gave { OnOk result ((b : listing.Before) → IsBefore self.old b → Gave (then_said (Asks name.now ∷ []) (flushed b)) out.old out.new self.new) }
-        ensures long { IsErrOf result Stop.NotListable → (b : listing.Before) → IsBefore self.old b → are_short (then_said (Asks name.now ∷ []) (flushed b)) ≡ false }
+        ensures gave { OnOk result ((b : listing.PendingRun) → IsBefore self.old b → Gave (then_said (StrongIs name.now ∷ []) (with_run_written b)) out.old out.new self.new) }
+        ensures long { IsErrOf result LineStop.NotListable → (b : listing.PendingRun) → IsBefore self.old b → are_short (then_said (StrongIs name.now ∷ []) (with_run_written b)) ≡ false }
     {
         self.flush(out)?;
-        asks(out, name)
+        put_dc_strong(out, name)
     }
 
     /// The line of GLOBAL or LOCAL.
-    fn label(&mut self, out: &mut Output, global: bool, name: &[u8]) -> Result<(), Stop>
+    fn label(&mut self, out: &mut Output, global: bool, name: &[u8]) -> Result<(), LineStop>
         requires { open_line out.old ≡ [] }
-        ensures gave { OnOk result ((b : listing.Before) → IsBefore self.old b → Gave (then_said (Labels global name.now ∷ []) (flushed b)) out.old out.new self.new) }
-        ensures long { IsErrOf result Stop.NotListable → (b : listing.Before) → IsBefore self.old b → are_short (then_said (Labels global name.now ∷ []) (flushed b)) ≡ false }
+        ensures gave { OnOk result ((b : listing.PendingRun) → IsBefore self.old b → Gave (then_said (Labels global name.now ∷ []) (with_run_written b)) out.old out.new self.new) }
+        ensures long { IsErrOf result LineStop.NotListable → (b : listing.PendingRun) → IsBefore self.old b → are_short (then_said (Labels global name.now ∷ []) (with_run_written b)) ≡ false }
     {
         self.flush(out)?;
-        labels(out, global, name)
+        put_label(out, global, name)
     }
 
     /// The line of GEQU or EQU.
-    fn equate(&mut self, out: &mut Output, global: bool, name: &[u8], n: u32) -> Result<(), Stop>
+    fn equate(
+        &mut self,
+        out: &mut Output,
+        global: bool,
+        name: &[u8],
+        n: u32,
+    ) -> Result<(), LineStop>
         requires { open_line out.old ≡ [] }
-        ensures gave { OnOk result ((b : listing.Before) → IsBefore self.old b → Gave (then_said (Equates global name.now n ∷ []) (flushed b)) out.old out.new self.new) }
-        ensures long { IsErrOf result Stop.NotListable → (b : listing.Before) → IsBefore self.old b → are_short (then_said (Equates global name.now n ∷ []) (flushed b)) ≡ false }
+        ensures gave { OnOk result ((b : listing.PendingRun) → IsBefore self.old b → Gave (then_said (Equates global name.now n ∷ []) (with_run_written b)) out.old out.new self.new) }
+        ensures long { IsErrOf result LineStop.NotListable → (b : listing.PendingRun) → IsBefore self.old b → are_short (then_said (Equates global name.now n ∷ []) (with_run_written b)) ≡ false }
     {
         self.flush(out)?;
-        equates(out, global, name, n)
+        put_equate(out, global, name, n)
     }
 
     /// The opcode that is held back for this record, if its byte is the last of the run.
-    fn held(&self, formula: Formula) -> Option<u8>
-        ensures { (b : listing.Before) → IsBefore self.now b → result ≡ held_by b formula.code formula.count formula.n (split_last b.run) }
+    fn held(&self, formula: ListedFormula) -> Option<u8>
+        ensures { (b : listing.PendingRun) → IsBefore self.now b → result ≡ held_by b formula.code formula.count formula.n (split_last b.run) }
     {
         let (rest, opcode) = split_last(self.run.as_slice())?;
         if follows(widths_behind(self.widths, rest), opcode, formula) {
@@ -377,8 +384,8 @@ impl<'a> Before<'a> {
     }
 
     /// The opcode that is held back, and its operand.
-    fn held_operand<'b>(&self, formula: Formula, front: Front<'b>) -> Option<(u8, Wanted<'b>)>
-        ensures value { (b : listing.Before) → IsBefore self.now b → option_map (λ found. (found.0, operand_view found.1)) result
+    fn held_operand<'b>(&self, formula: ListedFormula, front: Front<'b>) -> Option<(u8, Wanted<'b>)>
+        ensures value { (b : listing.PendingRun) → IsBefore self.now b → option_map (λ found. (found.0, operand_view found.1)) result
             ≡ held_with (held_by b formula.code formula.count formula.n (split_last b.run))
             (simple_four (option_map seen front.entry.first) (option_map seen front.entry.second) (option_map seen front.entry.third) (option_map seen front.entry.fourth)) }
         ensures size { IfSome result (λ found. HasSize (operand_view found.1)) }
@@ -390,16 +397,16 @@ impl<'a> Before<'a> {
 
     /// The run without its last byte.
     fn shorten(&mut self)
-        ensures { (b : listing.Before) (rest : List ℕ) (opcode : ℕ) → IsBefore self.old b → b.run ≡ rest ++ opcode ∷ [] → IsBefore self.new (record b { run = rest }) }
+        ensures { (b : listing.PendingRun) (rest : List ℕ) (opcode : ℕ) → IsBefore self.old b → b.run ≡ rest ++ opcode ∷ [] → IsBefore self.new (record b { run = rest }) }
     {
         self.run.pop();
     }
 
     /// Writes the run without its last byte.
-    fn flush_rest(&mut self, out: &mut Output) -> Result<(), Stop>
+    fn flush_rest(&mut self, out: &mut Output) -> Result<(), LineStop>
         requires { open_line out.old ≡ [] }
-        ensures gave { OnOk result ((b : listing.Before) (rest : List ℕ) (opcode : ℕ) → IsBefore self.old b → b.run ≡ rest ++ opcode ∷ [] → Gave (flushed (record b { run = rest })) out.old out.new self.new) }
-        ensures long { IsErrOf result Stop.NotListable → (b : listing.Before) (rest : List ℕ) (opcode : ℕ) → IsBefore self.old b → b.run ≡ rest ++ opcode ∷ [] → are_short (flushed (record b { run = rest })) ≡ false }
+        ensures gave { OnOk result ((b : listing.PendingRun) (rest : List ℕ) (opcode : ℕ) → IsBefore self.old b → b.run ≡ rest ++ opcode ∷ [] → Gave (with_run_written (record b { run = rest })) out.old out.new self.new) }
+        ensures long { IsErrOf result LineStop.NotListable → (b : listing.PendingRun) (rest : List ℕ) (opcode : ℕ) → IsBefore self.old b → b.run ≡ rest ++ opcode ∷ [] → are_short (with_run_written (record b { run = rest })) ≡ false }
         ensures line { OnOk result (open_line out.new ≡ []) }
     {
         self.shorten();
@@ -407,17 +414,17 @@ impl<'a> Before<'a> {
     }
 
     /// The lines of an opcode that is held back and its operand.
-    fn put_held(&mut self, out: &mut Output, opcode: u8, operand: Wanted) -> Result<(), Stop>
+    fn put_held(&mut self, out: &mut Output, opcode: u8, operand: Wanted) -> Result<(), LineStop>
         requires line { open_line out.old ≡ [] }
         requires size { HasSize (operand_view operand) }
-        ensures gave { OnOk result ((b : listing.Before) (rest : List ℕ) → IsBefore self.old b → b.run ≡ rest ++ opcode ∷ []
+        ensures gave { OnOk result ((b : listing.PendingRun) (rest : List ℕ) → IsBefore self.old b → b.run ≡ rest ++ opcode ∷ []
             → Gave (held_back b rest opcode (operand_view operand.entry)) out.old out.new self.new) }
-        ensures long { IsErrOf result Stop.NotListable → (b : listing.Before) (rest : List ℕ) → IsBefore self.old b → b.run ≡ rest ++ opcode ∷ []
+        ensures long { IsErrOf result LineStop.NotListable → (b : listing.PendingRun) (rest : List ℕ) → IsBefore self.old b → b.run ≡ rest ++ opcode ∷ []
             → are_short (held_back b rest opcode (operand_view operand.entry)) ≡ false }
     {
         self.flush_rest(out)?;
         let (mnemonic, mode) = instruction_of(opcode);
-        instructs(out, mnemonic, mode, operand)
+        put_instruction(out, mnemonic, mode, operand)
     }
 
     /// The lines of the run, and of an EXPR that isn't part of an instruction.
@@ -428,14 +435,14 @@ impl<'a> Before<'a> {
         count: u8,
         expr: &Expr,
         front: Front,
-    ) -> Result<(), Stop>
+    ) -> Result<(), LineStop>
         requires line { open_line out.old ≡ [] }
         requires spelled { IsExpression expr.now.lab_len expr.now.text }
         requires front { IsFront expr.now front }
-        ensures gave { OnOk result ((b : listing.Before) (tree : Tree) → IsBefore self.old b → Spells expr.now.lab_len expr.now.text tree
-            → Gave (then_said (apart count tree (weak_of tree) ∷ []) (flushed b)) out.old out.new self.new) }
-        ensures long { IsErrOf result Stop.NotListable → (b : listing.Before) (tree : Tree) → IsBefore self.old b → Spells expr.now.lab_len expr.now.text tree
-            → are_short (then_said (apart count tree (weak_of tree) ∷ []) (flushed b)) ≡ false }
+        ensures gave { OnOk result ((b : listing.PendingRun) (tree : Tree) → IsBefore self.old b → Spells expr.now.lab_len expr.now.text tree
+            → Gave (then_said (dc_of_formula count tree (weak_of tree) ∷ []) (with_run_written b)) out.old out.new self.new) }
+        ensures long { IsErrOf result LineStop.NotListable → (b : listing.PendingRun) (tree : Tree) → IsBefore self.old b → Spells expr.now.lab_len expr.now.text tree
+            → are_short (then_said (dc_of_formula count tree (weak_of tree) ∷ []) (with_run_written b)) ≡ false }
     {
         self.flush(out)?;
         put_apart(alloc, out, count, expr, front)
@@ -446,16 +453,16 @@ impl<'a> Before<'a> {
         &mut self,
         alloc: Global,
         out: &mut Output,
-        formula: Formula,
+        formula: ListedFormula,
         expr: &Expr,
         front: Front,
-    ) -> Result<(), Stop>
+    ) -> Result<(), LineStop>
         requires line { open_line out.old ≡ [] }
         requires spelled { IsExpression expr.now.lab_len expr.now.text }
         requires front { IsFront expr.now front }
-        ensures gave { OnOk result ((b : listing.Before) (tree : Tree) → IsBefore self.old b → Spells expr.now.lab_len expr.now.text tree
+        ensures gave { OnOk result ((b : listing.PendingRun) (tree : Tree) → IsBefore self.old b → Spells expr.now.lab_len expr.now.text tree
             → Gave (formula_given b formula.code formula.count formula.n tree (split_last b.run) (simple_of tree)) out.old out.new self.new) }
-        ensures long { IsErrOf result Stop.NotListable → (b : listing.Before) (tree : Tree) → IsBefore self.old b → Spells expr.now.lab_len expr.now.text tree
+        ensures long { IsErrOf result LineStop.NotListable → (b : listing.PendingRun) (tree : Tree) → IsBefore self.old b → Spells expr.now.lab_len expr.now.text tree
             → are_short (formula_given b formula.code formula.count formula.n tree (split_last b.run) (simple_of tree)) ≡ false }
     {
         match self.held_operand(formula, front) {
@@ -465,64 +472,64 @@ impl<'a> Before<'a> {
     }
 
     /// END, where its lines are short.
-    fn end_record(&mut self, out: &mut Output, res_spc: u32) -> Result<(), Stop>
+    fn end_record(&mut self, out: &mut Output, res_spc: u32) -> Result<(), LineStop>
         requires { open_line out.old ≡ [] }
-        ensures given { OnOk result ((b : listing.Before) → IsBefore self.old b → IsGiven (if_short true (then_said (unless_zero Spaces res_spc ++ Ends ∷ []) (flushed b))) out.old out.new self.new) }
-        ensures refused { IsErrOf result Stop.NotListable → (b : listing.Before) → IsBefore self.old b → if_short true (then_said (unless_zero Spaces res_spc ++ Ends ∷ []) (flushed b)) ≡ None }
+        ensures given { OnOk result ((b : listing.PendingRun) → IsBefore self.old b → IsGiven (if_short true (then_said (unless_zero Ds res_spc ++ EndIs ∷ []) (with_run_written b))) out.old out.new self.new) }
+        ensures refused { IsErrOf result LineStop.NotListable → (b : listing.PendingRun) → IsBefore self.old b → if_short true (then_said (unless_zero Ds res_spc ++ EndIs ∷ []) (with_run_written b)) ≡ None }
     {
         self.end(out, res_spc)
     }
 
     /// ALIGN, where its n is a power of two, at most $10000 and at most the header's alignment.
-    fn align_record(&mut self, out: &mut Output, alignment: u32, n: u32) -> Result<(), Stop>
+    fn align_record(&mut self, out: &mut Output, alignment: u32, n: u32) -> Result<(), LineStop>
         requires { open_line out.old ≡ [] }
-        ensures given { OnOk result ((b : listing.Before) → IsBefore self.old b → IsGiven (if_short (is_power_of_two n && nat_le n 0x10000 && nat_le n alignment) (then_said (Aligns n ∷ []) (flushed b))) out.old out.new self.new) }
-        ensures refused { IsErrOf result Stop.NotListable → (b : listing.Before) → IsBefore self.old b → if_short (is_power_of_two n && nat_le n 0x10000 && nat_le n alignment) (then_said (Aligns n ∷ []) (flushed b)) ≡ None }
+        ensures given { OnOk result ((b : listing.PendingRun) → IsBefore self.old b → IsGiven (if_short (is_power_of_two n && nat_le n 0x10000 && nat_le n alignment) (then_said (Aligns n ∷ []) (with_run_written b))) out.old out.new self.new) }
+        ensures refused { IsErrOf result LineStop.NotListable → (b : listing.PendingRun) → IsBefore self.old b → if_short (is_power_of_two n && nat_le n 0x10000 && nat_le n alignment) (then_said (Aligns n ∷ []) (with_run_written b)) ≡ None }
     {
         if !n.is_power_of_two() || n > 0x10000 || n > alignment {
-            return Err(Stop::NotListable);
+            return Err(LineStop::NotListable);
         }
         self.align(out, n)
     }
 
     /// ORG.
-    fn move_record(&mut self, out: &mut Output, n: u32) -> Result<(), Stop>
+    fn move_record(&mut self, out: &mut Output, n: u32) -> Result<(), LineStop>
         requires { open_line out.old ≡ [] }
-        ensures given { OnOk result ((b : listing.Before) → IsBefore self.old b → IsGiven (if_short true (then_said (Moves n ∷ []) (flushed b))) out.old out.new self.new) }
-        ensures refused { IsErrOf result Stop.NotListable → (b : listing.Before) → IsBefore self.old b → if_short true (then_said (Moves n ∷ []) (flushed b)) ≡ None }
+        ensures given { OnOk result ((b : listing.PendingRun) → IsBefore self.old b → IsGiven (if_short true (then_said (OrgIs n ∷ []) (with_run_written b))) out.old out.new self.new) }
+        ensures refused { IsErrOf result LineStop.NotListable → (b : listing.PendingRun) → IsBefore self.old b → if_short true (then_said (OrgIs n ∷ []) (with_run_written b)) ≡ None }
     {
         self.move_on(out, n)
     }
 
     /// DS.
-    fn space_record(&mut self, out: &mut Output, n: u32) -> Result<(), Stop>
+    fn space_record(&mut self, out: &mut Output, n: u32) -> Result<(), LineStop>
         requires { open_line out.old ≡ [] }
-        ensures given { OnOk result ((b : listing.Before) → IsBefore self.old b → IsGiven (if_short true (then_said (Spaces n ∷ []) (flushed b))) out.old out.new self.new) }
-        ensures refused { IsErrOf result Stop.NotListable → (b : listing.Before) → IsBefore self.old b → if_short true (then_said (Spaces n ∷ []) (flushed b)) ≡ None }
+        ensures given { OnOk result ((b : listing.PendingRun) → IsBefore self.old b → IsGiven (if_short true (then_said (Ds n ∷ []) (with_run_written b))) out.old out.new self.new) }
+        ensures refused { IsErrOf result LineStop.NotListable → (b : listing.PendingRun) → IsBefore self.old b → if_short true (then_said (Ds n ∷ []) (with_run_written b)) ≡ None }
     {
         self.space(out, n)
     }
 
     /// USING, where its name can be listed.
-    fn using_record(&mut self, out: &mut Output, name: &[u8]) -> Result<(), Stop>
+    fn using_record(&mut self, out: &mut Output, name: &[u8]) -> Result<(), LineStop>
         requires { open_line out.old ≡ [] }
-        ensures given { OnOk result ((b : listing.Before) → IsBefore self.old b → IsGiven (if_short (is_listable name.now) (then_said (Uses name.now ∷ []) (flushed b))) out.old out.new self.new) }
-        ensures refused { IsErrOf result Stop.NotListable → (b : listing.Before) → IsBefore self.old b → if_short (is_listable name.now) (then_said (Uses name.now ∷ []) (flushed b)) ≡ None }
+        ensures given { OnOk result ((b : listing.PendingRun) → IsBefore self.old b → IsGiven (if_short (is_listable name.now) (then_said (UsingIs name.now ∷ []) (with_run_written b))) out.old out.new self.new) }
+        ensures refused { IsErrOf result LineStop.NotListable → (b : listing.PendingRun) → IsBefore self.old b → if_short (is_listable name.now) (then_said (UsingIs name.now ∷ []) (with_run_written b)) ≡ None }
     {
         if !is_listable(name) {
-            return Err(Stop::NotListable);
+            return Err(LineStop::NotListable);
         }
         self.using(out, name)
     }
 
     /// STRONG, where its name can be listed.
-    fn strong_record(&mut self, out: &mut Output, name: &[u8]) -> Result<(), Stop>
+    fn strong_record(&mut self, out: &mut Output, name: &[u8]) -> Result<(), LineStop>
         requires { open_line out.old ≡ [] }
-        ensures given { OnOk result ((b : listing.Before) → IsBefore self.old b → IsGiven (if_short (is_listable name.now) (then_said (Asks name.now ∷ []) (flushed b))) out.old out.new self.new) }
-        ensures refused { IsErrOf result Stop.NotListable → (b : listing.Before) → IsBefore self.old b → if_short (is_listable name.now) (then_said (Asks name.now ∷ []) (flushed b)) ≡ None }
+        ensures given { OnOk result ((b : listing.PendingRun) → IsBefore self.old b → IsGiven (if_short (is_listable name.now) (then_said (StrongIs name.now ∷ []) (with_run_written b))) out.old out.new self.new) }
+        ensures refused { IsErrOf result LineStop.NotListable → (b : listing.PendingRun) → IsBefore self.old b → if_short (is_listable name.now) (then_said (StrongIs name.now ∷ []) (with_run_written b)) ≡ None }
     {
         if !is_listable(name) {
-            return Err(Stop::NotListable);
+            return Err(LineStop::NotListable);
         }
         self.strong(out, name)
     }
@@ -534,16 +541,16 @@ impl<'a> Before<'a> {
         global: bool,
         name: &'a [u8],
         private: u8,
-    ) -> Result<(), Stop>
+    ) -> Result<(), LineStop>
         requires { open_line out.old ≡ [] }
-        ensures given { OnOk result ((b : listing.Before) → IsBefore self.old b → IsGiven (if_short ((not global || private == 0) && is_listable name.now && not (is_among b.names name.now)) (with_name name.now (then_said (Labels global name.now ∷ []) (flushed b)))) out.old out.new self.new) }
-        ensures refused { IsErrOf result Stop.NotListable → (b : listing.Before) → IsBefore self.old b → if_short ((not global || private == 0) && is_listable name.now && not (is_among b.names name.now)) (with_name name.now (then_said (Labels global name.now ∷ []) (flushed b))) ≡ None }
+        ensures given { OnOk result ((b : listing.PendingRun) → IsBefore self.old b → IsGiven (if_short ((not global || private == 0) && is_listable name.now && not (is_among b.names name.now)) (with_name name.now (then_said (Labels global name.now ∷ []) (with_run_written b)))) out.old out.new self.new) }
+        ensures refused { IsErrOf result LineStop.NotListable → (b : listing.PendingRun) → IsBefore self.old b → if_short ((not global || private == 0) && is_listable name.now && not (is_among b.names name.now)) (with_name name.now (then_said (Labels global name.now ∷ []) (with_run_written b))) ≡ None }
     {
         if !may_stand(global, private) {
-            return Err(Stop::NotListable);
+            return Err(LineStop::NotListable);
         }
         if !self.is_new(name) {
-            return Err(Stop::NotListable);
+            return Err(LineStop::NotListable);
         }
         self.define(name)?;
         self.label(out, global, name)
@@ -556,13 +563,13 @@ impl<'a> Before<'a> {
         global: bool,
         name: &'a [u8],
         n: u32,
-    ) -> Result<(), Stop>
+    ) -> Result<(), LineStop>
         requires { open_line out.old ≡ [] }
-        ensures given { OnOk result ((b : listing.Before) → IsBefore self.old b → IsGiven (equate_given b global name.now (Some n)) out.old out.new self.new) }
-        ensures refused { IsErrOf result Stop.NotListable → (b : listing.Before) → IsBefore self.old b → equate_given b global name.now (Some n) ≡ None }
+        ensures given { OnOk result ((b : listing.PendingRun) → IsBefore self.old b → IsGiven (equate_given b global name.now (Some n)) out.old out.new self.new) }
+        ensures refused { IsErrOf result LineStop.NotListable → (b : listing.PendingRun) → IsBefore self.old b → equate_given b global name.now (Some n) ≡ None }
     {
         if !self.is_new(name) {
-            return Err(Stop::NotListable);
+            return Err(LineStop::NotListable);
         }
         self.define(name)?;
         self.equate(out, global, name, n)
@@ -576,17 +583,17 @@ impl<'a> Before<'a> {
         name: &'a [u8],
         private: u8,
         number: Option<u32>,
-    ) -> Result<(), Stop>
+    ) -> Result<(), LineStop>
         requires { open_line out.old ≡ [] }
-        ensures given { OnOk result ((b : listing.Before) → IsBefore self.old b → IsGiven (equate_by (not global || private == 0) (equate_given b global name.now number)) out.old out.new self.new) }
-        ensures refused { IsErrOf result Stop.NotListable → (b : listing.Before) → IsBefore self.old b → equate_by (not global || private == 0) (equate_given b global name.now number) ≡ None }
+        ensures given { OnOk result ((b : listing.PendingRun) → IsBefore self.old b → IsGiven (equate_by (not global || private == 0) (equate_given b global name.now number)) out.old out.new self.new) }
+        ensures refused { IsErrOf result LineStop.NotListable → (b : listing.PendingRun) → IsBefore self.old b → equate_by (not global || private == 0) (equate_given b global name.now number) ≡ None }
     {
         if !may_stand(global, private) {
-            return Err(Stop::NotListable);
+            return Err(LineStop::NotListable);
         }
         match number {
             Some(n) => self.number_record(out, global, name, n),
-            None => Err(Stop::NotListable),
+            None => Err(LineStop::NotListable),
         }
     }
 
@@ -596,17 +603,17 @@ impl<'a> Before<'a> {
         alloc: Global,
         out: &mut Output,
         equated: &Names,
-        formula: Formula,
+        formula: ListedFormula,
         expr: &Expr,
-    ) -> Result<(), Stop>
+    ) -> Result<(), LineStop>
         requires line { open_line out.old ≡ [] }
         requires spelled { IsExpression expr.now.lab_len expr.now.text }
-        ensures given { OnOk result ((b : listing.Before) (all : List (List ℕ)) (tree : Tree) → AreNames equated.now all → Spells expr.now.lab_len expr.now.text tree → IsBefore self.old b → IsGiven (if_short (formula_listable all b formula.code formula.count formula.n tree) (formula_given b formula.code formula.count formula.n tree (split_last b.run) (simple_of tree))) out.old out.new self.new) }
-        ensures refused { IsErrOf result Stop.NotListable → (b : listing.Before) (all : List (List ℕ)) (tree : Tree) → AreNames equated.now all → Spells expr.now.lab_len expr.now.text tree → IsBefore self.old b → if_short (formula_listable all b formula.code formula.count formula.n tree) (formula_given b formula.code formula.count formula.n tree (split_last b.run) (simple_of tree)) ≡ None }
+        ensures given { OnOk result ((b : listing.PendingRun) (all : List (List ℕ)) (tree : Tree) → AreNames equated.now all → Spells expr.now.lab_len expr.now.text tree → IsBefore self.old b → IsGiven (if_short (formula_listable all b formula.code formula.count formula.n tree) (formula_given b formula.code formula.count formula.n tree (split_last b.run) (simple_of tree))) out.old out.new self.new) }
+        ensures refused { IsErrOf result LineStop.NotListable → (b : listing.PendingRun) (all : List (List ℕ)) (tree : Tree) → AreNames equated.now all → Spells expr.now.lab_len expr.now.text tree → IsBefore self.old b → if_short (formula_listable all b formula.code formula.count formula.n tree) (formula_given b formula.code formula.count formula.n tree (split_last b.run) (simple_of tree)) ≡ None }
     {
         let front = front_of(expr);
         if !is_formula_listable(equated, self.run.as_slice(), formula, expr, front) {
-            return Err(Stop::NotListable);
+            return Err(LineStop::NotListable);
         }
         self.put_formula(alloc, out, formula, expr, front)
     }
@@ -620,12 +627,12 @@ impl<'a> Before<'a> {
         header: &Header,
         equated: &Names,
         rec: &Rec<'a>,
-    ) -> Result<(), Stop>
+    ) -> Result<(), LineStop>
         requires line { open_line out.old ≡ [] }
         requires spelled { HasExpression header.now.lab_len (view rec.now) }
-        ensures given { OnOk result ((b : listing.Before) (all : List (List ℕ)) → IsBefore self.old b → AreNames equated.now all
+        ensures given { OnOk result ((b : listing.PendingRun) (all : List (List ℕ)) → IsBefore self.old b → AreNames equated.now all
             → IsGiven (given_by (fields header.now) all b (view rec.now)) out.old out.new self.new) }
-        ensures refused { IsErrOf result Stop.NotListable → (b : listing.Before) (all : List (List ℕ)) → IsBefore self.old b → AreNames equated.now all
+        ensures refused { IsErrOf result LineStop.NotListable → (b : listing.PendingRun) (all : List (List ℕ)) → IsBefore self.old b → AreNames equated.now all
             → given_by (fields header.now) all b (view rec.now) ≡ None }
     {
         match rec {
@@ -661,7 +668,7 @@ impl<'a> Before<'a> {
                 n,
                 expr,
             } => {
-                let formula = Formula {
+                let formula = ListedFormula {
                     code: *code,
                     count: *count,
                     n: *n,
@@ -674,7 +681,7 @@ impl<'a> Before<'a> {
             | Rec::ShortReloc { .. }
             | Rec::ShortInterSeg { .. }
             | Rec::Super { .. }
-            | Rec::Entry { .. } => Err(Stop::NotListable),
+            | Rec::Entry { .. } => Err(LineStop::NotListable),
         }
     }
 }

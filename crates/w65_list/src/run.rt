@@ -6,14 +6,14 @@ ghost use Rattle.byteorder.specs.Endian.{little_number};
 ghost use Rattle.asm_meaning.specs.declared.directives.Switch.TheVariants.{LongA, LongI};
 ghost use Rattle.asm_meaning.specs.Instruction.{kind_of};
 ghost use Rattle.list_meaning.specs.Listed.{Banks};
-ghost use Rattle.list_meaning.specs.Listing.{is_short, operand_by, written_or, said_instruction, widths_past, said_rest, widths_rest, turns_between, widths_by, widths_behind, decoded, behind_opcode};
+ghost use Rattle.list_meaning.specs.Listing.{is_short, operand_by, written_or, said_instruction, widths_past, said_rest, widths_rest, turns_between, widths_by, widths_behind, instruction_of_opcode, behind_opcode};
 ghost use Rattle.list_lines.specs.LineView.{WroteAll, HasSize, operand_view};
-ghost use Rattle.list_lines.specs.OutputView.{kept, open_line};
+ghost use Rattle.list_lines.specs.OutputView.{finished_lines, open_line};
 ghost use Rattle.w65_list.specs.RunView.{turned_between, widths_view};
 
 use asm_meaning::Switch;
-use list_lines::{Output, Stop, Wanted, bytes, instructs, turns};
-use omf_base::behind;
+use list_lines::{LineStop, Output, Wanted, put_dc_bytes, put_instruction, put_switch};
+use omf_base::items_after;
 use orca_meaning::{Mnemonic, Mode};
 use w65_encode::{decode, length};
 
@@ -38,7 +38,7 @@ fn with_bits(widths: Widths, bits: u8, on: bool) -> Widths
 
 /// The first byte, or 0.
 fn first_byte(bytes: &[u8]) -> u8
-    ensures { result ≡ little_number 1 bytes.now }
+    ensures { result ≡ little_number 1 put_dc_bytes.now }
 {
     match bytes.first() {
         Some(first) => *first,
@@ -60,7 +60,7 @@ fn widths_after(widths: Widths, mnemonic: Mnemonic, operand: &[u8]) -> Widths
 
 /// The instruction of an opcode.
 pub fn instruction_of(opcode: u8) -> (Mnemonic, Mode)
-    ensures { result ≡ decoded opcode }
+    ensures { result ≡ instruction_of_opcode opcode }
 {
     decode(opcode)
 }
@@ -76,36 +76,36 @@ pub fn operand_size(widths: Widths, opcode: u8) -> usize
 
 /// LONGA where its width changed.
 #[tactic(auto, using(list_lines::proofs::Written::wrote_one, list_lines::proofs::Written::wrote_none, list_lines::proofs::Written::long_one))]
-fn put_long_a(out: &mut Output, old: bool, new: bool) -> Result<(), Stop>
+fn put_long_a(out: &mut Output, old: bool, new: bool) -> Result<(), LineStop>
     requires { open_line out.old ≡ [] }
     ensures wrote { OnOk result (WroteAll (turned_between LongA old new) out.old out.new) }
-    ensures long { IsErrOf result Stop.NotListable → list_all is_short (turned_between LongA old new) ≡ false }
+    ensures long { IsErrOf result LineStop.NotListable → list_all is_short (turned_between LongA old new) ≡ false }
 {
     if old == new {
         return Ok(());
     }
-    turns(out, Switch::LongA, new)
+    put_switch(out, Switch::LongA, new)
 }
 
 /// LONGI where its width changed.
 #[tactic(auto, using(list_lines::proofs::Written::wrote_one, list_lines::proofs::Written::wrote_none, list_lines::proofs::Written::long_one))]
-fn put_long_i(out: &mut Output, old: bool, new: bool) -> Result<(), Stop>
+fn put_long_i(out: &mut Output, old: bool, new: bool) -> Result<(), LineStop>
     requires { open_line out.old ≡ [] }
     ensures wrote { OnOk result (WroteAll (turned_between LongI old new) out.old out.new) }
-    ensures long { IsErrOf result Stop.NotListable → list_all is_short (turned_between LongI old new) ≡ false }
+    ensures long { IsErrOf result LineStop.NotListable → list_all is_short (turned_between LongI old new) ≡ false }
 {
     if old == new {
         return Ok(());
     }
-    turns(out, Switch::LongI, new)
+    put_switch(out, Switch::LongI, new)
 }
 
 /// LONGA and LONGI where a width changed.
 #[tactic(auto, using(list_lines::proofs::Written::wrote_both, list_lines::proofs::Written::long_first, list_lines::proofs::Written::long_second))]
-fn put_turns(out: &mut Output, old: Widths, new: Widths) -> Result<(), Stop>
+fn put_turns(out: &mut Output, old: Widths, new: Widths) -> Result<(), LineStop>
     requires { open_line out.old ≡ [] }
     ensures wrote { OnOk result (WroteAll (turns_between (widths_view old) (widths_view new)) out.old out.new) }
-    ensures long { IsErrOf result Stop.NotListable → list_all is_short (turns_between (widths_view old) (widths_view new)) ≡ false }
+    ensures long { IsErrOf result LineStop.NotListable → list_all is_short (turns_between (widths_view old) (widths_view new)) ≡ false }
 {
     put_long_a(out, old.long_a, new.long_a)?;
     put_long_i(out, old.long_i, new.long_i)
@@ -113,8 +113,8 @@ fn put_turns(out: &mut Output, old: Widths, new: Widths) -> Result<(), Stop>
 
 /// The number that at most three bytes are, the lowest first.
 fn number_of(bytes: &[u8]) -> u32
-    requires { length bytes.now ≤ 3 }
-    ensures { result ≡ little_number (length bytes.now) bytes.now }
+    requires { length put_dc_bytes.now ≤ 3 }
+    ensures { result ≡ little_number (length put_dc_bytes.now) put_dc_bytes.now }
 {
     match bytes {
         [] => 0,
@@ -126,7 +126,7 @@ fn number_of(bytes: &[u8]) -> u32
 
 /// The two banks of a block move: the destination stands first.
 fn banks(bytes: &[u8]) -> Wanted<'static>
-    ensures { operand_view result ≡ Banks (little_number 1 (drop 1 bytes.now)) (little_number 1 bytes.now) }
+    ensures { operand_view result ≡ Banks (little_number 1 (drop 1 put_dc_bytes.now)) (little_number 1 put_dc_bytes.now) }
 {
     match bytes {
         [] => Wanted::Banks(0, 0),
@@ -138,8 +138,8 @@ fn banks(bytes: &[u8]) -> Wanted<'static>
 /// The operand of an instruction by its bytes; None for a branch.
 #[tactic(auto, unfolding(asm_meaning::specs::Instruction::kind_of))]
 fn wanted(mode: Mode, bytes: &[u8]) -> Option<Wanted<'static>>
-    requires { length bytes.now ≤ 3 }
-    ensures value { option_map operand_view result ≡ operand_by (kind_of mode) bytes.now }
+    requires { length put_dc_bytes.now ≤ 3 }
+    ensures value { option_map operand_view result ≡ operand_by (kind_of mode) put_dc_bytes.now }
     ensures size { IfSome result (λ w. HasSize (operand_view w)) }
 {
     match mode {
@@ -152,34 +152,38 @@ fn wanted(mode: Mode, bytes: &[u8]) -> Option<Wanted<'static>>
 
 /// The line of a whole instruction.
 #[tactic(auto, using(list_lines::proofs::Written::wrote_one, list_lines::proofs::Written::long_one))]
-fn put_whole(out: &mut Output, found: (Mnemonic, Mode), instruction: &[u8]) -> Result<(), Stop>
+fn put_whole(out: &mut Output, found: (Mnemonic, Mode), instruction: &[u8]) -> Result<(), LineStop>
     requires line { open_line out.old ≡ [] }
     requires some { 1 ≤ length instruction.now }
     requires most { length instruction.now ≤ 4 }
     ensures wrote { OnOk result (WroteAll (written_or found.0 found.1 instruction.now (operand_by (kind_of found.1) (drop 1 instruction.now))) out.old out.new) }
-    ensures long { IsErrOf result Stop.NotListable
+    ensures long { IsErrOf result LineStop.NotListable
         → list_all is_short (written_or found.0 found.1 instruction.now (operand_by (kind_of found.1) (drop 1 instruction.now))) ≡ false }
 {
     match wanted(found.1, &instruction[1..]) {
-        Some(operand) => instructs(out, found.0, found.1, operand),
-        None => bytes(out, instruction),
+        Some(operand) => put_instruction(out, found.0, found.1, operand),
+        None => put_dc_bytes(out, instruction),
     }
 }
 
 /// The lines of an instruction of the rest of a run, which may be cut, and the widths behind it.
 #[tactic(auto, using(list_lines::proofs::Written::wrote_one, list_lines::proofs::Written::long_one, list_lines::proofs::Written::wrote_both, list_lines::proofs::Written::long_first, list_lines::proofs::Written::long_second), unfolding(list_meaning::specs::Listing::said_instruction))]
-fn put_instruction(out: &mut Output, widths: Widths, instruction: &[u8]) -> Result<Widths, Stop>
+fn list_instruction(
+    out: &mut Output,
+    widths: Widths,
+    instruction: &[u8],
+) -> Result<Widths, LineStop>
     requires line { open_line out.old ≡ [] }
     requires some { 1 ≤ length instruction.now }
     requires most { length instruction.now ≤ behind_opcode (widths_view widths) (get_or instruction.now 0 0) + 1 }
     ensures wrote { OnOk result (WroteAll (said_instruction (widths_view widths) (get_or instruction.now 0 0) (drop 1 instruction.now)) out.old out.new) }
     ensures widths { IfOk result (λ w. widths_view w ≡ widths_past (widths_view widths) (get_or instruction.now 0 0) (drop 1 instruction.now)) }
-    ensures long { IsErrOf result Stop.NotListable
+    ensures long { IsErrOf result LineStop.NotListable
         → list_all is_short (said_instruction (widths_view widths) (get_or instruction.now 0 0) (drop 1 instruction.now)) ≡ false }
 {
     let opcode = instruction[0];
     if instruction.len() <= operand_size(widths, opcode) {
-        bytes(out, instruction)?;
+        put_dc_bytes(out, instruction)?;
         return Ok(widths);
     }
     let found = instruction_of(opcode);
@@ -206,18 +210,18 @@ fn front_of(widths: Widths, run: &[u8]) -> &[u8]
 
 /// The lines of the rest of a run, and the widths behind it.
 #[tactic(auto, using(crate::proofs::RunLaws::on_step, crate::proofs::RunLaws::on_end, crate::proofs::RunLaws::on_long))]
-pub fn put_rest(out: &mut Output, widths: Widths, run: &[u8]) -> Result<Widths, Stop>
+pub fn put_rest(out: &mut Output, widths: Widths, run: &[u8]) -> Result<Widths, LineStop>
     requires { open_line out.old ≡ [] }
     ensures wrote { OnOk result (WroteAll (said_rest (widths_view widths) 0 run.now) out.old out.new) }
     ensures widths { IfOk result (λ w. widths_view w ≡ widths_rest (widths_view widths) 0 run.now) }
-    ensures long { IsErrOf result Stop.NotListable → list_all is_short (said_rest (widths_view widths) 0 run.now) ≡ false }
+    ensures long { IsErrOf result LineStop.NotListable → list_all is_short (said_rest (widths_view widths) 0 run.now) ≡ false }
 {
     let mut widths = widths;
     let mut left = run;
     'instructions: while !left.is_empty() {
         let front = front_of(widths, left);
-        widths = put_instruction(out, widths, front)?;
-        left = behind(left, front.len());
+        widths = list_instruction(out, widths, front)?;
+        left = items_after(left, front.len());
     }
     Ok(widths)
 }
@@ -245,7 +249,7 @@ pub fn widths_behind(widths: Widths, run: &[u8]) -> Widths
     'instructions: while !left.is_empty() {
         let front = front_of(widths, left);
         widths = widths_behind_front(widths, front);
-        left = behind(left, front.len());
+        left = items_after(left, front.len());
     }
     widths
 }

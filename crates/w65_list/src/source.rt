@@ -6,7 +6,7 @@ ghost use Rattle.omf_format.specs.Header.{Fields};
 ghost use Rattle.omf_format.specs.Reading.{records_of, IsBody};
 ghost use Rattle.omf_header.specs.View.{fields};
 ghost use Rattle.omf_records.specs.View.{view};
-ghost use Rattle.omf_records.specs.Segments.{IsSound, IsRefused, shown};
+ghost use Rattle.omf_records.specs.Segments.{IsSound, IsRefused, segment_of_view};
 ghost use Rattle.list_meaning.specs.Answer.{IsListing, IsListFault, cause_of};
 ghost use Rattle.list_meaning.specs.Listing as listing;
 ghost use Rattle.list_meaning.specs.Listing.{equate_name, said_from, listing_of};
@@ -14,12 +14,12 @@ ghost use Rattle.list_meaning.specs.declared.faults.ListCause.TheVariants as cau
 ghost use Rattle.w65_list.specs.BeforeView.{IsBefore};
 ghost use Rattle.list_lines.specs.LineView.{WroteAll};
 ghost use Rattle.list_lines.specs.NamesView.{AreNames};
-ghost use Rattle.list_lines.specs.OutputView.{kept, open_line};
+ghost use Rattle.list_lines.specs.OutputView.{finished_lines, open_line};
 ghost use Rattle.w65_list.specs.SourceView.{WroteRecords, WroteSegment, WroteFile, equates_in, IsStop, IsRefusal, IsTold, IsSegmentFault};
 
 use crate::front::put_front;
-use crate::records::Before;
-use list_lines::{Names, Output, Stop};
+use crate::records::PendingRun;
+use list_lines::{LineStop, Names, Output};
 use list_meaning::{ListCause, ListFault};
 use omf_header::Header;
 use omf_records::{FileCause, FileFault, Rec, Records, SegmentList, SegmentView, segments};
@@ -87,12 +87,12 @@ impl From<AllocError> for Refusal {
 }
 
 /// What stops at a place.
-fn stopped(place: u32, stop: Stop) -> Refusal
+fn stopped(place: u32, stop: LineStop) -> Refusal
     ensures { IsStop place stop result }
 {
     match stop {
-        Stop::NotListable => Refusal::NotListable(place),
-        Stop::Memory => Refusal::Memory,
+        LineStop::NotListable => Refusal::NotListable(place),
+        LineStop::Memory => Refusal::Memory,
     }
 }
 
@@ -102,16 +102,16 @@ fn put_records<'a>(
     out: &mut Output,
     header: &Header,
     names: &Names,
-    before: Before<'a>,
+    before: PendingRun<'a>,
     records: Records<'a>,
 ) -> Result<(), Refusal>
     requires line { open_line out.old ≡ [] }
     requires body { IsBody records }
     requires layout { records.layout.lab_len ≡ header.now.lab_len }
-    requires known { (b : listing.Before) × (all : List (List ℕ)) × IsBefore before b × AreNames names.now all }
-    ensures wrote { OnOk result ((b : listing.Before) (all : List (List ℕ)) → IsBefore before.entry b → AreNames names.now all
+    requires known { (b : listing.PendingRun) × (all : List (List ℕ)) × IsBefore before b × AreNames names.now all }
+    ensures wrote { OnOk result ((b : listing.PendingRun) (all : List (List ℕ)) → IsBefore before.entry b → AreNames names.now all
         → WroteRecords (fields header.now) all b (records_of records.entry) out.old out.new) }
-    ensures refused { IfErr result (λ refusal. (b : listing.Before) (all : List (List ℕ)) → IsBefore before.entry b → AreNames names.now all
+    ensures refused { IfErr result (λ refusal. (b : listing.PendingRun) (all : List (List ℕ)) → IsBefore before.entry b → AreNames names.now all
         → IsRefusal refusal (λ at. said_from (fields header.now) all b (records_of records.entry) ≡ Err at)) }
 {
     let mut before = before;
@@ -132,14 +132,14 @@ fn put_records<'a>(
 fn put_segment(alloc: Global, out: &mut Output, view: &SegmentView) -> Result<(), Refusal>
     requires line { open_line out.old ≡ [] }
     requires sound { IsSound view.now }
-    ensures wrote { OnOk result (WroteSegment (shown view.now) out.old out.new) }
-    ensures refused { IfErr result (λ refusal. IsRefusal refusal (λ at. listing_of (shown view.now) ≡ Err at)) }
+    ensures wrote { OnOk result (WroteSegment (segment_of_view view.now) out.old out.new) }
+    ensures refused { IfErr result (λ refusal. IsRefusal refusal (λ at. listing_of (segment_of_view view.now) ≡ Err at)) }
 {
     if let Err(stop) = put_front(out, view) {
         return Err(stopped(view.start, stop));
     }
     let names = equated(alloc, view.records())?;
-    let before = Before::new(alloc, view.header.name.bytes())?;
+    let before = PendingRun::new(alloc, view.header.name.bytes())?;
     put_records(alloc, out, &view.header, &names, before, view.records())
 }
 

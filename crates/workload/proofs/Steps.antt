@@ -15,8 +15,8 @@ use Rattle.loader_machine.specs.Commands as commands
 use Rattle.loader_machine.specs.Needs.{Needs, NeedsBehind, IsReadFor}
 use Rattle.loader_machine.specs.Transcript.{IsAnswered, AreAnswered}
 use Rattle.loader_agrees.specs.Agrees.{Loaded, Agrees, Met, Meets, MeetsReads, ReadsNeeded}
-use Rattle.workload.specs.declared.rounds.Outcome.{Outcome}
-use Rattle.workload.specs.declared.rounds.Outcome.TheVariants.{Refused as Fails}
+use Rattle.workload.specs.declared.rounds.RoundOutcome.{RoundOutcome}
+use Rattle.workload.specs.declared.rounds.RoundOutcome.TheVariants.{Refused as Fails}
 use Rattle.workload.specs.declared.rounds.Counts.{Counts}
 use Rattle.workload.specs.Store.{Held, seen}
 use Rattle.workload_meaning.specs.Draws.{next, draws, behind}
@@ -31,7 +31,7 @@ pub none_read : (held : FileMap) (state : Machine) (command : Command) → Needs
 none_read held state command none behind = ([], none, inl (refl, [], 0, behind, refl))
 
 -- a call that reads no file
-pub quiet_step : (held : FileMap) (state : Machine) (command : Command) (reply : Reply) (outcome : Outcome) (new : Loaded) → IsReadFor held state command 0 0 → outcome ≡ outcome_of reply
+pub quiet_step : (held : FileMap) (state : Machine) (command : Command) (reply : Reply) (outcome : RoundOutcome) (new : Loaded) → IsReadFor held state command 0 0 → outcome ≡ outcome_of reply
     → Met RoomRule held state command reply new → IsStep held state command outcome new
 quiet_step held state command reply outcome new none is met = record {
   reply = reply;
@@ -44,12 +44,12 @@ quiet_step held state command reply outcome new none is met = record {
 }
 
 -- such a call was done
-pub quiet_done : (command : Command) (reply : Reply) (outcome : Outcome) (old new : Loaded) → ((held : FileMap) (state : Machine) → IsReadFor held state command 0 0) → outcome ≡ outcome_of reply
+pub quiet_done : (command : Command) (reply : Reply) (outcome : RoundOutcome) (old new : Loaded) → ((held : FileMap) (state : Machine) → IsReadFor held state command 0 0) → outcome ≡ outcome_of reply
     → ((held : FileMap) (state : Machine) → Agrees held old state → Met RoomRule held state command reply new) → (held : FileMap) → HasDone held command outcome old new
 quiet_done command reply outcome old new none is meets held = λ state agrees. quiet_step held state command reply outcome new (none held state) is (meets held state agrees)
 
 -- or refused
-pub quiet_refused : (command : Command) (fault : LoaderFault) (E : Type 0) (result : Result Outcome E) (old new : Loaded) → ((held : FileMap) (state : Machine) → IsReadFor held state command 0 0)
+pub quiet_refused : (command : Command) (fault : LoaderFault) (E : Type 0) (result : Result RoundOutcome E) (old new : Loaded) → ((held : FileMap) (state : Machine) → IsReadFor held state command 0 0)
     → IfOk result (λ outcome. outcome ≡ Fails) → ((held : FileMap) (state : Machine) → Agrees held old state → Met RoomRule held state command (commands.Refused fault) new)
     → IfOk result (λ outcome. (held : FileMap) → HasDone held command outcome old new)
 quiet_refused command fault E (Ok outcome) old new none is meets = quiet_done command (commands.Refused fault) outcome old new none is meets
@@ -89,7 +89,7 @@ module _ (command : Command) (old new : Loaded) (before now : Held) where
       by_case held state (inr (inr short)) = absurd (other short.0)
 
   -- it was done
-  pub reading_done : (reply : Reply) (outcome : Outcome) → outcome ≡ outcome_of reply → Reading' reply → HasDone before.files command outcome old new
+  pub reading_done : (reply : Reply) (outcome : RoundOutcome) → outcome ≡ outcome_of reply → Reading' reply → HasDone before.files command outcome old new
   reading_done reply outcome is reads = λ state agrees.
       let both = reads before.files state refl agrees in
       record {
@@ -103,7 +103,7 @@ module _ (command : Command) (old new : Loaded) (before now : Held) where
       }
 
   -- or refused
-  pub reading_refused : (fault : LoaderFault) (E : Type 0) (result : Result Outcome E) → OnOk result (fault ≢ faults.Memory) → IfOk result (λ outcome. outcome ≡ Fails)
+  pub reading_refused : (fault : LoaderFault) (E : Type 0) (result : Result RoundOutcome E) → OnOk result (fault ≢ faults.Memory) → IfOk result (λ outcome. outcome ≡ Fails)
       → ((commands.Refused fault ≢ commands.Refused faults.Memory) → Reading' (commands.Refused fault)) → IfOk result (λ outcome. HasDone before.files command outcome old new)
   reading_refused fault E (Ok outcome) other is reads = reading_done (commands.Refused fault) outcome is (reads (λ same. other (same_fault fault same)))
     where
@@ -163,11 +163,11 @@ refused_more counts (commands.BlockIs state) = omega arith
 refused_more counts (commands.RoomIs count) = omega arith
 refused_more counts (commands.Moved count) = omega arith
 
-pub done_more : (held : FileMap) (commands : List Command) (counts new : Counts) (old loader : Loaded) (command : Command) (outcome : Outcome) → AreDone held commands counts old
+pub done_more : (held : FileMap) (commands : List Command) (counts new : Counts) (old loader : Loaded) (command : Command) (outcome : RoundOutcome) → AreDone held commands counts old
     → HasDone held command outcome old loader → new ≡ counted outcome counts → AreDone held (commands ++ command ∷ []) new loader
 done_more held commands counts new old loader command outcome so_far has is =
     let step = has so_far.last so_far.agrees in
-    let new_is : new ≡ counted (outcome_of step.reply) counts = is ∙ ap (λ (o : Outcome). counted o counts) step.comes in
+    let new_is : new ≡ counted (outcome_of step.reply) counts = is ∙ ap (λ (o : RoundOutcome). counted o counts) step.comes in
     record {
       replies = so_far.replies ++ step.reply ∷ [];
       reads = so_far.reads + step.reads;
@@ -216,7 +216,7 @@ pub record IsUnderWay (held files : FileMap) (n x count last : ℕ) (counts : Co
   pub done : AreDone held (front_of n x count) counts loader
   pub small : counts.entered + counts.refused ≤ count + 1
 
-pub goes_on : (held files more : FileMap) (n x count last drawn next' : ℕ) (counts new : Counts) (old loader : Loaded) (outcome : Outcome) → IsUnderWay held files n x count last counts old
+pub goes_on : (held files more : FileMap) (n x count last drawn next' : ℕ) (counts new : Counts) (old loader : Loaded) (outcome : RoundOutcome) → IsUnderWay held files n x count last counts old
     → drawn ≡ next last / 65536 → next' ≡ next last → more ≡ files → HasDone files (round_of n drawn) outcome old loader → new ≡ counted outcome counts
     → new.entered + new.refused ≤ counts.entered + counts.refused + 1 → IsUnderWay held more n x (count + 1) next' new loader
 goes_on held files more n x count last drawn next' counts new old loader outcome way drawn_is next_is files_are has is small = record {
@@ -232,7 +232,7 @@ goes_on held files more n x count last drawn next' counts new old loader outcome
 -- ---- the whole run
 
 -- the program was loaded
-pub first_done : (held : FileMap) (n x : ℕ) (counts new : Counts) (old loader : Loaded) (outcome : Outcome) → counts.entered ≡ 0 → counts.refused ≡ 0 → Agrees held old (empty_of banks)
+pub first_done : (held : FileMap) (n x : ℕ) (counts new : Counts) (old loader : Loaded) (outcome : RoundOutcome) → counts.entered ≡ 0 → counts.refused ≡ 0 → Agrees held old (empty_of banks)
     → HasDone held (Load program) outcome old loader → new ≡ counted outcome counts → AreDone held (front_of n x 0) new loader
 first_done held n x counts new old loader outcome none no_refusal agrees has is =
     done_more held [] counts new old loader (Load program) outcome (nothing_done held counts old none no_refusal agrees) has is

@@ -7,26 +7,26 @@ use Rattle.loader_machine.specs.Commands as commands
 use Rattle.loader_machine.specs.Needs.{IsReadFor}
 use Rattle.loader_machine.specs.Transcript.{IsAnswered, AreAnswered}
 use Rattle.loader_agrees.specs.Agrees.{Loaded, Agrees}
-use Rattle.workload.specs.declared.rounds.Outcome.{Outcome}
-use Rattle.workload.specs.declared.rounds.Outcome.TheVariants.{Entered, Done, Refused as Fails}
+use Rattle.workload.specs.declared.rounds.RoundOutcome.{RoundOutcome}
+use Rattle.workload.specs.declared.rounds.RoundOutcome.TheVariants.{Entered, Done, Refused as Fails}
 use Rattle.workload.specs.declared.rounds.Counts.{Counts}
 use Rattle.workload_meaning.specs.Draws.{draws}
 use Rattle.workload.specs.Rounds.{banks, program, round_of, is_entered, is_refused}
 
 -- what a reply comes to
-abbrev pub outcome_of : Reply → Outcome
+abbrev pub outcome_of : Reply → RoundOutcome
 outcome_of (commands.Entered user segment offset address) = Entered
 outcome_of (commands.Refused fault) = Fails
 outcome_of _ = Done
 
 -- the counts with an outcome
-abbrev pub counted : Outcome → Counts → Counts
+abbrev pub counted : RoundOutcome → Counts → Counts
 counted Entered counts = record counts { entered = counts.entered + 1 }
 counted Done counts = counts
 counted Fails counts = record counts { refused = counts.refused + 1 }
 
 -- in a state a command has a reply of this outcome, and the loader agrees with the state to which it leads
-pub record IsStep (held : FileMap) (state : Machine) (command : Command) (outcome : Outcome) (loader : Loaded) : Type 0 where
+pub record IsStep (held : FileMap) (state : Machine) (command : Command) (outcome : RoundOutcome) (loader : Loaded) : Type 0 where
   pub reply : Reply
   pub reads : ℕ
   pub next : Machine
@@ -36,7 +36,7 @@ pub record IsStep (held : FileMap) (state : Machine) (command : Command) (outcom
   pub comes : outcome ≡ outcome_of reply
 
 -- so it is in every state with which the loader agreed
-abbrev pub HasDone : FileMap → Command → Outcome → Loaded → Loaded → Type 0
+abbrev pub HasDone : FileMap → Command → RoundOutcome → Loaded → Loaded → Type 0
 HasDone held command outcome old new = (state : Machine) → Agrees held old state → IsStep held state command outcome new
 
 -- these commands were answered, and the loader agrees with the state to which the replies lead; their outcomes were counted

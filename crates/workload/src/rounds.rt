@@ -18,7 +18,7 @@ pub const USER: u16 = 0x1001;
 
 /// What came of a call.
 #[derive(Clone, Copy, Debug, PartialEq, Eq)]
-pub enum Outcome {
+pub enum RoundOutcome {
     /// A JSL entered a segment.
     Entered,
     /// Another call was done.
@@ -35,72 +35,72 @@ pub struct Counts {
 
 impl Counts {
     /// Counts what came of a call.
-    pub fn count(&mut self, outcome: Outcome)
+    pub fn count(&mut self, outcome: RoundOutcome)
         requires { self.old.entered + self.old.refused < 1000 }
         ensures counted { self.new ≡ counted outcome self.old }
         ensures more { self.new.entered + self.new.refused ≤ self.old.entered + self.old.refused + 1 }
     {
         match outcome {
-            Outcome::Entered => self.entered += 1,
-            Outcome::Done => {}
-            Outcome::Refused => self.refused += 1,
+            RoundOutcome::Entered => self.entered += 1,
+            RoundOutcome::Done => {}
+            RoundOutcome::Refused => self.refused += 1,
         }
     }
 }
 
 /// What a refusal comes to, unless memory ran out.
-fn refused(fault: LoaderFault) -> Result<Outcome, AllocError>
-    ensures refused { IfOk result (λ outcome. outcome ≡ Outcome.Refused) }
+fn refused(fault: LoaderFault) -> Result<RoundOutcome, AllocError>
+    ensures refused { IfOk result (λ outcome. outcome ≡ RoundOutcome.Refused) }
     ensures other { OnOk result (fault ≢ LoaderFault.Memory) }
     ensures memory { OnErr result (fault ≡ LoaderFault.Memory) }
 {
     match fault {
         LoaderFault::Memory => Err(AllocError),
-        _ => Ok(Outcome::Refused),
+        _ => Ok(RoundOutcome::Refused),
     }
 }
 
 /// Loads the program.
-pub fn load(loader: &mut Loader, files: &mut ReliableFiles) -> Result<Outcome, AllocError>
+pub fn load(loader: &mut Loader, files: &mut ReliableFiles) -> Result<RoundOutcome, AllocError>
     ensures held { files.new.files ≡ files.old.files }
     ensures done { IfOk result (λ outcome. HasDone files.old.files (commands.Load program) outcome loader.old loader.new) }
 {
     match loader.load(files, "prog") {
-        Ok(_) => Ok(Outcome::Done),
+        Ok(_) => Ok(RoundOutcome::Done),
         Err(fault) => refused(fault),
     }
 }
 
 /// Follows the JSL to a dynamic segment, by its number from 1.
-fn jsl(loader: &mut Loader, files: &mut ReliableFiles, i: u32) -> Result<Outcome, AllocError>
+fn jsl(loader: &mut Loader, files: &mut ReliableFiles, i: u32) -> Result<RoundOutcome, AllocError>
     requires from { 1 ≤ i }
     requires to { i ≤ 64 }
     ensures held { files.new.files ≡ files.old.files }
     ensures done { IfOk result (λ outcome. HasDone files.old.files (commands.Jsl first_id 1 (4 * (i - 1))) outcome loader.old loader.new) }
 {
     match loader.jsl(files, USER, 1, 4 * (i - 1)) {
-        Ok(_) => Ok(Outcome::Entered),
+        Ok(_) => Ok(RoundOutcome::Entered),
         Err(fault) => refused(fault),
     }
 }
 
 /// Lets a dynamic segment go.
-fn unload(loader: &mut Loader, i: u32) -> Result<Outcome, AllocError>
+fn unload(loader: &mut Loader, i: u32) -> Result<RoundOutcome, AllocError>
     requires { i ≤ 64 }
     ensures { IfOk result (λ outcome. (held : FileMap) → HasDone held (commands.UnloadSegment first_id (i + 1)) outcome loader.old loader.new) }
 {
     match loader.unload_segment(USER, i as u16 + 1) {
-        Ok(()) => Ok(Outcome::Done),
+        Ok(()) => Ok(RoundOutcome::Done),
         Err(fault) => refused(fault),
     }
 }
 
 /// Empties the user's purgeable blocks.
-fn purge(loader: &mut Loader) -> Result<Outcome, AllocError>
+fn purge(loader: &mut Loader) -> Result<RoundOutcome, AllocError>
     ensures { IfOk result (λ outcome. (held : FileMap) → HasDone held (commands.Purge first_id) outcome loader.old loader.new) }
 {
     match loader.purge(USER) {
-        Ok(_) => Ok(Outcome::Done),
+        Ok(_) => Ok(RoundOutcome::Done),
         Err(fault) => refused(fault),
     }
 }
@@ -111,7 +111,7 @@ fn round(
     files: &mut ReliableFiles,
     n: u32,
     draw: u32,
-) -> Result<Outcome, AllocError>
+) -> Result<RoundOutcome, AllocError>
     requires some { 1 ≤ n }
     requires few { n ≤ 64 }
     ensures held { files.new.files ≡ files.old.files }

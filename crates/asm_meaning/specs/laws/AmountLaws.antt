@@ -8,10 +8,10 @@ use Rattle.std.proofs.Math.Facts.{Fits-of_lt, sfits_to_z}
 use Rattle.std.proofs.lemmas.Nat.{or_lt, xor_lt}
 use Rattle.std.specs.Int.{w32, bit_not}
 use Rattle.omf_format.specs.Expression.{Operator, Location, Constant, Named, Offset, Tree, Leaf, Unary, Binary, IsTree, IsExpression, depth}
-use Rattle.omf_format.specs.Value.{number_of_one, number_of_two, arithmetic, logical, comparison, bitwise, wrapped, shifted, truth, bits_of, signed, divides}
-use Rattle.orca_meaning.specs.Formula.{pending, values_of, placed}
+use Rattle.omf_format.specs.Value.{number_of_one, number_of_two, arithmetic, logical, comparison, bitwise, wrapped_to_32_bits, shifted_bits, truth, bits_of, signed, divides}
+use Rattle.orca_meaning.specs.Formula.{pending, values_of, with_location_less}
 use Rattle.asm_meaning.specs.Answer.{Answer}
-use Rattle.asm_meaning.specs.Constant.{Constants, Worth, Number, Open, Divided, number_or_open, worth_of_one, worth_of_two, worth, number_or, with_values, Amount, Known, Written, amount_by, amount}
+use Rattle.asm_meaning.specs.Constant.{Constants, KnownValue, Number, Open, Divided, number_or_open, worth_of_one, worth_of_two, known_value, number_or, with_values, Amount, Known, Written, amount_by, amount}
 use Rattle.asm_meaning.specs.Formulas.{expression_text}
 
 -- each known value has 32 bits
@@ -56,7 +56,7 @@ pending-with_values constants here (Unary code a) = pending-with_values constant
 pending-with_values constants here (Binary code a b) = rw (pending-with_values constants here a, pending-with_values constants here b) refl
 
 -- the location counter less a number
-pub tree-placed : (back : ℕ) (t : Tree) → back < 2 ^ 32 → IsTree 0 t → IsTree 0 (placed back t)
+pub tree-placed : (back : ℕ) (t : Tree) → back < 2 ^ 32 → IsTree 0 t → IsTree 0 (with_location_less back t)
 tree-placed back (Leaf (Operator code)) less is = is
 tree-placed back (Leaf Location) less is = (refl, refl, tt, less)
 tree-placed back (Leaf (Constant n)) less is = is
@@ -82,11 +82,11 @@ small_truth : (b : Bool) → Small (truth b)
 small_truth true = omega arith
 small_truth false = omega arith
 
-pub wrapped-lt : (n : ℕ) → Small (wrapped n)
+pub wrapped-lt : (n : ℕ) → Small (wrapped_to_32_bits n)
 wrapped-lt n = omega arith
 
-small_shifted : (n : ℕ) (count : ℤ) → Small n → Small (shifted n count)
-small_shifted n (pos k) small = small_cond (ltb k 32) (wrapped (n * 2 ^ k)) 0 (wrapped-lt (n * 2 ^ k)) (omega arith)
+small_shifted : (n : ℕ) (count : ℤ) → Small n → Small (shifted_bits n count)
+small_shifted n (pos k) small = small_cond (ltb k 32) (wrapped_to_32_bits (n * 2 ^ k)) 0 (wrapped-lt (n * 2 ^ k)) (omega arith)
 small_shifted n (negsuc k) small = small_cond (ltb k 31) (n / 2 ^ (k + 1)) 0 (omega (arith, div-le_self n (2 ^ (k + 1)), small)) (omega arith)
 
 small_negated : (n : ℕ) → Small (bits_of (neg_ℤ (pos n)))
@@ -108,9 +108,9 @@ small_remainder (negsuc a) (negsuc b) fits = small_negated (suc a % suc b)
 small_arithmetic : (code a b : ℕ) → Small a → Small (arithmetic code a b)
 unfolding arithmetic
 small_arithmetic code a b p =
-    small_cond (eqb code 0x01) (wrapped (a + b)) _ (wrapped-lt (a + b)) (
-    small_cond (eqb code 0x02) (wrapped (a + (2 ^ 32 - b))) _ (wrapped-lt (a + (2 ^ 32 - b))) (
-    small_cond (eqb code 0x03) (wrapped (a * b)) _ (wrapped-lt (a * b)) (
+    small_cond (eqb code 0x01) (wrapped_to_32_bits (a + b)) _ (wrapped-lt (a + b)) (
+    small_cond (eqb code 0x02) (wrapped_to_32_bits (a + (2 ^ 32 - b))) _ (wrapped-lt (a + (2 ^ 32 - b))) (
+    small_cond (eqb code 0x03) (wrapped_to_32_bits (a * b)) _ (wrapped-lt (a * b)) (
     small_cond (eqb code 0x04) (bits_of (int_div (signed a) (signed b))) _ (small_quotient (signed a) (signed b) (sfits_to_z (Fits-of_lt p))) (
     small_cond (eqb code 0x05) (bits_of (int_rem (signed a) (signed b))) _ (small_remainder (signed a) (signed b) (sfits_to_z (Fits-of_lt p))) (small_shifted a (signed b) p)))))
 
@@ -142,10 +142,10 @@ number_of_two-lt code a b p q =
 pub number_of_one-lt : (code a : ℕ) → number_of_one code a < 2 ^ 32
 unfolding number_of_one
 number_of_one-lt code a =
-    small_cond (eqb code 0x06) (wrapped (2 ^ 32 - a)) _ (wrapped-lt (2 ^ 32 - a)) (small_cond (eqb code 0x0B) _ (bit_not w32 a) (small_truth _) (omega arith))
+    small_cond (eqb code 0x06) (wrapped_to_32_bits (2 ^ 32 - a)) _ (wrapped-lt (2 ^ 32 - a)) (small_cond (eqb code 0x0B) _ (bit_not w32 a) (small_truth _) (omega arith))
 
 -- a worth's number has 32 bits
-abbrev pub IsSmallWorth : Worth → Type 0
+abbrev pub IsSmallWorth : KnownValue → Type 0
 IsSmallWorth (Number n) = n < 2 ^ 32
 IsSmallWorth Open = Unit {0}
 IsSmallWorth Divided = Unit {0}
@@ -154,16 +154,16 @@ small_name : (o : Option ℕ) → ((n : ℕ) → o ≡ Some n → n < 2 ^ 32) �
 small_name None small = tt
 small_name (Some n) small = small n refl
 
-small_one : (code : ℕ) (a : Worth) → IsSmallWorth (worth_of_one code a)
+small_one : (code : ℕ) (a : KnownValue) → IsSmallWorth (worth_of_one code a)
 small_one code (Number a) = number_of_one-lt code a
 small_one code Open = tt
 small_one code Divided = tt
 
-small_if : (b : Bool) (v w : Worth) → IsSmallWorth v → IsSmallWorth w → IsSmallWorth (cond b v w)
+small_if : (b : Bool) (v w : KnownValue) → IsSmallWorth v → IsSmallWorth w → IsSmallWorth (cond b v w)
 small_if true v w p q = p
 small_if false v w p q = q
 
-small_two : (code : ℕ) (a b : Worth) → IsSmallWorth a → IsSmallWorth b → IsSmallWorth (worth_of_two code a b)
+small_two : (code : ℕ) (a b : KnownValue) → IsSmallWorth a → IsSmallWorth b → IsSmallWorth (worth_of_two code a b)
 small_two code (Number a) (Number b) p q = small_if (divides code && eqb b 0) Divided (Number (number_of_two code a b)) tt (number_of_two-lt code a b p q)
 small_two code (Number a) Open p q = tt
 small_two code (Number a) Divided p q = tt
@@ -172,15 +172,15 @@ small_two code Divided (Number b) p q = tt
 small_two code Divided Open p q = tt
 small_two code Divided Divided p q = tt
 
-pub small_worth : (constants : Constants) → AreSmall constants → (t : Tree) → IsTree 0 t → IsSmallWorth (worth constants t)
-unfolding worth
+pub small_worth : (constants : Constants) → AreSmall constants → (t : Tree) → IsTree 0 t → IsSmallWorth (known_value constants t)
+unfolding known_value
 small_worth constants small (Leaf (Operator code)) is = tt
 small_worth constants small (Leaf Location) is = tt
 small_worth constants small (Leaf (Constant n)) is = is
 small_worth constants small (Leaf (Named code name)) is = small_if (eqb code 0x83) (number_or_open (constants name)) Open (small_name (constants name) (small name)) tt
 small_worth constants small (Leaf (Offset n)) is = tt
-small_worth constants small (Unary code a) is = small_one code (worth constants a)
-small_worth constants small (Binary code a b) is = small_two code (worth constants a) (worth constants b) (small_worth constants small a is.2) (small_worth constants small b is.3)
+small_worth constants small (Unary code a) is = small_one code (known_value constants a)
+small_worth constants small (Binary code a b) is = small_two code (known_value constants a) (known_value constants b) (small_worth constants small a is.2) (small_worth constants small b is.3)
 
 -- ---- amounts
 
@@ -194,12 +194,12 @@ IsFineAmount here (Written t) = IsTree 0 t × (pending here t ≤ 64)
 
 pub fine_amount : (constants : Constants) → AreSmall constants → (here : ℕ) (t : Tree) (a : Amount) → IsTree 0 t → pending here t ≤ 64 → amount constants t ≡ Ok a → IsFineAmount here a
 unfolding amount
-fine_amount constants small here t a is shallow e = by_worth (worth constants t) (small_worth constants small t is) e
+fine_amount constants small here t a is shallow e = by_worth (known_value constants t) (small_worth constants small t is) e
   where
     same : (x : Amount) → amount_is x ≡ Ok a → x ≡ a
     same x e = cc
 
-    by_worth : (w : Worth) → IsSmallWorth w → amount_by (with_values constants t) w ≡ Ok a → IsFineAmount here a
+    by_worth : (w : KnownValue) → IsSmallWorth w → amount_by (with_values constants t) w ≡ Ok a → IsFineAmount here a
     by_worth (Number n) fits e = subst (IsFineAmount here) (same (Known n) e) fits
     by_worth Open fits e = subst (IsFineAmount here) (same (Written (with_values constants t)) e) (tree-with_values constants small t is, subst (λ (k : ℕ). k ≤ 64) (sym (pending-with_values constants here t)) shallow)
     by_worth Divided fits e = absurd cc

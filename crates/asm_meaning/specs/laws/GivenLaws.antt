@@ -23,11 +23,11 @@ use Rattle.orca_meaning.specs.Operand.{Meaning, opening, body, prefix, behind_op
 use Rattle.orca_meaning.specs.Token.{digits_at, Token, Stand, expects_behind, name_at, Found}
 use Rattle.orca_meaning.specs.laws.TokenLaws.{token-shorter}
 use Rattle.asm_meaning.specs.declared.faults.AsmCause.TheVariants.{BadOperand, BadNumber}
-use Rattle.asm_meaning.specs.Answer.{Answer, both, all_of, with_first}
+use Rattle.asm_meaning.specs.Answer.{Answer, pair_or_earlier_fault, all_of, with_first}
 use Rattle.asm_meaning.specs.Constant.{Constants, Amount, Known, Written, amount}
-use Rattle.asm_meaning.specs.Elements.{with_byte, text_at, IsList, Repeat, Value, Element, Kind, Number, Hexadecimal, Binary, Characters, References, WeakReferences, closed_at, kind_at, width_at, AreNames, IsValueAt, IsRepeatBy, behind_parenthesis, IsElementAt, AreElements, count_of, number_piece, numbered, weak_piece, strong_piece, value_pieces, element_pieces, list_pieces, joined}
-use Rattle.asm_meaning.specs.Formulas.{AreFormulas, judged, expression_text}
-use Rattle.asm_meaning.specs.Instruction.{Widths, offered, instruction}
+use Rattle.asm_meaning.specs.Elements.{with_byte, text_at, IsList, Repeat, Value, Element, Kind, Number, Hexadecimal, Binary, Characters, References, WeakReferences, closed_at, kind_at, width_at, AreNames, IsValueAt, IsRepeatBy, behind_parenthesis, IsElementAt, AreElements, count_of, number_piece, piece_of_number, weak_piece, strong_piece, value_pieces, element_pieces, list_pieces, joined_pieces}
+use Rattle.asm_meaning.specs.Formulas.{AreFormulas, checked_formula, expression_text}
+use Rattle.asm_meaning.specs.Instruction.{Widths, modes_of_form, instruction}
 use Rattle.asm_meaning.specs.Pieces.{Piece}
 use Rattle.asm_meaning.specs.laws.AmountLaws.{AreSmall, IsFineAmount, fine_amount, is_written}
 use Rattle.asm_meaning.specs.laws.PieceLaws.{IsPlainPiece, ArePlainPieces, copies_plain, joined_plain}
@@ -80,7 +80,7 @@ of_form (Some found) form has e = subst HasFormula (same found e) has
 -- its formulas, and the modes for one
 pub record IsFineOperand (widths : Widths) (m : Mnemonic) (operand : Meaning) : Type 0 where
   pub trees : AreFineTrees operand.trees
-  pub modes : (t : Tree) → operand.trees ≡ t ∷ [] → AllByRecursion (HasBytes widths m) (offered m operand.form operand.prefix)
+  pub modes : (t : Tree) → operand.trees ≡ t ∷ [] → AllByRecursion (HasBytes widths m) (modes_of_form m operand.form operand.prefix)
 
 pub fine_operand : (widths : Widths) (m : Mnemonic) (text : List ℕ) (operand : Meaning) → length text ≤ 255 → IsGoodOperand (Some m) text operand → IsFineOperand widths m operand
 fine_operand widths m text operand short good = by_form good.is good.shallow good.small
@@ -117,7 +117,7 @@ pub instruction_plain : (constants : Constants) (widths : Widths) (m : Mnemonic)
 unfolding instruction
 instruction_plain constants widths m text operand pieces small short good e =
     let fine = fine_operand widths m text operand short good in
-    modes_plain constants widths m operand.prefix operand.trees (offered m operand.form operand.prefix) pieces small fine.trees fine.modes e
+    modes_plain constants widths m operand.prefix operand.trees (modes_of_form m operand.form operand.prefix) pieces small fine.trees fine.modes e
 
 -- ---- formulas that stand alone
 
@@ -133,8 +133,8 @@ bad_operand = Err BadOperand
 same_good : (a b : Tree) → good a ≡ good b → a ≡ b
 same_good a b e = cc
 
-judged_tree : (tree t : Tree) → judged tree ≡ Ok t → (tree ≡ t) × (pending 1 tree ≤ 64) × (has_large tree ≡ false)
-unfolding judged
+judged_tree : (tree t : Tree) → checked_formula tree ≡ Ok t → (tree ≡ t) × (pending 1 tree ≤ 64) × (has_large tree ≡ false)
+unfolding checked_formula
 judged_tree tree t e = by_depth (ltb 64 (pending 1 tree)) refl e
   where
     by_large : (b : Bool) → has_large tree ≡ b → ltb 64 (pending 1 tree) ≡ false → cond b bad_number (good tree) ≡ Ok t → (tree ≡ t) × (pending 1 tree ≤ 64) × (has_large tree ≡ false)
@@ -146,7 +146,7 @@ judged_tree tree t e = by_depth (ltb 64 (pending 1 tree)) refl e
     by_depth false is e = by_large (has_large tree) refl is e
 
 -- a formula of a text of at most 255 bytes that is judged good
-pub judged_fine : (text : List ℕ) (tree t : Tree) (rest : List ℕ) → length text ≤ 255 → MeansAt Labels text tree rest → judged tree ≡ Ok t → IsTree 0 t × (pending 1 t ≤ 64)
+pub judged_fine : (text : List ℕ) (tree t : Tree) (rest : List ℕ) → length text ≤ 255 → MeansAt Labels text tree rest → checked_formula tree ≡ Ok t → IsTree 0 t × (pending 1 t ≤ 64)
 judged_fine text tree t rest short means e =
     let j = judged_tree tree t e in
     subst (λ (x : Tree). IsTree 0 x × (pending 1 x ≤ 64)) j.0 (formed Labels text tree rest short means j.2, j.1)
@@ -171,7 +171,7 @@ all_of-gives {B = B} P Q f [] ys step all e = subst (AllByRecursion Q) (same [] 
     same : (x y : List B) → list x ≡ list y → x ≡ y
     same x y e = cc
 all_of-gives P Q f (x ∷ xs) ys step all e =
-    let found = first_is (both (f x) (all_of f xs)) ys e in
+    let found = first_is (pair_or_earlier_fault (f x) (all_of f xs)) ys e in
     let parts = both_ok (f x) (all_of f xs) (found.0, found.1) found.2 in
     subst (AllByRecursion Q) (sym found.3) (step x found.0 all.0 parts.0, all_of-gives P Q f xs found.1 step all.1 parts.1)
 
@@ -238,9 +238,9 @@ number_plain : (width : ℕ) (a : Amount) → IsTrue (is_count width) → IsFine
 number_plain width (Known n) some fine = tt
 number_plain width (Written t) some fine = expr_plain width (expression_text t) some (is_written t fine.0 (subst (λ (k : ℕ). k ≤ 64) (pending-one t) fine.1))
 
-numbered_plain : (constants : Constants) (width : ℕ) → AreSmall constants → IsTrue (is_count width) → (tree : Tree) (p : Piece) → IsOf tree → numbered constants width tree ≡ Ok p → IsPlainPiece p
+numbered_plain : (constants : Constants) (width : ℕ) → AreSmall constants → IsTrue (is_count width) → (tree : Tree) (p : Piece) → IsOf tree → piece_of_number constants width tree ≡ Ok p → IsPlainPiece p
 numbered_plain constants width small some tree p of e =
-    let j = bind_ok (judged tree) _ p e in
+    let j = bind_ok (checked_formula tree) _ p e in
     let a = bind_ok (amount constants j.0) _ p j.2 in
     let fine = judged_fine of.text tree j.0 of.rest of.short of.means j.1 in
     subst IsPlainPiece (same_piece (number_piece width a.0) p a.2) (number_plain width a.0 some (fine_amount constants small 1 j.0 a.0 fine.0 fine.1 a.1))
@@ -375,7 +375,7 @@ values_plain : (constants : Constants) (msb : Bool) (kind : Kind) (text : List �
 values_plain constants msb (Number width) text value rest pieces small short some is e =
     let inner = closed-le text is.0 rest is.2 in
     let e' = subst (λ (v : Value). value_pieces constants msb v ≡ Ok pieces) is.4 e in
-    all_of-gives IsOf IsPlainPiece (numbered constants width) is.1 pieces (numbered_plain constants width small some) (formulas_of is.0 is.1 (omega (arith, inner, short)) is.3) e'
+    all_of-gives IsOf IsPlainPiece (piece_of_number constants width) is.1 pieces (numbered_plain constants width small some) (formulas_of is.0 is.1 (omega (arith, inner, short)) is.3) e'
 values_plain constants msb Hexadecimal text value rest pieces small short some is e =
     subst ArePlainPieces (same_pieces _ pieces (subst (λ (v : Value). value_pieces constants msb v ≡ Ok pieces) is.4 e)) (tt, tt)
 values_plain constants msb Binary text value rest pieces small short some is e =
@@ -399,7 +399,7 @@ record IsElementOf (element : Element) : Type 0 where
 element_plain : (constants : Constants) (msb : Bool) → AreSmall constants → (element : Element) (pieces : List Piece) → IsElementOf element → element_pieces constants msb element ≡ Ok pieces → ArePlainPieces pieces
 unfolding element_pieces
 element_plain constants msb small element pieces of e =
-    let found = bind_ok (both (count_of constants element.repeat) (value_pieces constants msb element.value)) _ pieces e in
+    let found = bind_ok (pair_or_earlier_fault (count_of constants element.repeat) (value_pieces constants msb element.value)) _ pieces e in
     let parts = both_ok (count_of constants element.repeat) (value_pieces constants msb element.value) found.0 found.1 in
     let is = of.stands in
     let behind = repeat-le (behind_parenthesis of.text) (digits_at 10 of.text) of.text element.repeat is.behind_repeat refl refl is.repeat in
@@ -482,4 +482,4 @@ list_plain constants msb text None pieces small short is e = absurd cc
 list_plain constants msb text (Some elements) pieces small short is e =
     let found = bind_ok (all_of (element_pieces constants msb) elements) _ pieces e in
     let each = all_of-gives IsElementOf ArePlainPieces (element_pieces constants msb) elements found.0 (element_plain constants msb small) (elements_of text elements short is) found.1 in
-    subst ArePlainPieces (same_pieces (joined found.0) pieces found.2) (joined_plain found.0 each)
+    subst ArePlainPieces (same_pieces (joined_pieces found.0) pieces found.2) (joined_plain found.0 each)

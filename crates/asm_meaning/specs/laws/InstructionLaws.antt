@@ -16,16 +16,16 @@ use Rattle.orca_meaning.specs.declared.forms.Index.{Index}
 use Rattle.orca_meaning.specs.declared.forms.Index.TheVariants.{Absent, X, Y, S}
 use Rattle.orca_meaning.specs.declared.mnemonics.Mnemonic.{Mnemonic}
 use Rattle.orca_meaning.specs.declared.modes.Mode.{Mode}
-use Rattle.orca_meaning.specs.Formula.{pending, placed}
+use Rattle.orca_meaning.specs.Formula.{pending, with_location_less}
 use Rattle.orca_meaning.specs.laws.FormulaLaws.{pending-two}
 use Rattle.orca_meaning.specs.Length.{length_of, has_long_operand}
 use Rattle.orca_meaning.specs.Operand.{form_behind, plain_form, round_form, square_form, immediate_form, whole_index, indexes_around}
 use Rattle.std.proofs.lemmas.Bool.{leb-true, eqb-false, and_parts}
 use Rattle.asm_meaning.specs.declared.faults.AsmCause.TheVariants.{DoesNotFit}
-use Rattle.asm_meaning.specs.Answer.{Answer, both}
+use Rattle.asm_meaning.specs.Answer.{Answer, pair_or_earlier_fault}
 use Rattle.asm_meaning.specs.Constant.{Constants, Amount, Known, Written, amount, tree_of_amount}
 use Rattle.asm_meaning.specs.Formulas.{expression_text}
-use Rattle.asm_meaning.specs.Instruction.{Widths, operand_bytes, modes_of, Kind, Missing, Value, Address, Distance, Banks, Sign, kind_of, is_address, offered, address_code, is_long_jump, operand_record, shifted, shift_in, with_tree, with_number, with_known, with_amount, without_amount, mode_of_number, mode_of_tree, or_fault, or_first, holds, is_distance, bank, bank_record, banks_written, moved, given_by, in_modes}
+use Rattle.asm_meaning.specs.Instruction.{Widths, operand_bytes, modes_of, Kind, Missing, Value, Address, Distance, Banks, Sign, kind_of, is_address, modes_of_form, address_code, is_long_jump, operand_record, with_right_shift, shift_in, with_tree, with_number, with_known, with_amount, without_amount, mode_of_number, mode_of_tree, or_fault, or_first, is_operand_of_width, is_distance, bank, bank_record, banks_written, block_move_pieces, given_by, in_modes}
 use Rattle.asm_meaning.specs.Pieces.{Piece}
 use Rattle.asm_meaning.specs.laws.AmountLaws.{AreSmall, IsFineAmount, fine_amount, is_written, tree-placed}
 use Rattle.asm_meaning.specs.laws.PieceLaws.{IsPlain, ArePlainPieces}
@@ -99,8 +99,8 @@ modes_have_bytes widths mnemonic forms.BracketY has = (refl, tt)
 modes_have_bytes widths mnemonic forms.Pair has = (refl, tt)
 modes_have_bytes widths mnemonic forms.Other has = tt
 
-pub offered_have_bytes : (widths : Widths) (mnemonic : Mnemonic) (form : Form) (p : Prefix) → HasFormula form → AllByRecursion (HasBytes widths mnemonic) (offered mnemonic form p)
-unfolding offered
+pub offered_have_bytes : (widths : Widths) (mnemonic : Mnemonic) (form : Form) (p : Prefix) → HasFormula form → AllByRecursion (HasBytes widths mnemonic) (modes_of_form mnemonic form p)
+unfolding modes_of_form
 offered_have_bytes widths mnemonic form p has = filter_keeps (HasBytes widths mnemonic) _ (modes_of form) (modes_have_bytes widths mnemonic form has)
 
 plain_has : (o : Option Index) → Holds HasFormula (option_map plain_form o)
@@ -193,7 +193,7 @@ operand_plain mnemonic Banks width t some is shallow = expr_plain width (express
 operand_plain mnemonic Sign width t some is shallow = expr_plain width (expression_text t) some (expression_fine t is shallow)
 
 -- a shift behind an expression
-shift_fine : (count : ℕ) (t : Tree) → IsTree 0 t → depth t ≤ 64 → IsTree 0 (shifted count t) × (depth (shifted count t) ≤ 64)
+shift_fine : (count : ℕ) (t : Tree) → IsTree 0 t → depth t ≤ 64 → IsTree 0 (with_right_shift count t) × (depth (with_right_shift count t) ≤ 64)
 shift_fine count t is shallow = by_count (eqb count 0) refl
   where
     shift : Tree
@@ -206,13 +206,13 @@ shift_fine count t is shallow = by_count (eqb count 0) refl
     by_count true e = (is, shallow)
     by_count false e = ((refl, refl, is, some e), omega (arith, shallow))
 
-fine_placed : (t : Tree) → IsTree 0 t → pending 2 t ≤ 64 → IsTree 0 (placed 1 t) × (depth (placed 1 t) ≤ 64)
+fine_placed : (t : Tree) → IsTree 0 t → pending 2 t ≤ 64 → IsTree 0 (with_location_less 1 t) × (depth (with_location_less 1 t) ≤ 64)
 fine_placed t is shallow = (tree-placed 1 t (omega arith) is, subst (λ (k : ℕ). k ≤ 64) (pending-two 1 t) shallow)
 
 tree_plain : (mnemonic : Mnemonic) (mode : Mode) (p : Prefix) (width : ℕ) (t : Tree) → IsTrue (is_count width) → IsTree 0 t → pending 2 t ≤ 64 → ArePlainPieces (with_tree mnemonic mode p width t)
 tree_plain mnemonic mode p width t some is shallow =
     let fine = fine_placed t is shallow in
-    let shift = shift_fine (shift_in (kind_of mode) p) (placed 1 t) fine.0 fine.1 in
+    let shift = shift_fine (shift_in (kind_of mode) p) (with_location_less 1 t) fine.0 fine.1 in
     (tt, (operand_plain mnemonic (kind_of mode) width _ some shift.0 shift.1, tt))
 
 abbrev given_pieces : List Piece → Answer (List Piece)
@@ -238,8 +238,8 @@ first_holds P first None p q = p
 first_holds P first (Some found) p q = q
 
 ok_mode : (P : Mode → Type 0) (o : Option Mode) (chosen : Mode) → Holds P o → or_fault o ≡ Ok chosen → P chosen
-ok_mode P None chosen holds e = absurd cc
-ok_mode P (Some found) chosen holds e = subst P (same found e) holds
+ok_mode P None chosen is_operand_of_width e = absurd cc
+ok_mode P (Some found) chosen is_operand_of_width e = subst P (same found e) is_operand_of_width
   where
     same : (found : Mode) → or_fault (Some found) ≡ Ok chosen → found ≡ chosen
     same found e = cc
@@ -249,8 +249,8 @@ amount_plain : (widths : Widths) (mnemonic : Mnemonic) (p : Prefix) (mode : Mode
 unfolding with_amount
 amount_plain widths mnemonic p mode modes (Known n) pieces fine have e =
     let found = bind_ok (mode_of_number widths mnemonic p n (mode ∷ modes)) (λ chosen. Ok (with_known widths mnemonic p n chosen)) pieces e in
-    let has = ok_mode (HasBytes widths mnemonic) (find (λ m. holds p (kind_of m) (operand_bytes widths mnemonic m) n) (mode ∷ modes)) found.0
-    (found_holds (HasBytes widths mnemonic) (λ m. holds p (kind_of m) (operand_bytes widths mnemonic m) n) (mode ∷ modes) have) found.1 in
+    let has = ok_mode (HasBytes widths mnemonic) (find (λ m. is_operand_of_width p (kind_of m) (operand_bytes widths mnemonic m) n) (mode ∷ modes)) found.0
+    (found_holds (HasBytes widths mnemonic) (λ m. is_operand_of_width p (kind_of m) (operand_bytes widths mnemonic m) n) (mode ∷ modes) have) found.1 in
     subst ArePlainPieces (same_pieces (with_known widths mnemonic p n found.0) pieces found.2) (known_plain widths mnemonic p n found.0 fine has)
 amount_plain widths mnemonic p mode modes (Written t) pieces fine have e =
     let has = first_holds (HasBytes widths mnemonic) mode (find (λ other. is_address 2 (kind_of other)) (mode ∷ modes)) have.0 (found_holds (HasBytes widths mnemonic) (λ other. is_address 2 (kind_of other)) (mode ∷ modes) have) in
@@ -289,7 +289,7 @@ bank_plain : (back : ℕ) (a : Amount) → back < 2 ^ 32 → IsFineAmount 2 a �
 bank_plain back a less fine =
     let t = tree_of_amount a in
     let is = tree_of_fine a fine in
-    expr_plain 1 (expression_text (placed back t)) refl (expression_fine (placed back t) (tree-placed back t less is.0) (subst (λ (k : ℕ). k ≤ 64) (pending-two back t) is.1))
+    expr_plain 1 (expression_text (with_location_less back t)) refl (expression_fine (with_location_less back t) (tree-placed back t less is.0) (subst (λ (k : ℕ). k ≤ 64) (pending-two back t) is.1))
 
 banks_plain : (opcode : ℕ) (source destination : Amount) → IsFineAmount 2 source → IsFineAmount 2 destination → ArePlainPieces (banks_written opcode source destination)
 banks_plain opcode (Known m) (Known n) p q = (tt, tt)
@@ -302,7 +302,7 @@ okay a = Ok a
 one_of : {A : Type 0} (x y : A) → okay x ≡ okay y → x ≡ y
 one_of x y e = cc
 
-pub both_ok : {A B : Type 0} (x : Answer A) (y : Answer B) (c : A × B) → both x y ≡ Ok c → (x ≡ Ok c.0) × (y ≡ Ok c.1)
+pub both_ok : {A B : Type 0} (x : Answer A) (y : Answer B) (c : A × B) → pair_or_earlier_fault x y ≡ Ok c → (x ≡ Ok c.0) × (y ≡ Ok c.1)
 both_ok {A = A} {B = B} (Ok a) (Ok b) c e =
     let same : (a, b) ≡ c = one_of (a, b) c e in
     (ap (λ (z : A × B). okay z.0) same, ap (λ (z : A × B). okay z.1) same)
@@ -315,9 +315,9 @@ abbrev pub AreFineTrees : List Tree → Type 0
 AreFineTrees trees = AllByRecursion (λ t. IsTree 0 t × (pending 2 t ≤ 64)) trees
 
 moved_plain : (constants : Constants) (mnemonic : Mnemonic) (chosen : Mode) (source destination : Tree) (pieces : List Piece) → AreSmall constants → AreFineTrees (source ∷ destination ∷ [])
-    → moved constants mnemonic chosen source destination ≡ Ok pieces → ArePlainPieces pieces
+    → block_move_pieces constants mnemonic chosen source destination ≡ Ok pieces → ArePlainPieces pieces
 moved_plain constants mnemonic chosen source destination pieces small fine e =
-    let found = bind_ok (both (amount constants source >>= bank) (amount constants destination >>= bank)) _ pieces e in
+    let found = bind_ok (pair_or_earlier_fault (amount constants source >>= bank) (amount constants destination >>= bank)) _ pieces e in
     let halves = both_ok (amount constants source >>= bank) (amount constants destination >>= bank) found.0 found.1 in
     let s = bind_ok (amount constants source) bank found.0.0 halves.0 in
     let d = bind_ok (amount constants destination) bank found.0.1 halves.1 in

@@ -2,7 +2,7 @@
 use Rattle.std.proofs.Common.{◌≡◌, ℕ, ◌+◌, List, [], ◌∷◌, ◌++◌, length, map, Some, refl, sym, ap, ◌∙◌, arith}
 use Rattle.std.specs.Prelude.{slice_get}
 use Rattle.omf_format.specs.Record.{Record}
-use Rattle.link_meaning.specs.Sizes.{Located, size_at, located_from, located}
+use Rattle.link_meaning.specs.Sizes.{Located, size_at, located_from, records_with_offsets}
 use Rattle.asm_meaning.specs.Pieces.{place_behind, length_at}
 use Rattle.asm_meaning.specs.State.{cells_of, local_of}
 use Rattle.asm_meaning.specs.laws.PieceLaws.{place_behind-append, length_at-adds}
@@ -50,5 +50,5 @@ found_there at (found ∷ founds) (x ∷ before) behind r is =
     tails e = cc
 
 pub linker_sees_place : LinkerSeesPlace
-unfolding located
+unfolding records_with_offsets
 linker_sees_place s before behind r is = found_there 0 s.records before behind r is

@@ -9,7 +9,7 @@ use Rattle.omf_format.specs.Reading.{is_end}
 use Rattle.load_meaning.specs.laws.RunLaws.{IsBodyRecord}
 use Rattle.link_meaning.specs.Sizes.{size_at}
 use Rattle.asm_meaning.specs.Pieces.{Piece, Bytes, Whole, constant_records, records_behind, copies, place_behind, length_at}
-use Rattle.asm_meaning.specs.Elements.{joined}
+use Rattle.asm_meaning.specs.Elements.{joined_pieces}
 
 -- a record of a body that has a spelling as long as it gives less than 2 ^ 32 cells
 pub record IsPlain (r : Record) : Type 0 where
@@ -75,7 +75,7 @@ pub copies_plain : (n : ℕ) (pieces : List Piece) → ArePlainPieces pieces →
 copies_plain zero pieces all = tt
 copies_plain (suc n) pieces all = all-append IsPlainPiece pieces (copies n pieces) all (copies_plain n pieces all)
 
-pub joined_plain : (all : List (List Piece)) → AllByRecursion ArePlainPieces all → ArePlainPieces (joined all)
+pub joined_plain : (all : List (List Piece)) → AllByRecursion ArePlainPieces all → ArePlainPieces (joined_pieces all)
 joined_plain [] are = tt
 joined_plain (pieces ∷ all) are =
-    subst ArePlainPieces (sym (flat_map-cons (λ (ps : List Piece). ps) pieces all)) (all-append IsPlainPiece pieces (joined all) are.0 (joined_plain all are.1))
+    subst ArePlainPieces (sym (flat_map-cons (λ (ps : List Piece). ps) pieces all)) (all-append IsPlainPiece pieces (joined_pieces all) are.0 (joined_plain all are.1))

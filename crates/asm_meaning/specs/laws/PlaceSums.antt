@@ -15,13 +15,13 @@ use Rattle.asm_meaning.specs.declared.directives.Directive.TheVariants as direct
 use Rattle.asm_meaning.specs.declared.directives.Operation.{Operation}
 use Rattle.asm_meaning.specs.declared.directives.Operation.TheVariants.{Instruct, Direct}
 use Rattle.asm_meaning.specs.declared.faults.AsmCause.TheVariants.{SegmentTooLong}
-use Rattle.asm_meaning.specs.Answer.{Answer, both}
+use Rattle.asm_meaning.specs.Answer.{Answer, pair_or_earlier_fault}
 use Rattle.asm_meaning.specs.Constant.{amount, tree_of_amount}
 use Rattle.asm_meaning.specs.Formulas.{formula_of}
 use Rattle.asm_meaning.specs.Operations.{operation_of}
 use Rattle.asm_meaning.specs.Pieces.{place_behind, length_at}
-use Rattle.asm_meaning.specs.State.{Segment, State, start, cells_of, begun, closed, local_of, grown, marked, in_segment, is_too_long, within_length, turned}
-use Rattle.asm_meaning.specs.Statement.{is_misplaced, begins_segment, label_of, load_name_of, switch_of, constants_of, number_in, alignment_in, distance_in, listed_kind, aligned, moved, with_kind, equate, equated, equating, equating_global, marking, IsDone, IsPlaced, IsKnown, IsStep}
+use Rattle.asm_meaning.specs.State.{Segment, State, start, cells_of, state_after_start, state_after_end, local_of, with_records, with_local_record, in_segment, is_too_long, within_length, with_switch_set}
+use Rattle.asm_meaning.specs.Statement.{is_misplaced, begins_segment, label_of, load_name_of, switch_of, constants_of, number_in, alignment_in, distance_in, listed_kind, state_after_align, state_after_org, with_kind, equate, with_equate, equating, equating_global, marking, IsDone, IsPlaced, IsKnown, IsStep}
 use Rattle.asm_meaning.specs.Object.{AreSteps}
 use Rattle.asm_meaning.specs.LabelLaws.{HasPut, IsWithin, AreWithin, HaveNoEnd, PlaceIsSum}
 use Rattle.asm_meaning.specs.laws.InstructionLaws.{both_ok}
@@ -81,9 +81,9 @@ changed_open change state s there = ap (option_map change) there
 -- a statement that changes the segment by its label and by what its operand gives
 changed : {A : Type 0} (Put : List ℕ → Segment → Segment → ℕ → Type 0) (state next : State) (s : Segment) (label : Answer (List ℕ)) (given : Answer A) (change : List ℕ → A → Segment → Segment) (size : List ℕ → A → ℕ)
     → state.segment ≡ Some s → ((name : List ℕ) (a : A) → Put name s (change name a s) (size name a)) → ((name : List ℕ) (a : A) → cells_of (change name a s) ≡ cells_of s + size name a)
-    → (both label given >>= λ (name, a). okay (in_segment (change name a) state)) ≡ Ok next → WithinAs Put s label next
+    → (pair_or_earlier_fault label given >>= λ (name, a). okay (in_segment (change name a) state)) ≡ Ok next → WithinAs Put s label next
 changed Put state next s label given change size there puts cells e =
-    let all = bind_ok (both label given) _ next e in
+    let all = bind_ok (pair_or_earlier_fault label given) _ next e in
     let parts = both_ok label given all.0 all.1 in
     let same : in_segment (change all.0.0 all.0.1) state ≡ next = same_okay _ next all.2 in
     record {
@@ -97,13 +97,13 @@ changed Put state next s label given change size there puts cells e =
     }
 
 -- one that has records
-recorded : (form : ℕ) (contents : List Record) (s : Segment) (name : List ℕ) → Records name s (marked name form contents s) (length_at (cells_of s) contents)
+recorded : (form : ℕ) (contents : List Record) (s : Segment) (name : List ℕ) → Records name s (with_local_record name form contents s) (length_at (cells_of s) contents)
 recorded form contents s name = (form, contents, refl, refl)
 
 marks : (state next : State) (s : Segment) (form : ℕ) (label : Answer (List ℕ)) (contents : Answer (List Record)) → state.segment ≡ Some s → marking state form label contents ≡ Ok next
     → WithinAs Records s label next
 marks state next s form label contents there e =
-    changed Records state next s label contents (λ name found. marked name form found) (λ name found. length_at (cells_of s) found) there
+    changed Records state next s label contents (λ name found. with_local_record name form found) (λ name found. length_at (cells_of s) found) there
     (λ name found. recorded form found s name) (λ name found. lengths_add name form found s) e
 
 -- EQU and GEQU
@@ -111,11 +111,11 @@ equates : (Put : List ℕ → Segment → Segment → ℕ → Type 0) (state nex
     → ((name : List ℕ) (t : Segment) (tree : Tree) → t.body ≡ s.body ++ equate global name tree ∷ [] → Put name s t 0)
     → equating state global label found ≡ Ok next → WithinAs Put s label next
 equates Put state next s global label found there puts e =
-    changed Put state next s label (formula_of found >>= amount (constants_of state)) (λ name a. equated global name a) (λ name a. 0) there
-    (λ name a. puts name (equated global name a s) (tree_of_amount a) refl)
+    changed Put state next s label (formula_of found >>= amount (constants_of state)) (λ name a. with_equate global name a) (λ name a. 0) there
+    (λ name a. puts name (with_equate global name a s) (tree_of_amount a) refl)
     (λ name a. let none = no_cells s.body (equate global name (tree_of_amount a)) (equate_no_cells global name (tree_of_amount a)) in omega (arith, none)) e
 
-turned_open : (switch : Switch) (on : Bool) (state : State) → (turned switch on state).segment ≡ state.segment
+turned_open : (switch : Switch) (on : Bool) (state : State) → (with_switch_set switch on state).segment ≡ state.segment
 turned_open LongA on state = refl
 turned_open LongI on state = refl
 turned_open Msb on state = refl
@@ -130,8 +130,8 @@ done_within state next s line (Instruct m) label text there inside goes done = m
 done_within state next s line (Direct (directives.Begin class)) label text there inside goes done = let clash : true ≡ false = inside in absurd cc
 done_within state next s line (Direct directives.End) label text there inside goes done = absurd (goes refl)
 done_within state next s line (Direct directives.Entry) label text there inside goes done =
-    let all = bind_ok label (λ name. okay (in_segment (grown name None (Label true name 0 0x4E 0 ∷ []) []) state)) next (sym done) in
-    let change : Segment → Segment = grown all.0 None (Label true all.0 0 0x4E 0 ∷ []) [] in
+    let all = bind_ok label (λ name. okay (in_segment (with_records name None (Label true name 0 0x4E 0 ∷ []) []) state)) next (sym done) in
+    let change : Segment → Segment = with_records all.0 None (Label true all.0 0 0x4E 0 ∷ []) [] in
     record {
       name = all.0;
       is_name = all.1;
@@ -149,24 +149,24 @@ done_within state next s line (Direct directives.Gequ) label text there inside g
     (subst (λ (o : Option Segment). equating_global state o label done.0 ≡ Ok next) there (sym done.2))
 done_within state next s line (Direct directives.Constants) label text there inside goes done = marks state next s 0x4E label _ there (sym done.2)
 done_within state next s line (Direct directives.Space) label text there inside goes done =
-    changed Records state next s label (number_in state done.0) (λ name n. marked name 0x4E (Space n ∷ [])) (λ name n. length_at (cells_of s) (Space n ∷ [])) there
+    changed Records state next s label (number_in state done.0) (λ name n. with_local_record name 0x4E (Space n ∷ [])) (λ name n. length_at (cells_of s) (Space n ∷ [])) there
     (λ name n. recorded 0x4E (Space n ∷ []) s name) (λ name n. lengths_add name 0x4E (Space n ∷ []) s) (sym done.2)
 done_within state next s line (Direct directives.Align) label text there inside goes done =
-    changed Records state next s label (number_in state done.0 >>= alignment_in state) (λ name n. marked name 0x4E (Align n ∷ [])) (λ name n. length_at (cells_of s) (Align n ∷ [])) there
+    changed Records state next s label (number_in state done.0 >>= alignment_in state) (λ name n. with_local_record name 0x4E (Align n ∷ [])) (λ name n. length_at (cells_of s) (Align n ∷ [])) there
     (λ name n. recorded 0x4E (Align n ∷ []) s name) (λ name n. lengths_add name 0x4E (Align n ∷ []) s)
-    (subst (λ (o : Option Segment). (both label (number_in state done.0 >>= alignment_in state) >>= λ (name, n). okay (aligned state o name n)) ≡ Ok next) there (sym done.2))
+    (subst (λ (o : Option Segment). (pair_or_earlier_fault label (number_in state done.0 >>= alignment_in state) >>= λ (name, n). okay (state_after_align state o name n)) ≡ Ok next) there (sym done.2))
 done_within state next s line (Direct directives.Org) label text there inside goes done =
-    changed Records state next s label (number_in state done.0 >>= distance_in state.segment) (λ name n. marked name 0x4E (Org n ∷ [])) (λ name n. length_at (cells_of s) (Org n ∷ [])) there
+    changed Records state next s label (number_in state done.0 >>= distance_in state.segment) (λ name n. with_local_record name 0x4E (Org n ∷ [])) (λ name n. length_at (cells_of s) (Org n ∷ [])) there
     (λ name n. recorded 0x4E (Org n ∷ []) s name) (λ name n. lengths_add name 0x4E (Org n ∷ []) s)
-    (subst (λ (o : Option Segment). (both label (number_in state done.0 >>= distance_in state.segment) >>= λ (name, n). okay (moved state o name n)) ≡ Ok next) there (sym done.2))
+    (subst (λ (o : Option Segment). (pair_or_earlier_fault label (number_in state done.0 >>= distance_in state.segment) >>= λ (name, n). okay (state_after_org state o name n)) ≡ Ok next) there (sym done.2))
 done_within state next s line (Direct directives.Kind) label text there inside goes done =
-    changed Records state next s label (number_in state done.0 >>= listed_kind) (λ name n. λ x. with_kind n (marked name 0x4E [] x)) (λ name n. length_at (cells_of s) []) there
+    changed Records state next s label (number_in state done.0 >>= listed_kind) (λ name n. λ x. with_kind n (with_local_record name 0x4E [] x)) (λ name n. length_at (cells_of s) []) there
     (λ name n. (0x4E, [], refl, refl)) (λ name n. lengths_add name 0x4E [] s) (sym done.2)
 done_within state next s line (Direct (directives.Turn switch)) label text there inside goes done =
-    let all = bind_ok (both label (switch_of text)) _ next (sym done) in
+    let all = bind_ok (pair_or_earlier_fault label (switch_of text)) _ next (sym done) in
     let parts = both_ok label (switch_of text) all.0 all.1 in
-    let change : Segment → Segment = marked all.0.0 0x4E [] in
-    let same : turned switch all.0.1 (in_segment change state) ≡ next = same_okay _ next all.2 in
+    let change : Segment → Segment = with_local_record all.0.0 0x4E [] in
+    let same : with_switch_set switch all.0.1 (in_segment change state) ≡ next = same_okay _ next all.2 in
     record {
       name = all.0.0;
       is_name = parts.0;
@@ -236,31 +236,31 @@ abbrev NoCells : State → Type 0
 NoCells state = place_behind 0 state.front ≡ 0
 
 made_none : {A : Type 0} (next : State) (label : Answer (List ℕ)) (given : Answer A) (make : List ℕ → A → State) → ((name : List ℕ) (a : A) → NoCells (make name a))
-    → (both label given >>= λ (name, a). okay (make name a)) ≡ Ok next → NoCells next
+    → (pair_or_earlier_fault label given >>= λ (name, a). okay (make name a)) ≡ Ok next → NoCells next
 made_none next label given make each e =
-    let all = bind_ok (both label given) _ next e in
+    let all = bind_ok (pair_or_earlier_fault label given) _ next e in
     subst NoCells (same_okay (make all.0.0 all.0.1) next all.2) (each all.0.0 all.0.1)
 
-begun_none : (state : State) (line : Line) (class : Class) (name load_name : List ℕ) → NoCells (begun state line class name load_name)
+begun_none : (state : State) (line : Line) (class : Class) (name load_name : List ℕ) → NoCells (state_after_start state line class name load_name)
 unfolding place_behind
 begun_none state line class name load_name = refl
 
-aligned_none : (state : State) (o : Option Segment) (name : List ℕ) (n : ℕ) → NoCells state → NoCells (aligned state o name n)
+aligned_none : (state : State) (o : Option Segment) (name : List ℕ) (n : ℕ) → NoCells state → NoCells (state_after_align state o name n)
 aligned_none state None name n none = none
 aligned_none state (Some s) name n none = none
 
-moved_none : (state : State) (o : Option Segment) (name : List ℕ) (n : ℕ) → NoCells state → NoCells (moved state o name n)
+moved_none : (state : State) (o : Option Segment) (name : List ℕ) (n : ℕ) → NoCells state → NoCells (state_after_org state o name n)
 moved_none state None name n none = none
 moved_none state (Some s) name n none = none
 
-turned_none : (switch : Switch) (on : Bool) (state : State) → NoCells state → NoCells (turned switch on state)
+turned_none : (switch : Switch) (on : Bool) (state : State) → NoCells state → NoCells (with_switch_set switch on state)
 turned_none LongA on state none = none
 turned_none LongI on state none = none
 turned_none Msb on state none = none
 
 equating_none : (state next : State) (global : Bool) (label : Answer (List ℕ)) (found : Option Tree) → NoCells state → equating state global label found ≡ Ok next → NoCells next
 equating_none state next global label found none e =
-    made_none next label (formula_of found >>= amount (constants_of state)) (λ name a. in_segment (equated global name a) state) (λ name a. none) e
+    made_none next label (formula_of found >>= amount (constants_of state)) (λ name a. in_segment (with_equate global name a) state) (λ name a. none) e
 
 global_none : (state next : State) (o : Option Segment) (label : Answer (List ℕ)) (found : Option Tree) → NoCells state → equating_global state o label found ≡ Ok next → NoCells next
 global_none state next None label found none e =
@@ -269,33 +269,33 @@ global_none state next None label found none e =
 global_none state next (Some s) label found none e = equating_none state next true label found none e
 
 marking_none : (state next : State) (form : ℕ) (label : Answer (List ℕ)) (contents : Answer (List Record)) → NoCells state → marking state form label contents ≡ Ok next → NoCells next
-marking_none state next form label contents none e = made_none next label contents (λ name found. in_segment (marked name form found) state) (λ name found. none) e
+marking_none state next form label contents none e = made_none next label contents (λ name found. in_segment (with_local_record name form found) state) (λ name found. none) e
 
 done_none : (state next : State) (line : Line) (operation : Operation) (label : Answer (List ℕ)) (text : List ℕ) → NoCells state → IsDone state line operation label text (Ok next) → NoCells next
 unfolding IsDone
 done_none state next line (Instruct m) label text none done = marking_none state next 0x4D label _ none (sym done.2)
 done_none state next line (Direct (directives.Begin class)) label text none done =
-    made_none next label (load_name_of text) (λ name load_name. begun state line class name load_name) (λ name load_name. begun_none state line class name load_name) (sym done)
+    made_none next label (load_name_of text) (λ name load_name. state_after_start state line class name load_name) (λ name load_name. begun_none state line class name load_name) (sym done)
 done_none state next line (Direct directives.End) label text none done =
-    let left = bind_ok (marking state 0x4E label (okay (End ∷ []))) (λ x. okay (closed x)) next (sym done) in
-    subst NoCells (same_okay (closed left.0) next left.2) (marking_none state left.0 0x4E label (okay (End ∷ [])) none left.1)
+    let left = bind_ok (marking state 0x4E label (okay (End ∷ []))) (λ x. okay (state_after_end x)) next (sym done) in
+    subst NoCells (same_okay (state_after_end left.0) next left.2) (marking_none state left.0 0x4E label (okay (End ∷ [])) none left.1)
 done_none state next line (Direct directives.Entry) label text none done =
-    let all = bind_ok label (λ name. okay (in_segment (grown name None (Label true name 0 0x4E 0 ∷ []) []) state)) next (sym done) in
+    let all = bind_ok label (λ name. okay (in_segment (with_records name None (Label true name 0 0x4E 0 ∷ []) []) state)) next (sym done) in
     subst NoCells (same_okay _ next all.2) none
 done_none state next line (Direct directives.Using) label text none done = marking_none state next 0x4E label _ none (sym done)
 done_none state next line (Direct directives.Equ) label text none done = equating_none state next false label done.0 none (sym done.2)
 done_none state next line (Direct directives.Gequ) label text none done = global_none state next state.segment label done.0 none (sym done.2)
 done_none state next line (Direct directives.Constants) label text none done = marking_none state next 0x4E label _ none (sym done.2)
 done_none state next line (Direct directives.Space) label text none done =
-    made_none next label (number_in state done.0) (λ name n. in_segment (marked name 0x4E (Space n ∷ [])) state) (λ name n. none) (sym done.2)
+    made_none next label (number_in state done.0) (λ name n. in_segment (with_local_record name 0x4E (Space n ∷ [])) state) (λ name n. none) (sym done.2)
 done_none state next line (Direct directives.Align) label text none done =
-    made_none next label (number_in state done.0 >>= alignment_in state) (λ name n. aligned state state.segment name n) (λ name n. aligned_none state state.segment name n none) (sym done.2)
+    made_none next label (number_in state done.0 >>= alignment_in state) (λ name n. state_after_align state state.segment name n) (λ name n. aligned_none state state.segment name n none) (sym done.2)
 done_none state next line (Direct directives.Org) label text none done =
-    made_none next label (number_in state done.0 >>= distance_in state.segment) (λ name n. moved state state.segment name n) (λ name n. moved_none state state.segment name n none) (sym done.2)
+    made_none next label (number_in state done.0 >>= distance_in state.segment) (λ name n. state_after_org state state.segment name n) (λ name n. moved_none state state.segment name n none) (sym done.2)
 done_none state next line (Direct directives.Kind) label text none done =
-    made_none next label (number_in state done.0 >>= listed_kind) (λ name n. in_segment (λ x. with_kind n (marked name 0x4E [] x)) state) (λ name n. none) (sym done.2)
+    made_none next label (number_in state done.0 >>= listed_kind) (λ name n. in_segment (λ x. with_kind n (with_local_record name 0x4E [] x)) state) (λ name n. none) (sym done.2)
 done_none state next line (Direct (directives.Turn switch)) label text none done =
-    made_none next label (switch_of text) (λ name on. turned switch on (in_segment (marked name 0x4E []) state)) (λ name on. turned_none switch on (in_segment (marked name 0x4E []) state) none) (sym done)
+    made_none next label (switch_of text) (λ name on. with_switch_set switch on (in_segment (with_local_record name 0x4E []) state)) (λ name on. turned_none switch on (in_segment (with_local_record name 0x4E []) state) none) (sym done)
 done_none state next line (Direct directives.Nothing) label text none done = marking_none state next 0x4E label (okay []) none (sym done)
 done_none state next line (Direct directives.Ignored) label text none done = marking_none state next 0x4E label (okay []) none (sym done)
 
@@ -348,12 +348,12 @@ begins_empty state next line class none opens step =
     let operand = part line.text line.fields.operand in
     let same : done.0 ≡ Direct (directives.Begin class) = same_operation done.0 (Direct (directives.Begin class)) (sym done.1 ∙ opens) in
     let begins = subst (λ (x : Operation). IsDone state line x (label_of state x label) operand (okay next)) same done.2 in
-    let all = bind_ok (both (label_of state (Direct (directives.Begin class)) label) (load_name_of operand)) _ next (sym begins) in
-    (made state.front all.0.0 all.0.1, sym (ap (λ (x : State). x.segment) (same_okay (begun state line class all.0.0 all.0.1) next all.2)), none)
+    let all = bind_ok (pair_or_earlier_fault (label_of state (Direct (directives.Begin class)) label) (load_name_of operand)) _ next (sym begins) in
+    (made state.front all.0.0 all.0.1, sym (ap (λ (x : State). x.segment) (same_okay (state_after_start state line class all.0.0 all.0.1) next all.2)), none)
   where
     made : List Record → List ℕ → List ℕ → Segment
     made front name load_name = record {
-      begun = line;
+      state_after_start = line;
       class = class;
       header = Rattle.asm_meaning.specs.State.header_of state class name load_name;
       names = Rattle.macro_meaning.specs.Symbol.with_name name None Rattle.asm_meaning.specs.State.no_names;

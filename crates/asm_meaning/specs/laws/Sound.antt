@@ -13,7 +13,7 @@ use Rattle.asm_meaning.specs.declared.directives.Class.TheVariants.{Code, Privat
 use Rattle.asm_meaning.specs.declared.directives.Switch.{Switch}
 use Rattle.asm_meaning.specs.declared.directives.Switch.TheVariants.{LongA, LongI, Msb}
 use Rattle.asm_meaning.specs.Pieces.{place_behind, length_at}
-use Rattle.asm_meaning.specs.State.{Names, Segment, Ended, State, start, no_names, cells_of, kind_of, bank_size_of, header_of, begun, ended_of, closed, with_label, local_of, grown, marked, in_segment, turned}
+use Rattle.asm_meaning.specs.State.{Names, Segment, Ended, State, start, no_names, cells_of, kind_of, bank_size_of, header_of, state_after_start, ended_of, state_after_end, with_label, local_of, with_records, with_local_record, in_segment, with_switch_set}
 use Rattle.asm_meaning.specs.laws.AmountLaws.{AreSmall}
 use Rattle.asm_meaning.specs.laws.PieceLaws.{IsPlain, ArePlain, all-append, place_behind-append}
 use Rattle.asm_meaning.specs.laws.GivenLaws.{IsNameLength}
@@ -110,14 +110,14 @@ no_value : (n : ℕ) → no_number ≡ Some n → n < 2 ^ 32
 no_value n e = absurd cc
 
 pub grown_sound : (label : List ℕ) (value : Option ℕ) (front contents : List Record) (s : Segment) → IsSoundSegment s → ((n : ℕ) → value ≡ Some n → n < 2 ^ 32) → ArePlain front → ArePlain contents
-    → IsSoundSegment (grown label value front contents s)
+    → IsSoundSegment (with_records label value front contents s)
 grown_sound label value front contents s sound fits p q = record {
   header = sound.header;
   names = label_small label value s.names sound.names fits;
   body = all-append IsPlain s.body (front ++ contents) sound.body (all-append IsPlain front contents p q);
 }
 
-pub marked_sound : (label : List ℕ) (form : ℕ) (contents : List Record) (s : Segment) → IsSoundSegment s → IsLabelText label → form < 2 ^ 8 → ArePlain contents → IsSoundSegment (marked label form contents s)
+pub marked_sound : (label : List ℕ) (form : ℕ) (contents : List Record) (s : Segment) → IsSoundSegment s → IsLabelText label → form < 2 ^ 8 → ArePlain contents → IsSoundSegment (with_local_record label form contents s)
 marked_sound label form contents s sound is fits plain =
     grown_sound label None (local_of label form (length_at (cells_of s) contents)) contents s sound no_value (local_plain label form (length_at (cells_of s) contents) is fits) plain
 
@@ -136,10 +136,10 @@ change_sound change state sound keeps = record {
     by_segment None is = tt
     by_segment (Some s) is = keeps s is
 
-pub mark_sound : (label : List ℕ) (form : ℕ) (contents : List Record) (state : State) → IsSound state → IsLabelText label → form < 2 ^ 8 → ArePlain contents → IsSound (in_segment (marked label form contents) state)
-mark_sound label form contents state sound is fits plain = change_sound (marked label form contents) state sound (λ s p. marked_sound label form contents s p is fits plain)
+pub mark_sound : (label : List ℕ) (form : ℕ) (contents : List Record) (state : State) → IsSound state → IsLabelText label → form < 2 ^ 8 → ArePlain contents → IsSound (in_segment (with_local_record label form contents) state)
+mark_sound label form contents state sound is fits plain = change_sound (with_local_record label form contents) state sound (λ s p. marked_sound label form contents s p is fits plain)
 
-pub turned_sound : (switch : Switch) (on : Bool) (state : State) → IsSound state → IsSound (turned switch on state)
+pub turned_sound : (switch : Switch) (on : Bool) (state : State) → IsSound state → IsSound (with_switch_set switch on state)
 turned_sound LongA on state sound = record { outside = sound.outside; org = sound.org; align = sound.align; front = sound.front; segment = sound.segment; ended = sound.ended }
 turned_sound LongI on state sound = record { outside = sound.outside; org = sound.org; align = sound.align; front = sound.front; segment = sound.segment; ended = sound.ended }
 turned_sound Msb on state sound = record { outside = sound.outside; org = sound.org; align = sound.align; front = sound.front; segment = sound.segment; ended = sound.ended }
@@ -177,7 +177,7 @@ header_sound state class name load_name sound is ten = record {
     lists Data = refl
     lists PrivateData = refl
 
-pub begun_sound : (state : State) (line : Line) (class : Class) (name load_name : List ℕ) → IsSound state → IsNameLength name → length load_name ≡ 10 → IsSound (begun state line class name load_name)
+pub begun_sound : (state : State) (line : Line) (class : Class) (name load_name : List ℕ) → IsSound state → IsNameLength name → length load_name ≡ 10 → IsSound (state_after_start state line class name load_name)
 begun_sound state line class name load_name sound is ten = record {
   outside = sound.outside;
   org = omega arith;
@@ -205,17 +205,17 @@ end_cells at label form size =
     zero_behind : at + 0 ≡ at
     zero_behind = omega arith
 
-pub ends_sound : (label : List ℕ) (state : State) → IsSound state → IsShort state → IsLabelText label → IsSound (closed (in_segment (marked label 0x4E (End ∷ [])) state))
+pub ends_sound : (label : List ℕ) (state : State) → IsSound state → IsShort state → IsLabelText label → IsSound (state_after_end (in_segment (with_local_record label 0x4E (End ∷ [])) state))
 ends_sound label state sound short is = record {
   outside = sound.outside;
   org = sound.org;
   align = sound.align;
   front = sound.front;
   segment = tt;
-  ended = all-append IsSoundEnded state.ended (ended_of (option_map (marked label 0x4E (End ∷ [])) state.segment)) sound.ended (by_segment state.segment sound.segment short);
+  ended = all-append IsSoundEnded state.ended (ended_of (option_map (with_local_record label 0x4E (End ∷ [])) state.segment)) sound.ended (by_segment state.segment sound.segment short);
 }
   where
-    by_segment : (o : Option Segment) → InSegment IsSoundSegment o → InSegment (λ s. cells_of s ≤ 0xFFFFFF) o → AllByRecursion IsSoundEnded (ended_of (option_map (marked label 0x4E (End ∷ [])) o))
+    by_segment : (o : Option Segment) → InSegment IsSoundSegment o → InSegment (λ s. cells_of s ≤ 0xFFFFFF) o → AllByRecursion IsSoundEnded (ended_of (option_map (with_local_record label 0x4E (End ∷ [])) o))
     by_segment None p q = tt
     by_segment (Some s) p q =
         let local = local_of label 0x4E (length_at (cells_of s) (End ∷ [])) in

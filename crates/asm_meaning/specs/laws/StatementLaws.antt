@@ -20,7 +20,7 @@ use Rattle.asm_meaning.specs.declared.directives.Operation.TheVariants.{Instruct
 use Rattle.asm_meaning.specs.Operations.{operation_of}
 use Rattle.asm_meaning.specs.Pieces.{records_of}
 use Rattle.asm_meaning.specs.State.{Segment, State, within_length}
-use Rattle.asm_meaning.specs.Statement.{behind_here, IsOperandOf, Good, Bad, Large, constants_of, IsMoveText, IsMove, marking, equating, equating_global, spacing, aligning, moving, kinding, IsDone, IsPlaced, IsKnown, IsStep, label_of, is_misplaced}
+use Rattle.asm_meaning.specs.Statement.{behind_here, IsOperandOf, Good, Bad, Large, constants_of, IsMoveText, IsMove, marking, equating, equating_global, spacing, align_state, moving, kinding, IsDone, IsPlaced, IsKnown, IsStep, label_of, is_misplaced}
 
 -- ---- found at a front
 
@@ -195,7 +195,7 @@ done_once state line (Direct directives.Constants) label text a b p q =
     let given : Option (List Element) → Answer State = λ x. marking state 0x4E label (list_pieces (constants_of state) state.msb x >>= λ pieces. Ok (records_of pieces)) in
     p.2 ∙ ap given (list_once text p.0 q.0 p.1 q.1) ∙ sym q.2
 done_once state line (Direct directives.Space) label text a b p q = p.2 ∙ ap (spacing state label) (formula_once text p.0 q.0 p.1 q.1) ∙ sym q.2
-done_once state line (Direct directives.Align) label text a b p q = p.2 ∙ ap (aligning state label) (formula_once text p.0 q.0 p.1 q.1) ∙ sym q.2
+done_once state line (Direct directives.Align) label text a b p q = p.2 ∙ ap (align_state state label) (formula_once text p.0 q.0 p.1 q.1) ∙ sym q.2
 done_once state line (Direct directives.Org) label text a b p q = p.2 ∙ ap (moving state label) (move_once state.segment text p.0 q.0 p.1 q.1) ∙ sym q.2
 done_once state line (Direct directives.Kind) label text a b p q = p.2 ∙ ap (kinding state label) (formula_once text p.0 q.0 p.1 q.1) ∙ sym q.2
 done_once state line (Direct (directives.Turn switch)) label text a b p q = p ∙ sym q

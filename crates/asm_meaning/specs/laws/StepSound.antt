@@ -24,15 +24,15 @@ use Rattle.asm_meaning.specs.declared.directives.Directive.TheVariants as direct
 use Rattle.asm_meaning.specs.declared.directives.Operation.{Operation}
 use Rattle.asm_meaning.specs.declared.directives.Operation.TheVariants.{Instruct, Direct}
 use Rattle.asm_meaning.specs.declared.faults.AsmCause.TheVariants.{BadLabel, BadOperand, BadNumber, DoesNotFit, SegmentTooLong}
-use Rattle.asm_meaning.specs.Answer.{Answer, both}
-use Rattle.asm_meaning.specs.Constant.{Worth, Number, Open, Divided, worth, needed, Amount, Known, Written, amount, tree_of_amount}
+use Rattle.asm_meaning.specs.Answer.{Answer, pair_or_earlier_fault}
+use Rattle.asm_meaning.specs.Constant.{KnownValue, Number, Open, Divided, known_value, required_number, Amount, Known, Written, amount, tree_of_amount}
 use Rattle.asm_meaning.specs.Elements.{list_pieces}
 use Rattle.asm_meaning.specs.Formulas.{IsFormula, formula_of}
 use Rattle.asm_meaning.specs.Instruction.{instruction}
 use Rattle.asm_meaning.specs.Operations.{operation_of}
 use Rattle.asm_meaning.specs.Pieces.{Piece, records_of}
-use Rattle.asm_meaning.specs.State.{Segment, State, cells_of, greatest_length, begun, closed, grown, marked, in_segment, is_too_long, within_length}
-use Rattle.asm_meaning.specs.Statement.{needs_label, is_taken, free_label, label_of, IsOperandOf, Good, Bad, Large, load_name_of, name_of, switch_of, value_in, constants_in, constants_of, number_in, alignment_in, distance_in, listed_kind, aligned, moved, with_kind, equate, value_of, equated, equating, equating_outside, equating_global, spacing, aligning, moving, kinding, IsMoveText, IsMove, marking, IsDone, IsPlaced, IsKnown, IsStep, is_misplaced}
+use Rattle.asm_meaning.specs.State.{Segment, State, cells_of, greatest_length, state_after_start, state_after_end, with_records, with_local_record, in_segment, is_too_long, within_length}
+use Rattle.asm_meaning.specs.Statement.{needs_label, is_taken, free_label, label_of, IsOperandOf, Good, Bad, Large, load_name_of, name_of, switch_of, value_in, constants_in, constants_of, number_in, alignment_in, distance_in, listed_kind, state_after_align, state_after_org, with_kind, equate, value_of, with_equate, equating, equating_outside, equating_global, spacing, align_state, moving, kinding, IsMoveText, IsMove, marking, IsDone, IsPlaced, IsKnown, IsStep, is_misplaced}
 use Rattle.asm_meaning.specs.laws.AmountLaws.{AreSmall, IsFineAmount, fine_amount, small_worth, is_written}
 use Rattle.asm_meaning.specs.laws.InstructionLaws.{both_ok}
 use Rattle.asm_meaning.specs.laws.PieceLaws.{IsPlain, ArePlain, ArePlainPieces, all-append, records_plain}
@@ -156,19 +156,19 @@ fine_formula : (text : List ℕ) (found : Option Tree) (t : Tree) → length tex
 fine_formula text None t short is e = absurd cc
 fine_formula text (Some tree) t short is e = judged_fine text tree t [] short is e
 
-needed_small : (w : Worth) (n : ℕ) → needed w ≡ Ok n → w ≡ Number n
+needed_small : (w : KnownValue) (n : ℕ) → required_number w ≡ Ok n → w ≡ Number n
 needed_small (Number m) n e = ap (λ (k : ℕ). Number k) (same_okay m n e)
 needed_small Open n e = absurd cc
 needed_small Divided n e = absurd cc
 
 number_small : (state : State) (text : List ℕ) (found : Option Tree) (n : ℕ) → IsSound state → length text ≤ 255 → IsFormula text found → number_in state found ≡ Ok n → n < 2 ^ 32
 number_small state text found n sound short is e =
-    let t = bind_ok (formula_of found) (λ tree. needed (worth (constants_of state) tree)) n e in
+    let t = bind_ok (formula_of found) (λ tree. required_number (known_value (constants_of state) tree)) n e in
     let fine = fine_formula text found t.0 short is t.1 in
     let small = small_worth (constants_of state) (known_small state sound) t.0 fine.0 in
-    subst IsSmall (needed_small (worth (constants_of state) t.0) n t.2) small
+    subst IsSmall (needed_small (known_value (constants_of state) t.0) n t.2) small
   where
-    IsSmall : Worth → Type 0
+    IsSmall : KnownValue → Type 0
     IsSmall w = Rattle.asm_meaning.specs.laws.AmountLaws.IsSmallWorth w
 
 -- ---- operations
@@ -176,9 +176,9 @@ number_small state text found n sound short is e =
 mark_keeps : (state next : State) (form : ℕ) (label : Answer (List ℕ)) (contents : Answer (List Record)) → IsSound state → ((name : List ℕ) → label ≡ Ok name → IsLabelText name) → form < 2 ^ 8
     → ((found : List Record) → contents ≡ Ok found → ArePlain found) → marking state form label contents ≡ Ok next → IsSound next
 mark_keeps state next form label contents sound is fits plain e =
-    let found = bind_ok (both label contents) _ next e in
+    let found = bind_ok (pair_or_earlier_fault label contents) _ next e in
     let parts = both_ok label contents found.0 found.1 in
-    subst IsSound (same_okay (in_segment (marked found.0.0 form found.0.1) state) next found.2) (mark_sound found.0.0 form found.0.1 state sound (is found.0.0 parts.0) fits (plain found.0.1 parts.1))
+    subst IsSound (same_okay (in_segment (with_local_record found.0.0 form found.0.1) state) next found.2) (mark_sound found.0.0 form found.0.1 state sound (is found.0.0 parts.0) fits (plain found.0.1 parts.1))
 
 pieces_records : (r : Answer (List Piece)) (found : List Record) → ((pieces : List Piece) → r ≡ Ok pieces → ArePlainPieces pieces) → (r >>= λ pieces. okay (records_of pieces)) ≡ Ok found → ArePlain found
 pieces_records r found plain e =
@@ -230,21 +230,21 @@ amount_value (Written t) n fine e = absurd cc
 equating_sound : (state next : State) (global : Bool) (text : List ℕ) (label : Answer (List ℕ)) (found : Option Tree) → IsSound state → length text ≤ 255 → ((name : List ℕ) → label ≡ Ok name → IsNameLength name)
     → IsFormula text found → equating state global label found ≡ Ok next → IsSound next
 equating_sound state next global text label found sound short is formula e =
-    let all = bind_ok (both label (formula_of found >>= amount (constants_of state))) _ next e in
+    let all = bind_ok (pair_or_earlier_fault label (formula_of found >>= amount (constants_of state))) _ next e in
     let parts = both_ok label (formula_of found >>= amount (constants_of state)) all.0 all.1 in
     let t = bind_ok (formula_of found) (amount (constants_of state)) all.0.1 parts.1 in
     let fine = fine_formula text found t.0 short formula t.1 in
     let a = fine_amount (constants_of state) (known_small state sound) 1 t.0 all.0.1 fine.0 fine.1 t.2 in
     let tree = amount_tree all.0.1 a in
-    subst IsSound (same_okay (in_segment (equated global all.0.0 all.0.1) state) next all.2)
-    (change_sound (equated global all.0.0 all.0.1) state sound
+    subst IsSound (same_okay (in_segment (with_equate global all.0.0 all.0.1) state) next all.2)
+    (change_sound (with_equate global all.0.0 all.0.1) state sound
     (λ s p. grown_sound all.0.0 (value_of all.0.1) [] (equate global all.0.0 (tree_of_amount all.0.1) ∷ []) s p (λ n v. amount_value all.0.1 n a v) tt
     (equate_plain global all.0.0 (tree_of_amount all.0.1) (is all.0.0 parts.0) tree.0 tree.1, tt)))
 
 outside_sound : (state next : State) (text : List ℕ) (label : Answer (List ℕ)) (found : Option Tree) → IsSound state → length text ≤ 255 → ((name : List ℕ) → label ≡ Ok name → IsNameLength name)
     → IsFormula text found → equating_outside state label found ≡ Ok next → IsSound next
 outside_sound state next text label found sound short is formula e =
-    let all = bind_ok (both label (number_in state found)) _ next e in
+    let all = bind_ok (pair_or_earlier_fault label (number_in state found)) _ next e in
     let parts = both_ok label (number_in state found) all.0 all.1 in
     let small = number_small state text found all.0.1 sound short formula parts.1 in
     subst IsSound (same_okay _ next all.2) (record {
@@ -272,9 +272,9 @@ global_sound state next (Some s) text label found sound short is formula e = equ
 spacing_sound : (state next : State) (text : List ℕ) (label : Answer (List ℕ)) (found : Option Tree) → IsSound state → length text ≤ 255 → ((name : List ℕ) → label ≡ Ok name → IsLabelText name)
     → IsFormula text found → spacing state label found ≡ Ok next → IsSound next
 spacing_sound state next text label found sound short is formula e =
-    let all = bind_ok (both label (number_in state found)) _ next e in
+    let all = bind_ok (pair_or_earlier_fault label (number_in state found)) _ next e in
     let parts = both_ok label (number_in state found) all.0 all.1 in
-    subst IsSound (same_okay (in_segment (marked all.0.0 0x4E (Space all.0.1 ∷ [])) state) next all.2)
+    subst IsSound (same_okay (in_segment (with_local_record all.0.0 0x4E (Space all.0.1 ∷ [])) state) next all.2)
     (mark_sound all.0.0 0x4E (Space all.0.1 ∷ []) state sound (is all.0.0 parts.0) (omega arith) (space_plain all.0.1 (number_small state text found all.0.1 sound short formula parts.1)))
 
 same_number : (b : Bool) (m n : ℕ) → cond b (okay m) bad_number' ≡ Ok n → m ≡ n
@@ -284,18 +284,18 @@ same_number false m n e = absurd cc
 alignment_same : (state : State) (m n : ℕ) → alignment_in state m ≡ Ok n → m ≡ n
 alignment_same state m n e = same_number (Rattle.asm_meaning.specs.Statement.is_alignment state.segment m) m n e
 
-aligned_sound : (state : State) (o : Option Segment) (label : List ℕ) (n : ℕ) → IsSound state → IsLabelText label → n < 2 ^ 32 → IsSound (aligned state o label n)
+aligned_sound : (state : State) (o : Option Segment) (label : List ℕ) (n : ℕ) → IsSound state → IsLabelText label → n < 2 ^ 32 → IsSound (state_after_align state o label n)
 aligned_sound state None label n sound is small = record { outside = sound.outside; org = sound.org; align = small; front = sound.front; segment = sound.segment; ended = sound.ended }
 aligned_sound state (Some s) label n sound is small = mark_sound label 0x4E (Align n ∷ []) state sound is (omega arith) (align_plain n small)
 
 aligning_sound : (state next : State) (text : List ℕ) (label : Answer (List ℕ)) (found : Option Tree) → IsSound state → length text ≤ 255 → ((name : List ℕ) → label ≡ Ok name → IsLabelText name)
-    → IsFormula text found → aligning state label found ≡ Ok next → IsSound next
+    → IsFormula text found → align_state state label found ≡ Ok next → IsSound next
 aligning_sound state next text label found sound short is formula e =
-    let all = bind_ok (both label (number_in state found >>= alignment_in state)) _ next e in
+    let all = bind_ok (pair_or_earlier_fault label (number_in state found >>= alignment_in state)) _ next e in
     let parts = both_ok label (number_in state found >>= alignment_in state) all.0 all.1 in
     let n = bind_ok (number_in state found) (alignment_in state) all.0.1 parts.1 in
     let small = subst (λ (k : ℕ). k < 2 ^ 32) (alignment_same state n.0 all.0.1 n.2) (number_small state text found n.0 sound short formula n.1) in
-    subst IsSound (same_okay (aligned state state.segment all.0.0 all.0.1) next all.2) (aligned_sound state state.segment all.0.0 all.0.1 sound (is all.0.0 parts.0) small)
+    subst IsSound (same_okay (state_after_align state state.segment all.0.0 all.0.1) next all.2) (aligned_sound state state.segment all.0.0 all.0.1 sound (is all.0.0 parts.0) small)
 
 -- how far ORG goes
 abbrev IsDistanceIn : Option Segment → ℕ → Type 0
@@ -310,7 +310,7 @@ distance_small (Some s) m n small e = by_size (ltb m (2 ^ 31)) refl e
     by_size true is e = subst (λ (k : ℕ). k < 2 ^ 31) (same_okay m n e) (ltb-true m (2 ^ 31) is)
     by_size false is e = absurd cc
 
-moved_sound : (state : State) (o : Option Segment) (label : List ℕ) (n : ℕ) → IsSound state → IsLabelText label → IsDistanceIn o n → IsSound (moved state o label n)
+moved_sound : (state : State) (o : Option Segment) (label : List ℕ) (n : ℕ) → IsSound state → IsLabelText label → IsDistanceIn o n → IsSound (state_after_org state o label n)
 moved_sound state None label n sound is small = record { outside = sound.outside; org = small; align = sound.align; front = sound.front; segment = sound.segment; ended = sound.ended }
 moved_sound state (Some s) label n sound is small = mark_sound label 0x4E (Org n ∷ []) state sound is (omega arith) (org_plain n small)
 
@@ -340,11 +340,11 @@ move_text (Some s) (byte ∷ next ∷ behind) found short is = by_here (eqb byte
 moving_sound : (state next : State) (text : List ℕ) (label : Answer (List ℕ)) (found : Option Tree) → IsSound state → length text ≤ 255 → ((name : List ℕ) → label ≡ Ok name → IsLabelText name)
     → IsFormula text found → moving state label found ≡ Ok next → IsSound next
 moving_sound state next text label found sound short is formula e =
-    let all = bind_ok (both label (number_in state found >>= distance_in state.segment)) _ next e in
+    let all = bind_ok (pair_or_earlier_fault label (number_in state found >>= distance_in state.segment)) _ next e in
     let parts = both_ok label (number_in state found >>= distance_in state.segment) all.0 all.1 in
     let n = bind_ok (number_in state found) (distance_in state.segment) all.0.1 parts.1 in
     let small = distance_small state.segment n.0 all.0.1 (number_small state text found n.0 sound short formula n.1) n.2 in
-    subst IsSound (same_okay (moved state state.segment all.0.0 all.0.1) next all.2) (moved_sound state state.segment all.0.0 all.0.1 sound (is all.0.0 parts.0) small)
+    subst IsSound (same_okay (state_after_org state state.segment all.0.0 all.0.1) next all.2) (moved_sound state state.segment all.0.0 all.0.1 sound (is all.0.0 parts.0) small)
 
 kind_listed : (m n : ℕ) → listed_kind m ≡ Ok n → (is_listed (form_of n) ≡ true) × (n < 2 ^ 16)
 kind_listed m n e = by_listed (is_listed (form_of m)) refl e
@@ -382,13 +382,13 @@ with_kind_sound n s sound listed small = record {
 kinding_sound : (state next : State) (label : Answer (List ℕ)) (found : Option Tree) → IsSound state → ((name : List ℕ) → label ≡ Ok name → IsLabelText name)
     → kinding state label found ≡ Ok next → IsSound next
 kinding_sound state next label found sound is e =
-    let all = bind_ok (both label (number_in state found >>= listed_kind)) _ next e in
+    let all = bind_ok (pair_or_earlier_fault label (number_in state found >>= listed_kind)) _ next e in
     let parts = both_ok label (number_in state found >>= listed_kind) all.0 all.1 in
     let n = bind_ok (number_in state found) listed_kind all.0.1 parts.1 in
     let kind = kind_listed n.0 all.0.1 n.2 in
-    let change : Segment → Segment = λ s. with_kind all.0.1 (marked all.0.0 0x4E [] s) in
+    let change : Segment → Segment = λ s. with_kind all.0.1 (with_local_record all.0.0 0x4E [] s) in
     subst IsSound (same_okay (in_segment change state) next all.2)
-    (change_sound change state sound (λ s p. with_kind_sound all.0.1 (marked all.0.0 0x4E [] s) (marked_sound all.0.0 0x4E [] s p (is all.0.0 parts.0) (omega arith) tt) kind.0 kind.1))
+    (change_sound change state sound (λ s p. with_kind_sound all.0.1 (with_local_record all.0.0 0x4E [] s) (marked_sound all.0.0 0x4E [] s p (is all.0.0 parts.0) (omega arith) tt) kind.0 kind.1))
 
 -- what an operation leaves, before its length is judged
 done_sound : (state next : State) (line : Line) (operation : Operation) (label : Answer (List ℕ)) (text : List ℕ) → IsSound state → IsShort state → length text ≤ 255
@@ -397,20 +397,20 @@ unfolding IsDone
 done_sound state next line (Instruct m) label text sound few short is done =
     mark_keeps state next 0x4D label _ sound (λ name e. (is name e).fine) (omega arith) (λ found e. instruction_records state m text done.0 found sound short done.1 e) (sym done.2)
 done_sound state next line (Direct (directives.Begin class)) label text sound few short is done =
-    let all = bind_ok (both label (load_name_of text)) _ next (sym done) in
+    let all = bind_ok (pair_or_earlier_fault label (load_name_of text)) _ next (sym done) in
     let parts = both_ok label (load_name_of text) all.0 all.1 in
-    subst IsSound (same_okay (begun state line class all.0.0 all.0.1) next all.2) (begun_sound state line class all.0.0 all.0.1 sound ((is all.0.0 parts.0).needed' refl) (load_name_ten text all.0.1 parts.1))
+    subst IsSound (same_okay (state_after_start state line class all.0.0 all.0.1) next all.2) (begun_sound state line class all.0.0 all.0.1 sound ((is all.0.0 parts.0).needed' refl) (load_name_ten text all.0.1 parts.1))
 done_sound state next line (Direct directives.End) label text sound few short is done =
-    let left = bind_ok (marking state 0x4E label (okay (End ∷ []))) (λ x. okay (closed x)) next (sym done) in
-    let all = bind_ok (both label (okay (End ∷ []))) (λ (name, found). okay (in_segment (marked name 0x4E found) state)) left.0 left.1 in
+    let left = bind_ok (marking state 0x4E label (okay (End ∷ []))) (λ x. okay (state_after_end x)) next (sym done) in
+    let all = bind_ok (pair_or_earlier_fault label (okay (End ∷ []))) (λ (name, found). okay (in_segment (with_local_record name 0x4E found) state)) left.0 left.1 in
     let parts = both_ok label (okay (End ∷ [])) all.0 all.1 in
     let ends : End ∷ [] ≡ all.0.1 = same_okay (End ∷ []) all.0.1 parts.1 in
-    let here : in_segment (marked all.0.0 0x4E (End ∷ [])) state ≡ left.0 = ap (λ (r : List Record). in_segment (marked all.0.0 0x4E r) state) ends ∙ same_okay _ left.0 all.2 in
-    subst IsSound (ap closed here ∙ same_okay (closed left.0) next left.2) (ends_sound all.0.0 state sound few (is all.0.0 parts.0).fine)
+    let here : in_segment (with_local_record all.0.0 0x4E (End ∷ [])) state ≡ left.0 = ap (λ (r : List Record). in_segment (with_local_record all.0.0 0x4E r) state) ends ∙ same_okay _ left.0 all.2 in
+    subst IsSound (ap state_after_end here ∙ same_okay (state_after_end left.0) next left.2) (ends_sound all.0.0 state sound few (is all.0.0 parts.0).fine)
 done_sound state next line (Direct directives.Entry) label text sound few short is done =
-    let all = bind_ok label (λ name. okay (in_segment (grown name None (Label true name 0 0x4E 0 ∷ []) []) state)) next (sym done) in
+    let all = bind_ok label (λ name. okay (in_segment (with_records name None (Label true name 0 0x4E 0 ∷ []) []) state)) next (sym done) in
     let name = (is all.0 all.1).needed' refl in
-    subst IsSound (same_okay _ next all.2) (change_sound (grown all.0 None (Label true all.0 0 0x4E 0 ∷ []) []) state sound
+    subst IsSound (same_okay _ next all.2) (change_sound (with_records all.0 None (Label true all.0 0 0x4E 0 ∷ []) []) state sound
     (λ s p. grown_sound all.0 None (Label true all.0 0 0x4E 0 ∷ []) [] s p (λ n e. absurd (none_some n e)) (record { spelled = λ at cells. (name, (omega arith, omega arith, omega arith)); inner = refl }, tt) tt))
 done_sound state next line (Direct directives.Using) label text sound few short is done =
     mark_keeps state next 0x4E label _ sound (λ name e. (is name e).fine) (omega arith)
@@ -429,9 +429,9 @@ done_sound state next line (Direct directives.Org) label text sound few short is
     moving_sound state next formula.0 label done.0 sound formula.1 (λ name e. (is name e).fine) formula.2 (sym done.2)
 done_sound state next line (Direct directives.Kind) label text sound few short is done = kinding_sound state next label done.0 sound (λ name e. (is name e).fine) (sym done.2)
 done_sound state next line (Direct (directives.Turn switch)) label text sound few short is done =
-    let all = bind_ok (both label (switch_of text)) _ next (sym done) in
+    let all = bind_ok (pair_or_earlier_fault label (switch_of text)) _ next (sym done) in
     let parts = both_ok label (switch_of text) all.0 all.1 in
-    subst IsSound (same_okay _ next all.2) (turned_sound switch all.0.1 (in_segment (marked all.0.0 0x4E []) state) (mark_sound all.0.0 0x4E [] state sound (is all.0.0 parts.0).fine (omega arith) tt))
+    subst IsSound (same_okay _ next all.2) (turned_sound switch all.0.1 (in_segment (with_local_record all.0.0 0x4E []) state) (mark_sound all.0.0 0x4E [] state sound (is all.0.0 parts.0).fine (omega arith) tt))
 done_sound state next line (Direct directives.Nothing) label text sound few short is done =
     mark_keeps state next 0x4E label (Ok []) sound (λ name e. (is name e).fine) (omega arith) (λ found e. subst ArePlain (same_okay [] found e) tt) (sym done)
 done_sound state next line (Direct directives.Ignored) label text sound few short is done =

@@ -23,8 +23,8 @@ use Rattle.asm_meaning.specs.Formulas.{IsFormula}
 use Rattle.asm_meaning.specs.Instruction.{instruction}
 use Rattle.asm_meaning.specs.Operations.{operation_of}
 use Rattle.asm_meaning.specs.Pieces.{records_of}
-use Rattle.asm_meaning.specs.State.{Segment, State, start, closed, within_length}
-use Rattle.asm_meaning.specs.Statement.{behind_here, is_misplaced, label_of, IsOperandOf, Good, Bad, Large, name_of, constants_of, equating, equating_global, spacing, aligning, moving, kinding, IsMoveText, IsMove, marking, beginning, turning, entering, IsDone, IsPlaced, IsKnown, IsStep}
+use Rattle.asm_meaning.specs.State.{Segment, State, start, state_after_end, within_length}
+use Rattle.asm_meaning.specs.Statement.{behind_here, is_misplaced, label_of, IsOperandOf, Good, Bad, Large, name_of, constants_of, equating, equating_global, spacing, align_state, moving, kinding, IsMoveText, IsMove, marking, beginning, turning, entering, IsDone, IsPlaced, IsKnown, IsStep}
 use Rattle.asm_meaning.specs.Object.{object_text, most_bytes, AreSteps, HasLines, InExpansion, InLine, InSegment, InLength}
 use Rattle.asm_meaning.specs.ObjectLaws.{NoneUnanswered}
 
@@ -59,7 +59,7 @@ a_statement state line (Instruct m) label text go =
     an_operand m text (λ operand is.
     go (marking state 0x4D label (operand >>= instruction (constants_of state) state.widths m >>= λ pieces. Ok (records_of pieces))) (operand, is, refl))
 a_statement state line (Direct (directives.Begin class)) label text go = go (beginning state line class label text) refl
-a_statement state line (Direct directives.End) label text go = go (marking state 0x4E label (Ok (End ∷ [])) >>= λ left. Ok (closed left)) refl
+a_statement state line (Direct directives.End) label text go = go (marking state 0x4E label (Ok (End ∷ [])) >>= λ left. Ok (state_after_end left)) refl
 a_statement state line (Direct directives.Entry) label text go = go (entering state label) refl
 a_statement state line (Direct directives.Using) label text go = go (marking state 0x4E label (name_of text >>= λ name. Ok (Using name ∷ []))) refl
 a_statement state line (Direct directives.Equ) label text go = a_formula text (λ found is. go (equating state false label found) (found, is, refl))
@@ -67,7 +67,7 @@ a_statement state line (Direct directives.Gequ) label text go = a_formula text (
 a_statement state line (Direct directives.Constants) label text go =
     a_list text (λ found is. go (marking state 0x4E label (list_pieces (constants_of state) state.msb found >>= λ pieces. Ok (records_of pieces))) (found, is, refl))
 a_statement state line (Direct directives.Space) label text go = a_formula text (λ found is. go (spacing state label found) (found, is, refl))
-a_statement state line (Direct directives.Align) label text go = a_formula text (λ found is. go (aligning state label found) (found, is, refl))
+a_statement state line (Direct directives.Align) label text go = a_formula text (λ found is. go (align_state state label found) (found, is, refl))
 a_statement state line (Direct directives.Org) label text go = a_move state.segment text (λ found is. go (moving state label found) (found, is, refl))
 a_statement state line (Direct directives.Kind) label text go = a_formula text (λ found is. go (kinding state label found) (found, is, refl))
 a_statement state line (Direct (directives.Turn switch)) label text go = go (turning state switch label text) refl

@@ -3,7 +3,7 @@ use Rattle.std.proofs.Common.{◌≡◌, inl, inr, ℕ, zero, suc, ◌+◌, ◌<
 use Rattle.std.proofs.lemmas.Bool.{cases_lt}
 use Rattle.iigs_meaning.specs.declared.wants.Want.{Want}
 use Rattle.iigs_meaning.specs.Fits.{Slots, Fits}
-use Rattle.iigs_meaning.specs.Placement.{emptied, GoesTo, GoesToOneAddress, HasNoRoom}
+use Rattle.iigs_meaning.specs.Placement.{slots_after_purges, GoesTo, GoesToOneAddress, HasNoRoom}
 use Rattle.iigs_meaning.specs.Puts.{Purges, LacksRoom, IsOnce}
 
 -- no more blocks are purged than for another place
@@ -24,7 +24,7 @@ pub purges_once : IsOnce Purges
 purges_once = record {
   room = λ banks slots want address other one two p q.
       let same = goes_once banks slots want p.count q.count address other p.goes q.goes in
-      (same.1, p.room_is ∙ ap (emptied slots) same.0 ∙ sym q.room_is);
+      (same.1, p.room_is ∙ ap (slots_after_purges slots) same.0 ∙ sym q.room_is);
 }
 
 -- a property that no least number has, no number has
@@ -38,7 +38,7 @@ module _ (banks : List ℕ) (slots : Slots) (want : Want) where
   no_room lacks count address fits = no_number FitsWith none_fewest (count + 1) count (omega arith) (address, fits)
     where
       FitsAt : ℕ → ℕ → Type 0
-      FitsAt count address = Fits banks (emptied slots count) want address
+      FitsAt count address = Fits banks (slots_after_purges slots count) want address
 
       FitsWith : ℕ → Type 0
       FitsWith count = (address : ℕ) × FitsAt count address
@@ -47,7 +47,7 @@ module _ (banks : List ℕ) (slots : Slots) (want : Want) where
       none_fewest count with_it fewest = no_number (FitsAt count) none_least (with_it.0 + 1) with_it.0 (omega arith) with_it.1
         where
           none_least : (address : ℕ) → FitsAt count address → ((lower : ℕ) → lower < address → ¬ FitsAt count lower) → ⊥
-          none_least address fits least = lacks address (emptied slots count) (record {
+          none_least address fits least = lacks address (slots_after_purges slots count) (record {
             count = count;
             goes = record {
               fits = fits;

@@ -6,10 +6,10 @@ use Rattle.std.proofs.lemmas.Bool.Decides.{nat_tests}
 use Rattle.std.proofs.lemmas.List.Elements.{All-head, All-tail}
 use Rattle.std.proofs.lemmas.List.Sums.{sum_by-cons}
 use Rattle.iigs_meaning.specs.declared.slots.Slot.{Slot}
-use Rattle.iigs_meaning.specs.declared.slots.Content.TheVariants.{Used}
+use Rattle.iigs_meaning.specs.declared.slots.SlotContent.TheVariants.{Used}
 use Rattle.iigs_meaning.specs.declared.wants.Block.{Block}
 use Rattle.iigs_meaning.specs.Fits.{Slots, block_in}
-use Rattle.iigs_meaning.specs.Placement.{can_purge, goes_before, rank, is_gone, emptied_where, emptied, count_purgeable}
+use Rattle.iigs_meaning.specs.Placement.{can_purge, goes_before, rank, is_gone, emptied_where, slots_after_purges, count_purgeable}
 
 -- ---- counts
 
@@ -64,8 +64,8 @@ none_emptied (slot ∷ slots) all = ap (λ (s : Slot Block). s ∷ map (emptied_
     same None = refl
     same (Some block) = rw (none_gone all block) refl
 
-pub emptied_none : (slots : Slots) → emptied slots 0 ≡ slots
-unfolding emptied
+pub emptied_none : (slots : Slots) → slots_after_purges slots 0 ≡ slots
+unfolding slots_after_purges
 emptied_none slots = none_emptied slots slots
 
 -- ---- no more is emptied than may be
@@ -103,8 +103,8 @@ map_alike : (f g : Slot Block → Slot Block) (slots : Slots) → All (λ slot. 
 map_alike f g [] all = refl
 map_alike f g (slot ∷ slots) all = ap (λ (s : Slot Block). s ∷ map f slots) (All-head (λ s. f s ≡ g s) slot slots all) ∙ ap (λ (l : Slots). g slot ∷ l) (map_alike f g slots (All-tail (λ s. f s ≡ g s) slot slots all))
 
-pub emptied_past : (slots : Slots) (count : ℕ) → count_purgeable slots ≤ count → emptied slots count ≡ emptied slots (count_purgeable slots)
-unfolding emptied is_gone
+pub emptied_past : (slots : Slots) (count : ℕ) → count_purgeable slots ≤ count → slots_after_purges slots count ≡ slots_after_purges slots (count_purgeable slots)
+unfolding slots_after_purges is_gone
 emptied_past slots count le = map_alike (emptied_where (is_gone slots count)) (emptied_where (is_gone slots (count_purgeable slots))) slots (λ k d inside. alike k d inside (block_in (get_or slots k d)) refl)
   where
     same_test : (k : ℕ) (d : Slot Block) → k < length slots → (block : Block) → block_in (get_or slots k d) ≡ Some block → (b : Bool) → can_purge block ≡ b

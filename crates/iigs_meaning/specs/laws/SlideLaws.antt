@@ -10,11 +10,11 @@ use Rattle.iigs_meaning.specs.declared.wants.Block.{Block}
 use Rattle.iigs_meaning.specs.Slots.{slot_at, new_slot}
 use Rattle.iigs_meaning.specs.Fits.{Slots, Fits, IsApart, HoldsByte, block_in}
 use Rattle.iigs_meaning.specs.Blocks.{AreApart}
-use Rattle.iigs_meaning.specs.Slide.{can_move, mover, place_of, holding, moved_to, FitsBeside, GoesBeside, Slides, AreSettled, NoAddressRises}
+use Rattle.iigs_meaning.specs.Slide.{can_move, movable_block, place_of, holding, moved_to, FitsBeside, GoesBeside, Slides, AreSettled, NoAddressRises}
 
 -- ---- a block that moves
 
-pub mover_in : (slot : Slot Block) (block : Block) → mover slot ≡ Some block → (block_in slot ≡ Some block) × (can_move block ≡ true)
+pub mover_in : (slot : Slot Block) (block : Block) → movable_block slot ≡ Some block → (block_in slot ≡ Some block) × (can_move block ≡ true)
 mover_in slot block = go (block_in slot)
   where
     by_test : (b : Block) (t : Bool) → can_move b ≡ t → cond t (Some b) None ≡ Some block → (◌≡◌ {A = Option Block} (Some b) (Some block)) × (can_move block ≡ true)
@@ -33,50 +33,50 @@ lies_there block can = go block.at can
     go None e = absurd cc
     go (Some at) e = refl
 
-pub lies : (slot : Slot Block) (block : Block) → mover slot ≡ Some block → block.at ≡ Some (place_of block)
+pub lies : (slot : Slot Block) (block : Block) → movable_block slot ≡ Some block → block.at ≡ Some (place_of block)
 lies slot block is = lies_there block (mover_in slot block is).1
 
 -- it has the bytes from its address on
-pub has_bytes : (slot : Slot Block) (block : Block) → mover slot ≡ Some block → (i : ℕ) → place_of block ≤ i → i < place_of block + block.want.size → HoldsByte i slot
+pub has_bytes : (slot : Slot Block) (block : Block) → movable_block slot ≡ Some block → (i : ℕ) → place_of block ≤ i → i < place_of block + block.want.size → HoldsByte i slot
 has_bytes slot block is i from to = rw ((mover_in slot block is).0, lies slot block is) (from, to)
 
 -- a block that moves doesn't stay
-pub mover_stays : (slot : Slot Block) (block : Block) → mover slot ≡ Some block → mover slot ≡ None → ⊥
+pub mover_stays : (slot : Slot Block) (block : Block) → movable_block slot ≡ Some block → movable_block slot ≡ None → ⊥
 mover_stays slot block is none = cc
 
 -- ---- the law of a turn
 
 -- the blocks that move and lay below an address stand where they go
 pub record AreMoved (banks : List ℕ) (old now : Slots) (limit : ℕ) : Type 0 where
-  pub goes : (place : ℕ) (block : Block) → mover (slot_at old place) ≡ Some block → place_of block < limit
+  pub goes : (place : ℕ) (block : Block) → movable_block (slot_at old place) ≡ Some block → place_of block < limit
       → (address : ℕ) × GoesBeside banks old now block address × (slot_at now place ≡ holding (slot_at old place) (moved_to address block))
 
 -- they stand nowhere above where they lay
 abbrev pub AreLow : Slots → Slots → ℕ → Type 0
-AreLow old now limit = (place : ℕ) (block : Block) → mover (slot_at old place) ≡ Some block → place_of block < limit
+AreLow old now limit = (place : ℕ) (block : Block) → movable_block (slot_at old place) ≡ Some block → place_of block < limit
     → (address : ℕ) × (address ≤ place_of block) × (slot_at now place ≡ holding (slot_at old place) (moved_to address block))
 
 module _ (banks : List ℕ) (old now : Slots) (apart : AreApart banks old) (settled : AreSettled banks old) where
   -- two blocks that move have no byte in common, and another one isn't this one
-  other_below : (place p : ℕ) (block other : Block) → mover (slot_at old place) ≡ Some block → mover (slot_at old p) ≡ Some other → place_of other < place_of block
+  other_below : (place p : ℕ) (block other : Block) → movable_block (slot_at old place) ≡ Some block → movable_block (slot_at old p) ≡ Some other → place_of other < place_of block
       → 0 < block.want.size → place_of other + other.want.size ≤ place_of block
   other_below place p block other is is' below some = elim (cases_lt (place_of block) (place_of other + other.want.size)) [
     | inl over ↦
         let first = has_bytes (slot_at old place) block is (place_of block) (omega arith) (omega arith) in
         let second = has_bytes (slot_at old p) other is' (place_of block) (omega arith) over in
         let same = apart.apart place p (place_of block) first second in
-        let one : block ≡ other = same_Some block other (sym is ∙ ap (λ (n : ℕ). mover (slot_at old n)) same ∙ is') in
+        let one : block ≡ other = same_Some block other (sym is ∙ ap (λ (n : ℕ). movable_block (slot_at old n)) same ∙ is') in
         absurd (omega (arith, ap place_of one))
     | inr within ↦ within
   ]
 
   -- The law: when a block's turn comes, its present address fits, if the blocks that moved before it stand nowhere above where they lay.
-  present_fits : (place : ℕ) (block : Block) → mover (slot_at old place) ≡ Some block → AreLow old now (place_of block) → FitsBeside banks old now block (place_of block)
+  present_fits : (place : ℕ) (block : Block) → movable_block (slot_at old place) ≡ Some block → AreLow old now (place_of block) → FitsBeside banks old now block (place_of block)
   present_fits place block is low = record {
     open_ = settled.fits place block (place_of block) (mover_in (slot_at old place) block is).0 (lies (slot_at old place) block is);
     stay = λ p none i from to held.
         let same = apart.apart place p i (has_bytes (slot_at old place) block is i from to) held in
-        mover_stays (slot_at old place) block is (ap (λ (n : ℕ). mover (slot_at old n)) same ∙ none);
+        mover_stays (slot_at old place) block is (ap (λ (n : ℕ). movable_block (slot_at old n)) same ∙ none);
     moved = λ p other is' below i from to held.
         let its = low p other is' below in
         let held' : HoldsByte i (holding (slot_at old p) (moved_to its.0 other)) = subst (HoldsByte i) its.2 held in
@@ -92,13 +92,13 @@ module _ (banks : List ℕ) (old now : Slots) (apart : AreApart banks old) (sett
       let here = present_fits place block is (λ p other is' below'. are_low limit moved turn (omega arith) p other is' (omega arith)) in
       (goes.0, goes.1.least (place_of block) here, goes.2)
 
-  pub turn_fits : (limit : ℕ) → AreMoved banks old now limit → (place : ℕ) (block : Block) → mover (slot_at old place) ≡ Some block → place_of block ≤ limit
+  pub turn_fits : (limit : ℕ) → AreMoved banks old now limit → (place : ℕ) (block : Block) → movable_block (slot_at old place) ≡ Some block → place_of block ≤ limit
       → FitsBeside banks old now block (place_of block)
   turn_fits limit moved place block is le = present_fits place block is (are_low limit moved (place_of block) le)
 
 -- where a block fits follows from where the blocks stand that moved before it
 pub fits_there : (banks : List ℕ) (old a b : Slots) (block : Block) (address : ℕ)
-    → ((place : ℕ) (other : Block) → mover (slot_at old place) ≡ Some other → place_of other < place_of block → slot_at a place ≡ slot_at b place)
+    → ((place : ℕ) (other : Block) → movable_block (slot_at old place) ≡ Some other → place_of other < place_of block → slot_at a place ≡ slot_at b place)
     → FitsBeside banks old a block address → FitsBeside banks old b block address
 fits_there banks old a b block address same fits = record {
   open_ = fits.open_;
@@ -110,23 +110,23 @@ fits_there banks old a b block address same fits = record {
 
 module _ (banks : List ℕ) (old one two : Slots) (first : Slides banks old one) (second : Slides banks old two) where
   abbrev Same : ℕ → Type 0
-  Same limit = (place : ℕ) (block : Block) → mover (slot_at old place) ≡ Some block → place_of block < limit → slot_at one place ≡ slot_at two place
+  Same limit = (place : ℕ) (block : Block) → movable_block (slot_at old place) ≡ Some block → place_of block < limit → slot_at one place ≡ slot_at two place
 
   all_same : (limit : ℕ) → Same limit
   all_same zero place block is below = absurd (omega arith)
   all_same (suc limit) place block is below =
       let p = first.goes place block is in
       let q = second.goes place block is in
-      let before : (n : ℕ) (other : Block) → mover (slot_at old n) ≡ Some other → place_of other < place_of block → slot_at one n ≡ slot_at two n = λ n other is' below'. all_same limit n other is' (omega arith) in
+      let before : (n : ℕ) (other : Block) → movable_block (slot_at old n) ≡ Some other → place_of other < place_of block → slot_at one n ≡ slot_at two n = λ n other is' below'. all_same limit n other is' (omega arith) in
       let there = fits_there banks old one two block p.0 before p.1.fits in
       let back = fits_there banks old two one block q.0 (λ n other is' below'. sym (before n other is' below')) q.1.fits in
       let address : p.0 ≡ q.0 = omega (arith, p.1.least q.0 back, q.1.least p.0 there) in
       p.2 ∙ ap (λ (n : ℕ). holding (slot_at old place) (moved_to n block)) address ∙ sym q.2
 
   same_at : (place : ℕ) → slot_at one place ≡ slot_at two place
-  same_at place = go (mover (slot_at old place)) refl
+  same_at place = go (movable_block (slot_at old place)) refl
     where
-      go : (o : Option Block) → mover (slot_at old place) ≡ o → slot_at one place ≡ slot_at two place
+      go : (o : Option Block) → movable_block (slot_at old place) ≡ o → slot_at one place ≡ slot_at two place
       go None is = first.stay place is ∙ sym (second.stay place is)
       go (Some block) is = all_same (suc (place_of block)) place block is (omega arith)
 
@@ -158,8 +158,8 @@ with_moved slots place block to = slice_set slots place (holding (slot_at slots 
 -- the blocks that move and lay below an address are slid down, and all else is as it was
 pub record AreSlidTo (banks : List ℕ) (old now : Slots) (limit : ℕ) : Type 0 where
   pub len : length now ≡ length old
-  pub stay : (place : ℕ) → mover (slot_at old place) ≡ None → slot_at now place ≡ slot_at old place
-  pub wait : (place : ℕ) (block : Block) → mover (slot_at old place) ≡ Some block → limit ≤ place_of block → slot_at now place ≡ slot_at old place
+  pub stay : (place : ℕ) → movable_block (slot_at old place) ≡ None → slot_at now place ≡ slot_at old place
+  pub wait : (place : ℕ) (block : Block) → movable_block (slot_at old place) ≡ Some block → limit ≤ place_of block → slot_at now place ≡ slot_at old place
   pub moved : AreMoved banks old now limit
 
 -- the least address at which the block at a place fits beside all other blocks as they lie now
@@ -169,7 +169,7 @@ pub record SinksTo (banks : List ℕ) (now : Slots) (place : ℕ) (block : Block
 
 -- of the blocks that move and didn't yet, this is the lowest
 abbrev pub IsNext : Slots → ℕ → Block → Type 0
-IsNext old limit block = (limit ≤ place_of block) × ((place : ℕ) (other : Block) → mover (slot_at old place) ≡ Some other → limit ≤ place_of other → place_of block ≤ place_of other)
+IsNext old limit block = (limit ≤ place_of block) × ((place : ℕ) (other : Block) → movable_block (slot_at old place) ≡ Some other → limit ≤ place_of other → place_of block ≤ place_of other)
 
 apart_at : (address size : ℕ) (slots : Slots) → All (IsApart address size) slots → (place : ℕ) → IsApart address size (slot_at slots place)
 apart_at address size slots all place = elim (cases_lt place (length slots)) [
@@ -180,17 +180,17 @@ apart_at address size slots all place = elim (cases_lt place (length slots)) [
 pub all_at : (address size : ℕ) (slots : Slots) → ((place : ℕ) → IsApart address size (slot_at slots place)) → All (IsApart address size) slots
 all_at address size slots each place d within = subst (IsApart address size) (get_or_default slots place new_slot d within) (each place)
 
-pub inside : (slots : Slots) (place : ℕ) (block : Block) → mover (slot_at slots place) ≡ Some block → place < length slots
+pub inside : (slots : Slots) (place : ℕ) (block : Block) → movable_block (slot_at slots place) ≡ Some block → place < length slots
 inside slots place block is = elim (cases_lt place (length slots)) [
   | inl within ↦ within
-  | inr past ↦ absurd (mover_stays (slot_at slots place) block is (ap mover (get_or_past slots place new_slot past)))
+  | inr past ↦ absurd (mover_stays (slot_at slots place) block is (ap movable_block (get_or_past slots place new_slot past)))
 ]
 
-pub held_there : (slot : Slot Block) (block : Block) → mover slot ≡ Some block → (i : ℕ) → HoldsByte i slot → (place_of block ≤ i) × (i < place_of block + block.want.size)
+pub held_there : (slot : Slot Block) (block : Block) → movable_block slot ≡ Some block → (i : ℕ) → HoldsByte i slot → (place_of block ≤ i) × (i < place_of block + block.want.size)
 held_there slot block is i held = rw ((mover_in slot block is).0, lies slot block is) at held
 
 module _ (banks : List ℕ) (old now : Slots) (apart : AreApart banks old) (settled : AreSettled banks old) (limit : ℕ) (slid : AreSlidTo banks old now limit)
-    (place : ℕ) (block : Block) (is : mover (slot_at old place) ≡ Some block) (next : IsNext old limit block) where
+    (place : ℕ) (block : Block) (is : movable_block (slot_at old place) ≡ Some block) (next : IsNext old limit block) where
   turn_moved : AreMoved banks old now (place_of block)
   turn_moved = record {
     goes = λ p other is' below. elim (cases_lt (place_of other) limit) [
@@ -203,16 +203,16 @@ module _ (banks : List ℕ) (old now : Slots) (apart : AreApart banks old) (sett
   turn_present : FitsBeside banks old now block (place_of block)
   turn_present = turn_fits banks old now apart settled (place_of block) turn_moved place block is (omega arith)
 
-  not_here : (p : ℕ) → mover (slot_at old p) ≡ None → p ≢ place
-  not_here p none same = mover_stays (slot_at old place) block is (ap (λ (n : ℕ). mover (slot_at old n)) (sym same) ∙ none)
+  not_here : (p : ℕ) → movable_block (slot_at old p) ≡ None → p ≢ place
+  not_here p none same = mover_stays (slot_at old place) block is (ap (λ (n : ℕ). movable_block (slot_at old n)) (sym same) ∙ none)
 
-  not_below : (p : ℕ) (other : Block) → mover (slot_at old p) ≡ Some other → place_of other < place_of block → p ≢ place
+  not_below : (p : ℕ) (other : Block) → movable_block (slot_at old p) ≡ Some other → place_of other < place_of block → p ≢ place
   not_below p other is' below same =
-      let one : other ≡ block = same_Some other block (sym is' ∙ ap (λ (n : ℕ). mover (slot_at old n)) same ∙ is) in
+      let one : other ≡ block = same_Some other block (sym is' ∙ ap (λ (n : ℕ). movable_block (slot_at old n)) same ∙ is) in
       absurd (omega (arith, ap place_of one))
 
   -- a block that waits lies behind it
-  waiting : (p : ℕ) (other : Block) → mover (slot_at old p) ≡ Some other → place_of block ≤ place_of other → p ≢ place → (a : ℕ) → a ≤ place_of block
+  waiting : (p : ℕ) (other : Block) → movable_block (slot_at old p) ≡ Some other → place_of block ≤ place_of other → p ≢ place → (a : ℕ) → a ≤ place_of block
       → IsApart a block.want.size (slot_at old p)
   waiting p other is' above ne a le i from to held =
       let its = held_there (slot_at old p) other is' i held in
@@ -254,7 +254,7 @@ module _ (banks : List ℕ) (old now : Slots) (apart : AreApart banks old) (sett
     special = fits.open_.special;
   }
     where
-      others : (p : ℕ) → p ≢ place → (o : Option Block) → mover (slot_at old p) ≡ o → IsApart a block.want.size (slot_at now p)
+      others : (p : ℕ) → p ≢ place → (o : Option Block) → movable_block (slot_at old p) ≡ o → IsApart a block.want.size (slot_at now p)
       others p ne None e = subst (IsApart a block.want.size) (sym (slid.stay p e)) (fits.stay p e)
       others p ne (Some other) e = elim (cases_lt (place_of other) limit) [
         | inl early ↦ fits.moved p other e (omega (arith, next.0))
@@ -267,7 +267,7 @@ module _ (banks : List ℕ) (old now : Slots) (apart : AreApart banks old) (sett
             let here : slot_at (without now place block) p ≡ holding (slot_at now place) (record block { at = None }) =
             ap (λ (n : ℕ). slot_at (without now place block) n) same ∙ get_or-set_same now place (holding (slot_at now place) (record block { at = None })) new_slot (subst (λ (n : ℕ). place < n) (sym slid.len) (inside old place block is)) in
             subst (HoldsByte i) here held
-        | inr ne ↦ subst (IsApart a block.want.size) (sym (get_or-set_other now place p (holding (slot_at now place) (record block { at = None })) new_slot ne)) (others p ne (mover (slot_at old p)) refl)
+        | inr ne ↦ subst (IsApart a block.want.size) (sym (get_or-set_other now place p (holding (slot_at now place) (record block { at = None })) new_slot ne)) (others p ne (movable_block (slot_at old p)) refl)
       ]
 
   module _ (to : ℕ) (sinks : SinksTo banks now place block to) where
@@ -303,7 +303,7 @@ module _ (banks : List ℕ) (old now : Slots) (apart : AreApart banks old) (sett
       len = after_len ∙ slid.len;
       stay = λ p none. after_other p (not_here p none) ∙ slid.stay p none;
       wait = λ p other is' late.
-          let ne : p ≢ place = λ same. let one : other ≡ block = same_Some other block (sym is' ∙ ap (λ (n : ℕ). mover (slot_at old n)) same ∙ is) in absurd (omega (arith, ap place_of one)) in
+          let ne : p ≢ place = λ same. let one : other ≡ block = same_Some other block (sym is' ∙ ap (λ (n : ℕ). movable_block (slot_at old n)) same ∙ is) in absurd (omega (arith, ap place_of one)) in
           after_other p ne ∙ slid.wait p other is' (omega (arith, next.0));
       moved = record {
         goes = λ p other is' below. elim (cases_lt (place_of other) limit) [
@@ -313,10 +313,10 @@ module _ (banks : List ℕ) (old now : Slots) (apart : AreApart banks old) (sett
       };
     }
       where
-        below_same : (p : ℕ) (other : Block) → mover (slot_at old p) ≡ Some other → place_of other < place_of block → slot_at now p ≡ slot_at after p
+        below_same : (p : ℕ) (other : Block) → movable_block (slot_at old p) ≡ Some other → place_of other < place_of block → slot_at now p ≡ slot_at after p
         below_same p other is' below = sym (after_other p (not_below p other is' below))
 
-        earlier : (p : ℕ) (other : Block) → mover (slot_at old p) ≡ Some other → place_of other < limit
+        earlier : (p : ℕ) (other : Block) → movable_block (slot_at old p) ≡ Some other → place_of other < limit
             → (address : ℕ) × GoesBeside banks old after other address × (slot_at after p ≡ holding (slot_at old p) (moved_to address other))
         earlier p other is' early =
             let went = slid.moved.goes p other is' early in (
@@ -338,14 +338,14 @@ module _ (banks : List ℕ) (old now : Slots) (apart : AreApart banks old) (sett
           after_here,
         )
 
-        here : (p : ℕ) (other : Block) → mover (slot_at old p) ≡ Some other → place_of other ≡ place_of block
+        here : (p : ℕ) (other : Block) → movable_block (slot_at old p) ≡ Some other → place_of other ≡ place_of block
             → (address : ℕ) × GoesBeside banks old after other address × (slot_at after p ≡ holding (slot_at old p) (moved_to address other))
         here p other is' at =
             let some = (settled.wants place block (mover_in (slot_at old place) block is).0).some in
             let some' = (settled.wants p other (mover_in (slot_at old p) other is').0).some in
             let same = apart.apart place p (place_of block) (has_bytes (slot_at old place) block is (place_of block) (omega arith) (omega arith))
             (has_bytes (slot_at old p) other is' (place_of block) (omega arith) (omega arith)) in
-            let one : block ≡ other = same_Some block other (sym is ∙ ap (λ (n : ℕ). mover (slot_at old n)) same ∙ is') in
+            let one : block ≡ other = same_Some block other (sym is ∙ ap (λ (n : ℕ). movable_block (slot_at old n)) same ∙ is') in
             subst (λ (n : ℕ). (address : ℕ) × GoesBeside banks old after other address × (slot_at after n ≡ holding (slot_at old n) (moved_to address other))) same
             (subst (λ (b : Block). (address : ℕ) × GoesBeside banks old after b address × (slot_at after place ≡ holding (slot_at old place) (moved_to address b))) one goes_here)
 
@@ -363,7 +363,7 @@ slid_none banks old = record {
 }
 
 pub slid_all : (banks : List ℕ) (old now : Slots) (limit : ℕ) → AreSlidTo banks old now limit
-    → ((place : ℕ) (block : Block) → mover (slot_at old place) ≡ Some block → place_of block < limit) → Slides banks old now
+    → ((place : ℕ) (block : Block) → movable_block (slot_at old place) ≡ Some block → place_of block < limit) → Slides banks old now
 slid_all banks old now limit slid all = record {
   len = slid.len;
   stay = slid.stay;

@@ -10,8 +10,8 @@ use Rattle.link_meaning.specs.Member.{Member}
 use Rattle.link_meaning.specs.Rings.{equates}
 use Rattle.link_meaning.specs.LinkValues.{Told, IsTable}
 use Rattle.link_meaning.specs.laws.TableLaws.{one_table}
-use Rattle.link_meaning.specs.LinkedCells.{Item, State, Made, items, made, state_from, state_behind}
-use Rattle.link_meaning.specs.LinkFaults.{Given, IsResolved, spot_in}
+use Rattle.link_meaning.specs.LinkedCells.{Item, LinkState, Made, items, made, state_from, state_behind}
+use Rattle.link_meaning.specs.LinkFaults.{LinkInput, IsResolved, spot_in}
 use Rattle.link_meaning.specs.laws.LinkFaultLaws.{one_program, one_resolve_fault, resolved_sound}
 use Rattle.link_meaning.specs.LinkWritten.{AreMade, start, written_file}
 use Rattle.link_meaning.specs.laws.LinkedRuns.{state_from-append}
@@ -75,22 +75,22 @@ one_emit_answer list (Ok x) (Err b) p q = absurd (emitted_sound list p.0 b p.1 q
 one_emit_answer list (Err a) (Ok y) p q = absurd (emitted_sound list q.0 a q.1 p)
 one_emit_answer list (Err a) (Err b) p q = ap refused (one_emit_fault list a b p q)
 
-one_list : (files : Given) (a b : List Member) → IsResolved files a → IsResolved files b → a ≡ b
+one_list : (files : LinkInput) (a b : List Member) → IsResolved files a → IsResolved files b → a ≡ b
 one_list files a b p q = one_program files a b p.program q.program
 
-same_fault : (files : Given) (a b : LinkFault) → IsFirstLinkFault files a → IsFirstLinkFault files b → a ≡ b
+same_fault : (files : LinkInput) (a b : LinkFault) → IsFirstLinkFault files a → IsFirstLinkFault files b → a ≡ b
 same_fault files a b (OfResolving p) (OfResolving q) = one_resolve_fault files a b p q
 same_fault files a b (OfResolving p) (OfEmitting list resolved q) = absurd (resolved_sound files list a resolved p)
 same_fault files a b (OfEmitting list resolved p) (OfResolving q) = absurd (resolved_sound files list b resolved q)
 same_fault files a b (OfEmitting list resolved p) (OfEmitting other resolved' q) =
     one_emit_fault other a b (subst (λ (l : List Member). IsFirstEmitFault l a) (one_list files list other resolved resolved') p) q
 
-no_fault : (files : Given) (output : List ℕ) (fault : LinkFault) → IsLinkedTo files output → IsFirstLinkFault files fault → ⊥
+no_fault : (files : LinkInput) (output : List ℕ) (fault : LinkFault) → IsLinkedTo files output → IsFirstLinkFault files fault → ⊥
 no_fault files output fault is (OfResolving p) = resolved_sound files is.list fault is.linkable.resolved p
 no_fault files output fault is (OfEmitting list resolved p) =
     emitted_sound is.list is.table fault is.linkable.emitted (subst (λ (l : List Member). IsFirstEmitFault l fault) (one_list files list is.list resolved is.linkable.resolved) p)
 
-same_output : (files : Given) (x y : List ℕ) → IsLinkedTo files x → IsLinkedTo files y → x ≡ y
+same_output : (files : LinkInput) (x y : List ℕ) → IsLinkedTo files x → IsLinkedTo files y → x ≡ y
 same_output files x y p q =
     let list : p.list ≡ q.list = one_list files p.list q.list p.linkable.resolved q.linkable.resolved in
     let table : p.table ≡ q.table = one_table q.list p.table q.table (subst (λ (l : List Member). IsTable l p.table) list p.linkable.emitted.valued) q.linkable.emitted.valued in
@@ -125,7 +125,7 @@ none_made list table before (i ∷ rest) parts none no_first =
         → AreMade list table (state_from list table start before) (i ∷ rest)
     by_made (Ok x) is go =
         let none' : HasNone (HasValueFault list table) (before ++ i ∷ []) = none_more (HasValueFault list table) before i none (λ fault has. fine_failed x fault.cause (sym is ∙ has.cause)) in
-        (x, is, subst (λ (s : State). AreMade list table s rest) (state_from-append list table start before (i ∷ [])) (go none'))
+        (x, is, subst (λ (s : LinkState). AreMade list table s rest) (state_from-append list table start before (i ∷ [])) (go none'))
     by_made (Err cause) is go = absurd (no_first (fault_of cause None (spot_in i.member i.here.at)) (record { before = before; item = i; after = rest; parts = parts; none = none; here = record { cause = is; name = refl; spot = refl } }))
 
 pub made_none : (list : List Member) (table : List Told) (before rest : List Item) → AreMade list table (state_from list table start before) rest
@@ -157,7 +157,7 @@ made_none list table before (j ∷ rest) are (k ∷ front) i back parts =
     heads = cc
 
     more : AreMade list table (state_from list table start (before ++ j ∷ [])) rest
-    more = subst (λ (s : State). AreMade list table s rest) (sym (state_from-append list table start before (j ∷ []))) are.2
+    more = subst (λ (s : LinkState). AreMade list table s rest) (sym (state_from-append list table start before (j ∷ []))) are.2
 
     moved : before ++ k ∷ front ≡ (before ++ j ∷ []) ++ front
     moved = ap (λ (h : Item). before ++ h ∷ front) (sym heads) ∙ sym (append_assoc before (j ∷ []) front)

@@ -10,19 +10,19 @@ use Rattle.omf_format.specs.Number.{IsBytes}
 use Rattle.omf_format.specs.Header.{is_private}
 use Rattle.omf_format.specs.Record.{Record, End, Const, LongConst, Align, Org, Space, Reloc, InterSeg, ShortReloc, ShortInterSeg, Super, Using, Strong, Label, Equate, Formula, Entry, spelling}
 use Rattle.omf_format.specs.laws.RecordLaws.{front-takes}
-use Rattle.omf_format.specs.Reading.{Reader, place_of, front, told, next_answer, after_next, HandsOut}
+use Rattle.omf_format.specs.Reading.{Reader, place_of, first_record, answer_of_reader, next_answer, after_next, HandsOut}
 use Rattle.omf_format.specs.laws.BodyLaws.{found_by, spelling-some, body_fits}
 use Rattle.omf_format.specs.File.{Segment, body_reader}
 use Rattle.omf_format.specs.laws.FileLaws.{header_lies}
 use Rattle.link_meaning.specs.First.{IsIn}
 use Rattle.link_meaning.specs.laws.FirstLaws.{Parted, Same, Sooner, Later, parted}
 use Rattle.link_meaning.specs.laws.MemberLists.{in_filter}
-use Rattle.link_meaning.specs.Sizes.{Located, size_at, located_from, located}
+use Rattle.link_meaning.specs.Sizes.{Located, size_at, located_from, records_with_offsets}
 use Rattle.link_meaning.specs.Member.{Member}
 use Rattle.link_meaning.specs.Defines.{Definition, outer_scope, title_of, defined_by, defined_in}
-use Rattle.link_meaning.specs.Search.{Found, entries_from, entries}
+use Rattle.link_meaning.specs.Search.{FoundDefinition, entries_from, entries}
 use Rattle.link_meaning.specs.Rings.{has_expr, is_equate, equates}
-use Rattle.link_meaning.specs.LinkFaults.{Given, HasBytes, IsResolved}
+use Rattle.link_meaning.specs.LinkFaults.{LinkInput, HasBytes, IsResolved}
 use Rattle.link_meaning.specs.laws.ReadMembers.{IsRead, members_read}
 use Rattle.link_meaning.specs.laws.PlaceFits.{IsPlaceIn, in-append, of_located, own_entry, entry_there}
 use Rattle.link_meaning.specs.EquateValues.{AreApart, TableOfValues}
@@ -46,24 +46,24 @@ place_is : (r : Reader) (found : ℕ × Record) → next_answer r ≡ Ok (Some f
 unfolding next_answer
 place_is r found e = by_end r.ended e
   where
-    by_answer : (answer : Result (Record × List ℕ) Flaw) → told r answer ≡ Ok (Some found) → found.0 ≡ place_of r
+    by_answer : (answer : Result (Record × List ℕ) Flaw) → answer_of_reader r answer ≡ Ok (Some found) → found.0 ≡ place_of r
     by_answer (Ok f) e = let same : place_of r ≡ found.0 = cc in sym same
     by_answer (Err flaw) e = absurd cc
 
-    by_end : (b : Bool) → cond b nothing (told r (front r.layout r.left)) ≡ Ok (Some found) → found.0 ≡ place_of r
+    by_end : (b : Bool) → cond b nothing (answer_of_reader r (first_record r.layout r.left)) ≡ Ok (Some found) → found.0 ≡ place_of r
     by_end true e = absurd cc
-    by_end false e = by_answer (front r.layout r.left) e
+    by_end false e = by_answer (first_record r.layout r.left) e
 
 -- the segment's end stays
 end_is : (r : Reader) → (after_next r).end ≡ r.end
 unfolding after_next
-end_is r = by_end r.ended (front r.layout r.left)
+end_is r = by_end r.ended (first_record r.layout r.left)
   where
-    by_answer : (answer : Result (Record × List ℕ) Flaw) → (Rattle.omf_format.specs.Reading.moved r answer).end ≡ r.end
+    by_answer : (answer : Result (Record × List ℕ) Flaw) → (Rattle.omf_format.specs.Reading.reader_after r answer).end ≡ r.end
     by_answer (Ok f) = refl
     by_answer (Err flaw) = refl
 
-    by_end : (b : Bool) (answer : Result (Record × List ℕ) Flaw) → (cond b r (Rattle.omf_format.specs.Reading.moved r answer)).end ≡ r.end
+    by_end : (b : Bool) (answer : Result (Record × List ℕ) Flaw) → (cond b r (Rattle.omf_format.specs.Reading.reader_after r answer)).end ≡ r.end
     by_end true answer = refl
     by_end false answer = by_answer answer
 
@@ -163,7 +163,7 @@ true_false : true ≡ false → ⊥
 true_false e = cc
 
 pub of_record : (s : Segment) (d : Definition) → IsIn (defined_in s) d → has_expr d.expr ≡ true → IsIn (flat_map of_located (located_from 0 s.records)) d
-unfolding defined_in located
+unfolding defined_in records_with_offsets
 of_record s d is equate = elim (in-append (title_of s) (flat_map of_located (located_from 0 s.records)) d is) [
   | inl h ↦ absurd (true_false (sym equate ∙ title_none s d h))
   | inr h ↦ h
@@ -183,18 +183,18 @@ one_definition s d e rising is other p q same =
 
 -- ---- one entry
 
-defined_there : (place : ℕ) (ms : List Member) (f : Found) → IsIn (entries_from defined_in place ms) f → IsIn (defined_in f.member.segment) f.definition
+defined_there : (place : ℕ) (ms : List Member) (f : FoundDefinition) → IsIn (entries_from defined_in place ms) f → IsIn (defined_in f.member.segment) f.definition
 defined_there place [] f is = absurd is
 defined_there place (m ∷ ms) f is = elim (in-append (map (λ (d : Definition). record { place = place; member = m; definition = d }) (defined_in m.segment)) (entries_from defined_in (place + 1) ms) f is) [
   | inl h ↦ let own = own_entry place m (defined_in m.segment) f h in subst (λ (o : Member). IsIn (defined_in o.segment) f.definition) (sym own.1) own.2
   | inr h ↦ defined_there (place + 1) ms f h
 ]
 
-pub in_entries_is : (list : List Member) (f : Found) → IsIn (entries list) f → IsIn (defined_in f.member.segment) f.definition
+pub in_entries_is : (list : List Member) (f : FoundDefinition) → IsIn (entries list) f → IsIn (defined_in f.member.segment) f.definition
 unfolding entries
 in_entries_is list f is = defined_there 1 list f is
 
-one_member : (list : List Member) (e f : Found) (at to : ℕ) → IsPlaceIn list e.place e.member at → IsPlaceIn list f.place f.member to → e.place ≡ f.place → e.member ≡ f.member
+one_member : (list : List Member) (e f : FoundDefinition) (at to : ℕ) → IsPlaceIn list e.place e.member at → IsPlaceIn list f.place f.member to → e.place ≡ f.place → e.member ≡ f.member
 one_member list e f at to p q same = settle (parted p.front e.member p.back q.front f.member q.back (sym p.parts ∙ q.parts))
   where
     settle : Parted p.front e.member q.front f.member → e.member ≡ f.member
@@ -202,7 +202,7 @@ one_member list e f at to p q same = settle (parted p.front e.member p.back q.fr
     settle (Sooner rest more) = absurd (omega (arith, p.number, q.number, same, ap length more, length-append p.front (e.member ∷ rest)))
     settle (Later rest more) = absurd (omega (arith, p.number, q.number, same, ap length more, length-append q.front (f.member ∷ rest)))
 
-found_of : ℕ → Member → Definition → Found
+found_of : ℕ → Member → Definition → FoundDefinition
 found_of place member definition = record { place = place; member = member; definition = definition }
 
 pub passes_filter : {A : Type 0} → (p : A → Bool) (xs : List A) (x : A) → IsIn (Rattle.std.specs.Prelude.filter p xs) x → p x ≡ true
@@ -214,7 +214,7 @@ passes_filter {A} p (y ∷ ys) x is = by_test (p y) refl is (λ more. passes_fil
     by_test true e (inr more) go = go more
     by_test false e more go = go more
 
-pub apart : (files : Given) (list : List Member) → HasBytes files → IsResolved files list → AreApart (equates list)
+pub apart : (files : LinkInput) (list : List Member) → HasBytes files → IsResolved files list → AreApart (equates list)
 unfolding equates found_of
 apart files list bytes resolved e f is other place at =
     let p = in_filter is_equate (entries list) e is in
@@ -232,9 +232,9 @@ apart files list bytes resolved e f is other place at =
     there_in : (list : List Member) → IsPlaceIn list f.place f.member f.definition.place → IsIn list f.member
     there_in list p = subst (λ (l : List Member). IsIn l f.member) (sym p.parts) (behind p.front)
       where
-        behind : (front : List Member) → IsIn (front ++ f.member ∷ p.back) f.member
+        behind : (first_record : List Member) → IsIn (first_record ++ f.member ∷ p.back) f.member
         behind [] = inl refl
-        behind (o ∷ front) = inr (behind front)
+        behind (o ∷ first_record) = inr (behind first_record)
 
 -- The table of resolved files tells each equate its value, and nothing else does.
 pub table_of_values : TableOfValues

@@ -8,7 +8,7 @@ use Rattle.omf_format.specs.declared.value.ValueFault.{ValueFault}
 use Rattle.link_meaning.specs.First.{IsIn}
 use Rattle.link_meaning.specs.laws.MemberLists.{in_filter, filter_in}
 use Rattle.link_meaning.specs.Member.{Member}
-use Rattle.link_meaning.specs.Search.{Found, finds}
+use Rattle.link_meaning.specs.Search.{FoundDefinition, finds}
 use Rattle.link_meaning.specs.Rings.{is_equate, equates, names_in, LeadsTo, IsCircular}
 use Rattle.link_meaning.specs.LinkValues.{Told, equate_value, IsTable}
 use Rattle.link_meaning.specs.laws.TableLaws.{in_equates, by_rings}
@@ -17,11 +17,11 @@ use Rattle.link_meaning.specs.laws.EquateValueLaws.{tells, are_table}
 use Rattle.link_meaning.specs.laws.EquatePlaces.{passes_filter, apart}
 
 -- an equate has some value
-abbrev IsValued : List Member → Found → Type 0
+abbrev IsValued : List Member → FoundDefinition → Type 0
 IsValued list e = (a : Result Value ValueFault) × HasValue list e a
 
 -- rows for equates that have values
-rows_for : (list : List Member) (es : List Found) → ((e : Found) → IsIn es e → IsValued list e) → (rows : List Told) × TellValues list es rows
+rows_for : (list : List Member) (es : List FoundDefinition) → ((e : FoundDefinition) → IsIn es e → IsValued list e) → (rows : List Told) × TellValues list es rows
 rows_for list [] each = ([], tt)
 rows_for list (e ∷ es) each =
     let own = each e (inl refl) in
@@ -39,12 +39,12 @@ in_back : {A : Type 0} (xs ys : List A) (x : A) → IsIn ys x → IsIn (xs ++ ys
 in_back [] ys x is = is
 in_back (y ∷ xs) ys x is = inr (in_back xs ys x is)
 
-in_flat : (f : List ℕ → List Found) (names : List (List ℕ)) (name : List ℕ) (x : Found) → IsIn names name → IsIn (f name) x → IsIn (flat_map f names) x
+in_flat : (f : List ℕ → List FoundDefinition) (names : List (List ℕ)) (name : List ℕ) (x : FoundDefinition) → IsIn names name → IsIn (f name) x → IsIn (flat_map f names) x
 in_flat f [] name x is found = absurd is
 in_flat f (n ∷ names) name x (inl e) found =
-    subst (λ (l : List Found). IsIn l x) (sym (flat_map-cons f n names)) (in_front (f n) (flat_map f names) x (subst (λ (m : List ℕ). IsIn (f m) x) (sym e) found))
+    subst (λ (l : List FoundDefinition). IsIn l x) (sym (flat_map-cons f n names)) (in_front (f n) (flat_map f names) x (subst (λ (m : List ℕ). IsIn (f m) x) (sym e) found))
 in_flat f (n ∷ names) name x (inr more) found =
-    subst (λ (l : List Found). IsIn l x) (sym (flat_map-cons f n names)) (in_back (f n) (flat_map f names) x (in_flat f names name x more found))
+    subst (λ (l : List FoundDefinition). IsIn l x) (sym (flat_map-cons f n names)) (in_back (f n) (flat_map f names) x (in_flat f names name x more found))
 
 split : {A : Type 0} (xs ys : List A) (x : A) → IsIn (xs ++ ys) x → IsIn xs x ⊎ IsIn ys x
 split [] ys x is = inr is
@@ -54,25 +54,25 @@ split (y ∷ xs) ys x (inr more) = elim (split xs ys x more) [
   | inr h ↦ inr h
 ]
 
-of_flat : (f : List ℕ → List Found) (names : List (List ℕ)) (x : Found) → IsIn (flat_map f names) x → (name : List ℕ) × IsIn names name × IsIn (f name) x
+of_flat : (f : List ℕ → List FoundDefinition) (names : List (List ℕ)) (x : FoundDefinition) → IsIn (flat_map f names) x → (name : List ℕ) × IsIn names name × IsIn (f name) x
 of_flat f [] x is = absurd is
-of_flat f (n ∷ names) x is = elim (split (f n) (flat_map f names) x (subst (λ (l : List Found). IsIn l x) (flat_map-cons f n names) is)) [
+of_flat f (n ∷ names) x is = elim (split (f n) (flat_map f names) x (subst (λ (l : List FoundDefinition). IsIn l x) (flat_map-cons f n names) is)) [
   | inl h ↦ (n, inl refl, h)
   | inr h ↦ let rest = of_flat f names x h in (rest.0, inr rest.1, rest.2)
 ]
 
-abbrev names_of : Found → List (List ℕ)
+abbrev names_of : FoundDefinition → List (List ℕ)
 names_of e = names_in e.member.segment.fields.lab_len e.definition.expr
 
-led : List Member → Found → List Found
+led : List Member → FoundDefinition → List FoundDefinition
 led list e = filter is_equate (flat_map (λ name. finds list e.place e.member name) (names_of e))
 
-led_to : (list : List Member) (e f : Found) → LeadsTo list e f → IsIn (led list e) f
+led_to : (list : List Member) (e f : FoundDefinition) → LeadsTo list e f → IsIn (led list e) f
 unfolding led
 led_to list e f leads =
     filter_in is_equate (flat_map (λ name. finds list e.place e.member name) (names_of e)) f (in_flat (λ name. finds list e.place e.member name) (names_of e) leads.name f leads.asked leads.found) leads.equate
 
-led_leads : (list : List Member) (e f : Found) → IsIn (led list e) f → LeadsTo list e f
+led_leads : (list : List Member) (e f : FoundDefinition) → IsIn (led list e) f → LeadsTo list e f
 unfolding led
 led_leads list e f is =
     let all = flat_map (λ name. finds list e.place e.member name) (names_of e) in
@@ -81,8 +81,8 @@ led_leads list e f is =
 
 -- ---- the values
 
-module _ (list : List Member) (are_apart : AreApart (equates list)) (straight : (e : Found) → IsIn (equates list) e → IsCircular list e → ⊥) where
-  by_led : (e : Found) → IsIn (equates list) e → ((f : Found) → LeadsTo list e f → IsValued list f) → IsValued list e
+module _ (list : List Member) (are_apart : AreApart (equates list)) (straight : (e : FoundDefinition) → IsIn (equates list) e → IsCircular list e → ⊥) where
+  by_led : (e : FoundDefinition) → IsIn (equates list) e → ((f : FoundDefinition) → LeadsTo list e f → IsValued list f) → IsValued list e
   by_led e is go =
       let rows = rows_for list (led list e) (λ f there. go f (led_leads list e f there)) in (
         equate_value list rows.0 e,

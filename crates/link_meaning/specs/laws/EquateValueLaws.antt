@@ -6,9 +6,9 @@ use Rattle.omf_format.specs.declared.value.Value.{Value}
 use Rattle.omf_format.specs.declared.value.ValueFault.{ValueFault}
 use Rattle.link_meaning.specs.First.{IsIn}
 use Rattle.link_meaning.specs.Member.{Member}
-use Rattle.link_meaning.specs.Search.{Found}
+use Rattle.link_meaning.specs.Search.{FoundDefinition}
 use Rattle.link_meaning.specs.Rings.{equates, LeadsTo, Path, Last, Through}
-use Rattle.link_meaning.specs.LinkValues.{Told, told, equate_value, AreTold, IsTable}
+use Rattle.link_meaning.specs.LinkValues.{Told, value_of_definition, equate_value, AreTold, IsTable}
 use Rattle.link_meaning.specs.laws.TableLaws.{equate_same, alike_from, path_on, in_equates, tells_of, by_rings}
 use Rattle.link_meaning.specs.EquateValues.{HasValue, ByOthers, TellValues, AreApart, OneValue, NoneOnRing}
 
@@ -16,16 +16,16 @@ use Rattle.link_meaning.specs.EquateValues.{HasValue, ByOthers, TellValues, AreA
 
 pub one_value : OneValue
 one_value list e a b (ByOthers x t c p go) (ByOthers y u d q other) =
-    p ∙ equate_same list t u e (alike_from list t u e (λ g leads. one_value list g (told t g.place g.definition.at) (told u g.place g.definition.at) (go g leads) (other g leads))) ∙ sym q
+    p ∙ equate_same list t u e (alike_from list t u e (λ g leads. one_value list g (value_of_definition t g.place g.definition.at) (value_of_definition u g.place g.definition.at) (go g leads) (other g leads))) ∙ sym q
 
 -- ---- none on a ring
 
-no_way : (list : List Member) (x y : Found) (a : Result Value ValueFault) → HasValue list x a → Path list x y → x ≡ y → ⊥
+no_way : (list : List Member) (x y : FoundDefinition) (a : Result Value ValueFault) → HasValue list x a → Path list x y → x ≡ y → ⊥
 no_way list x y a (ByOthers e t c p go) (Last from to leads) same =
-    no_way list y y (told t y.place y.definition.at) (go y leads) (subst (λ (z : Found). Path list z y) same (Last x y leads)) refl
+    no_way list y y (value_of_definition t y.place y.definition.at) (go y leads) (subst (λ (z : FoundDefinition). Path list z y) same (Last x y leads)) refl
 no_way list x y a (ByOthers e t c p go) (Through from next to leads path) same =
-    no_way list next next (told t next.place next.definition.at) (go next leads)
-    (path_on list next y next path (subst (λ (z : Found). LeadsTo list z next) same leads)) refl
+    no_way list next next (value_of_definition t next.place next.definition.at) (go next leads)
+    (path_on list next y next path (subst (λ (z : FoundDefinition). LeadsTo list z next) same leads)) refl
 
 pub none_on_ring : NoneOnRing
 none_on_ring list e a has ring = no_way list e e a has ring refl
@@ -34,15 +34,15 @@ none_on_ring list e a has ring = no_way list e e a has ring refl
 
 -- ---- from values to the table
 
-pub tells : (list : List Member) (es : List Found) (rows : List Told) (e : Found) → TellValues list es rows → IsIn es e
-    → ((f : Found) → IsIn es f → f.place ≡ e.place → f.definition.at ≡ e.definition.at → f ≡ e) → HasValue list e (told rows e.place e.definition.at)
+pub tells : (list : List Member) (es : List FoundDefinition) (rows : List Told) (e : FoundDefinition) → TellValues list es rows → IsIn es e
+    → ((f : FoundDefinition) → IsIn es f → f.place ≡ e.place → f.definition.at ≡ e.definition.at → f ≡ e) → HasValue list e (value_of_definition rows e.place e.definition.at)
 tells list [] rows e tell is apart = absurd is
 tells list (x ∷ es) [] e tell is apart = absurd tell
 tells list (x ∷ es) (t ∷ rows) e tell is apart =
     by_test (eqb t.place e.place && eqb t.at e.definition.at) refl (λ more. tells list es rows e tell.3 more (λ f there. apart f (inr there)))
   where
     same_key : x ≡ e → (eqb t.place e.place && eqb t.at e.definition.at) ≡ true
-    same_key e' = and_from _ _ (eq-eqb t.place e.place (tell.0 ∙ ap (λ (f : Found). f.place) e')) (eq-eqb t.at e.definition.at (tell.1 ∙ ap (λ (f : Found). f.definition.at) e'))
+    same_key e' = and_from _ _ (eq-eqb t.place e.place (tell.0 ∙ ap (λ (f : FoundDefinition). f.place) e')) (eq-eqb t.at e.definition.at (tell.1 ∙ ap (λ (f : FoundDefinition). f.definition.at) e'))
 
     true_false : true ≡ false → ⊥
     true_false e' = cc
@@ -51,24 +51,24 @@ tells list (x ∷ es) (t ∷ rows) e tell is apart =
     later (inl e') other = absurd (true_false (sym (same_key e') ∙ other))
     later (inr more) other = more
 
-    by_test : (b : Bool) → (eqb t.place e.place && eqb t.at e.definition.at) ≡ b → (IsIn es e → HasValue list e (told rows e.place e.definition.at))
-        → HasValue list e (cond b t.answer (told rows e.place e.definition.at))
+    by_test : (b : Bool) → (eqb t.place e.place && eqb t.at e.definition.at) ≡ b → (IsIn es e → HasValue list e (value_of_definition rows e.place e.definition.at))
+        → HasValue list e (cond b t.answer (value_of_definition rows e.place e.definition.at))
     by_test true key go =
         let both = and_parts (eqb t.place e.place) (eqb t.at e.definition.at) key in
         let same : x ≡ e = apart x (inl refl) (sym tell.0 ∙ eqb-true t.place e.place both.0) (sym tell.1 ∙ eqb-true t.at e.definition.at both.1) in
-        subst (λ (f : Found). HasValue list f t.answer) same tell.2
+        subst (λ (f : FoundDefinition). HasValue list f t.answer) same tell.2
     by_test false key go = go (later is key)
 
 module _ (list : List Member) (table : List Told) (tell : TellValues list (equates list) table) (apart : AreApart (equates list)) where
-  told_value : (e : Found) → IsIn (equates list) e → HasValue list e (told table e.place e.definition.at)
+  told_value : (e : FoundDefinition) → IsIn (equates list) e → HasValue list e (value_of_definition table e.place e.definition.at)
   told_value e is = tells list (equates list) table e tell is (λ f there place at. apart f e there is place at)
 
   -- what the table tells of an equate is what its expression stands for there
-  tells_own : (e : Found) → IsIn (equates list) e → (a : Result Value ValueFault) → HasValue list e a → a ≡ equate_value list table e
+  tells_own : (e : FoundDefinition) → IsIn (equates list) e → (a : Result Value ValueFault) → HasValue list e a → a ≡ equate_value list table e
   tells_own e is a (ByOthers x u c p go) =
-      p ∙ equate_same list u table e (alike_from list u table e (λ g leads. one_value list g (told u g.place g.definition.at) (told table g.place g.definition.at) (go g leads) (told_value g (in_equates list e g leads))))
+      p ∙ equate_same list u table e (alike_from list u table e (λ g leads. one_value list g (value_of_definition u g.place g.definition.at) (value_of_definition table g.place g.definition.at) (go g leads) (told_value g (in_equates list e g leads))))
 
-  rows_told : (es : List Found) (rows : List Told) → ((e : Found) → IsIn es e → IsIn (equates list) e) → TellValues list es rows → AreTold list table es rows
+  rows_told : (es : List FoundDefinition) (rows : List Told) → ((e : FoundDefinition) → IsIn es e → IsIn (equates list) e) → TellValues list es rows → AreTold list table es rows
   rows_told [] [] among all = tt
   rows_told [] (t ∷ rows) among all = absurd all
   rows_told (e ∷ es) [] among all = absurd all
@@ -77,25 +77,25 @@ module _ (list : List Member) (table : List Told) (tell : TellValues list (equat
       let own = told_value e is in (
         all.0,
         all.1,
-        one_value list e t.answer (told table e.place e.definition.at) all.2 own,
-        tells_own e is (told table e.place e.definition.at) own,
+        one_value list e t.answer (value_of_definition table e.place e.definition.at) all.2 own,
+        tells_own e is (value_of_definition table e.place e.definition.at) own,
         rows_told es rows (λ f there. among f (inr there)) all.3,
       )
 
   pub are_table : IsTable list table
   are_table = record {
-    straight = λ e is ring. none_on_ring list e (told table e.place e.definition.at) (told_value e is) ring;
+    straight = λ e is ring. none_on_ring list e (value_of_definition table e.place e.definition.at) (told_value e is) ring;
     rows = rows_told (equates list) table (λ e is. is) tell;
   }
 
 -- ---- and back
 
 module _ (list : List Member) (table : List Told) (is : IsTable list table) where
-  has_value : (e : Found) → IsIn (equates list) e → HasValue list e (told table e.place e.definition.at)
-  has_value = by_rings list (λ e. HasValue list e (told table e.place e.definition.at)) is.straight
-      (λ e there go. ByOthers e table (told table e.place e.definition.at) (tells_of list table (equates list) table is.rows e there) go)
+  has_value : (e : FoundDefinition) → IsIn (equates list) e → HasValue list e (value_of_definition table e.place e.definition.at)
+  has_value = by_rings list (λ e. HasValue list e (value_of_definition table e.place e.definition.at)) is.straight
+      (λ e there go. ByOthers e table (value_of_definition table e.place e.definition.at) (tells_of list table (equates list) table is.rows e there) go)
 
-  values_of : (es : List Found) (rows : List Told) → ((e : Found) → IsIn es e → IsIn (equates list) e) → AreTold list table es rows → TellValues list es rows
+  values_of : (es : List FoundDefinition) (rows : List Told) → ((e : FoundDefinition) → IsIn es e → IsIn (equates list) e) → AreTold list table es rows → TellValues list es rows
   values_of [] [] among all = tt
   values_of [] (t ∷ rows) among all = absurd all
   values_of (e ∷ es) [] among all = absurd all

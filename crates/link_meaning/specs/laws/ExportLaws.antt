@@ -20,10 +20,10 @@ use Rattle.omf_format.specs.declared.value.ValueFault.{ValueFault}
 use Rattle.omf_format.specs.File.{Segment}
 use Rattle.load_meaning.specs.WrittenFile.{IsExport}
 use Rattle.link_meaning.specs.First.{IsIn}
-use Rattle.link_meaning.specs.Sizes.{Located, size_at, located_from, located}
+use Rattle.link_meaning.specs.Sizes.{Located, size_at, located_from, records_with_offsets}
 use Rattle.link_meaning.specs.Member.{Member}
 use Rattle.link_meaning.specs.Defines.{outer_scope, Scope, ForSegment, ForUnit, ForAll, Definition, title_of, defined_by, defined_in}
-use Rattle.link_meaning.specs.Search.{Found, entries_from, entries}
+use Rattle.link_meaning.specs.Search.{FoundDefinition, entries_from, entries}
 use Rattle.link_meaning.specs.Layout.{load_headers}
 use Rattle.link_meaning.specs.LinkValues.{Told, found_value}
 use Rattle.link_meaning.specs.Fitting.{load_header, length_of}
@@ -114,13 +114,13 @@ title_short s small = by_name s.fields.name small
     by_name (b ∷ bs) fits = ((omega arith, fits), tt)
 
 defined_short : (s : Segment) → IsRead s → AllByRecursion HasShort (defined_in s)
-unfolding defined_in located
+unfolding defined_in records_with_offsets
 defined_short s read =
     let short = segment_short s read in
     all-append HasShort (title_of s) (flat_map (λ (r : Located). defined_by r.at r.location r.content) (located_from 0 s.records)) (title_short s short.0)
     (by_records s.fields.lab_len (length_width_of s.fields.version) 0 s.records short.1 (read_records s read))
 
-abbrev HasShortName : Found → Type 0
+abbrev HasShortName : FoundDefinition → Type 0
 HasShortName f = HasShort f.definition
 
 all_found : (place : ℕ) (m : Member) (ds : List Definition) → AllByRecursion HasShort ds → AllByRecursion HasShortName (map (λ d. record { place = place; member = m; definition = d }) ds)
@@ -174,7 +174,7 @@ at_fits headers name (Ok (At file segment offset shift)) few short is = by_test 
         ((fits.0, fits.1, is), tt)
 at_fits headers name (Err fault) few short is = tt
 
-one_fits : (list : List Member) (table : List Told) (f : Found) → length (load_headers list) ≤ 254 → AllByRecursion (λ g. is_too_long g ≡ false) (load_headers list) → HasShortName f → AllByRecursion IsExport (export_of list table f)
+one_fits : (list : List Member) (table : List Told) (f : FoundDefinition) → length (load_headers list) ≤ 254 → AllByRecursion (λ g. is_too_long g ≡ false) (load_headers list) → HasShortName f → AllByRecursion IsExport (export_of list table f)
 one_fits list table f few short is = by_scope f.definition.scope
   where
     by_scope : (scope : Scope) → AllByRecursion IsExport (elim scope as (λ x. List Record) [
@@ -186,7 +186,7 @@ one_fits list table f few short is = by_scope f.definition.scope
     by_scope ForUnit = tt
     by_scope ForAll = at_fits (load_headers list) f.definition.name (found_value list table f) few short is
 
-all_fit : (list : List Member) (table : List Told) (fs : List Found) → length (load_headers list) ≤ 254 → AllByRecursion (λ g. is_too_long g ≡ false) (load_headers list) → AllByRecursion HasShortName fs → AllByRecursion IsExport (flat_map (export_of list table) fs)
+all_fit : (list : List Member) (table : List Told) (fs : List FoundDefinition) → length (load_headers list) ≤ 254 → AllByRecursion (λ g. is_too_long g ≡ false) (load_headers list) → AllByRecursion HasShortName fs → AllByRecursion IsExport (flat_map (export_of list table) fs)
 all_fit list table [] few short all = tt
 all_fit list table (f ∷ fs) few short all =
     subst (AllByRecursion IsExport) (sym (flat_map-cons (export_of list table) f fs))

@@ -11,9 +11,9 @@ use Rattle.omf_format.specs.Number.{IsBytes}
 use Rattle.omf_format.specs.File.{Segment, segment_at}
 use Rattle.load_meaning.specs.Loadable.{IsLoadable}
 use Rattle.load_meaning.specs.laws.CellLaws.{loadable_has}
-use Rattle.link_meaning.specs.Member.{RuntimeFile, Setting, Member, setting_in, alone}
+use Rattle.link_meaning.specs.Member.{RuntimeFile, LinkSetting, Member, setting_in, without_runtimes}
 use Rattle.link_meaning.specs.Fitting.{length_outside}
-use Rattle.link_meaning.specs.LinkFaults.{Given, HasBytes, AreRuntimes, IsProgram}
+use Rattle.link_meaning.specs.LinkFaults.{LinkInput, HasBytes, AreRuntimes, IsProgram}
 use Rattle.link_meaning.specs.laws.ReadMembers.{of_file, in_at}
 use Rattle.link_meaning.specs.laws.SettingLaws.{of_setting}
 
@@ -54,10 +54,10 @@ runtime_fits (file ∷ files) (x ∷ runtimes) zero r number s bytes are there a
 runtime_fits (file ∷ files) (x ∷ runtimes) (suc j) r number s bytes are there at = runtime_fits files runtimes j r number s bytes.1 are.2 there at
 
 -- an offset in a segment of a run-time library file
-abbrev pub FarFits : Setting → Type 0
+abbrev pub FarFits : LinkSetting → Type 0
 FarFits setting = (file segment offset : ℕ) → offset < length_outside setting file segment → (segment < 2 ^ 16) × (offset < 2 ^ 32)
 
-setting_fits : (files : List (List ℕ × List ℕ)) (setting : Setting) → AllByRecursion (λ file. IsBytes file.1) files → AreRuntimes files setting.runtimes → FarFits setting
+setting_fits : (files : List (List ℕ × List ℕ)) (setting : LinkSetting) → AllByRecursion (λ file. IsBytes file.1) files → AreRuntimes files setting.runtimes → FarFits setting
 setting_fits files setting bytes are file segment offset below = by_file (slice_get setting.runtimes (file - 2)) refl below
   where
     by_segment : (r : RuntimeFile) → slice_get setting.runtimes (file - 2) ≡ Some r → (o : Option Segment) → segment_at r.segments segment ≡ o → offset < option_map_or (λ (s : Segment). s.fields.length) o 0 → Fits segment offset
@@ -68,6 +68,6 @@ setting_fits files setting bytes are file segment offset below = by_file (slice_
     by_file None there below = absurd (omega (arith, below))
     by_file (Some r) there below = by_segment r there (segment_at r.segments segment) refl below
 
-pub far_fits : (given : Given) (list : List Member) → HasBytes given → IsProgram given list → FarFits (setting_in list)
+pub far_fits : (given : LinkInput) (list : List Member) → HasBytes given → IsProgram given list → FarFits (setting_in list)
 far_fits given list bytes is =
-    of_setting given list is FarFits (setting_fits [] alone tt tt) (setting_fits given.runtimes is.setting bytes.1 is.is_setting.runtimes')
+    of_setting given list is FarFits (setting_fits [] without_runtimes tt tt) (setting_fits given.runtimes is.setting bytes.1 is.is_setting.runtimes')

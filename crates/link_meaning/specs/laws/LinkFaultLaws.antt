@@ -9,15 +9,15 @@ use Rattle.omf_base.specs.declared.spot.Spot.{Spot}
 use Rattle.link_meaning.specs.declared.fault.LinkFault.{LinkFault}
 use Rattle.link_meaning.specs.First.{IsFirst}
 use Rattle.link_meaning.specs.laws.FirstLaws.{HasOne, one_first}
-use Rattle.link_meaning.specs.Member.{Row, Input, Member, RuntimeFile, Setting}
+use Rattle.link_meaning.specs.Member.{Row, Input, Member, RuntimeFile, LinkSetting}
 use Rattle.link_meaning.specs.declared.form.LinkForm.{LinkForm}
 use Rattle.load_meaning.specs.declared.load.LoadFault.{LoadFault}
 use Rattle.load_meaning.specs.laws.LoadableLaws.{loadable_same, loadable_sound, first_fault_same}
 use Rattle.load_meaning.specs.Runtime.{runtime_fault, IsFirstRuntimeFault, OfLoading, OfKind}
-use Rattle.link_meaning.specs.LinkedList.{asked, IsLinked}
+use Rattle.link_meaning.specs.LinkedList.{all_uses, IsLinked}
 use Rattle.link_meaning.specs.laws.LinkedListLaws.{one_linked_list}
 use Rattle.link_meaning.specs.Layout.{load_members, load_headers}
-use Rattle.link_meaning.specs.LinkFaults.{Given, link_cause, segments_fault, rows_in_file, HasFileFault, OfFile, OfSegment, OfDictionary, IsInput, AreInputs, IsProgram, HasUseFault, HasOrgFault, first_spot, HasCountFault, HasLengthFault, Orgs, Count, Lengths, HasLayoutFault, Reading, Objects, Names, Layout, phases, HasPhaseFault, IsFirstResolveFault, IsResolved, IsSetting, AreRuntimes, HasKindFault, Kinds, OfInput, OfRuntime, parts_of, HasPartFault, runtime_cause}
+use Rattle.link_meaning.specs.LinkFaults.{LinkInput, link_cause, segments_fault, rows_in_file, HasFileFault, OfFile, OfSegment, OfDictionary, IsInput, AreInputs, IsProgram, HasUseFault, HasOrgFault, first_spot, HasCountFault, HasLengthFault, Orgs, Count, Lengths, HasLayoutFault, Reading, Objects, Names, Layout, phases, HasPhaseFault, IsFirstResolveFault, IsResolved, IsSetting, AreRuntimes, HasKindFault, Kinds, OfInput, OfRuntime, parts_of, HasPartFault, runtime_cause}
 
 abbrev some : {A : Type 0} → A → Option A
 some x = Some x
@@ -97,11 +97,11 @@ runtimes_same (f ∷ files) (x ∷ a) (y ∷ b) p q =
     runtime_of : List ℕ → List Segment → RuntimeFile
     runtime_of path segments = record { path = path; segments = segments }
 
-pub setting_same : (given : Given) (a b : Setting) → IsSetting given a → IsSetting given b → a ≡ b
+pub setting_same : (given : LinkInput) (a b : LinkSetting) → IsSetting given a → IsSetting given b → a ≡ b
 setting_same given a b p q =
     ap (λ (f : LinkForm). setting_of f a.runtimes) (p.form' ∙ sym q.form') ∙ ap (λ (r : List RuntimeFile). setting_of b.form r) (runtimes_same given.runtimes a.runtimes b.runtimes p.runtimes' q.runtimes')
   where
-    setting_of : LinkForm → List RuntimeFile → Setting
+    setting_of : LinkForm → List RuntimeFile → LinkSetting
     setting_of form runtimes = record { form = form; runtimes = runtimes }
 
 -- a run-time library file has one first fault
@@ -115,11 +115,11 @@ one_runtime_fault file a b (OfKind segments is p) (OfKind other is' q) =
     some_load : (a b : LoadFault) → Some a ≡ Some b → a ≡ b
     some_load a b e = cc
 
-pub one_program : (files : Given) (a b : List Member) → IsProgram files a → IsProgram files b → a ≡ b
+pub one_program : (files : LinkInput) (a b : List Member) → IsProgram files a → IsProgram files b → a ≡ b
 one_program files a b p q =
     let same : p.inputs ≡ q.inputs = inputs_same files.inputs p.inputs q.inputs p.are_inputs q.are_inputs in
     let settings = setting_same files p.setting q.setting p.is_setting q.is_setting in
-    one_linked_list q.setting q.inputs a b (subst (λ (i : List Input). IsLinked q.setting i a) same (subst (λ (s : Setting). IsLinked s p.inputs a) settings p.linked)) q.linked
+    one_linked_list q.setting q.inputs a b (subst (λ (i : List Input). IsLinked q.setting i a) same (subst (λ (s : LinkSetting). IsLinked s p.inputs a) settings p.linked)) q.linked
 
 -- ---- the phases
 
@@ -160,22 +160,22 @@ one_part before (OfRuntime bytes) a b p q =
     let same : p.found ≡ q.found = one_runtime_fault bytes p.found q.found p.first q.first in
     p.told ∙ ap (λ (f : LoadFault). fault_of (runtime_cause f.cause) None (record { file = length before + 1; segment = f.segment; at = f.at })) same ∙ sym q.told
 
-one_phase : (files : Given) → HasOne (HasPhaseFault files)
+one_phase : (files : LinkInput) → HasOne (HasPhaseFault files)
 one_phase files before Reading a b p q =
     one_first HasPartFault (parts_of files) a b one_part p q
 one_phase files before Objects a b p q = p.5 ∙ sym q.5
 one_phase files before Names a b p q =
     let same : p.0 ≡ q.0 = one_program files p.0 q.0 p.1 q.1 in
-    one_first (HasUseFault q.0) (asked q.0) a b (one_use q.0) (subst (λ (l : List Member). IsFirst (HasUseFault l) (asked l) a) same p.2) q.2
+    one_first (HasUseFault q.0) (all_uses q.0) a b (one_use q.0) (subst (λ (l : List Member). IsFirst (HasUseFault l) (all_uses l) a) same p.2) q.2
 one_phase files before Layout a b p q =
     let same : p.0 ≡ q.0 = one_program files p.0 q.0 p.1 q.1 in
     one_first (HasLayoutFault q.0) (Orgs ∷ Count ∷ Lengths ∷ Kinds ∷ []) a b (one_layout q.0)
     (subst (λ (l : List Member). IsFirst (HasLayoutFault l) (Orgs ∷ Count ∷ Lengths ∷ Kinds ∷ []) a) same p.2) q.2
 
 -- there is one first fault at most
-pub one_resolve_fault : (files : Given) (a b : LinkFault) → IsFirstResolveFault files a → IsFirstResolveFault files b → a ≡ b
+pub one_resolve_fault : (files : LinkInput) (a b : LinkFault) → IsFirstResolveFault files a → IsFirstResolveFault files b → a ≡ b
 one_resolve_fault files a b p q = one_first (HasPhaseFault files) phases a b (one_phase files) p q
 
 -- files that are resolved have none
-pub resolved_sound : (files : Given) (list : List Member) (fault : LinkFault) → IsResolved files list → IsFirstResolveFault files fault → ⊥
+pub resolved_sound : (files : LinkInput) (list : List Member) (fault : LinkFault) → IsResolved files list → IsFirstResolveFault files fault → ⊥
 resolved_sound files list fault is p = is.sound p.before p.item p.after fault p.parts p.here

@@ -35,10 +35,10 @@ use Rattle.link_meaning.specs.Defines.{Scope, ForSegment, ForUnit, ForAll}
 use Rattle.link_meaning.specs.laws.SettingLaws.{has_paths, of_setting, setting_of}
 use Rattle.load_meaning.specs.Runtime.{kind_fault, runtime_fault}
 use Rattle.link_meaning.specs.laws.OutsideLaws.{outside_named}
-use Rattle.link_meaning.specs.Search.{Found, entries, outside}
+use Rattle.link_meaning.specs.Search.{FoundDefinition, entries, outside}
 use Rattle.link_meaning.specs.First.{IsIn}
-use Rattle.link_meaning.specs.Member.{Member, objects, setting_in, RuntimeFile, Setting, form_in}
-use Rattle.link_meaning.specs.Sizes.{size_at, located_from, located, place_behind, body_size}
+use Rattle.link_meaning.specs.Member.{Member, objects, setting_in, RuntimeFile, LinkSetting, form_in}
+use Rattle.link_meaning.specs.Sizes.{size_at, located_from, records_with_offsets, place_behind, body_size}
 use Rattle.link_meaning.specs.laws.ReadMembers.{IsRead, members_read, read_header, read_size, read_some, read_kind}
 use Rattle.link_meaning.specs.laws.PlaceFits.{IsPlaceIn, place_fits, name_there, behind-le}
 use Rattle.link_meaning.specs.laws.PlaceValues.{expression_fits, entry_fits}
@@ -50,7 +50,7 @@ use Rattle.link_meaning.specs.Fitting.{load_header, length_of}
 use Rattle.link_meaning.specs.LinkedCells.{table_number, items_from, items, targets, linked}
 use Rattle.link_meaning.specs.declared.fault.LinkCause.TheVariants.{Empty}
 use Rattle.link_meaning.specs.LinkFaults as phases
-use Rattle.link_meaning.specs.LinkFaults.{Given, HasBytes, MayHave, AreRuntimes, may_not_stand, nowhere, Reading, Objects, Layout, IsResolved}
+use Rattle.link_meaning.specs.LinkFaults.{LinkInput, HasBytes, MayHave, AreRuntimes, may_not_stand, no_spot, Reading, Objects, Layout, IsResolved}
 use Rattle.link_meaning.specs.LinkWritten.{load_images, table_images, images, written_file, table_cells, linked_cells, export_at, export_of, exports, exports_for, path_images, path_cells}
 use Rattle.link_meaning.specs.laws.LinkWrittenLaws.{few_loads, standing_loads, short_loads, load_header_fits, are_images}
 use Rattle.link_meaning.specs.EmitFaults.{IsLinkable}
@@ -206,7 +206,7 @@ empty_runtimes [] [] are e = refl
 empty_runtimes [] (x ∷ xs) are e = absurd are
 empty_runtimes (y ∷ ys) xs are e = absurd cc
 
-module _ (files : Given) (list : List Member) (table : List Told) (bytes : HasBytes files) (is : IsLinkable files list table) where
+module _ (files : LinkInput) (list : List Member) (table : List Told) (bytes : HasBytes files) (is : IsLinkable files list table) where
   resolved : IsResolved files list
   resolved = is.resolved
 
@@ -229,7 +229,7 @@ module _ (files : Given) (list : List Member) (table : List Told) (bytes : HasBy
       let fits = place_fits files list place m at resolved whole in' in
       (fits.0, inl (refl, number_in_range (load_names list) m.segment.fields.load_name (name_there list m (in_parts in'.front m in'.back in'.parts))), fits.2)
 
-  beyond : (f : Found) → IsIn (outside (setting_in list)) f → FitsPlace (IsNamed list) (outside_value f)
+  beyond : (f : FoundDefinition) → IsIn (outside (setting_in list)) f → FitsPlace (IsNamed list) (outside_value f)
   beyond f in' = outside_named list f in'
 
   records_in : (front : List Member) (m : Member) (back : List Member) → list ≡ front ++ m ∷ back → (loc : ℕ) (founds : List (ℕ × Record)) → place_behind loc founds ≤ body_size m.segment
@@ -240,7 +240,7 @@ module _ (files : Given) (list : List Member) (table : List Told) (bytes : HasBy
       (λ text v e. expression_fits (IsNamed list) list table is.emitted.valued there beyond (length front + 1) m loc text place v e, records_in front m back parts (loc + size_at loc found.1) founds le)
 
   items_in : (front ms : List Member) → list ≡ front ++ ms → AllIn list table (items_from (length front + 1) ms)
-  unfolding located body_size
+  unfolding records_with_offsets body_size
   items_in front [] parts = tt
   items_in front (m ∷ ms) parts =
       let next : length (front ++ m ∷ []) + 1 ≡ length front + 1 + 1 = ap (λ (n : ℕ). n + 1) (length-append front (m ∷ [])) in
@@ -258,7 +258,7 @@ module _ (files : Given) (list : List Member) (table : List Told) (bytes : HasBy
       member_reaches list table front m back parts (linkable_made list table is.emitted) all_in some.0 some.1 some.2
 
   objects_there : objects resolved.program.setting resolved.program.inputs ≡ [] → ⊥
-  objects_there none = resolved.sound (Reading ∷ []) Objects (phases.Names ∷ Layout ∷ []) (record { cause = Empty; name = None; spot = nowhere }) refl (resolved.program.setting, resolved.program.inputs, resolved.program.is_setting, resolved.program.are_inputs, none, refl)
+  objects_there none = resolved.sound (Reading ∷ []) Objects (phases.Names ∷ Layout ∷ []) (record { cause = Empty; name = None; spot = no_spot }) refl (resolved.program.setting, resolved.program.inputs, resolved.program.is_setting, resolved.program.are_inputs, none, refl)
 
   names_some : load_names list ≡ [] → ⊥
   names_some none = by_list (objects resolved.program.setting resolved.program.inputs) refl
@@ -290,7 +290,7 @@ module _ (files : Given) (list : List Member) (table : List Told) (bytes : HasBy
     far = far_fits files list bytes resolved.program;
     paths = has_paths files list bytes resolved.program;
     standing = standing_loads files list resolved;
-    lone = of_setting files list resolved.program (λ (s : Setting). s.form ≡ LibraryForm → s.runtimes ≡ []) (λ e. refl) library_alone;
+    lone = of_setting files list resolved.program (λ (s : LinkSetting). s.form ≡ LibraryForm → s.runtimes ≡ []) (λ e. refl) library_alone;
     values = entry_fits (IsNamed list) list table is.emitted.valued there beyond;
   }
 
@@ -361,7 +361,7 @@ value_passes list table segments name (Ok (At file number offset shift)) stand k
         let place = place_there list table segments number offset stand k form (load (fits (At file number offset shift) refl).1) below in
         (ap (λ (b : Bool). cond b None (Some NoSuchTarget)) place, tt)
 
-export_passes : (list : List Member) (table : List Told) (segments : List Segment) (f : Found) → IsIn (entries list) f → StandFor list table segments → Known list table → form_in list ≡ LibraryForm → AllByRecursion (Passing segments) (export_of list table f)
+export_passes : (list : List Member) (table : List Told) (segments : List Segment) (f : FoundDefinition) → IsIn (entries list) f → StandFor list table segments → Known list table → form_in list ≡ LibraryForm → AllByRecursion (Passing segments) (export_of list table f)
 export_passes list table segments f is stand k form = by_scope f.definition.scope
   where
     by_scope : (scope : Scope) → AllByRecursion (Passing segments) (elim scope as (λ x. List Record) [
@@ -373,7 +373,7 @@ export_passes list table segments f is stand k form = by_scope f.definition.scop
     by_scope ForUnit = tt
     by_scope ForAll = value_passes list table segments f.definition.name (found_value list table f) stand k form (k.values f is)
 
-exports_pass : (list : List Member) (table : List Told) (segments : List Segment) (fs : List Found) → ((f : Found) → IsIn fs f → IsIn (entries list) f) → StandFor list table segments → Known list table → form_in list ≡ LibraryForm
+exports_pass : (list : List Member) (table : List Told) (segments : List Segment) (fs : List FoundDefinition) → ((f : FoundDefinition) → IsIn fs f → IsIn (entries list) f) → StandFor list table segments → Known list table → form_in list ≡ LibraryForm
     → AllByRecursion (Passing segments) (flat_map (export_of list table) fs)
 exports_pass list table segments [] among stand k form = tt
 exports_pass list table segments (f ∷ fs) among stand k form =
@@ -545,7 +545,7 @@ segments_some list table segments stand some none =
     by_names [] e = refl
     by_names (x ∷ l) e = absurd (omega (arith, e))
 
-written_loaded : (files : Given) (list : List Member) (table : List Told) → HasBytes files → IsLinkable files list table → NamesNoSkipped list table
+written_loaded : (files : LinkInput) (list : List Member) (table : List Told) → HasBytes files → IsLinkable files list table → NamesNoSkipped list table
     → (segments : List Segment) × IsLoadable (written_file list table) segments × StandFor list table segments
 unfolding written_file
 written_loaded files list table bytes is none =
@@ -640,7 +640,7 @@ is_runtime files output bytes is library =
     let k = known files is.list is.table bytes is.linkable in
     let program = is.linkable.resolved.program in
     let some : is.list ≡ [] → ⊥ = λ e. k.some (ap (λ (l : List Member). distinct (map (λ (m : Member). m.segment.fields.load_name) l)) e) in
-    let form : form_in is.list ≡ LibraryForm = ap (λ (s : Setting). s.form) (setting_of files is.list program some) ∙ program.is_setting.form' ∙ library in
+    let form : form_in is.list ≡ LibraryForm = ap (λ (s : LinkSetting). s.form) (setting_of files is.list program some) ∙ program.is_setting.form' ∙ library in
     let loaded = is_loaded files output bytes is (library_unskipped is.list is.table k form) in
     let standing = subst (λ (f : LinkForm). AllByRecursion (λ (g : Fields). may_not_stand f g ≡ false) (load_headers is.list)) form k.standing in
     (loaded.0, record { loadable = loaded.1; dynamic = kinds_pass 1 (load_headers is.list) loaded.0 (loaded.2.headers ∙ library_headers is.list is.table k form) standing }, loaded.2)
@@ -667,7 +667,7 @@ has_no_pathnames files output bytes is none segments stand =
     let k = known files is.list is.table bytes is.linkable in
     let program = is.linkable.resolved.program in
     let alone' : (setting_in is.list).runtimes ≡ [] =
-    of_setting files is.list program (λ (s : Setting). s.runtimes ≡ []) refl (empty_runtimes files.runtimes program.setting.runtimes program.is_setting.runtimes' none) in
+    of_setting files is.list program (λ (s : LinkSetting). s.runtimes ≡ []) refl (empty_runtimes files.runtimes program.setting.runtimes program.is_setting.runtimes' none) in
     let number = table_number is.list + length (table_headers (table_number is.list) (targets is.list is.table)) in
     none_from 1 (front_headers is.list is.table) segments
     (front_stands is.list is.table segments stand ∙ ap (λ (rs : List RuntimeFile). front_headers is.list is.table ++ path_headers number rs) alone' ∙ append-nil (front_headers is.list is.table))

@@ -33,8 +33,8 @@ use Rattle.link_meaning.specs.First.{IsIn, HasNone, IsFirst}
 use Rattle.link_meaning.specs.laws.FirstLaws.{none_yet, none_more}
 use Rattle.link_meaning.specs.laws.MemberLists.{in_filter, filter_in}
 use Rattle.link_meaning.specs.Member.{Member, RuntimeFile, setting_in, form_in}
-use Rattle.link_meaning.specs.Layout.{in_load, load_length, distinct, load_names, load_members, lesser_bank, cleared, least_bank, greatest_align, of_first, load_fields, headers_from, load_headers}
-use Rattle.link_meaning.specs.LinkFaults.{Given, HasBytes, may_not_stand, HasKindFault, HasCountFault, is_too_long, HasLengthFault, Orgs, Count, Lengths, Kinds, HasLayoutFault, Reading, Objects, Names, Layout, IsResolved}
+use Rattle.link_meaning.specs.Layout.{in_load, load_length, distinct, load_names, load_members, lesser_bank, load_segment_kind, least_bank, greatest_align, of_first, load_fields, headers_from, load_headers}
+use Rattle.link_meaning.specs.LinkFaults.{LinkInput, HasBytes, may_not_stand, HasKindFault, HasCountFault, is_too_long, HasLengthFault, Orgs, Count, Lengths, Kinds, HasLayoutFault, Reading, Objects, Names, Layout, IsResolved}
 use Rattle.link_meaning.specs.LinkValues.{Told}
 use Rattle.link_meaning.specs.LinkedCells.{table_number, items, state_behind, targets, linked}
 use Rattle.link_meaning.specs.LinkWritten.{byte_under, patches_of_cells, image_of, load_images, table_images, images, written_file, table_cells, linked_cells, HaveCells, AreMade, start, exports, exports_for, path_images, path_cells}
@@ -44,29 +44,29 @@ use Rattle.link_meaning.specs.laws.ReadMembers.{IsRead, members_read, HasHeader,
 
 -- ---- what the layout holds
 
-no_layout : (files : Given) (list : List Member) (fault : LinkFault) → IsResolved files list → IsFirst (HasLayoutFault list) (Orgs ∷ Count ∷ Lengths ∷ Kinds ∷ []) fault → ⊥
+no_layout : (files : LinkInput) (list : List Member) (fault : LinkFault) → IsResolved files list → IsFirst (HasLayoutFault list) (Orgs ∷ Count ∷ Lengths ∷ Kinds ∷ []) fault → ⊥
 no_layout files list fault resolved first = resolved.sound (Reading ∷ Objects ∷ Names ∷ []) Layout [] fault refl (list, resolved.program, first)
 
-no_orgs : (files : Given) (list : List Member) → IsResolved files list → (fault : LinkFault) → HasLayoutFault list [] Orgs fault → ⊥
+no_orgs : (files : LinkInput) (list : List Member) → IsResolved files list → (fault : LinkFault) → HasLayoutFault list [] Orgs fault → ⊥
 no_orgs files list resolved fault has =
     no_layout files list fault resolved (record { before = []; item = Orgs; after = Count ∷ Lengths ∷ Kinds ∷ []; parts = refl; none = none_yet (HasLayoutFault list); here = has })
 
-none_one : (files : Given) (list : List Member) → IsResolved files list → HasNone (HasLayoutFault list) (Orgs ∷ [])
+none_one : (files : LinkInput) (list : List Member) → IsResolved files list → HasNone (HasLayoutFault list) (Orgs ∷ [])
 none_one files list resolved = none_more (HasLayoutFault list) [] Orgs (none_yet (HasLayoutFault list)) (no_orgs files list resolved)
 
-no_count : (files : Given) (list : List Member) → IsResolved files list → (fault : LinkFault) → HasCountFault list fault → ⊥
+no_count : (files : LinkInput) (list : List Member) → IsResolved files list → (fault : LinkFault) → HasCountFault list fault → ⊥
 no_count files list resolved fault has =
     no_layout files list fault resolved (record { before = Orgs ∷ []; item = Count; after = Lengths ∷ Kinds ∷ []; parts = refl; none = none_one files list resolved; here = has })
 
-none_two : (files : Given) (list : List Member) → IsResolved files list → HasNone (HasLayoutFault list) (Orgs ∷ Count ∷ [])
+none_two : (files : LinkInput) (list : List Member) → IsResolved files list → HasNone (HasLayoutFault list) (Orgs ∷ Count ∷ [])
 none_two files list resolved = none_more (HasLayoutFault list) (Orgs ∷ []) Count (none_one files list resolved) (no_count files list resolved)
 
-no_lengths : (files : Given) (list : List Member) → IsResolved files list → (fault : LinkFault) → IsFirst (HasLengthFault list) (load_headers list) fault → ⊥
+no_lengths : (files : LinkInput) (list : List Member) → IsResolved files list → (fault : LinkFault) → IsFirst (HasLengthFault list) (load_headers list) fault → ⊥
 no_lengths files list resolved fault has =
     no_layout files list fault resolved (record { before = Orgs ∷ Count ∷ []; item = Lengths; after = Kinds ∷ []; parts = refl; none = none_two files list resolved; here = has })
 
 -- there are at most 254 load segments
-pub few_loads : (files : Given) (list : List Member) → IsResolved files list → length (load_names list) ≤ 254
+pub few_loads : (files : LinkInput) (list : List Member) → IsResolved files list → length (load_names list) ≤ 254
 few_loads files list resolved = elim (cases_lt 254 (length (load_names list))) [
   | inl lt ↦
       let x = get_or (load_names list) 254 [] in
@@ -77,7 +77,7 @@ few_loads files list resolved = elim (cases_lt 254 (length (load_names list))) [
 true_false : true ≡ false → ⊥
 true_false e = cc
 
-short_from : (files : Given) (list : List Member) (before rest : List Fields) → IsResolved files list → load_headers list ≡ before ++ rest → HasNone (HasLengthFault list) before
+short_from : (files : LinkInput) (list : List Member) (before rest : List Fields) → IsResolved files list → load_headers list ≡ before ++ rest → HasNone (HasLengthFault list) before
     → AllByRecursion (λ f. is_too_long f ≡ false) rest
 short_from files list before [] resolved parts none = tt
 short_from files list before (f ∷ rest) resolved parts none = by_test (is_too_long f) refl (λ is more. (is, short_from files list (before ++ f ∷ []) rest resolved (parts ∙ sym (append_assoc before (f ∷ []) rest)) more))
@@ -87,15 +87,15 @@ short_from files list before (f ∷ rest) resolved parts none = by_test (is_too_
     by_test true is go = absurd (no_lengths files list resolved _ (record { before = before; item = f; after = rest; parts = parts; none = none; here = record { long = is; told = refl } }))
     by_test false is go = go is (none_more (HasLengthFault list) before f none (λ fault has. true_false (sym has.long ∙ is)))
 
-pub short_loads : (files : Given) (list : List Member) → IsResolved files list → AllByRecursion (λ f. is_too_long f ≡ false) (load_headers list)
+pub short_loads : (files : LinkInput) (list : List Member) → IsResolved files list → AllByRecursion (λ f. is_too_long f ≡ false) (load_headers list)
 short_loads files list resolved = short_from files list [] (load_headers list) resolved refl (none_yet (HasLengthFault list))
 
-no_kinds : (files : Given) (list : List Member) → IsResolved files list → (fault : LinkFault) → IsFirst (HasKindFault list) (load_headers list) fault → ⊥
+no_kinds : (files : LinkInput) (list : List Member) → IsResolved files list → (fault : LinkFault) → IsFirst (HasKindFault list) (load_headers list) fault → ⊥
 no_kinds files list resolved fault has =
     no_layout files list fault resolved (record { before = Orgs ∷ Count ∷ Lengths ∷ []; item = Kinds; after = []; parts = refl; none = none_more (HasLayoutFault list) (Orgs ∷ Count ∷ []) Lengths (none_two files list resolved) (no_lengths files list resolved); here = has })
 
 -- each load segment may stand in what is linked
-standing_from : (files : Given) (list : List Member) (before rest : List Fields) → IsResolved files list → load_headers list ≡ before ++ rest → HasNone (HasKindFault list) before
+standing_from : (files : LinkInput) (list : List Member) (before rest : List Fields) → IsResolved files list → load_headers list ≡ before ++ rest → HasNone (HasKindFault list) before
     → AllByRecursion (λ f. may_not_stand (form_in list) f ≡ false) rest
 standing_from files list before [] resolved parts none = tt
 standing_from files list before (f ∷ rest) resolved parts none = by_test (may_not_stand (form_in list) f) refl (λ is more. (is, standing_from files list (before ++ f ∷ []) rest resolved (parts ∙ sym (append_assoc before (f ∷ []) rest)) more))
@@ -105,7 +105,7 @@ standing_from files list before (f ∷ rest) resolved parts none = by_test (may_
     by_test true is go = absurd (no_kinds files list resolved _ (record { before = before; item = f; after = rest; parts = parts; none = none; here = record { other = is; told = refl } }))
     by_test false is go = go is (none_more (HasKindFault list) before f none (λ fault has. true_false (sym has.other ∙ is)))
 
-pub standing_loads : (files : Given) (list : List Member) → IsResolved files list → AllByRecursion (λ f. may_not_stand (form_in list) f ≡ false) (load_headers list)
+pub standing_loads : (files : LinkInput) (list : List Member) → IsResolved files list → AllByRecursion (λ f. may_not_stand (form_in list) f ≡ false) (load_headers list)
 standing_loads files list resolved = standing_from files list [] (load_headers list) resolved refl (none_yet (HasKindFault list))
 
 pub short_length : (f : Fields) → is_too_long f ≡ false → f.length ≤ 0xFFFFFF
@@ -163,10 +163,10 @@ align_lt : (members : List Member) → ((m : Member) → IsIn members m → HasH
 align_lt [] each = omega arith
 align_lt (m ∷ members) each = omega (arith, (each m (inl refl)).align, align_lt members (λ o is. each o (inr is)))
 
-cleared-le : (kind : ℕ) → cleared kind ≤ kind
+cleared-le : (kind : ℕ) → load_segment_kind kind ≤ kind
 cleared-le kind = omega arith
 
-pub cleared-form : (kind : ℕ) → form_of (cleared kind) ≡ form_of kind
+pub cleared-form : (kind : ℕ) → form_of (load_segment_kind kind) ≡ form_of kind
 cleared-form kind = omega arith
 
 pub load_header_fits : (list : List Member) (number : ℕ) (x : List ℕ) → ((m : Member) → IsIn list m → HasHeader m.segment.fields) → IsIn (load_names list) x → HasHeader (load_fields list number x)
@@ -326,7 +326,7 @@ unfolding load_headers
 count-headers list = length-headers list 1 (load_names list)
 
 -- each of them can be written
-pub are_images : (files : Given) (list : List Member) (table : List Told) → HasBytes files → IsResolved files list → AreSoundItems list table (items list)
+pub are_images : (files : LinkInput) (list : List Member) (table : List Told) → HasBytes files → IsResolved files list → AreSoundItems list table (items list)
     → AreMade list table start (items list) → length (written_file list table) ≤ 0x1000000 → MembersHave list table × AllByRecursion IsImage (images list table)
 unfolding written_file images load_headers
 are_images files list table bytes resolved sound are short =
@@ -349,7 +349,7 @@ are_images files list table bytes resolved sound are short =
           (all-append tables (path_images (table_number list + length tables) (setting_in list).runtimes) (table_all (table_number list) (targets list table) small few) behind),
     )
 
-pub stands_for : (files : Given) (list : List Member) (table : List Told) → HasBytes files → IsResolved files list → AreSoundItems list table (items list)
+pub stands_for : (files : LinkInput) (list : List Member) (table : List Told) → HasBytes files → IsResolved files list → AreSoundItems list table (items list)
     → AreMade list table start (items list) → length (written_file list table) ≤ 0x1000000
     → (segments : List Segment) × IsFile segments (written_file list table) × AreReadAs (images list table) segments × HaveCells (linked_cells list table) segments
 unfolding written_file images linked_cells

@@ -9,12 +9,12 @@ use Rattle.omf_format.specs.Record.{Record}
 use Rattle.omf_format.specs.Header.{alignment_of}
 use Rattle.load_meaning.specs.Cells.{Cell}
 use Rattle.link_meaning.specs.declared.fault.LinkCause.{LinkCause}
-use Rattle.link_meaning.specs.Sizes.{Located, size_at, located_from, place_behind, located, body_size}
+use Rattle.link_meaning.specs.Sizes.{Located, size_at, located_from, place_behind, records_with_offsets, body_size}
 use Rattle.link_meaning.specs.Member.{Member}
 use Rattle.link_meaning.specs.Layout.{aligned_from, in_load, end_from, load_length, offset_of}
 use Rattle.link_meaning.specs.laws.LayoutLaws.{aligned_from-least, alignment-some}
 use Rattle.link_meaning.specs.LinkValues.{Told}
-use Rattle.link_meaning.specs.LinkedCells.{Item, State, Made, zeros, items_from, items, cells_before, made, gained, state_from, state_behind, member_cells, cells_from, linked, table_number}
+use Rattle.link_meaning.specs.LinkedCells.{Item, LinkState, Made, zeros, items_from, items, cells_before, made, state_after_item, state_from, state_behind, member_cells, cells_from, linked, table_number}
 use Rattle.link_meaning.specs.LinkWritten.{AreMade, start}
 use Rattle.link_meaning.specs.laws.RunCells.{AreRuns}
 use Rattle.link_meaning.specs.laws.MadeLaws.{no_runs, both_runs, zero_runs, length-zeros, length-made, IsSoundAt, runs-made, Few}
@@ -29,13 +29,13 @@ abbrev pub AreSoundItems : List Member → List Told → List Item → Type 0
 AreSoundItems list table [] = Unit {0}
 AreSoundItems list table (i ∷ is) = IsSoundAt list table i i.here.content × AreSoundItems list table is
 
-pub state_from-append : (list : List Member) (table : List Told) (state : State) (xs ys : List Item) → state_from list table state (xs ++ ys) ≡ state_from list table (state_from list table state xs) ys
+pub state_from-append : (list : List Member) (table : List Told) (state : LinkState) (xs ys : List Item) → state_from list table state (xs ++ ys) ≡ state_from list table (state_from list table state xs) ys
 state_from-append list table state [] ys = refl
-state_from-append list table state (x ∷ xs) ys = state_from-append list table (gained state x (made list table state x)) xs ys
+state_from-append list table state (x ∷ xs) ys = state_from-append list table (state_after_item state x (made list table state x)) xs ys
 
-pub made-append : (list : List Member) (table : List Told) (state : State) (xs ys : List Item) → AreMade list table state (xs ++ ys) → AreMade list table state xs × AreMade list table (state_from list table state xs) ys
+pub made-append : (list : List Member) (table : List Told) (state : LinkState) (xs ys : List Item) → AreMade list table state (xs ++ ys) → AreMade list table state xs × AreMade list table (state_from list table state xs) ys
 made-append list table state [] ys are = (tt, are)
-made-append list table state (x ∷ xs) ys are = let rest = made-append list table (gained state x (made list table state x)) xs ys are.2 in ((are.0, are.1, rest.0), rest.1)
+made-append list table state (x ∷ xs) ys are = let rest = made-append list table (state_after_item state x (made list table state x)) xs ys are.2 in ((are.0, are.1, rest.0), rest.1)
 
 sound-append : (list : List Member) (table : List Told) (xs ys : List Item) → AreSoundItems list table (xs ++ ys) → AreSoundItems list table xs × AreSoundItems list table ys
 sound-append list table [] ys are = (tt, are)
@@ -47,25 +47,25 @@ Below n [] = Unit {0}
 Below n (i ∷ is) = (i.place ≤ n) × Below n is
 
 -- a state is at no later place than its records
-pub state_place : (list : List Member) (table : List Told) (state : State) (n : ℕ) (is : List Item) → state.place ≤ n → Below n is → (state_from list table state is).place ≤ n
+pub state_place : (list : List Member) (table : List Told) (state : LinkState) (n : ℕ) (is : List Item) → state.place ≤ n → Below n is → (state_from list table state is).place ≤ n
 state_place list table state n [] le below = le
-state_place list table state n (i ∷ is) le below = state_place list table (gained state i (made list table state i)) n is (by_made (made list table state i)) below.1
+state_place list table state n (i ∷ is) le below = state_place list table (state_after_item state i (made list table state i)) n is (by_made (made list table state i)) below.1
   where
-    by_made : (r : Result Made LinkCause) → (gained state i r).place ≤ n
+    by_made : (r : Result Made LinkCause) → (state_after_item state i r).place ≤ n
     by_made (Err cause) = le
     by_made (Ok x) = below.0
 
 -- what a walk over a member's records has made
-record Walked (place : ℕ) (loc : ℕ) (state : State) : Type 0 where
+record Walked (place : ℕ) (loc : ℕ) (state : LinkState) : Type 0 where
   at : state.place ≡ place
   size : length state.cells ≡ loc
   runs : AreRuns state.cells
   few : Few state.targets
 
 -- one record more
-one_more : (list : List Member) (table : List Told) (place : ℕ) (m : Member) (state : State) (r : Located) (done : List Cell) → table_number list < 2 ^ 16
+one_more : (list : List Member) (table : List Told) (place : ℕ) (m : Member) (state : LinkState) (r : Located) (done : List Cell) → table_number list < 2 ^ 16
     → cells_before state (item place m r) ≡ done → length done ≡ r.location → AreRuns done → Few state.targets → IsSoundAt list table (item place m r) r.content
-    → (x : Made) → made list table state (item place m r) ≡ Ok x → Walked place (r.location + size_at r.location r.content) (gained state (item place m r) (made list table state (item place m r)))
+    → (x : Made) → made list table state (item place m r) ≡ Ok x → Walked place (r.location + size_at r.location r.content) (state_after_item state (item place m r) (made list table state (item place m r)))
 unfolding made
 one_more list table place m state r done small before size runs few sound x e =
     let i = item place m r in
@@ -78,9 +78,9 @@ one_more list table place m state r done small before size runs few sound x e =
       runs = both_runs (cells_before state i) x.0 front both.0;
       few = both.1;
     } in
-    subst (λ (g : Result Made LinkCause). Walked place (r.location + size_at r.location r.content) (gained state i g)) (sym e) walked
+    subst (λ (g : Result Made LinkCause). Walked place (r.location + size_at r.location r.content) (state_after_item state i g)) (sym e) walked
 
-walk : (list : List Member) (table : List Told) (place : ℕ) (m : Member) (state : State) (loc : ℕ) (founds : List (ℕ × Record)) → table_number list < 2 ^ 16 → Walked place loc state
+walk : (list : List Member) (table : List Told) (place : ℕ) (m : Member) (state : LinkState) (loc : ℕ) (founds : List (ℕ × Record)) → table_number list < 2 ^ 16 → Walked place loc state
     → AreMade list table state (map (item place m) (located_from loc founds)) → AreSoundItems list table (map (item place m) (located_from loc founds))
     → Walked place (place_behind loc founds) (state_from list table state (map (item place m) (located_from loc founds)))
 walk list table place m state loc [] small walked are sound = walked
@@ -88,34 +88,34 @@ walk list table place m state loc (found ∷ founds) small walked are sound =
     let r : Located = record { at = found.0; location = loc; content = found.1 } in
     let here : eqb state.place place ≡ true = eq-eqb state.place place walked.at in
     let before : cells_before state (item place m r) ≡ state.cells = ap (λ (b : Bool). cond b state.cells []) here in
-    walk list table place m (gained state (item place m r) (made list table state (item place m r))) (loc + size_at loc found.1) founds small
+    walk list table place m (state_after_item state (item place m r) (made list table state (item place m r))) (loc + size_at loc found.1) founds small
     (one_more list table place m state r state.cells small before walked.size walked.runs walked.few sound.0 are.0 are.1) are.2 sound.1
 
 -- from a state at an earlier place on
-walk_all : (list : List Member) (table : List Told) (place : ℕ) (m : Member) (state : State) (found : ℕ × Record) (founds : List (ℕ × Record)) → table_number list < 2 ^ 16 → state.place < place → Few state.targets
+walk_all : (list : List Member) (table : List Told) (place : ℕ) (m : Member) (state : LinkState) (found : ℕ × Record) (founds : List (ℕ × Record)) → table_number list < 2 ^ 16 → state.place < place → Few state.targets
     → AreMade list table state (map (item place m) (located_from 0 (found ∷ founds))) → AreSoundItems list table (map (item place m) (located_from 0 (found ∷ founds)))
     → Walked place (place_behind 0 (found ∷ founds)) (state_from list table state (map (item place m) (located_from 0 (found ∷ founds))))
 walk_all list table place m state found founds small earlier few are sound =
     let r : Located = record { at = found.0; location = 0; content = found.1 } in
     let other : eqb state.place place ≡ false = ne_eqb state.place place (λ (e : state.place ≡ place). absurd (omega (arith, e, earlier))) in
     let before : cells_before state (item place m r) ≡ [] = ap (λ (b : Bool). cond b state.cells []) other in
-    walk list table place m (gained state (item place m r) (made list table state (item place m r))) (0 + size_at 0 found.1) founds small
+    walk list table place m (state_after_item state (item place m r) (made list table state (item place m r))) (0 + size_at 0 found.1) founds small
     (one_more list table place m state r [] small before refl no_runs few sound.0 are.0 are.1) are.2 sound.1
 
 -- the targets stay few
-pub few_on : (list : List Member) (table : List Told) (state : State) (is : List Item) → table_number list < 2 ^ 16 → Few state.targets → AreMade list table state is → AreSoundItems list table is → Few (state_from list table state is).targets
+pub few_on : (list : List Member) (table : List Told) (state : LinkState) (is : List Item) → table_number list < 2 ^ 16 → Few state.targets → AreMade list table state is → AreSoundItems list table is → Few (state_from list table state is).targets
 unfolding made
 few_on list table state [] small few are sound = few
 few_on list table state (i ∷ is) small few are sound =
     let both = runs-made list table state i i.here.content are.0 small few sound.0 are.1 in
-    few_on list table (gained state i (made list table state i)) is small (subst (λ (g : Result Made LinkCause). Few (gained state i g).targets) (sym are.1) both.1) are.2 sound.1
+    few_on list table (state_after_item state i (made list table state i)) is small (subst (λ (g : Result Made LinkCause). Few (state_after_item state i g).targets) (sym are.1) both.1) are.2 sound.1
 
 -- ---- members
 
 pub items_from-append : (place : ℕ) (xs ys : List Member) → items_from place (xs ++ ys) ≡ items_from place xs ++ items_from (place + length xs) ys
 items_from-append place [] ys = ap (λ (n : ℕ). items_from n ys) (omega arith)
 items_from-append place (x ∷ xs) ys =
-    let own = map (item place x) (located x.segment) in
+    let own = map (item place x) (records_with_offsets x.segment) in
     ap (λ (l : List Item). own ++ l) (items_from-append (place + 1) xs ys ∙ ap (λ (n : ℕ). items_from (place + 1) xs ++ items_from n ys) (omega arith))
     ∙ sym (append_assoc own (items_from (place + 1) xs) (items_from (place + length (x ∷ xs)) ys))
 
@@ -156,25 +156,25 @@ own_above n place m (r ∷ rs) lt = (lt, own_above n place m rs lt)
 
 pub are_below : (n place : ℕ) (ms : List Member) → place + length ms ≤ n + 1 → Below n (items_from place ms)
 are_below n place [] le = tt
-are_below n place (m ∷ ms) le = below-append n (map (item place m) (located m.segment)) (items_from (place + 1) ms) (own_below n place m (located m.segment) (omega arith)) (are_below n (place + 1) ms (omega (arith, le)))
+are_below n place (m ∷ ms) le = below-append n (map (item place m) (records_with_offsets m.segment)) (items_from (place + 1) ms) (own_below n place m (records_with_offsets m.segment) (omega arith)) (are_below n (place + 1) ms (omega (arith, le)))
 
 are_above : (n place : ℕ) (ms : List Member) → n < place → Above n (items_from place ms)
 are_above n place [] lt = tt
-are_above n place (m ∷ ms) lt = above-append n (map (item place m) (located m.segment)) (items_from (place + 1) ms) (own_above n place m (located m.segment) lt) (are_above n (place + 1) ms (omega (arith, lt)))
+are_above n place (m ∷ ms) lt = above-append n (map (item place m) (records_with_offsets m.segment)) (items_from (place + 1) ms) (own_above n place m (records_with_offsets m.segment) lt) (are_above n (place + 1) ms (omega (arith, lt)))
 
 -- the records of the members up to one
 pub up_to : (front : List Member) (m : Member) (back : List Member) → filter (λ (i : Item). leb i.place (length front + 1)) (items_from 1 (front ++ m ∷ back))
-    ≡ items_from 1 front ++ map (item (length front + 1) m) (located m.segment)
+    ≡ items_from 1 front ++ map (item (length front + 1) m) (records_with_offsets m.segment)
 up_to front m back =
     let n = length front + 1 in
-    let own = map (item n m) (located m.segment) in
+    let own = map (item n m) (records_with_offsets m.segment) in
     let parts : items_from 1 (front ++ m ∷ back) ≡ items_from 1 front ++ (own ++ items_from (n + 1) back) =
-    items_from-append 1 front (m ∷ back) ∙ ap (λ (k : ℕ). items_from 1 front ++ (map (item k m) (located m.segment) ++ items_from (k + 1) back)) (omega arith) in
+    items_from-append 1 front (m ∷ back) ∙ ap (λ (k : ℕ). items_from 1 front ++ (map (item k m) (records_with_offsets m.segment) ++ items_from (k + 1) back)) (omega arith) in
     ap (filter (λ (i : Item). leb i.place n)) parts
     ∙ filter-append n (items_from 1 front) (own ++ items_from (n + 1) back)
     ∙ ap (λ (l : List Item). l ++ filter (λ (i : Item). leb i.place n) (own ++ items_from (n + 1) back)) (all_pass n (items_from 1 front) (are_below n 1 front (omega arith)))
     ∙ ap (λ (l : List Item). items_from 1 front ++ l) (filter-append n own (items_from (n + 1) back)
-    ∙ ap (λ (l : List Item). l ++ filter (λ (i : Item). leb i.place n) (items_from (n + 1) back)) (all_pass n own (own_below n n m (located m.segment) (omega arith)))
+    ∙ ap (λ (l : List Item). l ++ filter (λ (i : Item). leb i.place n) (items_from (n + 1) back)) (all_pass n own (own_below n n m (records_with_offsets m.segment) (omega arith)))
     ∙ ap (λ (l : List Item). own ++ l) (none_pass n (items_from (n + 1) back) (are_above n (n + 1) back (omega arith)))
     ∙ append-none own)
   where
@@ -186,7 +186,7 @@ up_to front m back =
 member_walked : (list : List Member) (table : List Told) (front : List Member) (m : Member) (back : List Member) → table_number list < 2 ^ 16 → list ≡ front ++ m ∷ back
     → AreMade list table start (items list) → AreSoundItems list table (items list) → (found : ℕ × Record) (founds : List (ℕ × Record)) → m.segment.records ≡ found ∷ founds
     → Walked (length front + 1) (body_size m.segment) (state_behind list table (filter (λ (i : Item). leb i.place (length front + 1)) (items list)))
-unfolding items state_behind located body_size
+unfolding items state_behind records_with_offsets body_size
 member_walked list table front m back small parts are sound found founds records =
     let n = length front + 1 in
     let own = map (item n m) (located_from 0 m.segment.records) in

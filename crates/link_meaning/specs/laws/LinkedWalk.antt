@@ -4,18 +4,18 @@ use Rattle.std.proofs.lemmas.List.{append-nil}
 use Rattle.std.proofs.lemmas.Bool.{ne_eqb, eq-eqb}
 use Rattle.load_meaning.specs.Cells.{Cell}
 use Rattle.link_meaning.specs.declared.fault.LinkCause.{LinkCause}
-use Rattle.link_meaning.specs.Sizes.{Located, located}
+use Rattle.link_meaning.specs.Sizes.{Located, records_with_offsets}
 use Rattle.link_meaning.specs.Member.{Member}
 use Rattle.link_meaning.specs.Layout.{in_load, offset_of}
 use Rattle.link_meaning.specs.LinkValues.{Told}
-use Rattle.link_meaning.specs.LinkedCells.{Item, State, Made, zeros, items_from, items, cells_before, made, gained, state_from, state_behind, targets, member_cells, cells_from, linked}
+use Rattle.link_meaning.specs.LinkedCells.{Item, LinkState, Made, zeros, items_from, items, cells_before, made, state_after_item, state_from, state_behind, targets, member_cells, cells_from, linked}
 use Rattle.link_meaning.specs.LinkWritten.{start}
 use Rattle.link_meaning.specs.laws.LinkedRuns.{item, items_from-append, state_from-append, state_place, are_below, up_to}
 
 -- ---- what is there behind the first members of the list
 
 -- what their records made
-unfoldable pub state_of : List Member → List Told → List Member → State
+unfoldable pub state_of : List Member → List Told → List Member → LinkState
 state_of list table front = state_from list table start (items_from 1 front)
 
 -- the cells of a load segment
@@ -24,7 +24,7 @@ linked_behind list table load_name front = cells_from list table load_name [] 1 
 
 -- the records of a member, with its place
 abbrev pub own_items : ℕ → Member → List Item
-own_items place m = map (item place m) (located m.segment)
+own_items place m = map (item place m) (records_with_offsets m.segment)
 
 -- the cells of a load segment with those of one member more
 abbrev pub with_member : List Member → List Told → List ℕ → ℕ → Member → List Cell → List Cell
@@ -79,7 +79,7 @@ cells_of_member list table front m back parts =
     let n = length front + 1 in
     let kept : filter (λ (i : Item). leb i.place n) (items_from 1 list) ≡ items_from 1 front ++ own_items n m =
     ap (λ (l : List Member). filter (λ (i : Item). leb i.place n) (items_from 1 l)) parts ∙ up_to front m back in
-    ap (λ (s : State). s.cells ++ zeros m.segment.fields.res_spc) (ap (state_from list table start) kept ∙ state_from-append list table start (items_from 1 front) (own_items n m))
+    ap (λ (s : LinkState). s.cells ++ zeros m.segment.fields.res_spc) (ap (state_from list table start) kept ∙ state_from-append list table start (items_from 1 front) (own_items n m))
 
 -- before its first record it has none
 pub none_before : (list : List Member) (table : List Told) (front : List Member) (m : Member) (r : Located) → cells_before (state_of list table front) (item (length front + 1) m r) ≡ []
@@ -92,10 +92,10 @@ none_before list table front m r =
 -- ---- one record more
 
 -- a record that gives cells
-pub made_more : (list : List Member) (table : List Told) (state : State) (place : ℕ) (m : Member) (r t : Located) (x : Made) → made list table state (item place m r) ≡ Ok x
-    → cells_before (gained state (item place m r) (made list table state (item place m r))) (item place m t) ≡ cells_before state (item place m r) ++ x.0
+pub made_more : (list : List Member) (table : List Told) (state : LinkState) (place : ℕ) (m : Member) (r t : Located) (x : Made) → made list table state (item place m r) ≡ Ok x
+    → cells_before (state_after_item state (item place m r) (made list table state (item place m r))) (item place m t) ≡ cells_before state (item place m r) ++ x.0
 made_more list table state place m r t x e =
     let i = item place m r in
     let same : eqb place place ≡ true = eq-eqb place place refl in
-    ap (λ (g : Result Made LinkCause). cells_before (gained state i g) (item place m t)) e
+    ap (λ (g : Result Made LinkCause). cells_before (state_after_item state i g) (item place m t)) e
     ∙ ap (λ (b : Bool). cond b (cells_before state i ++ x.0) []) same

@@ -30,7 +30,7 @@ use Rattle.load_meaning.specs.WrittenBody.{with_stored}
 use Rattle.load_meaning.specs.WrittenFile.{Image, IsImage, AreReadAs, table_fields, table_image, pathnames_image, pathnames_fields}
 use Rattle.link_meaning.specs.declared.form.LinkForm.TheVariants.{Runtime as LibraryForm}
 use Rattle.link_meaning.specs.laws.SettingLaws.{HasPaths}
-use Rattle.link_meaning.specs.Search.{Found, entries}
+use Rattle.link_meaning.specs.Search.{FoundDefinition, entries}
 use Rattle.link_meaning.specs.First.{IsIn}
 use Rattle.link_meaning.specs.laws.MemberLists.{in_filter}
 use Rattle.link_meaning.specs.Member.{Member, setting_in, RuntimeFile, form_in}
@@ -504,7 +504,7 @@ pub record Known (list : List Member) (table : List Told) : Type 0 where
   pub paths : HasPaths list
   pub standing : AllByRecursion (λ f. may_not_stand (form_in list) f ≡ false) (load_headers list)
   pub lone : form_in list ≡ LibraryForm → (setting_in list).runtimes ≡ []
-  pub values : (f : Found) → IsIn (entries list) f → (v : Value) → found_value list table f ≡ Ok v → FitsPlace (IsNamed list) v
+  pub values : (f : FoundDefinition) → IsIn (entries list) f → (v : Value) → found_value list table f ≡ Ok v → FitsPlace (IsNamed list) v
 
 -- ---- the table
 

@@ -23,12 +23,12 @@ use Rattle.link_meaning.specs.declared.fault.LinkCause.{LinkCause}
 use Rattle.link_meaning.specs.declared.fault.LinkCause.TheVariants.{DoesNotFit, DynamicReference, OutOfSegment, TooManyEntries}
 use Rattle.link_meaning.specs.Sizes.{size_at}
 use Rattle.omf_format.specs.Number.{padding}
-use Rattle.link_meaning.specs.Member.{Member, Setting}
+use Rattle.link_meaning.specs.Member.{Member, LinkSetting}
 use Rattle.link_meaning.specs.Layout.{load_headers}
 use Rattle.link_meaning.specs.LinkValues.{Told, value_in}
 use Rattle.link_meaning.specs.Fitting as fitting
-use Rattle.link_meaning.specs.Fitting.{Frame, Fit, Number, Place, number_fit, place_fit, distance_fit, or_does_not_fit, is_dynamic_load, is_call, target_of, has_room_for, call_fit, fitted, parts, entry_of, fit_cells, targets_behind, valued, is_far, length_there, may_call}
-use Rattle.link_meaning.specs.LinkedCells.{Item, State, Made, zeros, made_by, table_number, frame_of, cells_before}
+use Rattle.link_meaning.specs.Fitting.{PatchPlace, Fit, Number, Place, number_fit, place_fit, distance_fit, or_does_not_fit, is_dynamic_load, is_call, target_of, has_room_for, call_fit, fit_value, parts, entry_of, fit_cells, targets_behind, value_or_cause, is_far, length_there, may_call}
+use Rattle.link_meaning.specs.LinkedCells.{Item, LinkState, Made, zeros, made_by, table_number, frame_of, cells_before}
 use Rattle.link_meaning.specs.laws.RunCells.{Piece, One, Whole, cells_of, IsPiece, AreRuns}
 
 -- ---- bytes and whole places
@@ -105,7 +105,7 @@ one_made a b e = cc
 size_is : (a x : Made) (n : ℕ) → okay a ≡ okay x → length a.0 ≡ n → length x.0 ≡ n
 size_is a x n e is = ap (λ (y : Made). length y.0) (sym (one_made a x e)) ∙ is
 
-pub length-made : (list : List Member) (table : List Told) (state : State) (i : Item) (r : Record) (x : Made) → made_by list table state i r ≡ Ok x → length x.0 ≡ size_at i.here.location r
+pub length-made : (list : List Member) (table : List Told) (state : LinkState) (i : Item) (r : Record) (x : Made) → made_by list table state i r ≡ Ok x → length x.0 ≡ size_at i.here.location r
 length-made list table state i End x e = size_is _ x _ e refl
 length-made list table state i (Const bytes) x e = size_is _ x _ e (length-bytes bytes)
 length-made list table state i (LongConst bytes) x e = size_is _ x _ e (length-bytes bytes)
@@ -121,11 +121,11 @@ length-made list table state i (Using name) x e = size_is _ x _ e refl
 length-made list table state i (Strong name) x e = size_is _ x _ e refl
 length-made list table state i (Label global name size form private) x e = size_is _ x _ e refl
 length-made list table state i (Equate global name size form private expr) x e =
-    let v = bind_ok (valued (value_in list table i.place i.member i.here.location expr)) _ x e in
+    let v = bind_ok (value_or_cause (value_in list table i.place i.member i.here.location expr)) _ x e in
     size_is _ x _ v.2 refl
 length-made list table state i (Formula code count n expr) x e =
-    let v = bind_ok (valued (value_in list table i.place i.member i.here.location expr)) _ x e in
-    let fit = bind_ok (fitted (load_headers list) (frame_of list i) state.targets (cells_before state i) code count n v.0) _ x v.2 in
+    let v = bind_ok (value_or_cause (value_in list table i.place i.member i.here.location expr)) _ x e in
+    let fit = bind_ok (fit_value (load_headers list) (frame_of list i) state.targets (cells_before state i) code count n v.0) _ x v.2 in
     size_is _ x _ fit.2 (length-fit (table_number list) count (targets_behind state.targets fit.0) fit.0)
 length-made list table state i (Entry segment offset name) x e = size_is _ x _ e refl
 
@@ -173,7 +173,7 @@ number_fits : (targets : List Target) (code count n : ℕ) → HasFit targets (n
 number_fits targets code count n =
     by_cond targets (eqb code 0xEB) (Some (Number n)) _ tt (by_cond targets (eqb code 0xEE) None _ tt (by_cond targets (ltb n (256 ^ count)) (Some (Number n)) None tt tt))
 
-place_fits : (targets : List Target) (f : Frame) (code count n segment offset : ℕ) (shift : ℤ) → FitsFit targets (Place segment offset shift) → HasFit targets (place_fit f code count n segment offset shift)
+place_fits : (targets : List Target) (f : PatchPlace) (code count n segment offset : ℕ) (shift : ℤ) → FitsFit targets (Place segment offset shift) → HasFit targets (place_fit f code count n segment offset shift)
 place_fits targets f code count n segment offset shift is =
     by_cond targets (eqb code 0xEB || eqb code 0xF3) (Some (Place segment offset shift)) _ is
     (by_cond targets (eqb code 0xED) _ _ (by_cond targets _ (Some (Place segment offset shift)) None is tt)
@@ -183,7 +183,7 @@ room : (b : Bool) → not b ≡ false → b ≡ true
 room true e = refl
 room false e = absurd cc
 
-call_fits : (headers : List Fields) (setting : Setting) (targets : List Target) (call : Bool) (t : Target) (fit : Fit) → call_fit headers setting targets call t ≡ Ok fit → FitsFit targets fit
+call_fits : (headers : List Fields) (setting : LinkSetting) (targets : List Target) (call : Bool) (t : Target) (fit : Fit) → call_fit headers setting targets call t ≡ Ok fit → FitsFit targets fit
 call_fits headers setting targets call t fit e = elim (chosen (not (may_call setting.form && call)) _ _ (fine fit) e) [
   | inl x ↦ absurd (not_bad DynamicReference fit x.1)
   | inr x ↦ elim (chosen (leb (length_there headers setting t) t.offset) (bad OutOfSegment) (cond (not (has_room_for targets t)) (bad TooManyEntries) (fine (fitting.Entry t))) (fine fit) x.1) [
@@ -203,7 +203,7 @@ own_file file d e = by_test (eqb file 1) refl e
     by_test true is e = eqb-true file 1 is
     by_test false is e = absurd cc
 
-fits_fit : (headers : List Fields) (f : Frame) (targets : List Target) (before : List Cell) (code count n : ℕ) (v : Value) (fit : Fit) → fitted headers f targets before code count n v ≡ Ok fit → FitsPatch v → FitsFit targets fit
+fits_fit : (headers : List Fields) (f : PatchPlace) (targets : List Target) (before : List Cell) (code count n : ℕ) (v : Value) (fit : Fit) → fit_value headers f targets before code count n v ≡ Ok fit → FitsPatch v → FitsFit targets fit
 fits_fit headers f targets before code count n (Fixed k) fit e is = in_fit targets (number_fit code count k) fit e (number_fits targets code count k)
 fits_fit headers f targets before code count n (At file segment offset shift) fit e is = elim (chosen (is_far headers f.own file segment) _ _ (fine fit) e) [
   | inl x ↦ call_fits headers f.setting targets (is_call code count shift before) (target_of file segment offset) fit x.1
@@ -273,7 +273,7 @@ is_made a x e is = subst IsMade (one_made a x e) is
 abbrev no_value : Value → Result Value LinkCause
 no_value v = Ok v
 
-pub value_ok : (r : Result Value ValueFault) (v : Value) → valued r ≡ Ok v → r ≡ Ok v
+pub value_ok : (r : Result Value ValueFault) (v : Value) → value_or_cause r ≡ Ok v → r ≡ Ok v
 value_ok (Ok w) v e = ap okay_value (same w v e)
   where
     okay_value : Value → Result Value ValueFault
@@ -283,7 +283,7 @@ value_ok (Ok w) v e = ap okay_value (same w v e)
     same a b e = cc
 value_ok (Err fault) v e = absurd cc
 
-pub runs-made : (list : List Member) (table : List Told) (state : State) (i : Item) (r : Record) (x : Made) → table_number list < 2 ^ 16 → Few state.targets → IsSoundAt list table i r → made_by list table state i r ≡ Ok x
+pub runs-made : (list : List Member) (table : List Told) (state : LinkState) (i : Item) (r : Record) (x : Made) → table_number list < 2 ^ 16 → Few state.targets → IsSoundAt list table i r → made_by list table state i r ≡ Ok x
     → AreRuns x.0 × Few x.1
 runs-made list table state i End x small few is e = is_made _ x e (no_runs, few)
 runs-made list table state i (Const bytes) x small few is e = is_made _ x e (byte_runs bytes, few)
@@ -300,11 +300,11 @@ runs-made list table state i (Using name) x small few is e = is_made _ x e (no_r
 runs-made list table state i (Strong name) x small few is e = is_made _ x e (no_runs, few)
 runs-made list table state i (Label global name size form private) x small few is e = is_made _ x e (no_runs, few)
 runs-made list table state i (Equate global name size form private expr) x small few is e =
-    let v = bind_ok (valued (value_in list table i.place i.member i.here.location expr)) _ x e in
+    let v = bind_ok (value_or_cause (value_in list table i.place i.member i.here.location expr)) _ x e in
     is_made _ x v.2 (no_runs, few)
 runs-made list table state i (Formula code count n expr) x small few is e =
-    let v = bind_ok (valued (value_in list table i.place i.member i.here.location expr)) _ x e in
-    let fit = bind_ok (fitted (load_headers list) (frame_of list i) state.targets (cells_before state i) code count n v.0) _ x v.2 in
+    let v = bind_ok (value_or_cause (value_in list table i.place i.member i.here.location expr)) _ x e in
+    let fit = bind_ok (fit_value (load_headers list) (frame_of list i) state.targets (cells_before state i) code count n v.0) _ x v.2 in
     let value = value_ok (value_in list table i.place i.member i.here.location expr) v.0 v.1 in
     let fits = fits_fit (load_headers list) (frame_of list i) state.targets (cells_before state i) code count n v.0 fit.0 fit.1 (is.1 v.0 value) in
     let all = few_behind state.targets fit.0 few fits in

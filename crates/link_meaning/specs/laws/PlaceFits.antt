@@ -12,13 +12,13 @@ use Rattle.omf_format.specs.Record.{Record, End, Const, LongConst, Align, Org, S
 use Rattle.omf_format.specs.File.{Segment}
 use Rattle.link_meaning.specs.First.{IsIn}
 use Rattle.link_meaning.specs.laws.MemberLists.{filter_in}
-use Rattle.link_meaning.specs.Sizes.{Located, size_at, located_from, located, place_behind, body_size}
+use Rattle.link_meaning.specs.Sizes.{Located, size_at, located_from, records_with_offsets, place_behind, body_size}
 use Rattle.link_meaning.specs.Member.{Member}
 use Rattle.link_meaning.specs.Defines.{Definition, outer_scope, title_of, defined_by, defined_in}
-use Rattle.link_meaning.specs.Search.{Found, entries_from, entries}
+use Rattle.link_meaning.specs.Search.{FoundDefinition, entries_from, entries}
 use Rattle.link_meaning.specs.Layout.{in_load, aligned_from, end_from, load_length, offset_of, distinct, load_names, number_in, load_of, load_fields, headers_from, load_headers}
 use Rattle.link_meaning.specs.laws.LayoutLaws.{aligned_from-least, alignment-some}
-use Rattle.link_meaning.specs.LinkFaults.{Given, is_too_long, IsResolved}
+use Rattle.link_meaning.specs.LinkFaults.{LinkInput, is_too_long, IsResolved}
 use Rattle.link_meaning.specs.LinkValues.{place_value}
 use Rattle.link_meaning.specs.laws.MadeLaws.{FitsPatch}
 use Rattle.link_meaning.specs.laws.LinkWrittenLaws.{few_loads, short_loads, short_length}
@@ -75,7 +75,7 @@ length-load : (list : List Member) (n : ℕ) (x : List ℕ) → (load_fields lis
 unfolding load_fields
 length-load list n x = refl
 
-pub short_load : (files : Given) (list : List Member) (x : List ℕ) → IsResolved files list → IsIn (load_names list) x → load_length x list ≤ 0xFFFFFF
+pub short_load : (files : LinkInput) (list : List Member) (x : List ℕ) → IsResolved files list → IsIn (load_names list) x → load_length x list ≤ 0xFFFFFF
 unfolding load_headers
 short_load files list x resolved is =
     let there = header_there list 1 (load_names list) x is (short_loads files list resolved) in
@@ -117,7 +117,7 @@ in_parts list front m back parts = subst (λ (l : List Member). IsIn l m) (sym p
     there [] = inl refl
     there (o ∷ front) = inr (there front)
 
-pub place_fits : (files : Given) (list : List Member) (place : ℕ) (m : Member) (at : ℕ) → IsResolved files list → ((o : Member) → IsIn list o → body_size o.segment ≤ o.segment.fields.length) → IsPlaceIn list place m at → FitsPatch (place_value list place m at)
+pub place_fits : (files : LinkInput) (list : List Member) (place : ℕ) (m : Member) (at : ℕ) → IsResolved files list → ((o : Member) → IsIn list o → body_size o.segment ≤ o.segment.fields.length) → IsPlaceIn list place m at → FitsPatch (place_value list place m at)
 unfolding place_value
 place_fits files list place m at resolved whole is =
     let there = in_parts list is.front m is.back is.parts in
@@ -186,18 +186,18 @@ by_title s d is = by_name s.fields.name is
     by_name (b ∷ bs) (inr more) = absurd more
 
 by_definition : (s : Segment) (d : Definition) → IsIn (defined_in s) d → d.place ≤ body_size s
-unfolding defined_in located body_size
+unfolding defined_in records_with_offsets body_size
 by_definition s d is = elim (in-append (title_of s) (flat_map of_located (located_from 0 s.records)) d is) [
   | inl h ↦ omega (arith, by_title s d h)
   | inr h ↦ by_records 0 s.records d h
 ]
 
-pub own_entry : (place : ℕ) (m : Member) (ds : List Definition) (f : Found) → IsIn (map (λ (d : Definition). record { place = place; member = m; definition = d }) ds) f → (f.place ≡ place) × (f.member ≡ m) × IsIn ds f.definition
+pub own_entry : (place : ℕ) (m : Member) (ds : List Definition) (f : FoundDefinition) → IsIn (map (λ (d : Definition). record { place = place; member = m; definition = d }) ds) f → (f.place ≡ place) × (f.member ≡ m) × IsIn ds f.definition
 own_entry place m [] f is = absurd is
-own_entry place m (d ∷ ds) f (inl e) = (ap (λ (x : Found). x.place) (sym e), ap (λ (x : Found). x.member) (sym e), inl (ap (λ (x : Found). x.definition) e))
+own_entry place m (d ∷ ds) f (inl e) = (ap (λ (x : FoundDefinition). x.place) (sym e), ap (λ (x : FoundDefinition). x.member) (sym e), inl (ap (λ (x : FoundDefinition). x.definition) e))
 own_entry place m (d ∷ ds) f (inr more) = let rest = own_entry place m ds f more in (rest.0, rest.1, inr rest.2)
 
-entry_from : (list front ms : List Member) (f : Found) → list ≡ front ++ ms → IsIn (entries_from defined_in (length front + 1) ms) f → IsPlaceIn list f.place f.member f.definition.place
+entry_from : (list front ms : List Member) (f : FoundDefinition) → list ≡ front ++ ms → IsIn (entries_from defined_in (length front + 1) ms) f → IsPlaceIn list f.place f.member f.definition.place
 entry_from list front [] f parts is = absurd is
 entry_from list front (m ∷ ms) f parts is = elim (in-append (map (λ (d : Definition). record { place = length front + 1; member = m; definition = d }) (defined_in m.segment)) (entries_from defined_in (length front + 1 + 1) ms) f is) [
   | inl h ↦
@@ -215,6 +215,6 @@ entry_from list front (m ∷ ms) f parts is = elim (in-append (map (λ (d : Defi
 ]
 
 -- a definition is a place in its member, or its end
-pub entry_there : (list : List Member) (f : Found) → IsIn (entries list) f → IsPlaceIn list f.place f.member f.definition.place
+pub entry_there : (list : List Member) (f : FoundDefinition) → IsIn (entries list) f → IsPlaceIn list f.place f.member f.definition.place
 unfolding entries
 entry_there list f is = entry_from list [] list f refl is

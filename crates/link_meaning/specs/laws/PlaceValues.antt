@@ -10,14 +10,14 @@ use Rattle.omf_format.specs.declared.value.ValueFault.TheVariants.{DivideByZero,
 use Rattle.omf_format.specs.Field.{◌>>=◌, is_shift}
 use Rattle.omf_format.specs.laws.FieldLaws.{bind_ok}
 use Rattle.omf_format.specs.Expression.{Term, Operator, Location, Constant, Named, Offset, Tree, Leaf, Unary, Binary}
-use Rattle.omf_format.specs.Value.{wrapped, signed, is_unshifted, divides, number_of_two, known, operand_value, apply_one, apply_two, size_of, value}
+use Rattle.omf_format.specs.Value.{wrapped_to_32_bits, signed, is_unshifted, divides, number_of_two, known_or_fault, operand_value, apply_one, apply_two, size_of, value}
 use Rattle.link_meaning.specs.First.{IsIn}
 use Rattle.link_meaning.specs.laws.MemberLists.{in_filter, filter_in}
 use Rattle.link_meaning.specs.Member.{Member, setting_in}
 use Rattle.link_meaning.specs.Terms.{asks_value, asked_by, asked_in, tree_in}
-use Rattle.link_meaning.specs.Search.{Found, entries, finds, outside}
+use Rattle.link_meaning.specs.Search.{FoundDefinition, entries, finds, outside}
 use Rattle.link_meaning.specs.Rings.{has_expr, is_equate, equates, names_in, LeadsTo}
-use Rattle.link_meaning.specs.LinkValues.{Told, told, place_value, found_value, if_ok, label_value, environment, settled, tree_value, value_in, IsTable, outside_value}
+use Rattle.link_meaning.specs.LinkValues.{Told, value_of_definition, place_value, found_value, if_ok, label_value, member_environment, value_or_equate_fault, tree_value, value_in, IsTable, outside_value}
 use Rattle.link_meaning.specs.laws.TableLaws.{in_entries, tells_of, by_rings, in_found, is_outside}
 use Rattle.link_meaning.specs.laws.MadeLaws.{FitsPlace}
 use Rattle.link_meaning.specs.laws.PlaceFits.{IsPlaceIn, entry_there}
@@ -51,7 +51,7 @@ module _ (P : ℕ → ℕ → Type 0) where
   cond_fits true x y p q = p refl
   cond_fits false x y p q = q refl
 
-  wrapped-lt : (n : ℕ) → wrapped n < 2 ^ 32
+  wrapped-lt : (n : ℕ) → wrapped_to_32_bits n < 2 ^ 32
   wrapped-lt n = omega arith
 
   one_fits : (code : ℕ) (a : Value) → (v : Value) → apply_one code a ≡ Ok v → FitsPlace P v
@@ -62,17 +62,17 @@ module _ (P : ℕ → ℕ → Type 0) where
   unfolding apply_two
   two_fits code (Fixed a) (Fixed b) p q = cond_fits (divides code && eqb b 0) (bad DivideByZero) (fine (Fixed (number_of_two code a b))) (λ e. bad_fits DivideByZero) (λ e. fine_fits (Fixed (number_of_two code a b)) tt)
   two_fits code (Fixed a) (At file segment offset shift) p q =
-      cond_fits (eqb code 0x01 && is_unshifted shift) (fine (At file segment (wrapped (offset + a)) (pos 0))) (bad NotRelocatable)
-      (λ e. fine_fits (At file segment (wrapped (offset + a)) (pos 0)) (refl, q.1, (λ one. wrapped-lt (offset + a)))) (λ e. bad_fits NotRelocatable)
+      cond_fits (eqb code 0x01 && is_unshifted shift) (fine (At file segment (wrapped_to_32_bits (offset + a)) (pos 0))) (bad NotRelocatable)
+      (λ e. fine_fits (At file segment (wrapped_to_32_bits (offset + a)) (pos 0)) (refl, q.1, (λ one. wrapped-lt (offset + a)))) (λ e. bad_fits NotRelocatable)
   two_fits code (At file segment offset shift) (Fixed b) p q =
-      let less = wrapped (offset + (2 ^ 32 - b)) in
+      let less = wrapped_to_32_bits (offset + (2 ^ 32 - b)) in
       cond_fits (not (is_unshifted shift)) (bad NotRelocatable) _ (λ e. bad_fits NotRelocatable) (λ e.
-      cond_fits (eqb code 0x01) (fine (At file segment (wrapped (offset + b)) (pos 0))) _ (λ e. fine_fits (At file segment (wrapped (offset + b)) (pos 0)) (refl, p.1, (λ one. wrapped-lt (offset + b)))) (λ e.
+      cond_fits (eqb code 0x01) (fine (At file segment (wrapped_to_32_bits (offset + b)) (pos 0))) _ (λ e. fine_fits (At file segment (wrapped_to_32_bits (offset + b)) (pos 0)) (refl, p.1, (λ one. wrapped-lt (offset + b)))) (λ e.
       cond_fits (eqb code 0x02) (fine (At file segment less (pos 0))) _ (λ e. fine_fits (At file segment less (pos 0)) (refl, p.1, (λ one. wrapped-lt (offset + (2 ^ 32 - b))))) (λ e.
       cond_fits (eqb code 0x07 && is_shift (signed b)) (fine (At file segment offset (signed b))) (bad NotRelocatable)
       (λ e. fine_fits (At file segment offset (signed b)) ((and_parts (eqb code 0x07) (is_shift (signed b)) e).1, p.1, p.2)) (λ e. bad_fits NotRelocatable))))
   two_fits code (At file segment offset shift) (At file' segment' offset' shift') p q =
-      let less = wrapped (offset + (2 ^ 32 - offset')) in
+      let less = wrapped_to_32_bits (offset + (2 ^ 32 - offset')) in
       cond_fits (eqb code 0x02 && is_unshifted shift && is_unshifted shift' && eqb file file' && eqb segment segment') (fine (Fixed less)) (bad NotRelocatable)
       (λ e. fine_fits (Fixed less) tt) (λ e. bad_fits NotRelocatable)
 
@@ -90,7 +90,7 @@ module _ (P : ℕ → ℕ → Type 0) where
   all_behind P [] ys all = all
   all_behind P (x ∷ xs) ys all = all_behind P xs ys all.1
 
-  known_ok : (at : ℕ) (o : Option Value) (v : Value) → known at o ≡ Ok v → o ≡ Some v
+  known_ok : (at : ℕ) (o : Option Value) (v : Value) → known_or_fault at o ≡ Ok v → o ≡ Some v
   known_ok at None v e = absurd (not_bad (Unknown at) v e)
   known_ok at (Some w) v e = ap (λ (u : Value). some u) (one_value w v e)
     where
@@ -103,8 +103,8 @@ module _ (P : ℕ → ℕ → Type 0) where
     first : FitsPlace P (place_value list place m 0)
 
   operand_fits : (list : List Member) (table : List Told) (place : ℕ) (m : Member) (location at : ℕ) (term : Term) → HasPlaces list place m location → AllByRecursion (LabelFits list table place m) (asks_value term)
-      → (v : Value) → operand_value (environment list table place m location) at term ≡ Ok v → FitsPlace P v
-  unfolding operand_value environment
+      → (v : Value) → operand_value (member_environment list table place m location) at term ≡ Ok v → FitsPlace P v
+  unfolding operand_value member_environment
   operand_fits list table place m location at (Operator code) has all = bad_fits NotRelocatable
   operand_fits list table place m location at Location has all = fine_fits (place_value list place m location) has.here
   operand_fits list table place m location at (Constant n) has all = fine_fits (Fixed n) tt
@@ -112,26 +112,26 @@ module _ (P : ℕ → ℕ → Type 0) where
   operand_fits list table place m location at (Named code name) has all = by_code (leb code 0x83) all
     where
       by_code : (b : Bool) → AllByRecursion (LabelFits list table place m) (cond b (name ∷ []) [])
-          → (v : Value) → cond b (known at (label_value list table (eqb code 0x82) (finds list place m name)))
-          (known at ((environment list table place m location).attribute code name) >>= λ n. Ok (Fixed n)) ≡ Ok v → FitsPlace P v
+          → (v : Value) → cond b (known_or_fault at (label_value list table (eqb code 0x82) (finds list place m name)))
+          (known_or_fault at ((member_environment list table place m location).attribute code name) >>= λ n. Ok (Fixed n)) ≡ Ok v → FitsPlace P v
       by_code true all v e = all.0 (eqb code 0x82) v (known_ok at (label_value list table (eqb code 0x82) (finds list place m name)) v e)
-      by_code false all v e = let n = bind_ok (known at ((environment list table place m location).attribute code name)) (λ k. Ok (Fixed k)) v e in fine_fits (Fixed n.0) tt v n.2
+      by_code false all v e = let n = bind_ok (known_or_fault at ((member_environment list table place m location).attribute code name)) (λ k. Ok (Fixed k)) v e in fine_fits (Fixed n.0) tt v n.2
 
   value_fits : (list : List Member) (table : List Told) (place : ℕ) (m : Member) (location l at : ℕ) (tree : Tree) → HasPlaces list place m location → AllByRecursion (LabelFits list table place m) (asked_by tree)
-      → (v : Value) → value (environment list table place m location) l at tree ≡ Ok v → FitsPlace P v
+      → (v : Value) → value (member_environment list table place m location) l at tree ≡ Ok v → FitsPlace P v
   value_fits list table place m location l at (Leaf term) has all v e = operand_fits list table place m location at term has all v e
   value_fits list table place m location l at (Unary code x) has all v e =
-      let a = bind_ok (value (environment list table place m location) l at x) (λ w. apply_one code w) v e in
+      let a = bind_ok (value (member_environment list table place m location) l at x) (λ w. apply_one code w) v e in
       one_fits code a.0 v a.2
   value_fits list table place m location l at (Binary code x y) has all v e =
-      let env = environment list table place m location in
+      let env = member_environment list table place m location in
       let a = bind_ok (value env l at x) (λ w. value env l (at + size_of l x) y >>= λ u. apply_two code w u) v e in
       let b = bind_ok (value env l (at + size_of l x) y) (λ u. apply_two code a.0 u) v a.2 in
       two_fits code a.0 b.0
       (value_fits list table place m location l at x has (all_front (LabelFits list table place m) (asked_by x) (asked_by y) all) a.0 a.1)
       (value_fits list table place m location l (at + size_of l x) y has (all_behind (LabelFits list table place m) (asked_by x) (asked_by y) all) b.0 b.1) v b.2
 
-  settled_ok : (list : List Member) (table : List Told) (place : ℕ) (m : Member) (tree : Tree) (r : Result Value ValueFault) (v : Value) → settled list table place m tree r ≡ Ok v → r ≡ Ok v
+  settled_ok : (list : List Member) (table : List Told) (place : ℕ) (m : Member) (tree : Tree) (r : Result Value ValueFault) (v : Value) → value_or_equate_fault list table place m tree r ≡ Ok v → r ≡ Ok v
   settled_ok list table place m tree (Ok w) v e = e
   settled_ok list table place m tree (Err DivideByZero) v e = absurd (not_bad DivideByZero v e)
   settled_ok list table place m tree (Err NotRelocatable) v e = absurd (not_bad NotRelocatable v e)
@@ -142,7 +142,7 @@ module _ (P : ℕ → ℕ → Type 0) where
   tree_fits list table place m location None has all v e = bad_fits NotRelocatable v e
   tree_fits list table place m location (Some tree) has all v e =
       value_fits list table place m location m.segment.fields.lab_len 0 tree has all v
-      (settled_ok list table place m tree (value (environment list table place m location) m.segment.fields.lab_len 0 tree) v e)
+      (settled_ok list table place m tree (value (member_environment list table place m location) m.segment.fields.lab_len 0 tree) v e)
 
   -- ---- names
 
@@ -153,7 +153,7 @@ module _ (P : ℕ → ℕ → Type 0) where
       same a b e = cc
   if_ok_is (Err fault) v e = absurd cc
 
-  label_fits : (list : List Member) (table : List Told) (found : List Found) → ((f : Found) → IsIn found f → (v : Value) → found_value list table f ≡ Ok v → FitsPlace P v)
+  label_fits : (list : List Member) (table : List Told) (found : List FoundDefinition) → ((f : FoundDefinition) → IsIn found f → (v : Value) → found_value list table f ≡ Ok v → FitsPlace P v)
       → (weak : Bool) (v : Value) → label_value list table weak found ≡ Some v → FitsPlace P v
   label_fits list table [] each true v e = subst (FitsPlace P) (same (Fixed 0) v e) tt
     where
@@ -163,17 +163,17 @@ module _ (P : ℕ → ℕ → Type 0) where
   label_fits list table (f ∷ found) each weak v e = each f (inl refl) v (if_ok_is (found_value list table f) v e)
 
   -- what an equate is told fits
-  abbrev ToldFits : List Told → Found → Type 0
-  ToldFits table e = (v : Value) → told table e.place e.definition.at ≡ Ok v → FitsPlace P v
+  abbrev ToldFits : List Told → FoundDefinition → Type 0
+  ToldFits table e = (v : Value) → value_of_definition table e.place e.definition.at ≡ Ok v → FitsPlace P v
 
   -- where each entry is a place, and what each equate to which it leads is told fits, what a name found fits
-  found_fits : (list : List Member) (table : List Told) (f : Found) → FitsPlace P (cond (eqb f.place 0) (outside_value f) (place_value list f.place f.member f.definition.place)) → (is_equate f ≡ true → ToldFits table f)
+  found_fits : (list : List Member) (table : List Told) (f : FoundDefinition) → FitsPlace P (cond (eqb f.place 0) (outside_value f) (place_value list f.place f.member f.definition.place)) → (is_equate f ≡ true → ToldFits table f)
       → (v : Value) → found_value list table f ≡ Ok v → FitsPlace P v
   found_fits list table f here equate v e = by_expr f.definition.expr refl e
     where
       by_expr : (x : Option (List ℕ)) → f.definition.expr ≡ x → elim x as (λ y. Result Value ValueFault) [
         | None ↦ Ok (cond (eqb f.place 0) (outside_value f) (place_value list f.place f.member f.definition.place))
-        | Some text ↦ told table f.place f.definition.at
+        | Some text ↦ value_of_definition table f.place f.definition.at
       ] ≡ Ok v → FitsPlace P v
       by_expr None is e = fine_fits (cond (eqb f.place 0) (outside_value f) (place_value list f.place f.member f.definition.place)) here v e
       by_expr (Some text) is e = equate (ap has_expr is) v e
@@ -182,7 +182,7 @@ module _ (P : ℕ → ℕ → Type 0) where
 
 module _ (P : ℕ → ℕ → Type 0) (list : List Member) (table : List Told) (is_table : IsTable list table)
     (there : (place : ℕ) (m : Member) (at : ℕ) → IsPlaceIn list place m at → FitsPlace P (place_value list place m at))
-    (beyond : (f : Found) → IsIn (outside (setting_in list)) f → FitsPlace P (outside_value f)) where
+    (beyond : (f : FoundDefinition) → IsIn (outside (setting_in list)) f → FitsPlace P (outside_value f)) where
   from_start : (place : ℕ) (m : Member) (at : ℕ) → IsPlaceIn list place m at → IsPlaceIn list place m 0
   from_start place m at is = record { front = is.front; back = is.back; parts = is.parts; number = is.number; inside = omega arith }
 
@@ -190,7 +190,7 @@ module _ (P : ℕ → ℕ → Type 0) (list : List Member) (table : List Told) (
   places place m at is = record { here = there place m at is; first = there place m 0 (from_start place m at is) }
 
   -- what is found stands in a member or beyond
-  stands : (place : ℕ) (m : Member) (name : List ℕ) (f : Found) → IsIn (finds list place m name) f → FitsPlace P (cond (eqb f.place 0) (outside_value f) (place_value list f.place f.member f.definition.place))
+  stands : (place : ℕ) (m : Member) (name : List ℕ) (f : FoundDefinition) → IsIn (finds list place m name) f → FitsPlace P (cond (eqb f.place 0) (outside_value f) (place_value list f.place f.member f.definition.place))
   stands place m name f found = elim (in_found list place m name f found) [
     | inl h ↦
         let at = entry_there list f h in
@@ -205,13 +205,13 @@ module _ (P : ℕ → ℕ → Type 0) (list : List Member) (table : List Told) (
           by_test true e = absurd (omega (arith, le, eqb-true n 0 e))
           by_test false e = refl
 
-  names : (place : ℕ) (m : Member) (asked : List (List ℕ)) → ((name : List ℕ) → IsIn asked name → (f : Found) → IsIn (finds list place m name) f → is_equate f ≡ true → ToldFits P table f)
+  names : (place : ℕ) (m : Member) (asked : List (List ℕ)) → ((name : List ℕ) → IsIn asked name → (f : FoundDefinition) → IsIn (finds list place m name) f → is_equate f ≡ true → ToldFits P table f)
       → AllByRecursion (LabelFits P list table place m) asked
   names place m asked equate =
       all_in (LabelFits P list table place m) asked (λ name is. label_fits P list table (finds list place m name) (λ f found. found_fits P list table f (stands place m name f found) (equate name is f found)))
 
   -- what an equate is told fits, where it fits for those to which it leads
-  told_step : (e : Found) → IsIn (equates list) e → ((f : Found) → LeadsTo list e f → ToldFits P table f) → ToldFits P table e
+  told_step : (e : FoundDefinition) → IsIn (equates list) e → ((f : FoundDefinition) → LeadsTo list e f → ToldFits P table f) → ToldFits P table e
   unfolding value_in equates
   told_step e is go v t = by_expr e.definition.expr refl (sym (tells_of list table (equates list) table is_table.rows e is) ∙ t)
     where
@@ -229,10 +229,10 @@ module _ (P : ℕ → ℕ → Type 0) (list : List Member) (table : List Told) (
           (names e.place e.member (asked_in tree) (λ name asked f found equate. go f (record { name = name; asked = subst (λ (y : Option (List ℕ)). IsIn (names_in e.member.segment.fields.lab_len y) name) (sym same) asked; found = found; equate = equate })))
           v w
 
-  told_fits : (e : Found) → IsIn (equates list) e → ToldFits P table e
+  told_fits : (e : FoundDefinition) → IsIn (equates list) e → ToldFits P table e
   told_fits = by_rings list (ToldFits P table) is_table.straight told_step
 
-  equate_in : (place : ℕ) (m : Member) (name : List ℕ) (f : Found) → IsIn (finds list place m name) f → is_equate f ≡ true → IsIn (equates list) f
+  equate_in : (place : ℕ) (m : Member) (name : List ℕ) (f : FoundDefinition) → IsIn (finds list place m name) f → is_equate f ≡ true → IsIn (equates list) f
   unfolding equates
   equate_in place m name f found is = filter_in is_equate (entries list) f (in_entries list place m name f is found) is
 
@@ -244,11 +244,11 @@ module _ (P : ℕ → ℕ → Type 0) (list : List Member) (table : List Told) (
       tree_fits P list table place m location tree (places place m location is) (names place m (asked_in tree) (λ name asked f found equate. told_fits f (equate_in place m name f found equate)))
 
   -- what an entry stands for fits
-  pub entry_fits : (f : Found) → IsIn (entries list) f → (v : Value) → found_value list table f ≡ Ok v → FitsPlace P v
+  pub entry_fits : (f : FoundDefinition) → IsIn (entries list) f → (v : Value) → found_value list table f ≡ Ok v → FitsPlace P v
   unfolding equates
   entry_fits f is = found_fits P list table f (in_member f is) (λ equate. told_fits f (filter_in is_equate (entries list) f is equate))
     where
-      in_member : (f : Found) → IsIn (entries list) f → FitsPlace P (cond (eqb f.place 0) (outside_value f) (place_value list f.place f.member f.definition.place))
+      in_member : (f : FoundDefinition) → IsIn (entries list) f → FitsPlace P (cond (eqb f.place 0) (outside_value f) (place_value list f.place f.member f.definition.place))
       in_member f is =
           let at = entry_there list f is in
           subst (λ (b : Bool). FitsPlace P (cond b (outside_value f) (place_value list f.place f.member f.definition.place))) (sym (somewhere f.place (omega (arith, at.number)))) (there f.place f.member f.definition.place at)

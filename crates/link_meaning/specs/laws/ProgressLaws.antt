@@ -13,30 +13,30 @@ use Rattle.std.proofs.lemmas.Bool.{eq-eqb, eqb-true}
 use Rattle.link_meaning.specs.laws.MemberLists.{filter_in}
 use Rattle.link_meaning.specs.declared.search.Step.{Step}
 use Rattle.link_meaning.specs.declared.search.Step.TheVariants.{Within, OfUnit, Everyone}
-use Rattle.link_meaning.specs.Search.{Found, step_for, is_step, sees, or_else, decided, outer_steps, steps_of, used_data, entries_from, entries, named, finds, finds_data, data_titles, finds_inside, outside}
+use Rattle.link_meaning.specs.Search.{FoundDefinition, step_for, is_step, is_seen_by_step, or_else, first_step_found, outer_steps, steps_of, used_data, entries_from, entries, with_this_name, finds, finds_data, data_titles, finds_inside, outside}
 use Rattle.link_meaning.specs.declared.search.Want.TheVariants.{Data, One}
 use Rattle.link_meaning.specs.Uses.{Use}
 use Rattle.link_meaning.specs.LinkedList.{has_title, counts_for, is_of_member, first_offer, row_for}
 
 -- nothing decided: no step has anything
-abbrev pub AllNone : List Step → List Found → Type 0
+abbrev pub AllNone : List Step → List FoundDefinition → Type 0
 AllNone [] all = Unit {0}
-AllNone (s ∷ steps) all = (filter (sees s) all ≡ []) × AllNone steps all
+AllNone (s ∷ steps) all = (filter (is_seen_by_step s) all ≡ []) × AllNone steps all
 
-pub none_decided : (steps : List Step) (all : List Found) → decided steps all ≡ [] → AllNone steps all
+pub none_decided : (steps : List Step) (all : List FoundDefinition) → first_step_found steps all ≡ [] → AllNone steps all
 none_decided [] all e = tt
-none_decided (s ∷ steps) all e = settle (filter (sees s) all) refl e (λ rest. none_decided steps all rest)
+none_decided (s ∷ steps) all e = settle (filter (is_seen_by_step s) all) refl e (λ rest. none_decided steps all rest)
   where
-    settle : (found : List Found) → filter (sees s) all ≡ found → or_else found (decided steps all) ≡ [] → (decided steps all ≡ [] → AllNone steps all)
-        → (filter (sees s) all ≡ []) × AllNone steps all
+    settle : (found : List FoundDefinition) → filter (is_seen_by_step s) all ≡ found → or_else found (first_step_found steps all) ≡ [] → (first_step_found steps all ≡ [] → AllNone steps all)
+        → (filter (is_seen_by_step s) all ≡ []) × AllNone steps all
     settle [] is e go = (is, go e)
     settle (f ∷ found) is e go = absurd cc
 
-pub none_behind : (front back : List Step) (all : List Found) → AllNone (front ++ back) all → AllNone back all
+pub none_behind : (front back : List Step) (all : List FoundDefinition) → AllNone (front ++ back) all → AllNone back all
 none_behind [] back all none = none
 none_behind (s ∷ front) back all none = none_behind front back all none.1
 
-abbrev pub found_at : ℕ → Member → Definition → Found
+abbrev pub found_at : ℕ → Member → Definition → FoundDefinition
 found_at place m d = record { place = place; member = m; definition = d }
 
 -- what a member defines is among the entries
@@ -55,7 +55,7 @@ entry_in defines place (x ∷ list) m d (inl same) is = (
     in_map (e ∷ ds) (inl p) = inl (ap (λ (y : Definition). found_at place x y) p)
     in_map (e ∷ ds) (inr more) = inr (in_map ds more)
 
-    in_front : (xs ys : List Found) (f : Found) → IsIn xs f → IsIn (xs ++ ys) f
+    in_front : (xs ys : List FoundDefinition) (f : FoundDefinition) → IsIn xs f → IsIn (xs ++ ys) f
     in_front [] ys f is = absurd is
     in_front (y ∷ xs) ys f (inl p) = inl p
     in_front (y ∷ xs) ys f (inr more) = inr (in_front xs ys f more)
@@ -63,21 +63,21 @@ entry_in defines place (x ∷ list) m d (inr more) is =
     let rest = entry_in defines (place + 1) list m d more is in
     (rest.0, behind (map (λ e. found_at place x e) (defines x.segment)) (entries_from defines (place + 1) list) (found_at rest.0 m d) rest.1)
   where
-    behind : (xs ys : List Found) (f : Found) → IsIn ys f → IsIn (xs ++ ys) f
+    behind : (xs ys : List FoundDefinition) (f : FoundDefinition) → IsIn ys f → IsIn (xs ++ ys) f
     behind [] ys f is = is
     behind (y ∷ xs) ys f is = inr (behind xs ys f is)
 
 -- ---- what is defined for a member's unit or for all is found
 
-not_empty : (xs : List Found) (f : Found) → IsIn xs f → xs ≡ [] → ⊥
+not_empty : (xs : List FoundDefinition) (f : FoundDefinition) → IsIn xs f → xs ≡ [] → ⊥
 not_empty [] f is e = is
 not_empty (x ∷ xs) f is e = absurd cc
 
-pub seen_is_found : (s : Step) (all : List Found) (f : Found) → IsIn all f → sees s f ≡ true → filter (sees s) all ≡ [] → ⊥
-seen_is_found s all f is sees' none = not_empty (filter (sees s) all) f (filter_in (sees s) all f is sees') none
+pub seen_is_found : (s : Step) (all : List FoundDefinition) (f : FoundDefinition) → IsIn all f → is_seen_by_step s f ≡ true → filter (is_seen_by_step s) all ≡ [] → ⊥
+seen_is_found s all f is sees' none = not_empty (filter (is_seen_by_step s) all) f (filter_in (is_seen_by_step s) all f is sees') none
 
 -- a definition with a row's privacy, in the row's member, where neither the unit's nor the public step finds anything: there is none
-pub not_there : (m u : Member) (private : Bool) (d : Definition) (all : List Found) (p : ℕ) → IsIn all (found_at p m d) → d.scope ≡ outer_scope private
+pub not_there : (m u : Member) (private : Bool) (d : Definition) (all : List FoundDefinition) (p : ℕ) → IsIn all (found_at p m d) → d.scope ≡ outer_scope private
     → ((m.file ≡ u.file) × (m.from ≡ u.from)) ⊎ (private ≡ false) → AllNone (outer_steps u) all → ⊥
 not_there m u false d all p is scope way none =
     seen_is_found Everyone all (found_at p m d) is (ap (λ (x : Scope). is_step Everyone (step_for p m.file m.from x)) scope) none.1.0
@@ -85,7 +85,7 @@ not_there m u true d all p is scope (inr e) none = let clash : true ≡ false = 
 not_there m u true d all p is scope (inl same) none =
     seen_is_found (OfUnit u.file u.from) all (found_at p m d) is pass none.0
   where
-    pass : sees (OfUnit u.file u.from) (found_at p m d) ≡ true
+    pass : is_seen_by_step (OfUnit u.file u.from) (found_at p m d) ≡ true
     pass = rw (scope, eq-eqb u.file m.file (sym same.0), eq-eqb u.from m.from (sym same.1)) refl
 
 -- ---- rows
@@ -160,14 +160,14 @@ row_is offers u use' m e = settle (first_offer (λ o. counts_for use' o && is_of
         let tests = both_true (counts_for use' c.offer) (not c.offer.private) c.passes in
         record { offer = c.offer; among = c.among; counts = tests.0; member = c.member; way = inr (negated c.offer.private tests.1) }
 
-none_first : (xs ys : List Found) → or_else xs ys ≡ [] → xs ≡ []
+none_first : (xs ys : List FoundDefinition) → or_else xs ys ≡ [] → xs ≡ []
 none_first [] ys e = refl
 none_first (x ∷ xs) ys e = let clash : x ∷ xs ≡ [] = e in absurd cc
 
 -- an ordinary use that finds nothing has no row whose member is in the list
 pub fresh_name : (offers : List Offer) (list : List Member) (place : ℕ) (u m : Member) (name : List ℕ) (at : ℕ) → AreSound offers
     → finds list place u name ≡ [] → row_for offers u (record { want = One; name = name; at = at }) ≡ Some m → IsIn list m → ⊥
-unfolding finds finds_inside named entries
+unfolding finds finds_inside with_this_name entries
 fresh_name offers list place u m name at sound none row there =
     let r = row_is offers u (record { want = One; name = name; at = at }) m row in
     let d = sound r.offer r.among in
@@ -175,10 +175,10 @@ fresh_name offers list place u m name at sound none row there =
     let inside : IsIn (defined_in m.segment) d.0 = subst (λ (x : Member). IsIn (defined_in x.segment) d.0) r.member d.1 in
     let entry = entry_in defined_in 1 list m d.0 there inside in
     let passes : bytes_eq name d.0.name ≡ true = ap (λ (n : List ℕ). bytes_eq name n) d.2 ∙ named'.0 in
-    let among = filter_in (λ (f : Found). bytes_eq name f.definition.name) (entries list) (found_at entry.0 m d.0) entry.1 passes in
-    let steps = none_decided (steps_of list place u) (named name (entries list)) (none_first (finds_inside list place u name) (named name (outside (setting_in list))) none) in
-    not_there m u r.offer.private d.0 (named name (entries list)) entry.0 among d.3 r.way
-    (none_behind (map Within (used_data list u)) (outer_steps u) (named name (entries list)) steps.1)
+    let among = filter_in (λ (f : FoundDefinition). bytes_eq name f.definition.name) (entries list) (found_at entry.0 m d.0) entry.1 passes in
+    let steps = none_decided (steps_of list place u) (with_this_name name (entries list)) (none_first (finds_inside list place u name) (with_this_name name (outside (setting_in list))) none) in
+    not_there m u r.offer.private d.0 (with_this_name name (entries list)) entry.0 among d.3 r.way
+    (none_behind (map Within (used_data list u)) (outer_steps u) (with_this_name name (entries list)) steps.1)
 
 any_is : (p : Definition → Bool) (ds : List Definition) → list_any p ds ≡ true → (d : Definition) × IsIn ds d × (p d ≡ true)
 any_is p [] e = let clash : false ≡ true = e in absurd cc
@@ -214,7 +214,7 @@ same_privacy false false e = refl
 -- a USING that finds nothing has no row whose member is in the list
 pub fresh_data : (offers : List Offer) (list : List Member) (u m : Member) (name : List ℕ) (at : ℕ)
     → finds_data list u name ≡ [] → row_for offers u (record { want = Data; name = name; at = at }) ≡ Some m → IsIn list m → ⊥
-unfolding finds_data named data_titles
+unfolding finds_data with_this_name data_titles
 fresh_data offers list u m name at none row there =
     let r = row_is offers u (record { want = Data; name = name; at = at }) m row in
     let tests = both_true (bytes_eq name r.offer.name) (has_title r.offer.member.segment name r.offer.private) r.counts in
@@ -225,6 +225,6 @@ fresh_data offers list u m name at none row there =
     let privacy = same_privacy r.offer.private (is_private m.segment.fields.kind) parts.1 in
     let scope : d.0.scope ≡ outer_scope r.offer.private = title_scope m.segment d.0 d.1 ∙ ap outer_scope privacy in
     let entry = entry_in data_title_of 1 list m d.0 there d.1 in
-    let among = filter_in (λ (f : Found). bytes_eq name f.definition.name) (data_titles list) (found_at entry.0 m d.0) entry.1 d.2 in
-    not_there m u r.offer.private d.0 (named name (data_titles list)) entry.0 among scope r.way
-    (none_decided (outer_steps u) (named name (data_titles list)) none)
+    let among = filter_in (λ (f : FoundDefinition). bytes_eq name f.definition.name) (data_titles list) (found_at entry.0 m d.0) entry.1 d.2 in
+    not_there m u r.offer.private d.0 (with_this_name name (data_titles list)) entry.0 among scope r.way
+    (none_decided (outer_steps u) (with_this_name name (data_titles list)) none)

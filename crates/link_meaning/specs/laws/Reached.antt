@@ -15,16 +15,16 @@ use Rattle.load_meaning.specs.declared.table.Target.{Target}
 use Rattle.load_meaning.specs.Table.{is_same, with_target, entry_place}
 use Rattle.link_meaning.specs.declared.fault.LinkCause.{LinkCause}
 use Rattle.link_meaning.specs.declared.fault.LinkCause.TheVariants.{DoesNotFit, DynamicReference, OutOfSegment, TooManyEntries}
-use Rattle.link_meaning.specs.Sizes.{Located, located_from, located}
+use Rattle.link_meaning.specs.Sizes.{Located, located_from, records_with_offsets}
 use Rattle.omf_format.specs.Number.{padding}
-use Rattle.link_meaning.specs.Member.{Member, Setting, setting_in, form_in}
+use Rattle.link_meaning.specs.Member.{Member, LinkSetting, setting_in, form_in}
 use Rattle.link_meaning.specs.declared.form.LinkForm.TheVariants.{Program, Runtime as LibraryForm}
 use Rattle.link_meaning.specs.declared.form.LinkForm.{LinkForm}
 use Rattle.link_meaning.specs.Layout.{in_load, load_names, number_in, load_of, load_headers, offset_of}
 use Rattle.link_meaning.specs.LinkValues.{Told, value_in}
 use Rattle.link_meaning.specs.Fitting as fitting
-use Rattle.link_meaning.specs.Fitting.{Frame, Fit, Number, Place, number_fit, place_fit, distance_fit, or_does_not_fit, is_dynamic_load, length_of, is_call, target_of, has_room_for, call_fit, fitted, parts, entry_of, fit_cells, targets_behind, valued, is_far, length_there, length_outside, may_call}
-use Rattle.link_meaning.specs.LinkedCells.{Item, State, Made, zeros, made_by, made, table_number, frame_of, items_from, items, cells_before, gained, state_from, state_behind, targets, member_cells, cells_from, linked}
+use Rattle.link_meaning.specs.Fitting.{PatchPlace, Fit, Number, Place, number_fit, place_fit, distance_fit, or_does_not_fit, is_dynamic_load, length_of, is_call, target_of, has_room_for, call_fit, fit_value, parts, entry_of, fit_cells, targets_behind, value_or_cause, is_far, length_there, length_outside, may_call}
+use Rattle.link_meaning.specs.LinkedCells.{Item, LinkState, Made, zeros, made_by, made, table_number, frame_of, items_from, items, cells_before, state_after_item, state_from, state_behind, targets, member_cells, cells_from, linked}
 use Rattle.link_meaning.specs.LinkWritten.{AreMade, start}
 use Rattle.link_meaning.specs.LinkLoadable.{IsLoad, Reaches, OfLoad, OfTable, Names, IsCalled, IsNamed, IsCalledHere, IsCalledThere}
 use Rattle.link_meaning.specs.laws.MadeLaws.{FitsPlace, okay, one_made, value_ok, own_file}
@@ -60,7 +60,7 @@ number_is : (Q : Fit → Type 0) → ((n : ℕ) → Q (Number n)) → (code coun
 number_is Q all code count n =
     by_cond Q (eqb code 0xEB) (Some (Number n)) _ (all n) (by_cond Q (eqb code 0xEE) None _ tt (by_cond Q _ (Some (Number n)) None (all n) tt))
 
-place_is : (Q : Fit → Type 0) → ((n : ℕ) → Q (Number n)) → (f : Frame) (code count n segment offset : ℕ) (shift : ℤ) → Q (Place segment offset shift) → IfFits Q (place_fit f code count n segment offset shift)
+place_is : (Q : Fit → Type 0) → ((n : ℕ) → Q (Number n)) → (f : PatchPlace) (code count n segment offset : ℕ) (shift : ℤ) → Q (Place segment offset shift) → IfFits Q (place_fit f code count n segment offset shift)
 place_is Q all f code count n segment offset shift is =
     by_cond Q (eqb code 0xEB || eqb code 0xF3) (Some (Place segment offset shift)) _ is
     (by_cond Q (eqb code 0xED) _ _ (by_cond Q _ (Some (Place segment offset shift)) None is tt)
@@ -136,12 +136,12 @@ near_load list own file segment named near =
     by_kind one (inl here) = here.1
     by_kind one (inr beyond) = absurd (omega (arith, one, beyond.0))
 
-fit_reaches : (list : List Member) (f : Frame) (targets : List Target) (before : List Cell) (code count n : ℕ) (v : Value) (fit : Fit) → fitted (load_headers list) f targets before code count n v ≡ Ok fit
+fit_reaches : (list : List Member) (f : PatchPlace) (targets : List Target) (before : List Cell) (code count n : ℕ) (v : Value) (fit : Fit) → fit_value (load_headers list) f targets before code count n v ≡ Ok fit
     → f.setting ≡ setting_in list → FitsPlace (IsNamed list) v → ReachesFit list f.own fit
 fit_reaches list f targets before code count n (Fixed k) fit e set is = in_fit (ReachesFit list f.own) (number_fit code count k) fit e (number_is (ReachesFit list f.own) (λ k. tt) code count k)
 fit_reaches list f targets before code count n (At file segment offset shift) fit e set is = elim (chosen (is_far (load_headers list) f.own file segment) _ _ (fine fit) e) [
   | inl x ↦ call_reaches list f.own targets (is_call code count shift before) (target_of file segment offset) fit (far_called list f.own (target_of file segment offset) is.1 x.0)
-      (subst (λ (s : Setting). call_fit (load_headers list) s targets (is_call code count shift before) (target_of file segment offset) ≡ Ok fit) set x.1)
+      (subst (λ (s : LinkSetting). call_fit (load_headers list) s targets (is_call code count shift before) (target_of file segment offset) ≡ Ok fit) set x.1)
   | inr x ↦ in_fit (ReachesFit list f.own) (place_fit f code count n segment offset shift) fit x.1
       (place_is (ReachesFit list f.own) (λ k. tt) f code count n segment offset shift (near_load list f.own file segment is.1 x.0))
 ]
@@ -231,7 +231,7 @@ keeps_bytes list own targets cells x all names e = keeps_is list own targets (ce
 abbrev pub ValuesIn : List Member → List Told → Item → Type 0
 ValuesIn list table i = (text : List ℕ) (v : Value) → value_in list table i.place i.member i.here.location text ≡ Ok v → FitsPlace (IsNamed list) v
 
-made_keeps : (list : List Member) (table : List Told) (state : State) (i : Item) (r : Record) (x : Made) → ValuesIn list table i → AllByRecursion (IsCalled list) state.targets → made_by list table state i r ≡ Ok x
+made_keeps : (list : List Member) (table : List Told) (state : LinkState) (i : Item) (r : Record) (x : Made) → ValuesIn list table i → AllByRecursion (IsCalled list) state.targets → made_by list table state i r ≡ Ok x
     → Keeps list (load_of list i.member) state.targets x
 made_keeps list table state i End x in' all e = keeps_bytes list _ state.targets [] x all tt e
 made_keeps list table state i (Const bytes) x in' all e = keeps_bytes list _ state.targets (map Byte bytes) x all (byte_names _ bytes) e
@@ -248,11 +248,11 @@ made_keeps list table state i (Using name) x in' all e = keeps_bytes list _ stat
 made_keeps list table state i (Strong name) x in' all e = keeps_bytes list _ state.targets [] x all tt e
 made_keeps list table state i (Label global name size form private) x in' all e = keeps_bytes list _ state.targets [] x all tt e
 made_keeps list table state i (Equate global name size form private expr) x in' all e =
-    let v = bind_ok (valued (value_in list table i.place i.member i.here.location expr)) _ x e in
+    let v = bind_ok (value_or_cause (value_in list table i.place i.member i.here.location expr)) _ x e in
     keeps_bytes list _ state.targets [] x all tt v.2
 made_keeps list table state i (Formula code count n expr) x in' all e =
-    let v = bind_ok (valued (value_in list table i.place i.member i.here.location expr)) _ x e in
-    let fit = bind_ok (fitted (load_headers list) (frame_of list i) state.targets (cells_before state i) code count n v.0) _ x v.2 in
+    let v = bind_ok (value_or_cause (value_in list table i.place i.member i.here.location expr)) _ x e in
+    let fit = bind_ok (fit_value (load_headers list) (frame_of list i) state.targets (cells_before state i) code count n v.0) _ x v.2 in
     let value = value_ok (value_in list table i.place i.member i.here.location expr) v.0 v.1 in
     let reaches = fit_reaches list (frame_of list i) state.targets (cells_before state i) code count n v.0 fit.0 fit.1 refl (in' expr v.0 value) in
     keeps_is list _ state.targets _ x fit.2 (fit_keeps list (load_of list i.member) count state.targets fit.0 all reaches)
@@ -261,14 +261,14 @@ made_keeps list table state i (Entry segment offset name) x in' all e = keeps_by
 -- ---- records one behind another
 
 -- what is known behind some records: the targets, and the cells of the member at a place
-record Reached (list : List Member) (place own : ℕ) (before : List Target) (state : State) : Type 0 where
+record Reached (list : List Member) (place own : ℕ) (before : List Target) (state : LinkState) : Type 0 where
   called : AllByRecursion (IsCalled list) state.targets
   cells' : AllByRecursion (Names (Reaches list state.targets own)) (cond (eqb state.place place) state.cells [])
   grows : state.targets ≡ [] → before ≡ []
 
 -- one record more of that member
-one_more : (list : List Member) (table : List Told) (place own : ℕ) (before : List Target) (state : State) (i : Item) (x : Made) → ValuesIn list table i → i.place ≡ place → load_of list i.member ≡ own
-    → Reached list place own before state → made list table state i ≡ Ok x → Reached list place own before (gained state i (Ok x))
+one_more : (list : List Member) (table : List Told) (place own : ℕ) (before : List Target) (state : LinkState) (i : Item) (x : Made) → ValuesIn list table i → i.place ≡ place → load_of list i.member ≡ own
+    → Reached list place own before state → made list table state i ≡ Ok x → Reached list place own before (state_after_item state i (Ok x))
 unfolding made
 one_more list table place own before state i x in' at number is e =
     let k = made_keeps list table state i i.here.content x in' is.called e in
@@ -286,33 +286,33 @@ one_more list table place own before state i x in' at number is e =
 abbrev AreOf : List Member → List Told → ℕ → ℕ → List Item → Type 0
 AreOf list table place own is = AllByRecursion (λ (i : Item). (i.place ≡ place) × (load_of list i.member ≡ own) × ValuesIn list table i) is
 
-own_walk : (list : List Member) (table : List Told) (place own : ℕ) (before : List Target) (state : State) (is : List Item) → AreMade list table state is → AreOf list table place own is → Reached list place own before state
+own_walk : (list : List Member) (table : List Told) (place own : ℕ) (before : List Target) (state : LinkState) (is : List Item) → AreMade list table state is → AreOf list table place own is → Reached list place own before state
     → Reached list place own before (state_from list table state is)
 own_walk list table place own before state [] are of r = r
 own_walk list table place own before state (i ∷ is) are of r =
     let one = one_more list table place own before state i are.0 of.0.2 of.0.0 of.0.1 r are.1 in
-    let here : Reached list place own before (gained state i (made list table state i)) = subst (λ (g : Result Made LinkCause). Reached list place own before (gained state i g)) (sym are.1) one in
-    own_walk list table place own before (gained state i (made list table state i)) is are.2 of.1 here
+    let here : Reached list place own before (state_after_item state i (made list table state i)) = subst (λ (g : Result Made LinkCause). Reached list place own before (state_after_item state i g)) (sym are.1) one in
+    own_walk list table place own before (state_after_item state i (made list table state i)) is are.2 of.1 here
 
 -- the targets alone, behind records of any members
 pub record Called (list : List Member) (before after : List Target) : Type 0 where
   pub called : AllByRecursion (IsCalled list) after
   pub grows : after ≡ [] → before ≡ []
 
-called_walk : (list : List Member) (table : List Told) (before : List Target) (state : State) (is : List Item) → AreMade list table state is → AllByRecursion (ValuesIn list table) is → Called list before state.targets
+called_walk : (list : List Member) (table : List Told) (before : List Target) (state : LinkState) (is : List Item) → AreMade list table state is → AllByRecursion (ValuesIn list table) is → Called list before state.targets
     → Called list before (state_from list table state is).targets
 unfolding made
 called_walk list table before state [] are in' c = c
 called_walk list table before state (i ∷ is) are in' c =
     let k = made_keeps list table state i i.here.content are.0 in'.0 c.called are.1 in
-    let next : Called list before (gained state i (Ok are.0)).targets = record { called = k.called; grows = λ none. c.grows (k.grows none) } in
-    called_walk list table before (gained state i (made list table state i)) is are.2 in'.1 (subst (λ (g : Result Made LinkCause). Called list before (gained state i g).targets) (sym are.1) next)
+    let next : Called list before (state_after_item state i (Ok are.0)).targets = record { called = k.called; grows = λ none. c.grows (k.grows none) } in
+    called_walk list table before (state_after_item state i (made list table state i)) is are.2 in'.1 (subst (λ (g : Result Made LinkCause). Called list before (state_after_item state i g).targets) (sym are.1) next)
 
 -- behind a member's records the state stands at its place
-at_place : (list : List Member) (table : List Told) (place : ℕ) (state : State) (is : List Item) → state.place ≡ place → AreMade list table state is → AllByRecursion (λ (i : Item). i.place ≡ place) is → (state_from list table state is).place ≡ place
+at_place : (list : List Member) (table : List Told) (place : ℕ) (state : LinkState) (is : List Item) → state.place ≡ place → AreMade list table state is → AllByRecursion (λ (i : Item). i.place ≡ place) is → (state_from list table state is).place ≡ place
 at_place list table place state [] at are of = at
 at_place list table place state (i ∷ is) at are of =
-    at_place list table place (gained state i (made list table state i)) is (subst (λ (g : Result Made LinkCause). (gained state i g).place ≡ place) (sym are.1) of.0) are.2 of.1
+    at_place list table place (state_after_item state i (made list table state i)) is (subst (λ (g : Result Made LinkCause). (state_after_item state i g).place ≡ place) (sym are.1) of.0) are.2 of.1
 
 -- ---- members
 
@@ -342,7 +342,7 @@ record Parts (list : List Member) (place : ℕ) (front : List Member) (m : Membe
   kept : filter (λ (i : Item). leb i.place place) (items_from 1 list) ≡ items_from 1 front ++ map (item place m) (located_from 0 m.segment.records)
 
 parts_of : (list front : List Member) (m : Member) (back : List Member) → list ≡ front ++ m ∷ back → Parts list (length front + 1) front m (items_from (1 + length front + 1) back)
-unfolding located
+unfolding records_with_offsets
 parts_of list front m back parts = record {
   whole =
       ap (items_from 1) parts ∙ items_from-append 1 front (m ∷ back)
@@ -380,9 +380,9 @@ member_reaches list table front m back parts are in' found founds records =
     let final = called_walk list table state.targets state rest made2.1 (behind-all (ValuesIn list table) own rest all2) (record { called = walked.called; grows = λ none. none }) in
     let ends : state_from list table start (items_from 1 list) ≡ state_from list table state rest =
     ap (state_from list table start) of.whole ∙ state_from-append list table start (items_from 1 front) (own ++ rest) ∙ state_from-append list table before own rest in
-    let grows : (state_from list table start (items_from 1 list)).targets ≡ [] → state.targets ≡ [] = λ none. final.grows (sym (ap (λ (s : State). s.targets) ends) ∙ none) in
+    let grows : (state_from list table start (items_from 1 list)).targets ≡ [] → state.targets ≡ [] = λ none. final.grows (sym (ap (λ (s : LinkState). s.targets) ends) ∙ none) in
     let cells' : (state_from list table start (filter (λ (i : Item). leb i.place n) (items_from 1 list))).cells ≡ state.cells =
-    ap (λ (s : State). s.cells) (ap (state_from list table start) of.kept ∙ state_from-append list table start (items_from 1 front) own) in
+    ap (λ (s : LinkState). s.cells) (ap (state_from list table start) of.kept ∙ state_from-append list table start (items_from 1 front) own) in
     let final_targets = (state_from list table start (items_from 1 list)).targets in
     all-both (λ c. Names (Reaches list final_targets (load_of list m)) c) (state_from list table start (filter (λ (i : Item). leb i.place n) (items_from 1 list))).cells (zeros m.segment.fields.res_spc)
     (subst (λ (l : List Cell). AllByRecursion (λ c. Names (Reaches list final_targets (load_of list m)) c) l) (sym cells') (keep list state.targets final_targets (load_of list m) grows state.cells here))
@@ -396,7 +396,7 @@ member_reaches list table front m back parts are in' found founds records =
         none clash = cc
     by_records (i ∷ is) e are all =
         let before = state_from list table start (items_from 1 front) in
-        at_place list table (length front + 1) (gained before i (made list table before i)) is (subst (λ (g : Result Made LinkCause). (gained before i g).place ≡ length front + 1) (sym are.1) all.0) are.2 all.1
+        at_place list table (length front + 1) (state_after_item before i (made list table before i)) is (subst (λ (g : Result Made LinkCause). (state_after_item before i g).place ≡ length front + 1) (sym are.1) all.0) are.2 all.1
 
 -- all targets are called
 pub targets_called : (list : List Member) (table : List Told) → AreMade list table start (items list) → AllIn list table (items list) → AllByRecursion (IsCalled list) (targets list table)

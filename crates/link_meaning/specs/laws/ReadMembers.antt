@@ -21,13 +21,13 @@ use Rattle.link_meaning.specs.declared.fault.LinkCause.{LinkCause}
 use Rattle.link_meaning.specs.declared.fault.LinkCause.TheVariants.{Unsupported, BadRecord}
 use Rattle.link_meaning.specs.First.{IsIn, first_some}
 use Rattle.link_meaning.specs.Sizes.{body_size}
-use Rattle.link_meaning.specs.Member.{Row, Input, Member, is_library, members_from, objects_from, objects, Offer, offer_of, offers_from, offers, Setting}
+use Rattle.link_meaning.specs.Member.{Row, Input, Member, is_library, members_from, objects_from, objects, Offer, offer_of, offers_from, library_offers, LinkSetting}
 use Rattle.link_meaning.specs.Uses.{Use}
-use Rattle.link_meaning.specs.Search.{Found}
-use Rattle.link_meaning.specs.LinkedList.{first_offer, row_for, unless_found, wanted_by, Asked, asked, wanted, Follow}
+use Rattle.link_meaning.specs.Search.{FoundDefinition}
+use Rattle.link_meaning.specs.LinkedList.{first_offer, row_for, unless_found, wanted_by, PlacedUse, all_uses, wanted, Follow}
 use Rattle.load_meaning.specs.Pathnames.{long_bytes}
 use Rattle.link_meaning.specs.Dictionary.{first_pair, or_false, numbered_from, file_numbers, names_from, row_at, rows_from, rows_in, rows_of_records, rows_of}
-use Rattle.link_meaning.specs.LinkFaults.{Given, HasBytes, type_fault, with_place, rows_in_file, segment_fault, segments_fault, AreInputs, IsProgram}
+use Rattle.link_meaning.specs.LinkFaults.{LinkInput, HasBytes, type_fault, with_place, rows_in_file, segment_fault, segments_fault, AreInputs, IsProgram}
 
 -- ---- lists
 
@@ -153,12 +153,12 @@ here_is input inputs s is kind = record { input = input; among = inl refl; is = 
 
 -- ---- the members of object files
 
-from_members : (setting : Setting) (file number : ℕ) (segments : List Segment) (m : Member) → IsIn (members_from setting file number segments) m → IsIn segments m.segment
+from_members : (setting : LinkSetting) (file number : ℕ) (segments : List Segment) (m : Member) → IsIn (members_from setting file number segments) m → IsIn segments m.segment
 from_members setting file number [] m is = is
 from_members setting file number (s ∷ segments) m (inl e) = inl (ap (λ (x : Member). x.segment) e)
 from_members setting file number (s ∷ segments) m (inr more) = inr (from_members setting file (number + 1) segments m more)
 
-from_objects : (setting : Setting) (file : ℕ) (inputs : List Input) (m : Member) → IsIn (objects_from setting file inputs) m → IsOf inputs m.segment
+from_objects : (setting : LinkSetting) (file : ℕ) (inputs : List Input) (m : Member) → IsIn (objects_from setting file inputs) m → IsOf inputs m.segment
 from_objects setting file [] m is = absurd is
 from_objects setting file (input ∷ inputs) m is = elim (in-append (cond (is_library input.segments) [] (members_from setting file 1 input.segments)) (objects_from setting (file + 1) inputs) m is) [
   | inl h ↦ by_library (is_library input.segments) refl h
@@ -304,7 +304,7 @@ file_rows (d ∷ others) rows e row is = by_library (form_of d.fields.kind == 0x
 one_segment : (a b : Segment) → Some a ≡ Some b → a ≡ b
 one_segment a b e = cc
 
-from_row : (setting : Setting) (file : ℕ) (segments : List Segment) (row : Row) (o : Offer) → NamesMember segments row → offer_of setting file segments row ≡ Some o → IsIn segments o.member.segment × ((form_of o.member.segment.fields.kind == 0x08) ≡ false)
+from_row : (setting : LinkSetting) (file : ℕ) (segments : List Segment) (row : Row) (o : Offer) → NamesMember segments row → offer_of setting file segments row ≡ Some o → IsIn segments o.member.segment × ((form_of o.member.segment.fields.kind == 0x08) ≡ false)
 from_row setting file segments row o names e = by_segment (slice_get segments (row.segment - 1)) refl e
   where
     by_segment : (x : Option Segment) → slice_get segments (row.segment - 1) ≡ x
@@ -316,7 +316,7 @@ from_row setting file segments row o names e = by_segment (slice_get segments (r
         let named : names.0 ≡ s = one_segment names.0 s (sym names.1 ∙ is) in
         (in_at segments (row.segment - 1) o.member.segment (is ∙ ap (λ (t : Segment). Some t) same), ap (λ (t : Segment). form_of t.fields.kind == 0x08) (sym same ∙ sym named) ∙ names.2)
 
-from_offers : (setting : Setting) (file : ℕ) (files : List (List ℕ)) (inputs : List Input) (o : Offer) → AreInputs files inputs → IsIn (offers_from setting file inputs) o → IsOf inputs o.member.segment
+from_offers : (setting : LinkSetting) (file : ℕ) (files : List (List ℕ)) (inputs : List Input) (o : Offer) → AreInputs files inputs → IsIn (offers_from setting file inputs) o → IsOf inputs o.member.segment
 from_offers setting file files [] o are is = absurd is
 from_offers setting file [] (input ∷ inputs) o are is = absurd are
 from_offers setting file (bytes ∷ files) (input ∷ inputs) o are is = elim (in-append (filter_map (offer_of setting file input.segments) input.rows) (offers_from setting (file + 1) inputs) o is) [
@@ -358,14 +358,14 @@ first_answer f (x ∷ xs) y e = elim (or_some (f x) (first_some f xs) y e) [
   | inr h ↦ first_answer f xs y h
 ]
 
-unless_row : (found : List Found) (row : Option Member) (m : Member) → unless_found found row ≡ Some m → row ≡ Some m
+unless_row : (found : List FoundDefinition) (row : Option Member) (m : Member) → unless_found found row ≡ Some m → row ≡ Some m
 unless_row [] row m e = e
 unless_row (f ∷ found) row m e = absurd cc
 
 wanted_offered : (all : List Offer) (list : List Member) (m : Member) → wanted all list ≡ Some m → IsOffered all m
 unfolding wanted
 wanted_offered all list m e =
-    let a = first_answer (λ (x : Asked). wanted_by all list x.place x.member x.use') (asked list) m e in
+    let a = first_answer (λ (x : PlacedUse). wanted_by all list x.place x.member x.use') (all_uses list) m e in
     row_offered all a.0.member a.0.use' m (unless_row _ (row_for all a.0.member a.0.use') m a.1)
 
 pub followed : (all : List Offer) (before added : List Member) (m : Member) → Follow all before added → IsIn added m → IsOffered all m
@@ -374,14 +374,14 @@ followed all before (x ∷ added) m follow (inl e) = wanted_offered all before m
 followed all before (x ∷ added) m follow (inr more) = followed all (before ++ x ∷ []) added m follow.1 more
 
 -- each member of the linked list was read
-pub members_read : (files : Given) (list : List Member) (m : Member) → HasBytes files → IsProgram files list → IsIn list m → IsRead m.segment
-unfolding objects offers
+pub members_read : (files : LinkInput) (list : List Member) (m : Member) → HasBytes files → IsProgram files list → IsIn list m → IsRead m.segment
+unfolding objects library_offers
 members_read files list m bytes program is = of_inputs files.inputs program.inputs m.segment bytes.0 program.are_inputs (by_part (in-append (objects program.setting program.inputs) program.linked.added m (subst (λ (l : List Member). IsIn l m) program.linked.parts is)))
   where
     by_part : IsIn (objects program.setting program.inputs) m ⊎ IsIn program.linked.added m → IsOf program.inputs m.segment
     by_part (inl h) = from_objects program.setting 1 program.inputs m h
     by_part (inr h) =
-        let offered = followed (offers program.setting program.inputs) (objects program.setting program.inputs) program.linked.added m program.linked.follow h in
+        let offered = followed (library_offers program.setting program.inputs) (objects program.setting program.inputs) program.linked.added m program.linked.follow h in
         subst (λ (x : Member). IsOf program.inputs x.segment) offered.member (from_offers program.setting 1 files.inputs program.inputs offered.offer program.are_inputs offered.among)
 
 -- ---- what is known of its header

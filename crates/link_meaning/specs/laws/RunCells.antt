@@ -9,7 +9,7 @@ use Rattle.std.proofs.lemmas.Bool.Decides.{Decides-int_eq}
 use Rattle.std.proofs.lemmas.List.{take_at, drop_at, length-append, length-map, map-append}
 use Rattle.std.proofs.lemmas.List.Concat.{flat_map-cons}
 use Rattle.omf_format.specs.Field.{is_count, is_shift}
-use Rattle.load_meaning.specs.Cells.{Cell, Byte, Part, Patch, parts_from, with_patch, patched}
+use Rattle.load_meaning.specs.Cells.{Cell, Byte, Part, Patch, parts_from, with_patch, patched_cells}
 use Rattle.load_meaning.specs.WrittenBody.{AreWritten, written_cells}
 use Rattle.link_meaning.specs.Fitting.{parts}
 use Rattle.link_meaning.specs.LinkWritten.{run_length, patch_at, patches_from, patches_of_cells, byte_under}
@@ -159,15 +159,15 @@ one_over done cells rest p at size is =
     ∙ ap (λ (l : List Cell). done ++ l ++ drop (p.location + p.count) (done ++ (under cells ++ rest))) is
     ∙ ap (λ (l : List Cell). done ++ cells ++ l) last
 
-over : (done : List Cell) (pieces : List Piece) → patched (done ++ under (flat_map cells_of pieces)) (patches_for (length done) pieces) ≡ done ++ flat_map cells_of pieces
+over : (done : List Cell) (pieces : List Piece) → patched_cells (done ++ under (flat_map cells_of pieces)) (patches_for (length done) pieces) ≡ done ++ flat_map cells_of pieces
 over done [] = refl
 over done (One b ∷ pieces) =
     let rest = flat_map cells_of pieces in
     let all : flat_map cells_of (One b ∷ pieces) ≡ Byte b ∷ rest = flat_map-cons cells_of (One b) pieces in
     let next : length (done ++ Byte b ∷ []) ≡ length done + 1 = length-append done (Byte b ∷ []) in
-    ap (λ (l : List Cell). patched (done ++ under l) (patches_for (length done + 1) pieces)) all
-    ∙ ap (λ (l : List Cell). patched l (patches_for (length done + 1) pieces)) (sym (append_assoc done (Byte b ∷ []) (under rest)))
-    ∙ ap (λ (n : ℕ). patched ((done ++ Byte b ∷ []) ++ under rest) (patches_for n pieces)) (sym next)
+    ap (λ (l : List Cell). patched_cells (done ++ under l) (patches_for (length done + 1) pieces)) all
+    ∙ ap (λ (l : List Cell). patched_cells l (patches_for (length done + 1) pieces)) (sym (append_assoc done (Byte b ∷ []) (under rest)))
+    ∙ ap (λ (n : ℕ). patched_cells ((done ++ Byte b ∷ []) ++ under rest) (patches_for n pieces)) (sym next)
     ∙ over (done ++ Byte b ∷ []) pieces
     ∙ append_assoc done (Byte b ∷ []) rest
     ∙ ap (λ (l : List Cell). done ++ l) (sym all)
@@ -179,10 +179,10 @@ over done (Whole count segment offset shift ∷ pieces) =
     let all : flat_map cells_of (Whole count segment offset shift ∷ pieces) ≡ here ++ rest = flat_map-cons cells_of (Whole count segment offset shift) pieces in
     let one = one_over done here (under rest) p refl (length-parts q 0 count) (parts_same p q 0 count refl refl refl refl) in
     let next : length (done ++ here) ≡ length done + count = length-append done here ∙ ap (λ (n : ℕ). length done + n) (length-parts q 0 count) in
-    ap (λ (l : List Cell). patched (with_patch (done ++ under l) p) (patches_for (length done + count) pieces)) all
-    ∙ ap (λ (l : List Cell). patched (with_patch (done ++ l) p) (patches_for (length done + count) pieces)) (under-append here rest)
-    ∙ ap (λ (l : List Cell). patched l (patches_for (length done + count) pieces)) one
-    ∙ ap (λ (n : ℕ). patched ((done ++ here) ++ under rest) (patches_for n pieces)) (sym next)
+    ap (λ (l : List Cell). patched_cells (with_patch (done ++ under l) p) (patches_for (length done + count) pieces)) all
+    ∙ ap (λ (l : List Cell). patched_cells (with_patch (done ++ l) p) (patches_for (length done + count) pieces)) (under-append here rest)
+    ∙ ap (λ (l : List Cell). patched_cells l (patches_for (length done + count) pieces)) one
+    ∙ ap (λ (n : ℕ). patched_cells ((done ++ here) ++ under rest) (patches_for n pieces)) (sym next)
     ∙ over (done ++ here) pieces
     ∙ append_assoc done here rest
     ∙ ap (λ (l : List Cell). done ++ l) (sym all)
@@ -200,7 +200,7 @@ pub runs_stand : (cells : List Cell) → AreRuns cells → written_cells (map by
 unfolding patches_of_cells written_cells
 runs_stand cells are =
     let whole = are.whole in
-    ap (λ (l : List Cell). patched (under l) (patches_from 0 l)) whole
-    ∙ ap (λ (l : List Patch). patched (under (flat_map cells_of are.pieces)) l) (patches_are 0 are.pieces are.each)
+    ap (λ (l : List Cell). patched_cells (under l) (patches_from 0 l)) whole
+    ∙ ap (λ (l : List Patch). patched_cells (under (flat_map cells_of are.pieces)) l) (patches_are 0 are.pieces are.each)
     ∙ over [] are.pieces
     ∙ sym whole

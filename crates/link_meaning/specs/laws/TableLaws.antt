@@ -11,54 +11,54 @@ use Rattle.omf_format.specs.declared.value.ValueFault.{ValueFault}
 use Rattle.omf_format.specs.declared.value.ValueFault.TheVariants.{DivideByZero, NotRelocatable, Unknown}
 use Rattle.omf_format.specs.Field.{◌>>=◌}
 use Rattle.omf_format.specs.Expression.{Term, Operator, Location, Constant, Named, Offset, Tree, Leaf, Unary, Binary}
-use Rattle.omf_format.specs.Value.{known, operand_value, apply_one, apply_two, size_of, value}
+use Rattle.omf_format.specs.Value.{known_or_fault, operand_value, apply_one, apply_two, size_of, value}
 use Rattle.load_meaning.specs.Exports.{Export, exports_of}
 use Rattle.omf_format.specs.File.{Segment, segment_at}
 use Rattle.link_meaning.specs.Defines.{ForAll}
 use Rattle.link_meaning.specs.First.{IsIn}
 use Rattle.link_meaning.specs.laws.MemberLists.{in_filter, filter_in}
-use Rattle.link_meaning.specs.Member.{Member, RuntimeFile, Setting, setting_in, alone}
+use Rattle.link_meaning.specs.Member.{Member, RuntimeFile, LinkSetting, setting_in, without_runtimes}
 use Rattle.link_meaning.specs.Terms.{asks_value, asked_by, asked_in, term_at, tree_in}
 use Rattle.link_meaning.specs.declared.search.Step.{Step}
-use Rattle.link_meaning.specs.Search.{Found, sees, or_else, decided, steps_of, named, entries, finds, finds_inside, outside_of, outside_from, outside}
+use Rattle.link_meaning.specs.Search.{FoundDefinition, is_seen_by_step, or_else, first_step_found, steps_of, with_this_name, entries, finds, finds_inside, outside_of, outside_from, outside}
 use Rattle.link_meaning.specs.Rings.{is_equate, equates, names_in, LeadsTo, Path, Last, Through, IsCircular}
-use Rattle.link_meaning.specs.LinkValues.{Told, told, found_value, if_ok, label_value, environment, fault_found, fault_named, settled, tree_value, value_in, equate_value, AreTold, IsTable}
+use Rattle.link_meaning.specs.LinkValues.{Told, value_of_definition, found_value, if_ok, label_value, member_environment, fault_found, fault_named, value_or_equate_fault, tree_value, value_in, equate_value, AreTold, IsTable}
 
 -- ---- members of lists
 
-in_either : (a b : List Found) (f : Found) → IsIn (or_else a b) f → IsIn a f ⊎ IsIn b f
+in_either : (a b : List FoundDefinition) (f : FoundDefinition) → IsIn (or_else a b) f → IsIn a f ⊎ IsIn b f
 in_either [] b f is = inr is
 in_either (g ∷ a) b f is = inl is
 
-in_decided : (steps : List Step) (all : List Found) (f : Found) → IsIn (decided steps all) f → IsIn all f
+in_decided : (steps : List Step) (all : List FoundDefinition) (f : FoundDefinition) → IsIn (first_step_found steps all) f → IsIn all f
 in_decided [] all f is = absurd is
-in_decided (s ∷ steps) all f is = settle (in_either (filter (sees s) all) (decided steps all) f is) (λ more. in_decided steps all f more)
+in_decided (s ∷ steps) all f is = settle (in_either (filter (is_seen_by_step s) all) (first_step_found steps all) f is) (λ more. in_decided steps all f more)
   where
-    settle : IsIn (filter (sees s) all) f ⊎ IsIn (decided steps all) f → (IsIn (decided steps all) f → IsIn all f) → IsIn all f
-    settle (inl here) go = in_filter (sees s) all f here
+    settle : IsIn (filter (is_seen_by_step s) all) f ⊎ IsIn (first_step_found steps all) f → (IsIn (first_step_found steps all) f → IsIn all f) → IsIn all f
+    settle (inl here) go = in_filter (is_seen_by_step s) all f here
     settle (inr more) go = go more
 
 -- what a name finds is an entry, or a name of a run-time library file
-pub in_found : (list : List Member) (place : ℕ) (m : Member) (name : List ℕ) (f : Found) → IsIn (finds list place m name) f → IsIn (entries list) f ⊎ IsIn (outside (setting_in list)) f
-unfolding finds finds_inside named
-in_found list place m name f is = elim (in_either (decided (steps_of list place m) (named name (entries list))) (named name (outside (setting_in list))) f is) [
-  | inl h ↦ inl (in_filter _ (entries list) f (in_decided (steps_of list place m) (named name (entries list)) f h))
+pub in_found : (list : List Member) (place : ℕ) (m : Member) (name : List ℕ) (f : FoundDefinition) → IsIn (finds list place m name) f → IsIn (entries list) f ⊎ IsIn (outside (setting_in list)) f
+unfolding finds finds_inside with_this_name
+in_found list place m name f is = elim (in_either (first_step_found (steps_of list place m) (with_this_name name (entries list))) (with_this_name name (outside (setting_in list))) f is) [
+  | inl h ↦ inl (in_filter _ (entries list) f (in_decided (steps_of list place m) (with_this_name name (entries list)) f h))
   | inr h ↦ inr (in_filter _ (outside (setting_in list)) f h)
 ]
 
 -- names of run-time library files stand at place 0, and aren't equates
-pub record IsOutside (f : Found) : Type 0 where
+pub record IsOutside (f : FoundDefinition) : Type 0 where
   pub nowhere : f.place ≡ 0
   pub place : f.definition.expr ≡ None
 
-outside_one : (file : ℕ) (r : RuntimeFile) (es : List Export) (f : Found) → IsIn (filter_map (outside_of file r) es) f → IsOutside f
+outside_one : (file : ℕ) (r : RuntimeFile) (es : List Export) (f : FoundDefinition) → IsIn (filter_map (outside_of file r) es) f → IsOutside f
 outside_one file r [] f is = absurd is
 outside_one file r (e ∷ es) f is = by_segment (λ h. outside_one file r es f h) (segment_at r.segments e.segment) is
   where
-    found : Segment → Found
+    found : Segment → FoundDefinition
     found s = record {
       place = 0;
-      member = record { file = file; number = e.segment; from = 0; segment = s; setting = alone };
+      member = record { file = file; number = e.segment; from = 0; segment = s; setting = without_runtimes };
       definition = record { name = e.name; scope = ForAll; place = e.offset; at = s.start; expr = None; size = 0; form = 0x4E };
     }
 
@@ -67,24 +67,24 @@ outside_one file r (e ∷ es) f is = by_segment (λ h. outside_one file r es f h
     by_segment go (Some s) (inl same) = subst IsOutside same (record { nowhere = refl; place = refl })
     by_segment go (Some s) (inr more) = go more
 
-outside_all : (file : ℕ) (rs : List RuntimeFile) (f : Found) → IsIn (outside_from file rs) f → IsOutside f
+outside_all : (file : ℕ) (rs : List RuntimeFile) (f : FoundDefinition) → IsIn (outside_from file rs) f → IsOutside f
 outside_all file [] f is = absurd is
 outside_all file (r ∷ rs) f is = elim (in_parts (filter_map (outside_of file r) (exports_of r.segments)) (outside_from (file + 1) rs) f is) [
   | inl h ↦ outside_one file r (exports_of r.segments) f h
   | inr h ↦ outside_all (file + 1) rs f h
 ]
   where
-    in_parts : (xs ys : List Found) (g : Found) → IsIn (xs ++ ys) g → IsIn xs g ⊎ IsIn ys g
+    in_parts : (xs ys : List FoundDefinition) (g : FoundDefinition) → IsIn (xs ++ ys) g → IsIn xs g ⊎ IsIn ys g
     in_parts [] ys g h = inr h
     in_parts (x ∷ xs) ys g (inl h) = inl (inl h)
     in_parts (x ∷ xs) ys g (inr h) = elim (in_parts xs ys g h) [ inl a ↦ inl (inr a) | inr b ↦ inr b ]
 
-pub is_outside : (setting : Setting) (f : Found) → IsIn (outside setting) f → IsOutside f
+pub is_outside : (setting : LinkSetting) (f : FoundDefinition) → IsIn (outside setting) f → IsOutside f
 unfolding outside
 is_outside setting f is = outside_all 2 setting.runtimes f is
 
 -- an equate that is found is an entry
-pub in_entries : (list : List Member) (place : ℕ) (m : Member) (name : List ℕ) (f : Found) → is_equate f ≡ true → IsIn (finds list place m name) f → IsIn (entries list) f
+pub in_entries : (list : List Member) (place : ℕ) (m : Member) (name : List ℕ) (f : FoundDefinition) → is_equate f ≡ true → IsIn (finds list place m name) f → IsIn (entries list) f
 in_entries list place m name f equate is = elim (in_found list place m name f is) [
   | inl h ↦ h
   | inr h ↦ absurd (no_equate (sym (ap Rattle.link_meaning.specs.Rings.has_expr (is_outside (setting_in list) f h).place) ∙ equate))
@@ -93,14 +93,14 @@ in_entries list place m name f equate is = elim (in_found list place m name f is
     no_equate : false ≡ true → ⊥
     no_equate e = absurd cc
 
-pub in_equates : (list : List Member) (e f : Found) → LeadsTo list e f → IsIn (equates list) f
+pub in_equates : (list : List Member) (e f : FoundDefinition) → LeadsTo list e f → IsIn (equates list) f
 unfolding equates
 in_equates list e f leads = filter_in is_equate (entries list) f (in_entries list e.place e.member leads.name f leads.equate leads.found) leads.equate
 
 -- ---- the same value where the same names are told
 
 -- two tables tell the same of what a name found first
-abbrev pub Alike : List Member → List Told → List Told → List Found → Type 0
+abbrev pub Alike : List Member → List Told → List Told → List FoundDefinition → Type 0
 Alike list a b [] = Unit {0}
 Alike list a b (f ∷ found) = found_value list a f ≡ found_value list b f
 
@@ -115,17 +115,17 @@ pub all_behind : {A : Type 0} → (P : A → Type 0) (xs ys : List A) → AllByR
 all_behind P [] ys all = all
 all_behind P (x ∷ xs) ys all = all_behind P xs ys all.1
 
-label_same : (list : List Member) (a b : List Told) (weak : Bool) (found : List Found) → Alike list a b found → label_value list a weak found ≡ label_value list b weak found
+label_same : (list : List Member) (a b : List Told) (weak : Bool) (found : List FoundDefinition) → Alike list a b found → label_value list a weak found ≡ label_value list b weak found
 label_same list a b weak [] same = refl
 label_same list a b weak (f ∷ found) same = ap if_ok same
 
-fault_same : (list : List Member) (a b : List Told) (fault : ValueFault) (found : List Found) → Alike list a b found → fault_found list a fault found ≡ fault_found list b fault found
+fault_same : (list : List Member) (a b : List Told) (fault : ValueFault) (found : List FoundDefinition) → Alike list a b found → fault_found list a fault found ≡ fault_found list b fault found
 fault_same list a b fault [] same = refl
 fault_same list a b fault (f ∷ found) same = ap (λ (r : Result Value ValueFault). elim r [ Ok v ↦ fault | Err of ↦ of ]) same
 
 operand_same : (list : List Member) (a b : List Told) (place : ℕ) (m : Member) (location at : ℕ) (term : Term) → AreAlike list a b place m (asks_value term)
-    → operand_value (environment list a place m location) at term ≡ operand_value (environment list b place m location) at term
-unfolding operand_value environment
+    → operand_value (member_environment list a place m location) at term ≡ operand_value (member_environment list b place m location) at term
+unfolding operand_value member_environment
 operand_same list a b place m location at (Operator code) all = refl
 operand_same list a b place m location at Location all = refl
 operand_same list a b place m location at (Constant n) all = refl
@@ -133,23 +133,23 @@ operand_same list a b place m location at (Offset n) all = refl
 operand_same list a b place m location at (Named code name) all = by_code (nat_le code 0x83) all
   where
     by_code : (v : Bool) → AreAlike list a b place m (if v then name ∷ [] else [])
-        → (if v then known at (label_value list a (code == 0x82) (finds list place m name))
-        else known at ((environment list a place m location).attribute code name) >>= λ n. Ok (Rattle.omf_format.specs.declared.value.Value.TheVariants.Fixed n))
-        ≡ (if v then known at (label_value list b (code == 0x82) (finds list place m name))
-        else known at ((environment list b place m location).attribute code name) >>= λ n. Ok (Rattle.omf_format.specs.declared.value.Value.TheVariants.Fixed n))
-    by_code true all = ap (known at) (label_same list a b (code == 0x82) (finds list place m name) all.0)
+        → (if v then known_or_fault at (label_value list a (code == 0x82) (finds list place m name))
+        else known_or_fault at ((member_environment list a place m location).attribute code name) >>= λ n. Ok (Rattle.omf_format.specs.declared.value.Value.TheVariants.Fixed n))
+        ≡ (if v then known_or_fault at (label_value list b (code == 0x82) (finds list place m name))
+        else known_or_fault at ((member_environment list b place m location).attribute code name) >>= λ n. Ok (Rattle.omf_format.specs.declared.value.Value.TheVariants.Fixed n))
+    by_code true all = ap (known_or_fault at) (label_same list a b (code == 0x82) (finds list place m name) all.0)
     by_code false all = refl
 
 value_same : (list : List Member) (a b : List Told) (place : ℕ) (m : Member) (location l at : ℕ) (tree : Tree) → AreAlike list a b place m (asked_by tree)
-    → value (environment list a place m location) l at tree ≡ value (environment list b place m location) l at tree
+    → value (member_environment list a place m location) l at tree ≡ value (member_environment list b place m location) l at tree
 value_same list a b place m location l at (Leaf term) all = operand_same list a b place m location at term all
 value_same list a b place m location l at (Unary code x) all = ap (λ (r : Result Value ValueFault). r >>= λ v. apply_one code v) (value_same list a b place m location l at x all)
 value_same list a b place m location l at (Binary code x y) all =
     let P = λ (name : List ℕ). Alike list a b (finds list place m name) in
     let left = value_same list a b place m location l at x (all_front P (asked_by x) (asked_by y) all) in
     let right = value_same list a b place m location l (at + size_of l x) y (all_behind P (asked_by x) (asked_by y) all) in
-    ap (λ (r : Result Value ValueFault). r >>= λ v. value (environment list a place m location) l (at + size_of l x) y >>= λ w. apply_two code v w) left
-    ∙ ap (λ (r : Result Value ValueFault). value (environment list b place m location) l at x >>= λ v. r >>= λ w. apply_two code v w) right
+    ap (λ (r : Result Value ValueFault). r >>= λ v. value (member_environment list a place m location) l (at + size_of l x) y >>= λ w. apply_two code v w) left
+    ∙ ap (λ (r : Result Value ValueFault). value (member_environment list b place m location) l at x >>= λ v. r >>= λ w. apply_two code v w) right
 
 -- a term of the tree asks for what the tree asks for
 abbrev AlikeAt : List Member → List Told → List Told → ℕ → Member → Option Term → Type 0
@@ -189,7 +189,7 @@ named_same list a b place m fault (Some (Named code name)) all = by_code (nat_le
     by_code false all = refl
 
 settled_same : (list : List Member) (a b : List Told) (place : ℕ) (m : Member) (tree : Tree) (r : Result Value ValueFault) → AreAlike list a b place m (asked_by tree)
-    → settled list a place m tree r ≡ settled list b place m tree r
+    → value_or_equate_fault list a place m tree r ≡ value_or_equate_fault list b place m tree r
 settled_same list a b place m tree (Ok v) all = refl
 settled_same list a b place m tree (Err DivideByZero) all = refl
 settled_same list a b place m tree (Err NotRelocatable) all = refl
@@ -203,10 +203,10 @@ tree_same : (list : List Member) (a b : List Told) (place : ℕ) (m : Member) (l
     → tree_value list a place m location tree ≡ tree_value list b place m location tree
 tree_same list a b place m location None all = refl
 tree_same list a b place m location (Some tree) all =
-    ap (settled list a place m tree) (value_same list a b place m location m.segment.fields.lab_len 0 tree all)
-    ∙ settled_same list a b place m tree (value (environment list b place m location) m.segment.fields.lab_len 0 tree) all
+    ap (value_or_equate_fault list a place m tree) (value_same list a b place m location m.segment.fields.lab_len 0 tree all)
+    ∙ settled_same list a b place m tree (value (member_environment list b place m location) m.segment.fields.lab_len 0 tree) all
 
-pub equate_same : (list : List Member) (a b : List Told) (e : Found) → AreAlike list a b e.place e.member (names_in e.member.segment.fields.lab_len e.definition.expr)
+pub equate_same : (list : List Member) (a b : List Told) (e : FoundDefinition) → AreAlike list a b e.place e.member (names_in e.member.segment.fields.lab_len e.definition.expr)
     → equate_value list a e ≡ equate_value list b e
 unfolding value_in
 equate_same list a b e all = by_expr e.definition.expr all
@@ -223,7 +223,7 @@ all_from P (x ∷ xs) f = (f x (inl refl), all_from P xs (λ y is. f y (inr is))
 
 -- ---- ways between equates
 
-pub path_on : (list : List Member) (x y z : Found) → Path list x y → LeadsTo list y z → Path list x z
+pub path_on : (list : List Member) (x y z : FoundDefinition) → Path list x y → LeadsTo list y z → Path list x z
 path_on list x y z (Last from to leads) on = Through x y z leads (Last y z on)
 path_on list x y z (Through from next to leads path) on = Through x next z leads (path_on list next y z path on)
 
@@ -238,21 +238,21 @@ below_length (y ∷ ys) zero x e = omega arith
 below_length (y ∷ ys) (suc k) x e = omega (arith, below_length ys k x e)
 
 -- an equate stands at this place from which the other is reached
-abbrev Before : List Member → Found → ℕ → Type 0
-Before list e v = (g : Found) × (slice_get (equates list) v ≡ Some g) × Path list g e
+abbrev Before : List Member → FoundDefinition → ℕ → Type 0
+Before list e v = (g : FoundDefinition) × (slice_get (equates list) v ≡ Some g) × Path list g e
 
-all_on : (list : List Member) (e f : Found) (visited : List ℕ) → AllByRecursion (Before list e) visited → LeadsTo list e f → AllByRecursion (Before list f) visited
+all_on : (list : List Member) (e f : FoundDefinition) (visited : List ℕ) → AllByRecursion (Before list e) visited → LeadsTo list e f → AllByRecursion (Before list f) visited
 all_on list e f [] all leads = tt
 all_on list e f (v ∷ visited) all leads = ((all.0.0, all.0.1, path_on list all.0.0 e f all.0.2 leads), all_on list e f visited all.1 leads)
 
-abbrev some : Found → Option Found
+abbrev some : FoundDefinition → Option FoundDefinition
 some f = Some f
 
-one_found : (f g : Found) → some f ≡ some g → f ≡ g
+one_found : (f g : FoundDefinition) → some f ≡ some g → f ≡ g
 one_found f g e = cc
 
 -- without rings an equate isn't among those before it
-apart : (list : List Member) (f : Found) (j : ℕ) (visited : List ℕ) → (IsCircular list f → ⊥) → slice_get (equates list) j ≡ Some f
+apart : (list : List Member) (f : FoundDefinition) (j : ℕ) (visited : List ℕ) → (IsCircular list f → ⊥) → slice_get (equates list) j ≡ Some f
     → AllByRecursion (Before list f) visited → AllByRecursion (λ v. eqb j v ≡ false) visited
 apart list f j [] straight at all = tt
 apart list f j (v ∷ visited) straight at all = (by_test (eqb j v) refl, apart list f j visited straight at all.1)
@@ -262,9 +262,9 @@ apart list f j (v ∷ visited) straight at all = (by_test (eqb j v) refl, apart 
     by_test true is =
         let place : j ≡ v = eqb-true j v is in
         let same : all.0.0 ≡ f = one_found all.0.0 f (sym all.0.1 ∙ ap (slice_get (equates list)) (sym place) ∙ at) in
-        absurd (straight (subst (λ (g : Found). Path list g f) same all.0.2))
+        absurd (straight (subst (λ (g : FoundDefinition). Path list g f) same all.0.2))
 
-all_below : (list : List Member) (e : Found) (visited : List ℕ) → AllByRecursion (Before list e) visited → AllByRecursion (λ v. v < length (equates list)) visited
+all_below : (list : List Member) (e : FoundDefinition) (visited : List ℕ) → AllByRecursion (Before list e) visited → AllByRecursion (λ v. v < length (equates list)) visited
 all_below list e [] all = tt
 all_below list e (v ∷ visited) all = (below_length (equates list) v all.0.0 all.0.1, all_below list e visited all.1)
 
@@ -279,7 +279,7 @@ one_below n (x ∷ xs) all q is = by_test (eqb q x) refl is (λ more. one_below 
 -- ---- the law
 
 abbrev Tells : List Member → List Told → Type 0
-Tells list table = (e : Found) → IsIn (equates list) e → told table e.place e.definition.at ≡ equate_value list table e
+Tells list table = (e : FoundDefinition) → IsIn (equates list) e → value_of_definition table e.place e.definition.at ≡ equate_value list table e
 
 is_in_at : {A : Type 0} → (xs : List A) (k : ℕ) (x : A) → slice_get xs k ≡ Some x → IsIn xs x
 is_in_at [] k x e = absurd cc
@@ -289,9 +289,9 @@ is_in_at {A} (y ∷ ys) zero x e = inl (some_same y x e)
     some_same y x e = cc
 is_in_at (y ∷ ys) (suc k) x e = inr (is_in_at ys k x e)
 
-found_same : (list : List Member) (a b : List Told) (e f : Found) (name : List ℕ)
+found_same : (list : List Member) (a b : List Told) (e f : FoundDefinition) (name : List ℕ)
     → IsIn (names_in e.member.segment.fields.lab_len e.definition.expr) name → IsIn (finds list e.place e.member name) f
-    → ((g : Found) → LeadsTo list e g → told a g.place g.definition.at ≡ told b g.place g.definition.at) → found_value list a f ≡ found_value list b f
+    → ((g : FoundDefinition) → LeadsTo list e g → value_of_definition a g.place g.definition.at ≡ value_of_definition b g.place g.definition.at) → found_value list a f ≡ found_value list b f
 found_same list a b e f name asked found go = by_test (is_equate f) refl
   where
     no_expr : (x : Option (List ℕ)) (p r s : Result Value ValueFault) → Rattle.link_meaning.specs.Rings.has_expr x ≡ false
@@ -305,20 +305,20 @@ found_same list a b e f name asked found go = by_test (is_equate f) refl
         let leads : LeadsTo list e f = record { name = name; asked = asked; found = found; equate = is } in
         ap (λ (r : Result Value ValueFault). elim f.definition.expr as (λ y. Result Value ValueFault) [ None ↦ Ok (cond (eqb f.place 0) (Rattle.link_meaning.specs.LinkValues.outside_value f) (Rattle.link_meaning.specs.LinkValues.place_value list f.place f.member f.definition.place)) | Some text ↦ r ]) (go f leads)
 
-pub alike_from : (list : List Member) (a b : List Told) (e : Found)
-    → ((g : Found) → LeadsTo list e g → told a g.place g.definition.at ≡ told b g.place g.definition.at)
+pub alike_from : (list : List Member) (a b : List Told) (e : FoundDefinition)
+    → ((g : FoundDefinition) → LeadsTo list e g → value_of_definition a g.place g.definition.at ≡ value_of_definition b g.place g.definition.at)
     → AreAlike list a b e.place e.member (names_in e.member.segment.fields.lab_len e.definition.expr)
 alike_from list a b e go =
     all_from (λ name. Alike list a b (finds list e.place e.member name)) (names_in e.member.segment.fields.lab_len e.definition.expr)
     (λ name asked. by_found (finds list e.place e.member name) (λ f is. found_same list a b e f name asked is go))
   where
-    by_found : (found : List Found) → ((f : Found) → IsIn found f → found_value list a f ≡ found_value list b f) → Alike list a b found
+    by_found : (found : List FoundDefinition) → ((f : FoundDefinition) → IsIn found f → found_value list a f ≡ found_value list b f) → Alike list a b found
     by_found [] each = tt
     by_found (f ∷ found) each = each f (inl refl)
 
-told_same : (n : ℕ) (list : List Member) (a b : List Told) (visited : List ℕ) (e : Found) (k : ℕ) → Tells list a → Tells list b
-    → ((g : Found) → IsIn (equates list) g → IsCircular list g → ⊥) → slice_get (equates list) k ≡ Some e → AllByRecursion (Before list e) visited
-    → IsDistinct eqb (k ∷ visited) → length visited + n ≡ length (equates list) → told a e.place e.definition.at ≡ told b e.place e.definition.at
+told_same : (n : ℕ) (list : List Member) (a b : List Told) (visited : List ℕ) (e : FoundDefinition) (k : ℕ) → Tells list a → Tells list b
+    → ((g : FoundDefinition) → IsIn (equates list) g → IsCircular list g → ⊥) → slice_get (equates list) k ≡ Some e → AllByRecursion (Before list e) visited
+    → IsDistinct eqb (k ∷ visited) → length visited + n ≡ length (equates list) → value_of_definition a e.place e.definition.at ≡ value_of_definition b e.place e.definition.at
 unfolding IsDistinct
 told_same zero list a b visited e k p q straight at before distinct size =
     let within = one_below (length (equates list)) (k ∷ visited) (below_length (equates list) k e at, all_below list e visited before) in
@@ -335,16 +335,16 @@ told_same (suc n) list a b visited e k p q straight at before distinct size =
     (apart list f place.0 (k ∷ visited) (straight f inside) place.1 reached, distinct) (omega (arith, size))))
     ∙ sym (q e here)
 
-pub tells_of : (list : List Member) (table : List Told) (es : List Found) (rows : List Told) → AreTold list table es rows
-    → (e : Found) → IsIn es e → told table e.place e.definition.at ≡ equate_value list table e
+pub tells_of : (list : List Member) (table : List Told) (es : List FoundDefinition) (rows : List Told) → AreTold list table es rows
+    → (e : FoundDefinition) → IsIn es e → value_of_definition table e.place e.definition.at ≡ equate_value list table e
 tells_of list table [] rows are e is = absurd is
 tells_of list table (x ∷ es) [] are e is = absurd are
 tells_of list table (x ∷ es) (t ∷ rows) are e (inl same) =
-    subst (λ (y : Found). told table y.place y.definition.at ≡ equate_value list table y) same are.3
+    subst (λ (y : FoundDefinition). value_of_definition table y.place y.definition.at ≡ equate_value list table y) same are.3
 tells_of list table (x ∷ es) (t ∷ rows) are e (inr more) = tells_of list table es rows are.4 e more
 
-rows_same : (list : List Member) (a b : List Told) (es : List Found) (xs ys : List Told) → AreTold list a es xs → AreTold list b es ys
-    → ((e : Found) → IsIn es e → told a e.place e.definition.at ≡ told b e.place e.definition.at) → xs ≡ ys
+rows_same : (list : List Member) (a b : List Told) (es : List FoundDefinition) (xs ys : List Told) → AreTold list a es xs → AreTold list b es ys
+    → ((e : FoundDefinition) → IsIn es e → value_of_definition a e.place e.definition.at ≡ value_of_definition b e.place e.definition.at) → xs ≡ ys
 rows_same list a b [] [] [] p q same = refl
 rows_same list a b [] [] (y ∷ ys) p q same = absurd q
 rows_same list a b [] (x ∷ xs) ys p q same = absurd p
@@ -369,8 +369,8 @@ one_table list a b p q =
 
 -- ---- from equates to those that lead to them
 
-by_rings_from : (n : ℕ) (list : List Member) (P : Found → Type 0) (visited : List ℕ) (e : Found) (k : ℕ) → ((g : Found) → IsIn (equates list) g → IsCircular list g → ⊥)
-    → ((g : Found) → IsIn (equates list) g → ((f : Found) → LeadsTo list g f → P f) → P g) → slice_get (equates list) k ≡ Some e → AllByRecursion (Before list e) visited
+by_rings_from : (n : ℕ) (list : List Member) (P : FoundDefinition → Type 0) (visited : List ℕ) (e : FoundDefinition) (k : ℕ) → ((g : FoundDefinition) → IsIn (equates list) g → IsCircular list g → ⊥)
+    → ((g : FoundDefinition) → IsIn (equates list) g → ((f : FoundDefinition) → LeadsTo list g f → P f) → P g) → slice_get (equates list) k ≡ Some e → AllByRecursion (Before list e) visited
     → IsDistinct eqb (k ∷ visited) → length visited + n ≡ length (equates list) → P e
 unfolding IsDistinct
 by_rings_from zero list P visited e k straight step at before distinct size =
@@ -386,8 +386,8 @@ by_rings_from (suc n) list P visited e k straight step at before distinct size =
     (apart list f place.0 (k ∷ visited) (straight f inside) place.1 reached, distinct) (omega (arith, size)))
 
 -- Without rings, what holds of an equate where it holds of all to which it leads, holds of every equate.
-pub by_rings : (list : List Member) (P : Found → Type 0) → ((g : Found) → IsIn (equates list) g → IsCircular list g → ⊥)
-    → ((g : Found) → IsIn (equates list) g → ((f : Found) → LeadsTo list g f → P f) → P g) → (e : Found) → IsIn (equates list) e → P e
+pub by_rings : (list : List Member) (P : FoundDefinition → Type 0) → ((g : FoundDefinition) → IsIn (equates list) g → IsCircular list g → ⊥)
+    → ((g : FoundDefinition) → IsIn (equates list) g → ((f : FoundDefinition) → LeadsTo list g f → P f) → P g) → (e : FoundDefinition) → IsIn (equates list) e → P e
 unfolding IsDistinct
 by_rings list P straight step e is =
     let place = position_of (equates list) e is in

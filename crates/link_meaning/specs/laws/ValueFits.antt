@@ -6,12 +6,12 @@ use Rattle.omf_format.specs.declared.value.Value.{Value}
 use Rattle.omf_format.specs.Field.{layout_of}
 use Rattle.omf_format.specs.Record.{Record, End, Const, LongConst, Align, Org, Space, Reloc, InterSeg, ShortReloc, ShortInterSeg, Super, Using, Strong, Label, Equate, Formula, Entry, IsRecord}
 use Rattle.link_meaning.specs.laws.OutsideLaws.{outside_fits}
-use Rattle.link_meaning.specs.Search.{Found, outside}
+use Rattle.link_meaning.specs.Search.{FoundDefinition, outside}
 use Rattle.link_meaning.specs.First.{IsIn}
-use Rattle.link_meaning.specs.Sizes.{Located, size_at, located_from, located, place_behind, body_size}
+use Rattle.link_meaning.specs.Sizes.{Located, size_at, located_from, records_with_offsets, place_behind, body_size}
 use Rattle.link_meaning.specs.Member.{Member, setting_in}
 use Rattle.link_meaning.specs.LinkValues.{Told, place_value, value_in, IsTable, outside_value}
-use Rattle.link_meaning.specs.LinkFaults.{Given, HasBytes, IsResolved}
+use Rattle.link_meaning.specs.LinkFaults.{LinkInput, HasBytes, IsResolved}
 use Rattle.link_meaning.specs.LinkedCells.{Item, items_from, items}
 use Rattle.link_meaning.specs.LinkWritten.{LinkedStandsFor}
 use Rattle.link_meaning.specs.laws.MadeLaws.{FitsPatch, IsSoundAt}
@@ -23,7 +23,7 @@ use Rattle.link_meaning.specs.laws.LinkWrittenLaws.{stands_for}
 
 -- ---- all of a resolved list
 
-module _ (files : Given) (list : List Member) (table : List Told) (bytes : HasBytes files) (resolved : IsResolved files list) (is_table : IsTable list table) where
+module _ (files : LinkInput) (list : List Member) (table : List Told) (bytes : HasBytes files) (resolved : IsResolved files list) (is_table : IsTable list table) where
   read : (m : Member) → IsIn list m → IsRead m.segment
   read m is = members_read files list m bytes resolved.program is
 
@@ -33,7 +33,7 @@ module _ (files : Given) (list : List Member) (table : List Told) (bytes : HasBy
   there : (place : ℕ) (m : Member) (at : ℕ) → IsPlaceIn list place m at → FitsPatch (place_value list place m at)
   there place m at is = place_fits files list place m at resolved whole is
 
-  beyond : (f : Found) → IsIn (outside (setting_in list)) f → FitsPatch (outside_value f)
+  beyond : (f : FoundDefinition) → IsIn (outside (setting_in list)) f → FitsPatch (outside_value f)
   beyond = outside_fits list
 
   -- what an expression in a member stands for fits
@@ -83,7 +83,7 @@ module _ (files : Given) (list : List Member) (table : List Told) (bytes : HasBy
       there_in (o ∷ front) = inr (there_in front)
 
   items_sound : (front ms : List Member) → list ≡ front ++ ms → AreSoundItems list table (items_from (length front + 1) ms)
-  unfolding located body_size
+  unfolding records_with_offsets body_size
   items_sound front [] parts = tt
   items_sound front (m ∷ ms) parts =
       let next : length (front ++ m ∷ []) + 1 ≡ length front + 1 + 1 = ap (λ (n : ℕ). n + 1) (length-append front (m ∷ [])) in

@@ -18,7 +18,7 @@ use Rattle.omf_format.specs.Body.{body_bytes}
 use Rattle.load_meaning.specs.laws.ExportLaws.{exports_content, exports_patches}
 use Rattle.load_meaning.specs.laws.RunLaws.{placed, flat-placed}
 use Rattle.load_meaning.specs.laws.LayingLaws.{Has}
-use Rattle.load_meaning.specs.WrittenBody.{is_own, is_short, lone_record, lone, of_form, super_records, with_stored, supers_from, data_records, written_data, body_records, HasBody}
+use Rattle.load_meaning.specs.WrittenBody.{is_own, is_short, lone_record, patches_stored_alone, of_form, super_records, with_stored, supers_from, data_records, written_data, body_records, HasBody}
 use Rattle.load_meaning.specs.laws.WrittenBodyLaws.{without, without_places, data_content, data_patches, segment_has, stands, patches_are, from_records, HasRecords}
 use Rattle.load_meaning.specs.WrittenFile.{Image, image_body, image_fields, image_text, file_text, IsImage, IsReadAs, AreReadAs, image_records, IsExport}
 use Rattle.load_meaning.specs.laws.WrittenFileLaws.{has_image}
@@ -70,8 +70,8 @@ supers_allowed own patches form (suc n) = all-both IsAllowed (super_records form
 body_allowed : (own : ℕ) (content : List ℕ) (patches : List Patch) → AllByRecursion IsAllowed (body_records own content patches)
 unfolding body_records
 body_allowed own content patches =
-    all-both IsAllowed (data_records (written_data own content patches)) (map (lone_record own) (lone own patches) ++ supers_from own patches 0 38) (data_allowed (written_data own content patches))
-    (all-both IsAllowed (map (lone_record own) (lone own patches)) (supers_from own patches 0 38) (lones_allowed own (lone own patches)) (supers_allowed own patches 0 38))
+    all-both IsAllowed (data_records (written_data own content patches)) (map (lone_record own) (patches_stored_alone own patches) ++ supers_from own patches 0 38) (data_allowed (written_data own content patches))
+    (all-both IsAllowed (map (lone_record own) (patches_stored_alone own patches)) (supers_from own patches 0 38) (lones_allowed own (patches_stored_alone own patches)) (supers_allowed own patches 0 38))
 
 placed_allowed : (segments : List Segment) (end : ℕ) (rs : List Record) → AllByRecursion (IsAllowedIn segments) rs → AllByRecursion (λ (found : ℕ × Record). IsAllowedIn segments found.1) (placed end rs)
 placed_allowed segments end [] all = ((refl, refl), tt)

@@ -16,12 +16,12 @@ use Rattle.orca_meaning.specs.Line.{line_of}
 use Rattle.orca_meaning.specs.Token as tokens
 use Rattle.asm_meaning.specs.Constant.{Constants}
 use Rattle.asm_meaning.specs.Elements as elements
-use Rattle.asm_meaning.specs.Elements.{bytes_of_digits, packed, packed_digits, without_spaces, list_pieces}
+use Rattle.asm_meaning.specs.Elements.{bytes_of_digits, bytes_of_group_digits, packed_digits, without_spaces, list_pieces}
 use Rattle.asm_meaning.specs.Pieces.{records_of, records_behind}
-use Rattle.asm_meaning.specs.State.{State, Segment, cells_of, greatest_length, marked, in_segment}
+use Rattle.asm_meaning.specs.State.{State, Segment, cells_of, greatest_length, with_local_record, in_segment}
 use Rattle.asm_meaning.specs.Statement.{IsStep, constants_of}
 use Rattle.list_meaning.specs.laws.LineText.{HasNoBlank}
-use Rattle.list_meaning.specs.Listed.{Bytes, said_text, quoted}
+use Rattle.list_meaning.specs.Listed.{Bytes, said_text, quoted_value}
 use Rattle.list_meaning.specs.laws.SumLaw.{HasNoQuote, closed_found}
 use Rattle.list_meaning.specs.laws.ConstantLines.{dc_step, ink_push}
 
@@ -133,12 +133,12 @@ twice : (bytes : List ℕ) → AreBytes bytes → length (digits_of bytes) ≡ 2
 twice [] are = refl
 twice (byte ∷ bytes) are = let two = two_is byte are.0 in ap length (first_two byte bytes two) ∙ omega (arith, twice bytes are.1)
 
-packed_back : (bytes : List ℕ) → AreBytes bytes → packed 16 2 (length bytes) (digits_of bytes) ≡ bytes
-unfolding packed
+packed_back : (bytes : List ℕ) → AreBytes bytes → bytes_of_group_digits 16 2 (length bytes) (digits_of bytes) ≡ bytes
+unfolding bytes_of_group_digits
 packed_back [] are = refl
 packed_back (byte ∷ bytes) are =
     let two = two_is byte are.0 in
-    ap (packed 16 2 (length (byte ∷ bytes))) (first_two byte bytes two) ∙ ap (λ (k : ℕ). k ∷ packed 16 2 (length bytes) (digits_of bytes)) two.value ∙ ap (λ (l : List ℕ). byte ∷ l) (packed_back bytes are.1)
+    ap (bytes_of_group_digits 16 2 (length (byte ∷ bytes))) (first_two byte bytes two) ∙ ap (λ (k : ℕ). k ∷ bytes_of_group_digits 16 2 (length bytes) (digits_of bytes)) two.value ∙ ap (λ (l : List ℕ). byte ∷ l) (packed_back bytes are.1)
 
 digits_read : (byte : ℕ) (bytes : List ℕ) → AreBytes (byte ∷ bytes) → bytes_of_digits 16 2 (digits_of (byte ∷ bytes)) ≡ Some (byte ∷ bytes)
 unfolding bytes_of_digits
@@ -149,10 +149,10 @@ digits_read byte bytes are =
     let whole : list_all (λ byte. is_digit byte 16) (two.x ∷ two.y ∷ digits_of bytes) ≡ true = ap (list_all (λ byte. is_digit byte 16)) (sym (first_two byte bytes two)) ∙ all_digits (byte ∷ bytes) are in
     ap (packed_digits 16 2) (unspaced (byte ∷ bytes) are ∙ first_two byte bytes two)
     ∙ by (list_all (λ byte. is_digit byte 16) (two.x ∷ two.y ∷ digits_of bytes)) whole (two.x ∷ two.y ∷ digits_of bytes) ((length (two.x ∷ two.y ∷ digits_of bytes) + (2 - 1)) / 2)
-    ∙ ap (λ (k : ℕ). Some (packed 16 2 k (two.x ∷ two.y ∷ digits_of bytes))) size
-    ∙ ap (λ (l : List ℕ). Some (packed 16 2 n l)) (sym (first_two byte bytes two)) ∙ ap (λ (l : List ℕ). Some l) (packed_back (byte ∷ bytes) are)
+    ∙ ap (λ (k : ℕ). Some (bytes_of_group_digits 16 2 k (two.x ∷ two.y ∷ digits_of bytes))) size
+    ∙ ap (λ (l : List ℕ). Some (bytes_of_group_digits 16 2 n l)) (sym (first_two byte bytes two)) ∙ ap (λ (l : List ℕ). Some l) (packed_back (byte ∷ bytes) are)
   where
-    by : (b : Bool) → b ≡ true → (l : List ℕ) (k : ℕ) → cond b (Some (packed 16 2 k l)) None ≡ Some (packed 16 2 k l)
+    by : (b : Bool) → b ≡ true → (l : List ℕ) (k : ℕ) → cond b (Some (bytes_of_group_digits 16 2 k l)) None ≡ Some (bytes_of_group_digits 16 2 k l)
     by true e l k = refl
     by false e l k = absurd cc
 
@@ -164,15 +164,15 @@ unfolding elements.element_pieces records_behind
 fixed_gives constants msb byte bytes few = rw (le-leb (length (byte ∷ bytes)) 223 few) refl
 
 pub bytes_step : (state : State) (s : Segment) (number byte : ℕ) (bytes : List ℕ) → state.segment ≡ Some s → AreBytes (byte ∷ bytes) → length (byte ∷ bytes) ≤ 223
-    → cells_of (marked [] 0x4E (Const (byte ∷ bytes) ∷ []) s) ≤ greatest_length s.class
-    → IsStep state (line_of 0 number (said_text (Bytes (byte ∷ bytes)))) (Ok (in_segment (marked [] 0x4E (Const (byte ∷ bytes) ∷ [])) state))
+    → cells_of (with_local_record [] 0x4E (Const (byte ∷ bytes) ∷ []) s) ≤ greatest_length s.class
+    → IsStep state (line_of 0 number (said_text (Bytes (byte ∷ bytes)))) (Ok (in_segment (with_local_record [] 0x4E (Const (byte ∷ bytes) ∷ [])) state))
 unfolding said_text elements.kind_at tokens.digits_at
 bytes_step state s number byte bytes here are few room =
     let inner = digits_of (byte ∷ bytes) in
-    dc_step state s number (quoted (codes "H") inner) (record { repeat = elements.Once; value = elements.Fixed (byte ∷ bytes) }) (Const (byte ∷ bytes) ∷ []) here
+    dc_step state s number (quoted_value (codes "H") inner) (record { repeat = elements.Once; value = elements.Fixed (byte ∷ bytes) }) (Const (byte ∷ bytes) ∷ []) here
     (refl, (refl, ink_push inner (codes "'") (all_ink (byte ∷ bytes) are) (refl, tt)))
     (record {
-      behind_repeat = quoted (codes "H") inner;
+      behind_repeat = quoted_value (codes "H") inner;
       kind = elements.Hexadecimal;
       behind_quote = inner ++ codes "'";
       repeat = (refl, refl);

@@ -29,13 +29,13 @@ use Rattle.asm_meaning.specs.Formulas.{expression_text}
 use Rattle.asm_meaning.specs.Operations as asm_operations
 use Rattle.asm_meaning.specs.Operations.{operation_of}
 use Rattle.asm_meaning.specs.Pieces.{records_of, records_behind}
-use Rattle.asm_meaning.specs.State.{State, Segment, cells_of, greatest_length, marked, in_segment}
+use Rattle.asm_meaning.specs.State.{State, Segment, cells_of, greatest_length, with_local_record, in_segment}
 use Rattle.asm_meaning.specs.Statement.{IsStep, IsDone, constants_of}
 use Rattle.list_meaning.specs.laws.LineText.{HasNoBlank}
 use Rattle.list_meaning.specs.Listed.{statement_text}
 use Rattle.list_meaning.specs.laws.Numbers.{hexadecimal_is}
 use Rattle.list_meaning.specs.Listed as listed
-use Rattle.list_meaning.specs.Listed.{Asks, Weakly, Sums, said_text, quoted, formula_text, as_operand}
+use Rattle.list_meaning.specs.Listed.{StrongIs, WeakIs, FormulaIs, said_text, quoted_value, formula_text, as_operand}
 use Rattle.list_meaning.specs.laws.FormulaLaw.{CanWrite, IsPlainName, name_read, formula_read, operator_of, sign_of}
 use Rattle.list_meaning.specs.laws.HeldLaw.{name_ink, byte_ink, start_is_byte}
 use Rattle.list_meaning.specs.laws.LineLaw.{step_of, inside, ink_of}
@@ -44,12 +44,12 @@ use Rattle.list_meaning.specs.laws.SumLaw.{HasNoQuote, AreUnknown, has_open, ele
 -- ---- one element
 
 pub dc_step : (state : State) (s : Segment) (number : ℕ) (text : List ℕ) (element : Element) (contents : List Record) → state.segment ≡ Some s → HasNoBlank text → AreElements text (element ∷ [])
-    → (list_pieces (constants_of state) state.msb (Some (element ∷ [])) >>= λ pieces. Ok (records_of pieces)) ≡ Ok contents → cells_of (marked [] 0x4E contents s) ≤ greatest_length s.class
-    → IsStep state (line_of 0 number (statement_text [] (codes "DC") text)) (Ok (in_segment (marked [] 0x4E contents) state))
-unfolding IsDone operation_of operations.operation_use operations.mnemonic_of operations.beside operations.mnemonics operations.without_operand asm_operations.directives asm_operations.ignored
+    → (list_pieces (constants_of state) state.msb (Some (element ∷ [])) >>= λ pieces. Ok (records_of pieces)) ≡ Ok contents → cells_of (with_local_record [] 0x4E contents s) ≤ greatest_length s.class
+    → IsStep state (line_of 0 number (statement_text [] (codes "DC") text)) (Ok (in_segment (with_local_record [] 0x4E contents) state))
+unfolding IsDone operation_of operations.operation_use operations.mnemonic_of operations.value_of_spelling operations.mnemonics operations.without_operand asm_operations.directives asm_operations.ignored_directives
 dc_step state s number text element contents here ink are gives room =
-    step_of state number [] (codes "DC") text (Direct directives.Constants) (Ok (in_segment (marked [] 0x4E contents) state)) tt (refl, (refl, tt)) ink tt refl
-    (inside state s (line_of 0 number (statement_text [] (codes "DC") text)) (Direct directives.Constants) [] text (marked [] 0x4E contents) here refl
+    step_of state number [] (codes "DC") text (Direct directives.Constants) (Ok (in_segment (with_local_record [] 0x4E contents) state)) tt (refl, (refl, tt)) ink tt refl
+    (inside state s (line_of 0 number (statement_text [] (codes "DC") text)) (Direct directives.Constants) [] text (with_local_record [] 0x4E contents) here refl
     (Some (element ∷ []), are, rw gives refl) room)
 
 -- ---- bytes that don't stand in a formula
@@ -185,16 +185,16 @@ element_read n t is can = record {
 }
 
 pub sums_step : (state : State) (s : Segment) (number n : ℕ) (t : Tree) → state.segment ≡ Some s → IsCount n → CanWrite t → AreUnknown (constants_of state) t → has_open t ≡ true → pending 1 t ≤ 64
-    → cells_of (marked [] 0x4E (Formula 0xEB n 0 (expression_text t) ∷ []) s) ≤ greatest_length s.class
-    → IsStep state (line_of 0 number (said_text (Sums n t))) (Ok (in_segment (marked [] 0x4E (Formula 0xEB n 0 (expression_text t) ∷ [])) state))
+    → cells_of (with_local_record [] 0x4E (Formula 0xEB n 0 (expression_text t) ∷ []) s) ≤ greatest_length s.class
+    → IsStep state (line_of 0 number (said_text (FormulaIs n t))) (Ok (in_segment (with_local_record [] 0x4E (Formula 0xEB n 0 (expression_text t) ∷ [])) state))
 unfolding said_text
 sums_step state s number n t here is can are open' few room =
     let text = 0x41 ∷ (0x30 + n) ∷ 0x27 ∷ (formula_text t ++ codes "'") in
-    let same : quoted (codes "A" ++ hexadecimal 1 n) (formula_text t) ≡ text = ap (λ (l : List ℕ). (0x41 ∷ l) ++ (0x27 ∷ (formula_text t ++ codes "'"))) (count_text n is) in
+    let same : quoted_value (codes "A" ++ hexadecimal 1 n) (formula_text t) ≡ text = ap (λ (l : List ℕ). (0x41 ∷ l) ++ (0x27 ∷ (formula_text t ++ codes "'"))) (count_text n is) in
     let digit_ink : is_blank (0x30 + n) ≡ false = rw (ne_eqb (0x30 + n) 0x20 (λ e. omega (arith, e)), ne_eqb (0x30 + n) 0x09 (λ e. omega (arith, e))) refl in
     let ink : HasNoBlank text = (refl, (digit_ink, (refl, ink_push (formula_text t) (codes "'") (no_blank t can) (refl, tt)))) in
     let contents = Formula 0xEB n 0 (expression_text t) ∷ [] in
-    subst (λ (l : List ℕ). IsStep state (line_of 0 number (statement_text [] (codes "DC") l)) (Ok (in_segment (marked [] 0x4E contents) state))) (sym same)
+    subst (λ (l : List ℕ). IsStep state (line_of 0 number (statement_text [] (codes "DC") l)) (Ok (in_segment (with_local_record [] 0x4E contents) state))) (sym same)
     (dc_step state s number text (element_of n t) contents here ink (element_read n t is can) (sum_gives (constants_of state) state.msb n t can are open' few) room)
 
 -- ---- DC R and DC S
@@ -210,13 +210,13 @@ name_quote (byte ∷ name) is = (quote_name byte (start_is_byte byte is.0), behi
 whole_name : (name : List ℕ) → IsPlainName name → name_at name ≡ Some (name, [])
 whole_name name is = ap name_at (sym (append-nil name)) ∙ name_read name [] is tt
 
-pub asks_step : (state : State) (s : Segment) (number : ℕ) (name : List ℕ) → state.segment ≡ Some s → IsPlainName name → cells_of (marked [] 0x4E (Strong name ∷ []) s) ≤ greatest_length s.class
-    → IsStep state (line_of 0 number (said_text (Asks name))) (Ok (in_segment (marked [] 0x4E (Strong name ∷ [])) state))
+pub asks_step : (state : State) (s : Segment) (number : ℕ) (name : List ℕ) → state.segment ≡ Some s → IsPlainName name → cells_of (with_local_record [] 0x4E (Strong name ∷ []) s) ≤ greatest_length s.class
+    → IsStep state (line_of 0 number (said_text (StrongIs name))) (Ok (in_segment (with_local_record [] 0x4E (Strong name ∷ [])) state))
 unfolding said_text elements.kind_at tokens.digits_at elements.element_pieces records_behind
 asks_step state s number name here is room =
-    dc_step state s number (quoted (codes "R") name) (record { repeat = elements.Once; value = elements.Asked (name ∷ []) }) (Strong name ∷ []) here (refl, (refl, ink_push name (codes "'") (name_ink name is) (refl, tt)))
+    dc_step state s number (quoted_value (codes "R") name) (record { repeat = elements.Once; value = elements.Asked (name ∷ []) }) (Strong name ∷ []) here (refl, (refl, ink_push name (codes "'") (name_ink name is) (refl, tt)))
     (record {
-      behind_repeat = quoted (codes "R") name;
+      behind_repeat = quoted_value (codes "R") name;
       kind = elements.References;
       behind_quote = name ++ codes "'";
       repeat = (refl, refl);
@@ -225,14 +225,14 @@ asks_step state s number name here is room =
     }) refl room
 
 pub weakly_step : (state : State) (s : Segment) (number : ℕ) (name : List ℕ) → state.segment ≡ Some s → IsPlainName name
-    → cells_of (marked [] 0x4E (Formula 0xEB 2 0 (expression_text (Leaf (expression.Named 0x82 name))) ∷ []) s) ≤ greatest_length s.class
-    → IsStep state (line_of 0 number (said_text (Weakly name))) (Ok (in_segment (marked [] 0x4E (Formula 0xEB 2 0 (expression_text (Leaf (expression.Named 0x82 name))) ∷ [])) state))
+    → cells_of (with_local_record [] 0x4E (Formula 0xEB 2 0 (expression_text (Leaf (expression.Named 0x82 name))) ∷ []) s) ≤ greatest_length s.class
+    → IsStep state (line_of 0 number (said_text (WeakIs name))) (Ok (in_segment (with_local_record [] 0x4E (Formula 0xEB 2 0 (expression_text (Leaf (expression.Named 0x82 name))) ∷ [])) state))
 unfolding said_text elements.kind_at tokens.digits_at elements.element_pieces records_behind
 weakly_step state s number name here is room =
-    dc_step state s number (quoted (codes "S") name) (record { repeat = elements.Once; value = elements.Weak (name ∷ []) }) (Formula 0xEB 2 0 (expression_text (Leaf (expression.Named 0x82 name))) ∷ []) here
+    dc_step state s number (quoted_value (codes "S") name) (record { repeat = elements.Once; value = elements.Weak (name ∷ []) }) (Formula 0xEB 2 0 (expression_text (Leaf (expression.Named 0x82 name))) ∷ []) here
     (refl, (refl, ink_push name (codes "'") (name_ink name is) (refl, tt)))
     (record {
-      behind_repeat = quoted (codes "S") name;
+      behind_repeat = quoted_value (codes "S") name;
       kind = elements.WeakReferences;
       behind_quote = name ++ codes "'";
       repeat = (refl, refl);

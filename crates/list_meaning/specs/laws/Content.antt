@@ -9,13 +9,13 @@ use Rattle.link_meaning.specs.Defines.{defined_by}
 use Rattle.link_meaning.specs.Sizes.{size_at}
 use Rattle.asm_meaning.specs.Pieces.{place_behind}
 use Rattle.asm_meaning.specs.laws.PieceLaws.{place_behind-append}
-use Rattle.list_meaning.specs.Flat.{Place, One, zeros, places_at, places_from, Defined, told, used_by, asked_by}
+use Rattle.list_meaning.specs.Flat.{FlatCell, One, zeros, places_at, places_from, Defined, comparable_definition, used_by, asked_by}
 use Rattle.list_meaning.specs.laws.RunGives.{IsConst}
 
 -- ---- definitions, from a place on
 
 abbrev pub defs_at : ℕ → ℕ → Record → List Defined
-defs_at l place r = map (told l) (defined_by 0 place r)
+defs_at l place r = map (comparable_definition l) (defined_by 0 place r)
 
 abbrev pub defs_from : ℕ → ℕ → List Record → List Defined
 defs_from l at [] = []
@@ -32,7 +32,7 @@ pub places_from-append : (l at : ℕ) (a b : List Record) → places_from l at (
 unfolding place_behind places_from
 places_from-append l at [] b = refl
 places_from-append l at (r ∷ a) b =
-    ap (λ (p : List Place). places_at l at r ++ p) (places_from-append l (at + size_at at r) a b)
+    ap (λ (p : List FlatCell). places_at l at r ++ p) (places_from-append l (at + size_at at r) a b)
     ∙ sym (append_assoc (places_at l at r) (places_from l (at + size_at at r) a) (places_from l (place_behind (at + size_at at r) a) b))
 
 -- ---- constant bytes
@@ -52,7 +52,7 @@ consts_give at (Const bytes ∷ rs) are =
     let others = consts_give (at + length bytes) rs are.1 in
     let whole = flat_map-cons content_of (Const bytes) rs in
     record {
-      places = ap (λ (p : List Place). map One bytes ++ p) others.places ∙ sym (map-append One bytes (flat_map content_of rs)) ∙ ap (map One) (sym whole);
+      places = ap (λ (p : List FlatCell). map One bytes ++ p) others.places ∙ sym (map-append One bytes (flat_map content_of rs)) ∙ ap (map One) (sym whole);
       behind = others.behind ∙ omega (arith, ap length whole, length-append bytes (flat_map content_of rs));
       defined = others.defined;
       using' = flat_map-cons used_by (Const bytes) rs ∙ others.using';
@@ -96,9 +96,9 @@ same_line l at run r x g are bytes like =
     let gives : GiveBytes at g run = subst (GiveBytes at g) bytes (consts_give at g are) in
     let p = at + length run in
     record {
-      places = ap (λ (q : List Place). map One run ++ q) (like.places p ∙ sym (append-nil (places_at 0 p x)))
+      places = ap (λ (q : List FlatCell). map One run ++ q) (like.places p ∙ sym (append-nil (places_at 0 p x)))
           ∙ sym (append-nil (map One run ++ (places_at 0 p x ++ [])))
-          ∙ ap (λ (q : List Place). q ++ []) (sym (places_from-append 0 at g (x ∷ []) ∙ ap (λ (q : List Place). q ++ places_from 0 (place_behind at g) (x ∷ [])) gives.places
+          ∙ ap (λ (q : List FlatCell). q ++ []) (sym (places_from-append 0 at g (x ∷ []) ∙ ap (λ (q : List FlatCell). q ++ places_from 0 (place_behind at g) (x ∷ [])) gives.places
           ∙ ap (λ (k : ℕ). map One run ++ (places_at 0 k x ++ [])) gives.behind));
       behind = omega (arith, like.size p, place_behind-append at g (x ∷ []), ap (λ (k : ℕ). k + size_at k x) gives.behind);
       defined = like.defined p ∙ sym (append-nil (defs_at 0 p x))
@@ -126,10 +126,10 @@ alike_cons l res at run rest r rs first more same others =
     let next : p + size_at p r ≡ q + length rest = same.behind in
     let tail = places_from l (p + size_at p r) rs ++ zeros res in
     record {
-      places = ap (λ (x : List Place). map One run ++ x) (append_assoc (places_at l p r) (places_from l (p + size_at p r) rs) (zeros res))
-          ∙ sym (append_assoc (map One run) (places_at l p r) tail) ∙ ap (λ (x : List Place). x ++ tail) same.places ∙ append_assoc (places_from 0 at first) (map One rest) tail
+      places = ap (λ (x : List FlatCell). map One run ++ x) (append_assoc (places_at l p r) (places_from l (p + size_at p r) rs) (zeros res))
+          ∙ sym (append_assoc (map One run) (places_at l p r) tail) ∙ ap (λ (x : List FlatCell). x ++ tail) same.places ∙ append_assoc (places_from 0 at first) (map One rest) tail
           ∙ ap (λ (k : ℕ). places_from 0 at first ++ (map One rest ++ (places_from l k rs ++ zeros res))) next
-          ∙ ap (λ (x : List Place). places_from 0 at first ++ x) others.places ∙ sym (places_from-append 0 at first more);
+          ∙ ap (λ (x : List FlatCell). places_from 0 at first ++ x) others.places ∙ sym (places_from-append 0 at first more);
       behind = ap (λ (k : ℕ). place_behind k rs + res) next ∙ others.behind ∙ sym (place_behind-append at first more);
       defined = ap (λ (d : List Defined). d ++ defs_from l (p + size_at p r) rs) same.defined ∙ ap (λ (k : ℕ). defs_from 0 at first ++ defs_from l k rs) next
           ∙ ap (λ (d : List Defined). defs_from 0 at first ++ d) others.defined ∙ sym (defs_from-append 0 at first more);
@@ -167,8 +167,8 @@ alike_end l res at run g are bytes =
     let p = at + length run in
     let spaces = spaces_give p res in
     record {
-      places = sym (places_from-append 0 at g (spaces_of res) ∙ ap (λ (q : List Place). q ++ places_from 0 (place_behind at g) (spaces_of res)) gives.places
-          ∙ ap (λ (k : ℕ). map One run ++ places_from 0 k (spaces_of res)) gives.behind ∙ ap (λ (q : List Place). map One run ++ q) spaces.places);
+      places = sym (places_from-append 0 at g (spaces_of res) ∙ ap (λ (q : List FlatCell). q ++ places_from 0 (place_behind at g) (spaces_of res)) gives.places
+          ∙ ap (λ (k : ℕ). map One run ++ places_from 0 k (spaces_of res)) gives.behind ∙ ap (λ (q : List FlatCell). map One run ++ q) spaces.places);
       behind = omega (arith, place_behind-append at g (spaces_of res), ap (λ (k : ℕ). place_behind k (spaces_of res)) gives.behind, spaces.behind);
       defined = sym (defs_from-append 0 at g (spaces_of res) ∙ ap (λ (d : List Defined). d ++ defs_from 0 (place_behind at g) (spaces_of res)) gives.defined
           ∙ ap (λ (k : ℕ). defs_from 0 k (spaces_of res)) gives.behind ∙ spaces.defined);

@@ -10,7 +10,7 @@ use Rattle.orca_meaning.specs.declared.mnemonics.Mnemonic.{Mnemonic}
 use Rattle.orca_meaning.specs.declared.modes.Mode.{Mode}
 use Rattle.orca_meaning.specs.declared.modes.Mode.TheVariants.{Implied, Accumulator, Immediate, Direct, DirectX, DirectY, DirectIndirect, DirectIndirectY, DirectXIndirect, DirectLong, DirectLongY, Stack, StackIndirectY, Absolute, AbsoluteX, AbsoluteY, AbsoluteIndirect, AbsoluteXIndirect, AbsoluteLongIndirect, Long, LongX, Relative8, Relative16, Move, Signature}
 use Rattle.orca_meaning.specs.Characters.{is_blank, is_name_byte, is_name_start}
-use Rattle.orca_meaning.specs.Formula.{pending, has_large, placed}
+use Rattle.orca_meaning.specs.Formula.{pending, has_large, with_location_less}
 use Rattle.orca_meaning.specs.Line.{line_of}
 use Rattle.orca_meaning.specs.Matrix.{matrix}
 use Rattle.orca_meaning.specs.Operand.{means_accumulator}
@@ -21,7 +21,7 @@ use Rattle.asm_meaning.specs.Constant.{Constants, Written, amount}
 use Rattle.asm_meaning.specs.Instruction as instructions
 use Rattle.asm_meaning.specs.Instruction.{Widths, instruction, kind_of, mode_of_tree, with_amount}
 use Rattle.asm_meaning.specs.Pieces.{records_of, records_behind}
-use Rattle.asm_meaning.specs.State.{State, Segment, cells_of, greatest_length, marked, in_segment}
+use Rattle.asm_meaning.specs.State.{State, Segment, cells_of, greatest_length, with_local_record, in_segment}
 use Rattle.asm_meaning.specs.Statement.{IsStep, IsDone, IsOperandOf, Good, constants_of}
 use Rattle.list_meaning.specs.laws.LineText.{HasNoBlank, IsTaken}
 use Rattle.list_meaning.specs.Listed.{statement_text}
@@ -173,7 +173,7 @@ IsUnknown constants (Label name) = constants name ≡ None
 IsUnknown constants (Moved name adds n) = constants name ≡ None
 
 stays : (constants : Constants) (w : Wanted) → IsUnknown constants w → amount constants (tree_of w) ≡ Ok (Written (tree_of w))
-unfolding amount constant.worth
+unfolding amount constant.known_value
 stays constants None' is = absurd is
 stays constants (Number bytes n) is = absurd is
 stays constants (Banks source destination) is = absurd is
@@ -199,7 +199,7 @@ no_shift Relative8 = refl
 no_shift Relative16 = refl
 no_shift _ = refl
 
-unplaced : (w : Wanted) → HasName w → placed 1 (tree_of w) ≡ tree_of w
+unplaced : (w : Wanted) → HasName w → with_location_less 1 (tree_of w) ≡ tree_of w
 unplaced None' has = absurd has
 unplaced (Number bytes n) has = refl
 unplaced (Banks source destination) has = absurd has
@@ -229,13 +229,13 @@ good_operand m way w takes has other =
 
 -- a byte that is held back and its record: the line gives the opcode and exactly this record
 pub held_step : (state : State) (s : Segment) (number k : ℕ) (m : Mnemonic) (way : Mode) (w : Wanted) → state.segment ≡ Some s → slice_get matrix k ≡ Some (m, way) → TakesName way → HasName w
-    → IsUnknown (constants_of state) w → cells_of (marked [] 0x4D (held_records state.widths k m way w) s) ≤ greatest_length s.class
-    → IsStep state (line_of 0 number (said_text (Instructs m way w))) (Ok (in_segment (marked [] 0x4D (held_records state.widths k m way w)) state))
+    → IsUnknown (constants_of state) w → cells_of (with_local_record [] 0x4D (held_records state.widths k m way w) s) ≤ greatest_length s.class
+    → IsStep state (line_of 0 number (said_text (Instructs m way w))) (Ok (in_segment (with_local_record [] 0x4D (held_records state.widths k m way w)) state))
 unfolding said_text IsDone
 held_step state s number k m way w here is takes has unknown room =
     let used = used_as m way takes (used_is k m way is) in
     let contents = held_records state.widths k m way w in
     let taken : IsTaken (operation_use (spelling_of m)) (operand_text way w) = rw (use_is m) (taken_as (use_of m) (operand_text way w) used.some (first_is way w takes has)) in
-    step_of state number [] (spelling_of m) (operand_text way w) (Instruct m) (Ok (in_segment (marked [] 0x4D contents) state)) tt (spelled m).named (operand_ink way w has) taken (operation_is m)
-    (inside state s (line_of 0 number (statement_text [] (spelling_of m) (operand_text way w))) (Instruct m) [] (operand_text way w) (marked [] 0x4D contents) here refl
+    step_of state number [] (spelling_of m) (operand_text way w) (Instruct m) (Ok (in_segment (with_local_record [] 0x4D contents) state)) tt (spelled m).named (operand_ink way w has) taken (operation_is m)
+    (inside state s (line_of 0 number (statement_text [] (spelling_of m) (operand_text way w))) (Instruct m) [] (operand_text way w) (with_local_record [] 0x4D contents) here refl
     (Ok (meaning_in way w), good_operand m way w takes has used.other, rw (held_gives (constants_of state) state.widths k m way w is has unknown) refl) room)

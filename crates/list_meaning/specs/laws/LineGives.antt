@@ -20,9 +20,9 @@ use Rattle.asm_meaning.specs.declared.directives.Switch.TheVariants.{LongA, Long
 use Rattle.asm_meaning.specs.Constant.{Constants}
 use Rattle.asm_meaning.specs.Instruction.{Widths, operand_bytes, opcode_in}
 use Rattle.asm_meaning.specs.Pieces.{place_behind, length_at}
-use Rattle.asm_meaning.specs.State.{State, Segment, cells_of, greatest_length, marked, grown, in_segment, local_of, turned, Names, with_label}
+use Rattle.asm_meaning.specs.State.{State, Segment, cells_of, greatest_length, with_local_record, with_records, in_segment, local_of, with_switch_set, Names, with_label}
 use Rattle.asm_meaning.specs.Statement.{IsStep, constants_of, with_kind}
-use Rattle.list_meaning.specs.Listed.{Said, NextAlign, NextOrg, Begins, Kinds, Turns, Spaces, Aligns, Moves, Uses, Asks, Labels, Equates, Instructs, Bytes, Weakly, Sums, Ends, Wanted, None', Number, Banks, Label, Moved, said_text}
+use Rattle.list_meaning.specs.Listed.{ListedStatement, NextAlignIs, NextOrg, StartIs, KindIs, SwitchIs, Ds, Aligns, OrgIs, UsingIs, StrongIs, Labels, Equates, Instructs, Bytes, WeakIs, FormulaIs, EndIs, Wanted, None', Number, Banks, Label, Moved, said_text}
 use Rattle.list_meaning.specs.Given.{instruction_records, records_said, names_said, widths_said, header_said, Leaves}
 use Rattle.list_meaning.specs.laws.FormulaLaw.{CanWrite, IsPlainName}
 use Rattle.list_meaning.specs.laws.OperandLaw.{TakesName, HasName}
@@ -59,43 +59,43 @@ AreSome [] = ⊥
 AreSome (byte ∷ bytes) = Unit {0}
 
 -- a line that the lister may write inside a segment
-abbrev pub CanStand : State → Segment → Said → Type 0
-CanStand state s (NextAlign n) = ⊥
+abbrev pub CanStand : State → Segment → ListedStatement → Type 0
+CanStand state s (NextAlignIs n) = ⊥
 CanStand state s (NextOrg n) = ⊥
-CanStand state s (Begins crosses name load_name) = ⊥
-CanStand state s (Kinds n) = (n ≤ 0xFFFF) × (is_listed (form_of n) ≡ true)
-CanStand state s (Turns switch on) = Unit {0}
-CanStand state s (Spaces n) = n < 2 ^ 32
+CanStand state s (StartIs crosses name load_name) = ⊥
+CanStand state s (KindIs n) = (n ≤ 0xFFFF) × (is_listed (form_of n) ≡ true)
+CanStand state s (SwitchIs switch on) = Unit {0}
+CanStand state s (Ds n) = n < 2 ^ 32
 CanStand state s (Aligns n) = (n < 2 ^ 32) × (is_power_of_two n ≡ true) × (n ≤ alignment_of s.header.align)
-CanStand state s (Moves n) = n < 2 ^ 31
-CanStand state s (Uses name) = IsPlainName name
-CanStand state s (Asks name) = IsPlainName name
+CanStand state s (OrgIs n) = n < 2 ^ 31
+CanStand state s (UsingIs name) = IsPlainName name
+CanStand state s (StrongIs name) = IsPlainName name
 CanStand state s (Labels global name) = IsFree s name
 CanStand state s (Equates global name n) = IsFree s name × (n < 2 ^ 32)
 CanStand state s (Instructs m way operand) = IsInstruction (constants_of state) state.widths m way operand
 CanStand state s (Bytes bytes) = AreSome bytes × AreBytes bytes × (length bytes ≤ 223)
-CanStand state s (Weakly name) = IsPlainName name
-CanStand state s (Sums count tree) = IsCount count × CanWrite tree × AreUnknown (constants_of state) tree × (has_open tree ≡ true) × (pending 1 tree ≤ 64)
-CanStand state s Ends = ⊥
+CanStand state s (WeakIs name) = IsPlainName name
+CanStand state s (FormulaIs count tree) = IsCount count × CanWrite tree × AreUnknown (constants_of state) tree × (has_open tree ≡ true) × (pending 1 tree ≤ 64)
+CanStand state s EndIs = ⊥
 
 -- ---- what is left
 
 -- a line's answer, and what it leaves
-pub record Stands (said : Said) (state : State) (s : Segment) (number : ℕ) : Type 0 where
+pub record Stands (said : ListedStatement) (state : State) (s : Segment) (number : ℕ) : Type 0 where
   pub next : State
   pub step : IsStep state (line_of 0 number (said_text said)) (Ok next)
   pub leaves : Leaves said state s next
 
 -- records behind those of the segment, with no label
-left_marked : (said : Said) (state : State) (s : Segment) (number form : ℕ) (contents : List Record) → state.segment ≡ Some s
+left_marked : (said : ListedStatement) (state : State) (s : Segment) (number form : ℕ) (contents : List Record) → state.segment ≡ Some s
     → records_said state.widths said ≡ contents → names_said said s.names ≡ s.names → widths_said said state.widths ≡ state.widths → header_said said s.header ≡ s.header
-    → IsStep state (line_of 0 number (said_text said)) (Ok (in_segment (marked [] form contents) state)) → Stands said state s number
+    → IsStep state (line_of 0 number (said_text said)) (Ok (in_segment (with_local_record [] form contents) state)) → Stands said state s number
 left_marked said state s number form contents here gives names widths header step = record {
-  next = in_segment (marked [] form contents) state;
+  next = in_segment (with_local_record [] form contents) state;
   step = step;
   leaves = record {
-    after = marked [] form contents s;
-    here = ap (option_map (marked [] form contents)) here;
+    after = with_local_record [] form contents s;
+    here = ap (option_map (with_local_record [] form contents)) here;
     begun = refl;
     class = refl;
     header = sym header;
@@ -121,13 +121,13 @@ same_label (byte ∷ name) value names is = refl
 
 -- LOCAL
 left_local : (state : State) (s : Segment) (number : ℕ) (name : List ℕ) → state.segment ≡ Some s → IsPlainName name
-    → IsStep state (line_of 0 number (said_text (Labels false name))) (Ok (in_segment (marked name 0x4E []) state)) → Stands (Labels false name) state s number
+    → IsStep state (line_of 0 number (said_text (Labels false name))) (Ok (in_segment (with_local_record name 0x4E []) state)) → Stands (Labels false name) state s number
 left_local state s number name here is step = record {
-  next = in_segment (marked name 0x4E []) state;
+  next = in_segment (with_local_record name 0x4E []) state;
   step = step;
   leaves = record {
-    after = marked name 0x4E [] s;
-    here = ap (option_map (marked name 0x4E [])) here;
+    after = with_local_record name 0x4E [] s;
+    here = ap (option_map (with_local_record name 0x4E [])) here;
     begun = refl;
     class = refl;
     header = refl;
@@ -143,15 +143,15 @@ left_local state s number name here is step = record {
 }
 
 -- one record and a name that may be a constant
-left_grown : (said : Said) (state : State) (s : Segment) (number : ℕ) (name : List ℕ) (value : Option ℕ) (front contents : List Record) → state.segment ≡ Some s → IsPlainName name
+left_grown : (said : ListedStatement) (state : State) (s : Segment) (number : ℕ) (name : List ℕ) (value : Option ℕ) (front contents : List Record) → state.segment ≡ Some s → IsPlainName name
     → records_said state.widths said ≡ front ++ contents → names_said said s.names ≡ with_name name value s.names → widths_said said state.widths ≡ state.widths → header_said said s.header ≡ s.header
-    → IsStep state (line_of 0 number (said_text said)) (Ok (in_segment (grown name value front contents) state)) → Stands said state s number
+    → IsStep state (line_of 0 number (said_text said)) (Ok (in_segment (with_records name value front contents) state)) → Stands said state s number
 left_grown said state s number name value front contents here is gives names widths header step = record {
-  next = in_segment (grown name value front contents) state;
+  next = in_segment (with_records name value front contents) state;
   step = step;
   leaves = record {
-    after = grown name value front contents s;
-    here = ap (option_map (grown name value front contents)) here;
+    after = with_records name value front contents s;
+    here = ap (option_map (with_records name value front contents)) here;
     begun = refl;
     class = refl;
     header = sym header;
@@ -168,16 +168,16 @@ left_grown said state s number name value front contents here is gives names wid
 
 -- LONGA and LONGI
 left_turned : (state : State) (s : Segment) (number : ℕ) (switch : Switch) (on : Bool) → state.segment ≡ Some s
-    → IsStep state (line_of 0 number (said_text (Turns switch on))) (Ok (turned switch on (in_segment (marked [] 0x4E []) state))) → Stands (Turns switch on) state s number
+    → IsStep state (line_of 0 number (said_text (SwitchIs switch on))) (Ok (with_switch_set switch on (in_segment (with_local_record [] 0x4E []) state))) → Stands (SwitchIs switch on) state s number
 left_turned state s number switch on here step = by switch step
   where
-    by : (switch : Switch) → IsStep state (line_of 0 number (said_text (Turns switch on))) (Ok (turned switch on (in_segment (marked [] 0x4E []) state))) → Stands (Turns switch on) state s number
+    by : (switch : Switch) → IsStep state (line_of 0 number (said_text (SwitchIs switch on))) (Ok (with_switch_set switch on (in_segment (with_local_record [] 0x4E []) state))) → Stands (SwitchIs switch on) state s number
     by LongA step = record {
-      next = turned LongA on (in_segment (marked [] 0x4E []) state);
+      next = with_switch_set LongA on (in_segment (with_local_record [] 0x4E []) state);
       step = step;
       leaves = record {
-        after = marked [] 0x4E [] s;
-        here = ap (option_map (marked [] 0x4E [])) here;
+        after = with_local_record [] 0x4E [] s;
+        here = ap (option_map (with_local_record [] 0x4E [])) here;
         begun = refl;
         class = refl;
         header = refl;
@@ -192,11 +192,11 @@ left_turned state s number switch on here step = by switch step
       };
     }
     by LongI step = record {
-      next = turned LongI on (in_segment (marked [] 0x4E []) state);
+      next = with_switch_set LongI on (in_segment (with_local_record [] 0x4E []) state);
       step = step;
       leaves = record {
-        after = marked [] 0x4E [] s;
-        here = ap (option_map (marked [] 0x4E [])) here;
+        after = with_local_record [] 0x4E [] s;
+        here = ap (option_map (with_local_record [] 0x4E [])) here;
         begun = refl;
         class = refl;
         header = refl;
@@ -211,11 +211,11 @@ left_turned state s number switch on here step = by switch step
       };
     }
     by Msb step = record {
-      next = turned Msb on (in_segment (marked [] 0x4E []) state);
+      next = with_switch_set Msb on (in_segment (with_local_record [] 0x4E []) state);
       step = step;
       leaves = record {
-        after = marked [] 0x4E [] s;
-        here = ap (option_map (marked [] 0x4E [])) here;
+        after = with_local_record [] 0x4E [] s;
+        here = ap (option_map (with_local_record [] 0x4E [])) here;
         begun = refl;
         class = refl;
         header = refl;
@@ -232,13 +232,13 @@ left_turned state s number switch on here step = by switch step
 
 -- KIND
 left_kind : (state : State) (s : Segment) (number n : ℕ) → state.segment ≡ Some s
-    → IsStep state (line_of 0 number (said_text (Kinds n))) (Ok (in_segment (λ s. with_kind n (marked [] 0x4E [] s)) state)) → Stands (Kinds n) state s number
+    → IsStep state (line_of 0 number (said_text (KindIs n))) (Ok (in_segment (λ s. with_kind n (with_local_record [] 0x4E [] s)) state)) → Stands (KindIs n) state s number
 left_kind state s number n here step = record {
-  next = in_segment (λ s. with_kind n (marked [] 0x4E [] s)) state;
+  next = in_segment (λ s. with_kind n (with_local_record [] 0x4E [] s)) state;
   step = step;
   leaves = record {
-    after = with_kind n (marked [] 0x4E [] s);
-    here = ap (option_map (λ s. with_kind n (marked [] 0x4E [] s))) here;
+    after = with_kind n (with_local_record [] 0x4E [] s);
+    here = ap (option_map (λ s. with_kind n (with_local_record [] 0x4E [] s))) here;
     begun = refl;
     class = refl;
     header = refl;
@@ -256,7 +256,7 @@ left_kind state s number n here step = record {
 -- ---- the law
 
 -- a line that can stand there, in a segment that it doesn't make too long
-abbrev pub Room : State → Segment → Said → Type 0
+abbrev pub Room : State → Segment → ListedStatement → Type 0
 Room state s said = place_behind 0 (s.body ++ records_said state.widths said) ≤ greatest_length s.class
 
 number_records_same : (w : Widths) (m : Mnemonic) (way : Mode) (bytes n : ℕ) → bytes ≡ operand_bytes w m way
@@ -278,7 +278,7 @@ line_instruction state s number m way (Number bytes n) here can room =
     let fits : n < 256 ^ operand_bytes w m way = subst (λ (k : ℕ). n < 256 ^ k) size can.1.2 in
     let fit : place_behind 0 (s.body ++ contents) ≤ greatest_length s.class = subst (λ (l : List Record). place_behind 0 (s.body ++ l) ≤ greatest_length s.class) (sym same) room in
     left_marked (Instructs m way (Number bytes n)) state s number 0x4D contents here (sym same) refl refl refl
-    (subst (λ (k : ℕ). IsStep state (line_of 0 number (said_text (Instructs m way (Number k n)))) (Ok (in_segment (marked [] 0x4D contents) state))) (sym size)
+    (subst (λ (k : ℕ). IsStep state (line_of 0 number (said_text (Instructs m way (Number k n)))) (Ok (in_segment (with_local_record [] 0x4D contents) state))) (sym size)
     (number_step state s number (opcode_in m way) m way n here can.0 can.1.0 can.1.3 fits fit))
 line_instruction state s number m modes.Move (Banks source destination) here can room =
     left_marked (Instructs m modes.Move (Banks source destination)) state s number 0x4D (instruction_records state.widths m modes.Move (Banks source destination)) here refl refl refl refl
@@ -293,18 +293,18 @@ line_instruction state s number m _ None' here can room = absurd can.1
 line_instruction state s number m _ (Banks source destination) here can room = absurd can.1
 
 -- the law on one line
-pub line_gives : (state : State) (s : Segment) (number : ℕ) (said : Said) → state.segment ≡ Some s → CanStand state s said → Room state s said → Stands said state s number
-line_gives state s number (NextAlign n) here can room = absurd can
+pub line_gives : (state : State) (s : Segment) (number : ℕ) (said : ListedStatement) → state.segment ≡ Some s → CanStand state s said → Room state s said → Stands said state s number
+line_gives state s number (NextAlignIs n) here can room = absurd can
 line_gives state s number (NextOrg n) here can room = absurd can
-line_gives state s number (Begins crosses name load_name) here can room = absurd can
-line_gives state s number (Kinds n) here can room = left_kind state s number n here (kind_step state s number n here can.0 can.1 room)
-line_gives state s number (Turns switch on) here can room = left_turned state s number switch on here (turns_step state s number switch on here room)
-line_gives state s number (Spaces n) here can room = left_marked (Spaces n) state s number 0x4E (records.Space n ∷ []) here refl refl refl refl (spaces_step state s number n here can room)
+line_gives state s number (StartIs crosses name load_name) here can room = absurd can
+line_gives state s number (KindIs n) here can room = left_kind state s number n here (kind_step state s number n here can.0 can.1 room)
+line_gives state s number (SwitchIs switch on) here can room = left_turned state s number switch on here (turns_step state s number switch on here room)
+line_gives state s number (Ds n) here can room = left_marked (Ds n) state s number 0x4E (records.Space n ∷ []) here refl refl refl refl (spaces_step state s number n here can room)
 line_gives state s number (Aligns n) here can room =
     left_marked (Aligns n) state s number 0x4E (records.Align n ∷ []) here refl refl refl refl (align_step state s number n here can.0 can.1 can.2 room)
-line_gives state s number (Moves n) here can room = left_marked (Moves n) state s number 0x4E (records.Org n ∷ []) here refl refl refl refl (move_step state s number n here can room)
-line_gives state s number (Uses name) here can room = left_marked (Uses name) state s number 0x4E (records.Using name ∷ []) here refl refl refl refl (using_step state s number name here can room)
-line_gives state s number (Asks name) here can room = left_marked (Asks name) state s number 0x4E (records.Strong name ∷ []) here refl refl refl refl (asks_step state s number name here can room)
+line_gives state s number (OrgIs n) here can room = left_marked (OrgIs n) state s number 0x4E (records.Org n ∷ []) here refl refl refl refl (move_step state s number n here can room)
+line_gives state s number (UsingIs name) here can room = left_marked (UsingIs name) state s number 0x4E (records.Using name ∷ []) here refl refl refl refl (using_step state s number name here can room)
+line_gives state s number (StrongIs name) here can room = left_marked (StrongIs name) state s number 0x4E (records.Strong name ∷ []) here refl refl refl refl (asks_step state s number name here can room)
 line_gives state s number (Labels false name) here can room =
     left_local state s number name here can.0
     (local_step state s number name here can.0 can.1 (subst (λ (l : List Record). place_behind 0 (s.body ++ l) ≤ greatest_length s.class) (sym (same_local name (cells_of s) can.0)) room))
@@ -320,9 +320,9 @@ line_gives state s number (Instructs m way operand) here can room = line_instruc
 line_gives state s number (Bytes []) here can room = absurd can.0
 line_gives state s number (Bytes (byte ∷ bytes)) here can room =
     left_marked (Bytes (byte ∷ bytes)) state s number 0x4E (records.Const (byte ∷ bytes) ∷ []) here refl refl refl refl (bytes_step state s number byte bytes here can.1 can.2 room)
-line_gives state s number (Weakly name) here can room =
-    left_marked (Weakly name) state s number 0x4E (records_said state.widths (Weakly name)) here refl refl refl refl (weakly_step state s number name here can room)
-line_gives state s number (Sums count tree) here can room =
-    left_marked (Sums count tree) state s number 0x4E (records_said state.widths (Sums count tree)) here refl refl refl refl
+line_gives state s number (WeakIs name) here can room =
+    left_marked (WeakIs name) state s number 0x4E (records_said state.widths (WeakIs name)) here refl refl refl refl (weakly_step state s number name here can room)
+line_gives state s number (FormulaIs count tree) here can room =
+    left_marked (FormulaIs count tree) state s number 0x4E (records_said state.widths (FormulaIs count tree)) here refl refl refl refl
     (sums_step state s number count tree here can.0 can.1 can.2 can.3 can.4 room)
-line_gives state s number Ends here can room = absurd can
+line_gives state s number EndIs here can room = absurd can

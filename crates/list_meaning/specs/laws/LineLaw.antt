@@ -24,7 +24,7 @@ use Rattle.asm_meaning.specs.Formulas as formulas
 use Rattle.asm_meaning.specs.Formulas.{IsFormula}
 use Rattle.asm_meaning.specs.Operations as asm_operations
 use Rattle.asm_meaning.specs.Operations.{operation_of}
-use Rattle.asm_meaning.specs.State.{State, Segment, cells_of, greatest_length, marked, in_segment, is_too_long, within_length}
+use Rattle.asm_meaning.specs.State.{State, Segment, cells_of, greatest_length, with_local_record, in_segment, is_too_long, within_length}
 use Rattle.asm_meaning.specs.Statement as statement
 use Rattle.std.specs.Option.{option_map}
 use Rattle.asm_meaning.specs.Statement.{IsDone, begins_segment, label_of, IsStep, IsPlaced, is_misplaced, number_in}
@@ -43,11 +43,11 @@ use Rattle.orca_meaning.specs.Operand.{Meaning, IsMissing}
 use Rattle.orca_meaning.specs.Length.{length_of}
 use Rattle.omf_format.specs.Field.{◌>>=◌}
 use Rattle.asm_meaning.specs.Constant.{Constants}
-use Rattle.asm_meaning.specs.Instruction.{Widths, instruction, offered, modes_of, kind_of, without_amount, operand_bytes, opcode_in}
+use Rattle.asm_meaning.specs.Instruction.{Widths, instruction, modes_of_form, modes_of, kind_of, without_amount, operand_bytes, opcode_in}
 use Rattle.asm_meaning.specs.Pieces.{records_of, records_behind}
 use Rattle.asm_meaning.specs.Statement.{IsOperandOf, Good, constants_of}
 use Rattle.list_meaning.specs.Listed as listed
-use Rattle.list_meaning.specs.Listed.{Spaces, Instructs, said_text, spelling_of}
+use Rattle.list_meaning.specs.Listed.{Ds, Instructs, said_text, spelling_of}
 
 -- a line of a listing is the statement of its three fields
 pub step_of : (state : State) (number : ℕ) (label operation operand : List ℕ) (op : Operation) (answer : Answer State)
@@ -109,16 +109,16 @@ unfolding tokens.operator_at tokens.spelled_at
 number_formula places n fits = subst (λ (text : List ℕ). MeansAt Labels text (Leaf (expression.Constant n)) []) (append-nil (number_text places n)) (number_means places n [] fits tt refl)
 
 pub number_there : (state : State) (n : ℕ) → n < 2 ^ 32 → number_in state (Some (Leaf (expression.Constant n))) ≡ Ok n
-unfolding formulas.judged constant.worth
+unfolding formulas.checked_formula constant.known_value
 number_there state n fits = rw (lt-leb (2 ^ 32) n fits) refl
 
-pub spaces_step : (state : State) (s : Segment) (number n : ℕ) → state.segment ≡ Some s → n < 2 ^ 32 → cells_of (marked [] 0x4E (Space n ∷ []) s) ≤ greatest_length s.class
-    → IsStep state (line_of 0 number (said_text (Spaces n))) (Ok (in_segment (marked [] 0x4E (Space n ∷ [])) state))
-unfolding said_text statement.IsDone operation_of operations.operation_use operations.mnemonic_of operations.beside operations.mnemonics operations.without_operand asm_operations.directives asm_operations.ignored
+pub spaces_step : (state : State) (s : Segment) (number n : ℕ) → state.segment ≡ Some s → n < 2 ^ 32 → cells_of (with_local_record [] 0x4E (Space n ∷ []) s) ≤ greatest_length s.class
+    → IsStep state (line_of 0 number (said_text (Ds n))) (Ok (in_segment (with_local_record [] 0x4E (Space n ∷ [])) state))
+unfolding said_text statement.IsDone operation_of operations.operation_use operations.mnemonic_of operations.value_of_spelling operations.mnemonics operations.without_operand asm_operations.directives asm_operations.ignored_directives
 spaces_step state s number n here fits room =
-    let left = in_segment (marked [] 0x4E (Space n ∷ [])) state in
+    let left = in_segment (with_local_record [] 0x4E (Space n ∷ [])) state in
     step_of state number [] (codes "DS") (number_text 8 n) (Direct directives.Space) (Ok left) tt (refl, (refl, tt)) (number_ink 8 n fits) tt refl
-    (inside state s (line_of 0 number (statement_text [] (codes "DS") (number_text 8 n))) (Direct directives.Space) [] (number_text 8 n) (marked [] 0x4E (Space n ∷ [])) here refl
+    (inside state s (line_of 0 number (statement_text [] (codes "DS") (number_text 8 n))) (Direct directives.Space) [] (number_text 8 n) (with_local_record [] 0x4E (Space n ∷ [])) here refl
     (Some (Leaf (expression.Constant n)), number_formula 8 n fits, rw (number_there state n fits) refl) room)
 
 -- ---- an instruction without operand
@@ -138,14 +138,14 @@ missing m = Good (record { form = forms.Nothing; prefix = Bare; trees = [] }) (r
 
 implied_gives : (constants : Constants) (widths : Widths) (m : Mnemonic) → has_mode m Implied ≡ true
     → (instruction constants widths m no_operand >>= λ pieces. Ok (records_of pieces)) ≡ Ok (Const (opcode_in m Implied ∷ []) ∷ [])
-unfolding no_operand instruction offered modes_of kind_of without_amount operand_bytes length_of records_behind
+unfolding no_operand instruction modes_of_form modes_of kind_of without_amount operand_bytes length_of records_behind
 implied_gives constants widths m has = rw has refl
 
 pub implied_step : (state : State) (s : Segment) (number : ℕ) (m : Mnemonic) → state.segment ≡ Some s → has_mode m Implied ≡ true
-    → cells_of (marked [] 0x4D (Const (opcode_in m Implied ∷ []) ∷ []) s) ≤ greatest_length s.class
-    → IsStep state (line_of 0 number (said_text (Instructs m Implied listed.None'))) (Ok (in_segment (marked [] 0x4D (Const (opcode_in m Implied ∷ []) ∷ [])) state))
+    → cells_of (with_local_record [] 0x4D (Const (opcode_in m Implied ∷ []) ∷ []) s) ≤ greatest_length s.class
+    → IsStep state (line_of 0 number (said_text (Instructs m Implied listed.None'))) (Ok (in_segment (with_local_record [] 0x4D (Const (opcode_in m Implied ∷ []) ∷ [])) state))
 unfolding said_text IsDone operation_of listed.shape_of
 implied_step state s number m here has room =
-    step_of state number [] (spelling_of m) [] (Instruct m) (Ok (in_segment (marked [] 0x4D (Const (opcode_in m Implied ∷ []) ∷ [])) state)) tt (spelled m).named tt (taken_none (operation_use (spelling_of m))) (operation_is m)
-    (inside state s (line_of 0 number (statement_text [] (spelling_of m) [])) (Instruct m) [] [] (marked [] 0x4D (Const (opcode_in m Implied ∷ []) ∷ [])) here refl
+    step_of state number [] (spelling_of m) [] (Instruct m) (Ok (in_segment (with_local_record [] 0x4D (Const (opcode_in m Implied ∷ []) ∷ [])) state)) tt (spelled m).named tt (taken_none (operation_use (spelling_of m))) (operation_is m)
+    (inside state s (line_of 0 number (statement_text [] (spelling_of m) [])) (Instruct m) [] [] (with_local_record [] 0x4D (Const (opcode_in m Implied ∷ []) ∷ [])) here refl
     (Ok no_operand, missing m, rw (implied_gives (constants_of state) state.widths m has) refl) room)

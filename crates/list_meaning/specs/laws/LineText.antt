@@ -8,7 +8,7 @@ use Rattle.orca_meaning.specs.declared.forms.OperandUse.TheVariants.{Never, Accu
 use Rattle.orca_meaning.specs.Characters.{is_blank}
 use Rattle.orca_meaning.specs.Operation.{operation_use}
 use Rattle.orca_meaning.specs.Quotes.{outside_from, is_closed, quote_behind}
-use Rattle.list_meaning.specs.Listed.{spaced, statement_text}
+use Rattle.list_meaning.specs.Listed.{with_leading_space, statement_text}
 use Rattle.orca_meaning.specs.Line.{Fields, is_ink, is_comment, next_blank, next_ink, next_outside, three_fields, operand_span, fields_of, part, span}
 
 -- no blank is among the bytes
@@ -52,7 +52,7 @@ laid_out label operation operand =
     let a = length label in
     let b = a + 1 in
     let c = b + length operation in
-    let d = c + (length (spaced operand) - length operand) in
+    let d = c + (length (with_leading_space operand) - length operand) in
     record { label = span 0 a; operation = span b c; operand = span d (d + length operand) }
 
 ink_first : (byte : ℕ) (rest : List ℕ) → is_blank byte ≡ false → position_or_len is_ink (byte ∷ rest) ≡ 0
@@ -82,48 +82,48 @@ module _ (label operation operand : List ℕ) (label_is : HasNoBlank label) (ope
   c = length operation
 
   label_end : next_blank text 0 ≡ a
-  label_end = let found : position_or_len is_blank text ≡ length label = blank_at label (operation ++ spaced operand) label_is in omega (arith, found)
+  label_end = let found : position_or_len is_blank text ≡ length label = blank_at label (operation ++ with_leading_space operand) label_is in omega (arith, found)
 
-  behind_label : drop (a + 1) text ≡ operation ++ spaced operand
-  behind_label = drop-past label (operation ++ spaced operand) 0x20
+  behind_label : drop (a + 1) text ≡ operation ++ with_leading_space operand
+  behind_label = drop-past label (operation ++ with_leading_space operand) 0x20
 
-  at_label : drop a text ≡ 0x20 ∷ (operation ++ spaced operand)
-  at_label = drop_at label (0x20 ∷ (operation ++ spaced operand)) a refl
+  at_label : drop a text ≡ 0x20 ∷ (operation ++ with_leading_space operand)
+  at_label = drop_at label (0x20 ∷ (operation ++ with_leading_space operand)) a refl
 
   first_ink : (op more : List ℕ) → IsOperation op → position_or_len is_ink (0x20 ∷ (op ++ more)) ≡ 1
   first_ink [] more is = absurd is
   first_ink (byte ∷ op) more is = let here : position_or_len is_ink (byte ∷ (op ++ more)) ≡ 0 = ink_first byte (op ++ more) is.0 in omega (arith, here)
 
   operation_from : next_ink text a ≡ a + 1
-  operation_from = ap (λ (l : List ℕ). a + position_or_len is_ink l) at_label ∙ ap (λ (k : ℕ). a + k) (first_ink operation (spaced operand) operation_is)
+  operation_from = ap (λ (l : List ℕ). a + position_or_len is_ink l) at_label ∙ ap (λ (k : ℕ). a + k) (first_ink operation (with_leading_space operand) operation_is)
 
   all_ink : (op : List ℕ) → IsOperation op → HasNoBlank op
   all_ink [] is = absurd is
   all_ink (byte ∷ op) is = is
 
-  end_of : (op more : List ℕ) → HasNoBlank op → position_or_len is_blank (op ++ spaced more) ≡ length op
+  end_of : (op more : List ℕ) → HasNoBlank op → position_or_len is_blank (op ++ with_leading_space more) ≡ length op
   end_of op [] is = ap (position_or_len is_blank) (append-nil op) ∙ no_blank op is
   end_of op (byte ∷ more) is = blank_at op (byte ∷ more) is
 
   operation_end : next_blank text (a + 1) ≡ a + 1 + c
   operation_end = ap (λ (l : List ℕ). a + 1 + position_or_len is_blank l) behind_label ∙ ap (λ (k : ℕ). a + 1 + k) (end_of operation operand (all_ink operation operation_is))
 
-  behind_operation : drop (a + 1 + c) text ≡ spaced operand
-  behind_operation = drop-more (a + 1) c text ∙ ap (drop c) behind_label ∙ drop_at operation (spaced operand) c refl
+  behind_operation : drop (a + 1 + c) text ≡ with_leading_space operand
+  behind_operation = drop-more (a + 1) c text ∙ ap (drop c) behind_label ∙ drop_at operation (with_leading_space operand) c refl
 
   abbrev pub gap : ℕ
-  gap = length (spaced operand) - length operand
+  gap = length (with_leading_space operand) - length operand
 
-  first_of_operand : (more : List ℕ) → HasNoBlank more → position_or_len is_ink (spaced more) ≡ length (spaced more) - length more
+  first_of_operand : (more : List ℕ) → HasNoBlank more → position_or_len is_ink (with_leading_space more) ≡ length (with_leading_space more) - length more
   first_of_operand [] is = refl
   first_of_operand (byte ∷ more) is = let here : position_or_len is_ink (byte ∷ more) ≡ 0 = ink_first byte more is.0 in omega (arith, here)
 
   operand_from : next_ink text (a + 1 + c) ≡ a + 1 + c + gap
   operand_from = ap (λ (l : List ℕ). a + 1 + c + position_or_len is_ink l) behind_operation ∙ ap (λ (k : ℕ). a + 1 + c + k) (first_of_operand operand operand_is)
 
-  dropped : (more : List ℕ) → drop (length (spaced more) - length more) (spaced more) ≡ more
+  dropped : (more : List ℕ) → drop (length (with_leading_space more) - length more) (with_leading_space more) ≡ more
   dropped [] = refl
-  dropped (byte ∷ more) = let one : length (spaced (byte ∷ more)) - length (byte ∷ more) ≡ 1 = omega arith in ap (λ (k : ℕ). drop k (0x20 ∷ byte ∷ more)) one
+  dropped (byte ∷ more) = let one : length (with_leading_space (byte ∷ more)) - length (byte ∷ more) ≡ 1 = omega arith in ap (λ (k : ℕ). drop k (0x20 ∷ byte ∷ more)) one
 
   pub at_operand : drop (a + 1 + c + gap) text ≡ operand
   at_operand = drop-more (a + 1 + c) gap text ∙ ap (drop gap) behind_operation ∙ dropped operand
@@ -191,10 +191,10 @@ module _ (label operation operand : List ℕ) where
   pub laid_three : IsLabelFront label → IsOperation operation → HasNoBlank operand → IsLaid whole label operation operand (three_fields whole)
   laid_three front op none =
       subst (λ (f : Fields). IsLaid whole label operation operand f) (sym (three_are label operation operand (label_ink label front) op none)) (record {
-        label_is = part_at [] label (0x20 ∷ (operation ++ spaced operand)) 0 (length label) refl (omega arith);
+        label_is = part_at [] label (0x20 ∷ (operation ++ with_leading_space operand)) 0 (length label) refl (omega arith);
         operation_is =
-            ap (λ (l : List ℕ). part l (laid_out label operation operand).operation) (sym (append_assoc label (0x20 ∷ []) (operation ++ spaced operand)))
-            ∙ part_at (label ++ 0x20 ∷ []) operation (spaced operand) (length label + 1) (length label + 1 + length operation) (omega (arith, length-append label (0x20 ∷ []))) refl;
+            ap (λ (l : List ℕ). part l (laid_out label operation operand).operation) (sym (append_assoc label (0x20 ∷ []) (operation ++ with_leading_space operand)))
+            ∙ part_at (label ++ 0x20 ∷ []) operation (with_leading_space operand) (length label + 1) (length label + 1 + length operation) (omega (arith, length-append label (0x20 ∷ []))) refl;
         operand_is = third operand;
       })
 

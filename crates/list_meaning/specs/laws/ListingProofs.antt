@@ -9,8 +9,8 @@ use Rattle.omf_format.specs.File.{Segment, AreSegments, IsFile}
 use Rattle.omf_format.specs.Header.{Fields, is_private}
 use Rattle.omf_format.specs.Record.{Record, End}
 use Rattle.link_meaning.specs.Defines.{defined_by, defined_in, title_of, outer_scope}
-use Rattle.link_meaning.specs.Sizes.{Located, located_from, located, size_at}
-use Rattle.orca_meaning.specs.Line.{Line, line_of, numbered}
+use Rattle.link_meaning.specs.Sizes.{Located, located_from, records_with_offsets, size_at}
+use Rattle.orca_meaning.specs.Line.{Line, line_of, numbered_lines}
 use Rattle.asm_meaning.specs.Object.{AreSteps, HasLines, InLength, object_text, most_bytes}
 use Rattle.asm_meaning.specs.ObjectFile.{IsReadAs, AreReadAs}
 use Rattle.asm_meaning.specs.laws.ObjectFileLaws.{object_is_file}
@@ -19,9 +19,9 @@ use Rattle.asm_meaning.specs.State.{State, Ended, start}
 use Rattle.asm_meaning.specs.Statement.{IsStep}
 use Rattle.asm_meaning.specs.laws.StatementLaws.{step_once}
 use Rattle.list_meaning.specs.Given.{IsLeft}
-use Rattle.list_meaning.specs.Listed.{Said, said_text, listing_text}
+use Rattle.list_meaning.specs.Listed.{ListedStatement, said_text, listing_text}
 use Rattle.list_meaning.specs.Listing.{listing_from}
-use Rattle.list_meaning.specs.Flat.{zeros, places_from, contents_of, flat, Defined, told, definitions, used_by, asked_by, AreAlike, AreAllAlike}
+use Rattle.list_meaning.specs.Flat.{zeros, places_from, contents_of, flat, Defined, comparable_definition, definitions, used_by, asked_by, AreAlike, AreAllAlike}
 use Rattle.list_meaning.specs.ListingLaws.{IsReadAgain, Whole, TooLong, ListingIsReadAgain, LineIsRead}
 use Rattle.list_meaning.specs.laws.WholeLaw.{text_expands}
 use Rattle.list_meaning.specs.laws.Behind.{Leads, leads_steps}
@@ -32,19 +32,19 @@ use Rattle.list_meaning.specs.laws.SegmentLines.{Ready, IsEndedAs, AreEndedAs, F
 -- ---- definitions
 
 -- the displacement in the file isn't told
-same_told : (l at place : ℕ) (r : Record) → map (told l) (defined_by at place r) ≡ defs_at l place r
+same_told : (l at place : ℕ) (r : Record) → map (comparable_definition l) (defined_by at place r) ≡ defs_at l place r
 same_told l at place (Rattle.omf_format.specs.Record.Label global name size form private) = refl
 same_told l at place (Rattle.omf_format.specs.Record.Equate global name size form private expr) = refl
 same_told l at place _ = refl
 
-told_located : (l at : ℕ) (founds : List (ℕ × Record)) → map (told l) (flat_map (λ r. defined_by r.at r.location r.content) (located_from at founds)) ≡ defs_from l at (map (λ found. found.1) founds)
+told_located : (l at : ℕ) (founds : List (ℕ × Record)) → map (comparable_definition l) (flat_map (λ r. defined_by r.at r.location r.content) (located_from at founds)) ≡ defs_from l at (map (λ found. found.1) founds)
 told_located l at [] = refl
 told_located l at (found ∷ founds) =
     let each = λ (r : Located). defined_by r.at r.location r.content in
     let first = defined_by found.0 at found.1 in
     let behind = flat_map each (located_from (at + size_at at found.1) founds) in
-    ap (map (told l)) (flat_map-cons each (record { at = found.0; location = at; content = found.1 }) (located_from (at + size_at at found.1) founds))
-    ∙ map-append (told l) first behind ∙ ap (λ (d : List Defined). d ++ map (told l) behind) (same_told l found.0 at found.1)
+    ap (map (comparable_definition l)) (flat_map-cons each (record { at = found.0; location = at; content = found.1 }) (located_from (at + size_at at found.1) founds))
+    ∙ map-append (comparable_definition l) first behind ∙ ap (λ (d : List Defined). d ++ map (comparable_definition l) behind) (same_told l found.0 at found.1)
     ∙ ap (λ (d : List Defined). defs_at l at found.1 ++ d) (told_located l (at + size_at at found.1) founds)
 
 -- SEGNAME
@@ -52,20 +52,20 @@ titled : List ℕ → ℕ → List Defined
 titled [] kind = []
 titled (byte ∷ name) kind = record { name = byte ∷ name; scope = outer_scope (is_private kind); place = 0; value = None } ∷ []
 
-title_told : (l : ℕ) (s : Segment) → map (told l) (title_of s) ≡ titled s.fields.name s.fields.kind
+title_told : (l : ℕ) (s : Segment) → map (comparable_definition l) (title_of s) ≡ titled s.fields.name s.fields.kind
 unfolding title_of titled
 title_told l s = by s.fields.name refl
   where
-    by : (name : List ℕ) → s.fields.name ≡ name → map (told l) (title_of s) ≡ titled name s.fields.kind
+    by : (name : List ℕ) → s.fields.name ≡ name → map (comparable_definition l) (title_of s) ≡ titled name s.fields.kind
     by [] e = rw e refl
     by (byte ∷ name) e = rw e refl
 
 definitions_are : (s : Segment) → definitions s ≡ titled s.fields.name s.fields.kind ++ defs_from s.fields.lab_len 0 (contents_of s)
-unfolding defined_in located
+unfolding defined_in records_with_offsets
 definitions_are s =
     let l = s.fields.lab_len in
     let behind = flat_map (λ r. defined_by r.at r.location r.content) (located_from 0 s.records) in
-    map-append (told l) (title_of s) behind ∙ ap (λ (d : List Defined). d ++ map (told l) behind) (title_told l s) ∙ ap (λ (d : List Defined). titled s.fields.name s.fields.kind ++ d) (told_located l 0 s.records)
+    map-append (comparable_definition l) (title_of s) behind ∙ ap (λ (d : List Defined). d ++ map (comparable_definition l) behind) (title_told l s) ∙ ap (λ (d : List Defined). titled s.fields.name s.fields.kind ++ d) (told_located l 0 s.records)
 
 -- ---- a segment
 
@@ -122,13 +122,13 @@ at_start : Ready 0 0 [] start
 at_start = record { none = refl; outside = λ name. refl; org_is = refl; align_is = refl; front = refl; ended_is = refl }
 
 -- the lines of a file's listing have no fault
-pub file_leads : (file : List ℕ) (segments : List Segment) (all : List Said) → IsBytes file → IsFile segments file → listing_from 1 segments ≡ Ok all → FileRan segments [] start 1 all
+pub file_leads : (file : List ℕ) (segments : List Segment) (all : List ListedStatement) → IsBytes file → IsFile segments file → listing_from 1 segments ≡ Ok all → FileRan segments [] start 1 all
 file_leads file segments all fits is listed = file_runs 1 segments all [] start 1 (all_read segments 0 file (length file) fits is) listed at_start
 
 pub read_again : ListingIsReadAgain
 read_again file segments all fits is listed few =
     let ran = file_leads file segments all fits is listed in
-    let has : HasLines (listing_text all) [] ran.last = record { lines = numbered 0 1 (map said_text all); expanded = text_expands all ran.said few; steps = leads_steps start ran.last 1 all ran.leads } in
+    let has : HasLines (listing_text all) [] ran.last = record { lines = numbered_lines 0 1 (map said_text all); expanded = text_expands all ran.said few; steps = leads_steps start ran.last 1 all ran.leads } in
     let ended : AreEndedAs segments ran.last.ended = subst (AreEndedAs segments) (sym ran.ready.ended_is) ran.are in
     by ran.last (leb (length (object_text ran.last.ended)) most_bytes) refl has ran.ready.none ended
   where
@@ -154,9 +154,9 @@ unfolding right
 next_same state line a b p q = same_right a b (step_once state line (Ok a) (Ok b) p q)
 
 -- of lines without a fault each leaves what it was written for
-line_left : (first last state : State) (number : ℕ) (before behind : List Said) (said : Said) → Leads first number (before ++ said ∷ behind) last → AreSteps first (numbered 0 number (map said_text before)) state
+line_left : (first last state : State) (number : ℕ) (before behind : List ListedStatement) (said : ListedStatement) → Leads first number (before ++ said ∷ behind) last → AreSteps first (numbered_lines 0 number (map said_text before)) state
     → (next : State) × IsStep state (line_of 0 (number + length before) (said_text said)) (Ok next) × IsLeft said state next
-unfolding numbered
+unfolding numbered_lines
 line_left first last state number [] behind said leads steps =
     let same : number + 0 ≡ number = omega arith in
     subst (λ (s : State). (next : State) × IsStep s (line_of 0 (number + 0) (said_text said)) (Ok next) × IsLeft said s next) steps
@@ -165,7 +165,7 @@ line_left first last state number (x ∷ before) behind said leads steps =
     let same : leads.0 ≡ steps.0 = next_same first (line_of 0 number (said_text x)) leads.0 steps.0 leads.1.0 steps.1 in
     let count : number + 1 + length before ≡ number + length (x ∷ before) = omega arith in
     subst (λ (n : ℕ). (next : State) × IsStep state (line_of 0 n (said_text said)) (Ok next) × IsLeft said state next) count
-    (line_left leads.0 last state (number + 1) before behind said leads.2 (subst (λ (s : State). AreSteps s (numbered 0 (number + 1) (map said_text before)) state) (sym same) steps.2))
+    (line_left leads.0 last state (number + 1) before behind said leads.2 (subst (λ (s : State). AreSteps s (numbered_lines 0 (number + 1) (map said_text before)) state) (sym same) steps.2))
 
 pub line_is_read : LineIsRead
 line_is_read file segments before behind said state fits is listed steps =

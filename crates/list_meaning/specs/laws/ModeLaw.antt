@@ -20,7 +20,7 @@ use Rattle.orca_meaning.specs.Operand.{means_accumulator}
 use Rattle.orca_meaning.specs.Operation.{use_of, has_mode}
 use Rattle.asm_meaning.specs.Instruction.{opcode_in}
 use Rattle.orca_meaning.specs.Matrix.{Instruction, matrix, opcode_of}
-use Rattle.asm_meaning.specs.Instruction.{offered, modes_of, kind_of}
+use Rattle.asm_meaning.specs.Instruction.{modes_of_form, modes_of, kind_of}
 
 -- the form and the prefix of what is written in a mode
 abbrev pub form_in : Mode → Form
@@ -84,10 +84,10 @@ only way (found ∷ []) = sameb mode_type.the_type found way
 only way (found ∷ next ∷ more) = false
 
 abbrev is_alone : Instruction → Bool
-is_alone (m, way) = only way (offered m (form_in way) (prefix_in way))
+is_alone (m, way) = only way (modes_of_form m (form_in way) (prefix_in way))
 
 all_alone : list_all is_alone matrix ≡ true
-unfolding matrix offered modes_of kind_of opcode_of
+unfolding matrix modes_of_form modes_of kind_of opcode_of
 all_alone = refl
 
 -- ---- the table's rules, as laws
@@ -142,8 +142,8 @@ at_place at ((n, other) ∷ all) (suc k) m way holds is =
 pub opcode_back : (k : ℕ) (m : Mnemonic) (way : Mode) → slice_get matrix k ≡ Some (m, way) → opcode_in m way ≡ k
 opcode_back k m way is = at_place 0 matrix k m way all_at is ∙ omega arith
 
-pub one_mode : (k : ℕ) (m : Mnemonic) (way : Mode) → slice_get matrix k ≡ Some (m, way) → offered m (form_in way) (prefix_in way) ≡ way ∷ []
-one_mode k m way is = by (offered m (form_in way) (prefix_in way)) (of_list is_alone matrix k (m, way) all_alone is)
+pub one_mode : (k : ℕ) (m : Mnemonic) (way : Mode) → slice_get matrix k ≡ Some (m, way) → modes_of_form m (form_in way) (prefix_in way) ≡ way ∷ []
+one_mode k m way is = by (modes_of_form m (form_in way) (prefix_in way)) (of_list is_alone matrix k (m, way) all_alone is)
   where
     by : (found : List Mode) → only way found ≡ true → found ≡ way ∷ []
     by [] holds = absurd cc

@@ -27,8 +27,8 @@ use Rattle.asm_meaning.specs.declared.directives.Class.{Class}
 use Rattle.omf_base.specs.Digits.{hexadecimal}
 use Rattle.asm_meaning.specs.Operations.{operation_of}
 use Rattle.asm_meaning.specs.Pieces as pieces
-use Rattle.asm_meaning.specs.State.{State, Segment, cells_of, greatest_length, marked, grown, in_segment, is_too_long, within_length, turned, closed, begun}
-use Rattle.asm_meaning.specs.Statement.{is_some_text, behind_here, equated, equating, equating_global, constants_of, IsStep, IsDone, IsPlaced, is_misplaced, begins_segment, label_of, is_taken, load_name_of, is_alignment, switch_of, distance_in, IsMove, aligned, moved, with_kind, listed_kind, alignment_in}
+use Rattle.asm_meaning.specs.State.{State, Segment, cells_of, greatest_length, with_local_record, with_records, in_segment, is_too_long, within_length, with_switch_set, state_after_end, state_after_start}
+use Rattle.asm_meaning.specs.Statement.{is_some_text, behind_here, with_equate, equating, equating_global, constants_of, IsStep, IsDone, IsPlaced, is_misplaced, begins_segment, label_of, is_taken, load_name_of, is_alignment, switch_of, distance_in, IsMove, state_after_align, state_after_org, with_kind, listed_kind, alignment_in}
 use Rattle.list_meaning.specs.laws.LineText.{IsLabelFront, HasNoBlank}
 use Rattle.list_meaning.specs.Listed.{statement_text}
 use Rattle.list_meaning.specs.laws.FormulaLaw.{IsPlainName}
@@ -36,7 +36,7 @@ use Rattle.list_meaning.specs.laws.HeldLaw.{name_ink}
 use Rattle.list_meaning.specs.laws.LineLaw.{step_of, inside, number_ink, number_formula, number_there}
 use Rattle.list_meaning.specs.Listed.{number_text}
 use Rattle.list_meaning.specs.Listed as listed
-use Rattle.list_meaning.specs.Listed.{Begins, Equates, Labels, Uses, Turns, Kinds, Aligns, Moves, Ends, NextAlign, NextOrg, said_text}
+use Rattle.list_meaning.specs.Listed.{StartIs, Equates, Labels, UsingIs, SwitchIs, KindIs, Aligns, OrgIs, EndIs, NextAlignIs, NextOrg, said_text}
 
 -- ---- names
 
@@ -84,31 +84,31 @@ inside_to state next s line op label text here begins done fits =
 
 -- ---- labels
 
-pub local_step : (state : State) (s : Segment) (number : ℕ) (name : List ℕ) → state.segment ≡ Some s → IsPlainName name → is_some (s.names name) ≡ false → cells_of (marked name 0x4E [] s) ≤ greatest_length s.class
-    → IsStep state (line_of 0 number (said_text (Labels false name))) (Ok (in_segment (marked name 0x4E []) state))
-unfolding said_text IsDone operation_of operations.operation_use operations.mnemonic_of operations.beside operations.mnemonics operations.without_operand asm_operations.directives asm_operations.ignored
+pub local_step : (state : State) (s : Segment) (number : ℕ) (name : List ℕ) → state.segment ≡ Some s → IsPlainName name → is_some (s.names name) ≡ false → cells_of (with_local_record name 0x4E [] s) ≤ greatest_length s.class
+    → IsStep state (line_of 0 number (said_text (Labels false name))) (Ok (in_segment (with_local_record name 0x4E []) state))
+unfolding said_text IsDone operation_of operations.operation_use operations.mnemonic_of operations.value_of_spelling operations.mnemonics operations.without_operand asm_operations.directives asm_operations.ignored_directives
 local_step state s number name here is free room =
-    step_of state number name (codes "ANOP") [] (Direct directives.Nothing) (Ok (in_segment (marked name 0x4E []) state)) (front_is name is) (refl, (refl, (refl, (refl, tt)))) tt refl refl
-    (inside state s (line_of 0 number (statement_text name (codes "ANOP") [])) (Direct directives.Nothing) name [] (marked name 0x4E []) here refl
+    step_of state number name (codes "ANOP") [] (Direct directives.Nothing) (Ok (in_segment (with_local_record name 0x4E []) state)) (front_is name is) (refl, (refl, (refl, (refl, tt)))) tt refl refl
+    (inside state s (line_of 0 number (statement_text name (codes "ANOP") [])) (Direct directives.Nothing) name [] (with_local_record name 0x4E []) here refl
     (rw (label_is state s (Direct directives.Nothing) name here is free) refl) room)
 
 pub global_step : (state : State) (s : Segment) (number : ℕ) (name : List ℕ) → state.segment ≡ Some s → IsPlainName name → is_some (s.names name) ≡ false
-    → cells_of (grown name None (Label true name 0 0x4E 0 ∷ []) [] s) ≤ greatest_length s.class
-    → IsStep state (line_of 0 number (said_text (Labels true name))) (Ok (in_segment (grown name None (Label true name 0 0x4E 0 ∷ []) []) state))
-unfolding said_text IsDone operation_of operations.operation_use operations.mnemonic_of operations.beside operations.mnemonics operations.without_operand asm_operations.directives asm_operations.ignored
+    → cells_of (with_records name None (Label true name 0 0x4E 0 ∷ []) [] s) ≤ greatest_length s.class
+    → IsStep state (line_of 0 number (said_text (Labels true name))) (Ok (in_segment (with_records name None (Label true name 0 0x4E 0 ∷ []) []) state))
+unfolding said_text IsDone operation_of operations.operation_use operations.mnemonic_of operations.value_of_spelling operations.mnemonics operations.without_operand asm_operations.directives asm_operations.ignored_directives
 global_step state s number name here is free room =
-    step_of state number name (codes "ENTRY") [] (Direct directives.Entry) (Ok (in_segment (grown name None (Label true name 0 0x4E 0 ∷ []) []) state)) (front_is name is) (refl, (refl, (refl, (refl, (refl, tt))))) tt refl refl
-    (inside state s (line_of 0 number (statement_text name (codes "ENTRY") [])) (Direct directives.Entry) name [] (grown name None (Label true name 0 0x4E 0 ∷ []) []) here refl
+    step_of state number name (codes "ENTRY") [] (Direct directives.Entry) (Ok (in_segment (with_records name None (Label true name 0 0x4E 0 ∷ []) []) state)) (front_is name is) (refl, (refl, (refl, (refl, (refl, tt))))) tt refl refl
+    (inside state s (line_of 0 number (statement_text name (codes "ENTRY") [])) (Direct directives.Entry) name [] (with_records name None (Label true name 0 0x4E 0 ∷ []) []) here refl
     (rw (label_is state s (Direct directives.Entry) name here is free) refl) room)
 
 -- ---- USING
 
-pub using_step : (state : State) (s : Segment) (number : ℕ) (name : List ℕ) → state.segment ≡ Some s → IsPlainName name → cells_of (marked [] 0x4E (Using name ∷ []) s) ≤ greatest_length s.class
-    → IsStep state (line_of 0 number (said_text (Uses name))) (Ok (in_segment (marked [] 0x4E (Using name ∷ [])) state))
-unfolding said_text IsDone operation_of operations.operation_use operations.mnemonic_of operations.beside operations.mnemonics operations.without_operand asm_operations.directives asm_operations.ignored
+pub using_step : (state : State) (s : Segment) (number : ℕ) (name : List ℕ) → state.segment ≡ Some s → IsPlainName name → cells_of (with_local_record [] 0x4E (Using name ∷ []) s) ≤ greatest_length s.class
+    → IsStep state (line_of 0 number (said_text (UsingIs name))) (Ok (in_segment (with_local_record [] 0x4E (Using name ∷ [])) state))
+unfolding said_text IsDone operation_of operations.operation_use operations.mnemonic_of operations.value_of_spelling operations.mnemonics operations.without_operand asm_operations.directives asm_operations.ignored_directives
 using_step state s number name here is room =
-    step_of state number [] (codes "USING") name (Direct directives.Using) (Ok (in_segment (marked [] 0x4E (Using name ∷ [])) state)) tt (refl, (refl, (refl, (refl, (refl, tt))))) (name_ink name is) tt refl
-    (inside state s (line_of 0 number (statement_text [] (codes "USING") name)) (Direct directives.Using) [] name (marked [] 0x4E (Using name ∷ [])) here refl
+    step_of state number [] (codes "USING") name (Direct directives.Using) (Ok (in_segment (with_local_record [] 0x4E (Using name ∷ [])) state)) tt (refl, (refl, (refl, (refl, (refl, tt))))) (name_ink name is) tt refl
+    (inside state s (line_of 0 number (statement_text [] (codes "USING") name)) (Direct directives.Using) [] name (with_local_record [] 0x4E (Using name ∷ [])) here refl
     (rw (name_is name is, folded_is name is) refl) room)
 
 -- ---- widths
@@ -117,86 +117,86 @@ switch_ink : (on : Bool) → HasNoBlank (listed.on_text on)
 switch_ink true = (refl, (refl, tt))
 switch_ink false = (refl, (refl, (refl, tt)))
 
-turned_fits : (switch : Switch) (on : Bool) (state : State) → is_too_long state.segment ≡ false → within_length (turned switch on state) ≡ Ok (turned switch on state)
+turned_fits : (switch : Switch) (on : Bool) (state : State) → is_too_long state.segment ≡ false → within_length (with_switch_set switch on state) ≡ Ok (with_switch_set switch on state)
 turned_fits LongA on state fits = rw fits refl
 turned_fits LongI on state fits = rw fits refl
 turned_fits Msb on state fits = rw fits refl
 
 -- the open segment stays as long as it is
-unchanged_fits : (state : State) (s : Segment) → state.segment ≡ Some s → cells_of (marked [] 0x4E [] s) ≤ greatest_length s.class → is_too_long (in_segment (marked [] 0x4E []) state).segment ≡ false
-unchanged_fits state s here room = ap (λ (o : Option Segment). is_too_long (option_map (marked [] 0x4E []) o)) here ∙ le-ltb (greatest_length s.class) (cells_of (marked [] 0x4E [] s)) room
+unchanged_fits : (state : State) (s : Segment) → state.segment ≡ Some s → cells_of (with_local_record [] 0x4E [] s) ≤ greatest_length s.class → is_too_long (in_segment (with_local_record [] 0x4E []) state).segment ≡ false
+unchanged_fits state s here room = ap (λ (o : Option Segment). is_too_long (option_map (with_local_record [] 0x4E []) o)) here ∙ le-ltb (greatest_length s.class) (cells_of (with_local_record [] 0x4E [] s)) room
 
 switch_is : (on : Bool) → switch_of (listed.on_text on) ≡ Ok on
 switch_is true = refl
 switch_is false = refl
 
-turns_done : (state : State) (line : Line) (switch : Switch) (on : Bool) → IsDone state line (Direct (directives.Turn switch)) (label_of state (Direct (directives.Turn switch)) []) (listed.on_text on) (Ok (turned switch on (in_segment (marked [] 0x4E []) state)))
+turns_done : (state : State) (line : Line) (switch : Switch) (on : Bool) → IsDone state line (Direct (directives.Turn switch)) (label_of state (Direct (directives.Turn switch)) []) (listed.on_text on) (Ok (with_switch_set switch on (in_segment (with_local_record [] 0x4E []) state)))
 unfolding IsDone
 turns_done state line switch on = rw (switch_is on) refl
 
-pub turns_step : (state : State) (s : Segment) (number : ℕ) (switch : Switch) (on : Bool) → state.segment ≡ Some s → cells_of (marked [] 0x4E [] s) ≤ greatest_length s.class
-    → IsStep state (line_of 0 number (said_text (Turns switch on))) (Ok (turned switch on (in_segment (marked [] 0x4E []) state)))
-unfolding said_text IsDone operation_of operations.operation_use operations.mnemonic_of operations.beside operations.mnemonics operations.without_operand asm_operations.directives asm_operations.ignored
+pub turns_step : (state : State) (s : Segment) (number : ℕ) (switch : Switch) (on : Bool) → state.segment ≡ Some s → cells_of (with_local_record [] 0x4E [] s) ≤ greatest_length s.class
+    → IsStep state (line_of 0 number (said_text (SwitchIs switch on))) (Ok (with_switch_set switch on (in_segment (with_local_record [] 0x4E []) state)))
+unfolding said_text IsDone operation_of operations.operation_use operations.mnemonic_of operations.value_of_spelling operations.mnemonics operations.without_operand asm_operations.directives asm_operations.ignored_directives
 turns_step state s number LongA on here room =
-    step_of state number [] (codes "LONGA") (listed.on_text on) (Direct (directives.Turn LongA)) (Ok (turned LongA on (in_segment (marked [] 0x4E []) state))) tt (refl, (refl, (refl, (refl, (refl, tt))))) (switch_ink on) tt refl
-    (inside_to state (turned LongA on (in_segment (marked [] 0x4E []) state)) s (line_of 0 number (statement_text [] (codes "LONGA") (listed.on_text on))) (Direct (directives.Turn LongA)) [] (listed.on_text on) here refl
-    (turns_done state (line_of 0 number (statement_text [] (codes "LONGA") (listed.on_text on))) LongA on) (turned_fits LongA on (in_segment (marked [] 0x4E []) state) (unchanged_fits state s here room)))
+    step_of state number [] (codes "LONGA") (listed.on_text on) (Direct (directives.Turn LongA)) (Ok (with_switch_set LongA on (in_segment (with_local_record [] 0x4E []) state))) tt (refl, (refl, (refl, (refl, (refl, tt))))) (switch_ink on) tt refl
+    (inside_to state (with_switch_set LongA on (in_segment (with_local_record [] 0x4E []) state)) s (line_of 0 number (statement_text [] (codes "LONGA") (listed.on_text on))) (Direct (directives.Turn LongA)) [] (listed.on_text on) here refl
+    (turns_done state (line_of 0 number (statement_text [] (codes "LONGA") (listed.on_text on))) LongA on) (turned_fits LongA on (in_segment (with_local_record [] 0x4E []) state) (unchanged_fits state s here room)))
 turns_step state s number LongI on here room =
-    step_of state number [] (codes "LONGI") (listed.on_text on) (Direct (directives.Turn LongI)) (Ok (turned LongI on (in_segment (marked [] 0x4E []) state))) tt (refl, (refl, (refl, (refl, (refl, tt))))) (switch_ink on) tt refl
-    (inside_to state (turned LongI on (in_segment (marked [] 0x4E []) state)) s (line_of 0 number (statement_text [] (codes "LONGI") (listed.on_text on))) (Direct (directives.Turn LongI)) [] (listed.on_text on) here refl
-    (turns_done state (line_of 0 number (statement_text [] (codes "LONGI") (listed.on_text on))) LongI on) (turned_fits LongI on (in_segment (marked [] 0x4E []) state) (unchanged_fits state s here room)))
+    step_of state number [] (codes "LONGI") (listed.on_text on) (Direct (directives.Turn LongI)) (Ok (with_switch_set LongI on (in_segment (with_local_record [] 0x4E []) state))) tt (refl, (refl, (refl, (refl, (refl, tt))))) (switch_ink on) tt refl
+    (inside_to state (with_switch_set LongI on (in_segment (with_local_record [] 0x4E []) state)) s (line_of 0 number (statement_text [] (codes "LONGI") (listed.on_text on))) (Direct (directives.Turn LongI)) [] (listed.on_text on) here refl
+    (turns_done state (line_of 0 number (statement_text [] (codes "LONGI") (listed.on_text on))) LongI on) (turned_fits LongI on (in_segment (with_local_record [] 0x4E []) state) (unchanged_fits state s here room)))
 turns_step state s number Msb on here room =
-    step_of state number [] (codes "MSB") (listed.on_text on) (Direct (directives.Turn Msb)) (Ok (turned Msb on (in_segment (marked [] 0x4E []) state))) tt (refl, (refl, (refl, tt))) (switch_ink on) tt refl
-    (inside_to state (turned Msb on (in_segment (marked [] 0x4E []) state)) s (line_of 0 number (statement_text [] (codes "MSB") (listed.on_text on))) (Direct (directives.Turn Msb)) [] (listed.on_text on) here refl
-    (turns_done state (line_of 0 number (statement_text [] (codes "MSB") (listed.on_text on))) Msb on) (turned_fits Msb on (in_segment (marked [] 0x4E []) state) (unchanged_fits state s here room)))
+    step_of state number [] (codes "MSB") (listed.on_text on) (Direct (directives.Turn Msb)) (Ok (with_switch_set Msb on (in_segment (with_local_record [] 0x4E []) state))) tt (refl, (refl, (refl, tt))) (switch_ink on) tt refl
+    (inside_to state (with_switch_set Msb on (in_segment (with_local_record [] 0x4E []) state)) s (line_of 0 number (statement_text [] (codes "MSB") (listed.on_text on))) (Direct (directives.Turn Msb)) [] (listed.on_text on) here refl
+    (turns_done state (line_of 0 number (statement_text [] (codes "MSB") (listed.on_text on))) Msb on) (turned_fits Msb on (in_segment (with_local_record [] 0x4E []) state) (unchanged_fits state s here room)))
 
 -- ---- END
 
 pub end_step : (state : State) (s : Segment) (number : ℕ) → state.segment ≡ Some s
-    → IsStep state (line_of 0 number (said_text Ends)) (Ok (closed (in_segment (marked [] 0x4E (End ∷ [])) state)))
-unfolding said_text IsDone operation_of operations.operation_use operations.mnemonic_of operations.beside operations.mnemonics operations.without_operand asm_operations.directives asm_operations.ignored
+    → IsStep state (line_of 0 number (said_text EndIs)) (Ok (state_after_end (in_segment (with_local_record [] 0x4E (End ∷ [])) state)))
+unfolding said_text IsDone operation_of operations.operation_use operations.mnemonic_of operations.value_of_spelling operations.mnemonics operations.without_operand asm_operations.directives asm_operations.ignored_directives
 end_step state s number here =
-    let next = closed (in_segment (marked [] 0x4E (End ∷ [])) state) in
+    let next = state_after_end (in_segment (with_local_record [] 0x4E (End ∷ [])) state) in
     step_of state number [] (codes "END") [] (Direct directives.End) (Ok next) tt (refl, (refl, (refl, tt))) tt refl refl
     (inside_to state next s (line_of 0 number (statement_text [] (codes "END") [])) (Direct directives.End) [] [] here refl refl refl)
 
 -- ---- ALIGN and ORG inside
 
 pub align_step : (state : State) (s : Segment) (number n : ℕ) → state.segment ≡ Some s → n < 2 ^ 32 → is_power_of_two n ≡ true → n ≤ alignment_of s.header.align
-    → cells_of (marked [] 0x4E (Align n ∷ []) s) ≤ greatest_length s.class → IsStep state (line_of 0 number (said_text (Aligns n))) (Ok (in_segment (marked [] 0x4E (Align n ∷ [])) state))
-unfolding said_text IsDone operation_of operations.operation_use operations.mnemonic_of operations.beside operations.mnemonics operations.without_operand asm_operations.directives asm_operations.ignored
+    → cells_of (with_local_record [] 0x4E (Align n ∷ []) s) ≤ greatest_length s.class → IsStep state (line_of 0 number (said_text (Aligns n))) (Ok (in_segment (with_local_record [] 0x4E (Align n ∷ [])) state))
+unfolding said_text IsDone operation_of operations.operation_use operations.mnemonic_of operations.value_of_spelling operations.mnemonics operations.without_operand asm_operations.directives asm_operations.ignored_directives
 align_step state s number n here fits power low room =
     let inside_alignment : is_alignment state.segment n ≡ true = ap (λ (o : Option Segment). is_alignment o n) here ∙ rw (power, le-leb n (alignment_of s.header.align) low) refl in
     let allowed : alignment_in state n ≡ Ok n = rw inside_alignment refl in
-    let same : aligned state state.segment [] n ≡ in_segment (marked [] 0x4E (Align n ∷ [])) state = ap (λ (o : Option Segment). aligned state o [] n) here in
-    step_of state number [] (codes "ALIGN") (number_text 8 n) (Direct directives.Align) (Ok (in_segment (marked [] 0x4E (Align n ∷ [])) state)) tt (refl, (refl, (refl, (refl, (refl, tt))))) (number_ink 8 n fits) tt refl
-    (inside state s (line_of 0 number (statement_text [] (codes "ALIGN") (number_text 8 n))) (Direct directives.Align) [] (number_text 8 n) (marked [] 0x4E (Align n ∷ [])) here refl
+    let same : state_after_align state state.segment [] n ≡ in_segment (with_local_record [] 0x4E (Align n ∷ [])) state = ap (λ (o : Option Segment). state_after_align state o [] n) here in
+    step_of state number [] (codes "ALIGN") (number_text 8 n) (Direct directives.Align) (Ok (in_segment (with_local_record [] 0x4E (Align n ∷ [])) state)) tt (refl, (refl, (refl, (refl, (refl, tt))))) (number_ink 8 n fits) tt refl
+    (inside state s (line_of 0 number (statement_text [] (codes "ALIGN") (number_text 8 n))) (Direct directives.Align) [] (number_text 8 n) (with_local_record [] 0x4E (Align n ∷ [])) here refl
     (Some (Leaf (expression.Constant n)), number_formula 8 n fits, rw (number_there state n fits, allowed, same) refl) room)
 
 -- `*+` and a number
-pub move_step : (state : State) (s : Segment) (number n : ℕ) → state.segment ≡ Some s → n < 2 ^ 31 → cells_of (marked [] 0x4E (Org n ∷ []) s) ≤ greatest_length s.class
-    → IsStep state (line_of 0 number (said_text (Moves n))) (Ok (in_segment (marked [] 0x4E (Org n ∷ [])) state))
-unfolding said_text IsDone operation_of operations.operation_use operations.mnemonic_of operations.beside operations.mnemonics operations.without_operand asm_operations.directives asm_operations.ignored
+pub move_step : (state : State) (s : Segment) (number n : ℕ) → state.segment ≡ Some s → n < 2 ^ 31 → cells_of (with_local_record [] 0x4E (Org n ∷ []) s) ≤ greatest_length s.class
+    → IsStep state (line_of 0 number (said_text (OrgIs n))) (Ok (in_segment (with_local_record [] 0x4E (Org n ∷ [])) state))
+unfolding said_text IsDone operation_of operations.operation_use operations.mnemonic_of operations.value_of_spelling operations.mnemonics operations.without_operand asm_operations.directives asm_operations.ignored_directives
 move_step state s number n here low room =
     let fits : n < 2 ^ 32 = omega (arith, low) in
     let text = codes "*+" ++ number_text 8 n in
     let allowed : distance_in state.segment n ≡ Ok n = ap (λ (o : Option Segment). distance_in o n) here ∙ rw (lt-ltb n (2 ^ 31) low) refl in
-    let same : moved state state.segment [] n ≡ in_segment (marked [] 0x4E (Org n ∷ [])) state = ap (λ (o : Option Segment). moved state o [] n) here in
+    let same : state_after_org state state.segment [] n ≡ in_segment (with_local_record [] 0x4E (Org n ∷ [])) state = ap (λ (o : Option Segment). state_after_org state o [] n) here in
     let there : IsMove state.segment text (Some (Leaf (expression.Constant n))) = subst (λ (o : Option Segment). IsMove o text (Some (Leaf (expression.Constant n)))) (sym here) (number_formula 8 n fits) in
-    step_of state number [] (codes "ORG") text (Direct directives.Org) (Ok (in_segment (marked [] 0x4E (Org n ∷ [])) state)) tt (refl, (refl, (refl, tt))) (refl, (refl, number_ink 8 n fits)) tt refl
-    (inside state s (line_of 0 number (statement_text [] (codes "ORG") text)) (Direct directives.Org) [] text (marked [] 0x4E (Org n ∷ [])) here refl
+    step_of state number [] (codes "ORG") text (Direct directives.Org) (Ok (in_segment (with_local_record [] 0x4E (Org n ∷ [])) state)) tt (refl, (refl, (refl, tt))) (refl, (refl, number_ink 8 n fits)) tt refl
+    (inside state s (line_of 0 number (statement_text [] (codes "ORG") text)) (Direct directives.Org) [] text (with_local_record [] 0x4E (Org n ∷ [])) here refl
     (Some (Leaf (expression.Constant n)), there, rw (number_there state n fits, allowed, same) refl) room)
 
 -- ---- KIND
 
-pub kind_step : (state : State) (s : Segment) (number n : ℕ) → state.segment ≡ Some s → n ≤ 0xFFFF → is_listed (form_of n) ≡ true → cells_of (marked [] 0x4E [] s) ≤ greatest_length s.class
-    → IsStep state (line_of 0 number (said_text (Kinds n))) (Ok (in_segment (λ s. with_kind n (marked [] 0x4E [] s)) state))
-unfolding said_text IsDone operation_of operations.operation_use operations.mnemonic_of operations.beside operations.mnemonics operations.without_operand asm_operations.directives asm_operations.ignored
+pub kind_step : (state : State) (s : Segment) (number n : ℕ) → state.segment ≡ Some s → n ≤ 0xFFFF → is_listed (form_of n) ≡ true → cells_of (with_local_record [] 0x4E [] s) ≤ greatest_length s.class
+    → IsStep state (line_of 0 number (said_text (KindIs n))) (Ok (in_segment (λ s. with_kind n (with_local_record [] 0x4E [] s)) state))
+unfolding said_text IsDone operation_of operations.operation_use operations.mnemonic_of operations.value_of_spelling operations.mnemonics operations.without_operand asm_operations.directives asm_operations.ignored_directives
 kind_step state s number n here low listed_form room =
     let fits : n < 2 ^ 32 = omega (arith, low) in
     let allowed : listed_kind n ≡ Ok n = rw (listed_form, le-ltb 0xFFFF n low) refl in
-    step_of state number [] (codes "KIND") (number_text 4 n) (Direct directives.Kind) (Ok (in_segment (λ s. with_kind n (marked [] 0x4E [] s)) state)) tt (refl, (refl, (refl, (refl, tt)))) (number_ink 4 n fits) tt refl
-    (inside state s (line_of 0 number (statement_text [] (codes "KIND") (number_text 4 n))) (Direct directives.Kind) [] (number_text 4 n) (λ s. with_kind n (marked [] 0x4E [] s)) here refl
+    step_of state number [] (codes "KIND") (number_text 4 n) (Direct directives.Kind) (Ok (in_segment (λ s. with_kind n (with_local_record [] 0x4E [] s)) state)) tt (refl, (refl, (refl, (refl, tt)))) (number_ink 4 n fits) tt refl
+    (inside state s (line_of 0 number (statement_text [] (codes "KIND") (number_text 4 n))) (Direct directives.Kind) [] (number_text 4 n) (λ s. with_kind n (with_local_record [] 0x4E [] s)) here refl
     (Some (Leaf (expression.Constant n)), number_formula 4 n fits, rw (number_there state n fits, allowed) refl) room)
 
 -- ---- ALIGN and ORG before START
@@ -207,13 +207,13 @@ outside_to state next line op label text here may done fits =
     subst (λ (o : Option Segment). IsPlaced state line op label text (is_misplaced o op label text) (Ok next)) (sym here)
     (subst (λ (b : Bool). IsPlaced state line op label text b (Ok next)) (sym may) (Ok next, done, sym fits))
 
-pub next_align_step : (state : State) (number n : ℕ) → state.segment ≡ None → n ≤ 0x10000 → is_power_of_two n ≡ true → IsStep state (line_of 0 number (said_text (NextAlign n))) (Ok (record state { align = n }))
-unfolding said_text IsDone operation_of operations.operation_use operations.mnemonic_of operations.beside operations.mnemonics operations.without_operand asm_operations.directives asm_operations.ignored
+pub next_align_step : (state : State) (number n : ℕ) → state.segment ≡ None → n ≤ 0x10000 → is_power_of_two n ≡ true → IsStep state (line_of 0 number (said_text (NextAlignIs n))) (Ok (record state { align = n }))
+unfolding said_text IsDone operation_of operations.operation_use operations.mnemonic_of operations.value_of_spelling operations.mnemonics operations.without_operand asm_operations.directives asm_operations.ignored_directives
 next_align_step state number n here low power =
     let fits : n < 2 ^ 32 = omega (arith, low) in
     let outside_alignment : is_alignment state.segment n ≡ true = ap (λ (o : Option Segment). is_alignment o n) here ∙ rw (power, le-leb n 0x10000 low) refl in
     let allowed : alignment_in state n ≡ Ok n = rw outside_alignment refl in
-    let same : aligned state state.segment [] n ≡ record state { align = n } = ap (λ (o : Option Segment). aligned state o [] n) here in
+    let same : state_after_align state state.segment [] n ≡ record state { align = n } = ap (λ (o : Option Segment). state_after_align state o [] n) here in
     let short : within_length (record state { align = n }) ≡ Ok (record state { align = n }) = rw here refl in
     step_of state number [] (codes "ALIGN") (number_text 8 n) (Direct directives.Align) (Ok (record state { align = n })) tt (refl, (refl, (refl, (refl, (refl, tt))))) (number_ink 8 n fits) tt refl
     (outside_to state (record state { align = n }) (line_of 0 number (statement_text [] (codes "ALIGN") (number_text 8 n))) (Direct directives.Align) [] (number_text 8 n) here refl
@@ -224,11 +224,11 @@ no_here [] = refl
 no_here (byte ∷ text) = refl
 
 pub next_org_step : (state : State) (number n : ℕ) → state.segment ≡ None → n < 2 ^ 32 → IsStep state (line_of 0 number (said_text (NextOrg n))) (Ok (record state { org = n }))
-unfolding said_text IsDone operation_of operations.operation_use operations.mnemonic_of operations.beside operations.mnemonics operations.without_operand asm_operations.directives asm_operations.ignored
+unfolding said_text IsDone operation_of operations.operation_use operations.mnemonic_of operations.value_of_spelling operations.mnemonics operations.without_operand asm_operations.directives asm_operations.ignored_directives
 next_org_step state number n here fits =
     let text = number_text 8 n in
     let allowed : distance_in state.segment n ≡ Ok n = ap (λ (o : Option Segment). distance_in o n) here in
-    let same : moved state state.segment [] n ≡ record state { org = n } = ap (λ (o : Option Segment). moved state o [] n) here in
+    let same : state_after_org state state.segment [] n ≡ record state { org = n } = ap (λ (o : Option Segment). state_after_org state o [] n) here in
     let there : IsMove state.segment text (Some (Leaf (expression.Constant n))) = subst (λ (o : Option Segment). IsMove o text (Some (Leaf (expression.Constant n)))) (sym here) (number_formula 8 n fits) in
     let short : within_length (record state { org = n }) ≡ Ok (record state { org = n }) = rw here refl in
     step_of state number [] (codes "ORG") text (Direct directives.Org) (Ok (record state { org = n })) tt (refl, (refl, (refl, tt))) (number_ink 8 n fits) tt refl
@@ -238,28 +238,28 @@ next_org_step state number n here fits =
 -- ---- EQU and GEQU
 
 known : (constants : Constants) (n : ℕ) → amount constants (Leaf (expression.Constant n)) ≡ Ok (Known n)
-unfolding amount constant.worth
+unfolding amount constant.known_value
 known constants n = refl
 
 judged_number : (n : ℕ) → n < 2 ^ 32 → formulas.formula_of (Some (Leaf (expression.Constant n))) ≡ Ok (Leaf (expression.Constant n))
-unfolding formulas.judged
+unfolding formulas.checked_formula
 judged_number n fits = rw (lt-leb (2 ^ 32) n fits) refl
 
 pub equ_step : (state : State) (s : Segment) (number : ℕ) (name : List ℕ) (n : ℕ) → state.segment ≡ Some s → IsPlainName name → is_some (s.names name) ≡ false → n < 2 ^ 32
-    → cells_of (equated false name (Known n) s) ≤ greatest_length s.class → IsStep state (line_of 0 number (said_text (Equates false name n))) (Ok (in_segment (equated false name (Known n)) state))
-unfolding said_text IsDone operation_of operations.operation_use operations.mnemonic_of operations.beside operations.mnemonics operations.without_operand asm_operations.directives asm_operations.ignored
+    → cells_of (with_equate false name (Known n) s) ≤ greatest_length s.class → IsStep state (line_of 0 number (said_text (Equates false name n))) (Ok (in_segment (with_equate false name (Known n)) state))
+unfolding said_text IsDone operation_of operations.operation_use operations.mnemonic_of operations.value_of_spelling operations.mnemonics operations.without_operand asm_operations.directives asm_operations.ignored_directives
 equ_step state s number name n here is free fits room =
-    step_of state number name (codes "EQU") (number_text 8 n) (Direct directives.Equ) (Ok (in_segment (equated false name (Known n)) state)) (front_is name is) (refl, (refl, (refl, tt))) (number_ink 8 n fits) tt refl
-    (inside state s (line_of 0 number (statement_text name (codes "EQU") (number_text 8 n))) (Direct directives.Equ) name (number_text 8 n) (equated false name (Known n)) here refl
+    step_of state number name (codes "EQU") (number_text 8 n) (Direct directives.Equ) (Ok (in_segment (with_equate false name (Known n)) state)) (front_is name is) (refl, (refl, (refl, tt))) (number_ink 8 n fits) tt refl
+    (inside state s (line_of 0 number (statement_text name (codes "EQU") (number_text 8 n))) (Direct directives.Equ) name (number_text 8 n) (with_equate false name (Known n)) here refl
     (Some (Leaf (expression.Constant n)), number_formula 8 n fits, rw (label_is state s (Direct directives.Equ) name here is free, judged_number n fits, known (constants_of state) n) refl) room)
 
 pub gequ_step : (state : State) (s : Segment) (number : ℕ) (name : List ℕ) (n : ℕ) → state.segment ≡ Some s → IsPlainName name → is_some (s.names name) ≡ false → n < 2 ^ 32
-    → cells_of (equated true name (Known n) s) ≤ greatest_length s.class → IsStep state (line_of 0 number (said_text (Equates true name n))) (Ok (in_segment (equated true name (Known n)) state))
-unfolding said_text IsDone operation_of operations.operation_use operations.mnemonic_of operations.beside operations.mnemonics operations.without_operand asm_operations.directives asm_operations.ignored
+    → cells_of (with_equate true name (Known n) s) ≤ greatest_length s.class → IsStep state (line_of 0 number (said_text (Equates true name n))) (Ok (in_segment (with_equate true name (Known n)) state))
+unfolding said_text IsDone operation_of operations.operation_use operations.mnemonic_of operations.value_of_spelling operations.mnemonics operations.without_operand asm_operations.directives asm_operations.ignored_directives
 gequ_step state s number name n here is free fits room =
     let same : (label : Answer (List ℕ)) (found : Option Tree) → equating_global state state.segment label found ≡ equating state true label found = λ label found. ap (λ (o : Option Segment). equating_global state o label found) here in
-    step_of state number name (codes "GEQU") (number_text 8 n) (Direct directives.Gequ) (Ok (in_segment (equated true name (Known n)) state)) (front_is name is) (refl, (refl, (refl, (refl, tt)))) (number_ink 8 n fits) tt refl
-    (inside state s (line_of 0 number (statement_text name (codes "GEQU") (number_text 8 n))) (Direct directives.Gequ) name (number_text 8 n) (equated true name (Known n)) here refl (
+    step_of state number name (codes "GEQU") (number_text 8 n) (Direct directives.Gequ) (Ok (in_segment (with_equate true name (Known n)) state)) (front_is name is) (refl, (refl, (refl, (refl, tt)))) (number_ink 8 n fits) tt refl
+    (inside state s (line_of 0 number (statement_text name (codes "GEQU") (number_text 8 n))) (Direct directives.Gequ) name (number_text 8 n) (with_equate true name (Known n)) here refl (
       Some (Leaf (expression.Constant n)),
       number_formula 8 n fits,
       sym (same (label_of state (Direct directives.Gequ) name) (Some (Leaf (expression.Constant n))) ∙ rw (label_is state s (Direct directives.Gequ) name here is free, judged_number n fits, known (constants_of state) n) refl),
@@ -296,10 +296,10 @@ load_ink : (text : List ℕ) → IsLoadName text → HasNoBlank text
 load_ink [] is = tt
 load_ink (byte ∷ text) is = name_ink (byte ∷ text) is.0
 
-begun_fits : (state : State) (line : Line) (class : Class) (name load_name : List ℕ) → state.front ≡ [] → within_length (begun state line class name load_name) ≡ Ok (begun state line class name load_name)
+begun_fits : (state : State) (line : Line) (class : Class) (name load_name : List ℕ) → state.front ≡ [] → within_length (state_after_start state line class name load_name) ≡ Ok (state_after_start state line class name load_name)
 unfolding pieces.place_behind
 begun_fits state line class name load_name none =
-    let empty : is_too_long (begun state line class name load_name).segment ≡ false = ap (λ (l : List Record). ltb (greatest_length class) (pieces.place_behind 0 l)) none ∙ by class in rw empty refl
+    let empty : is_too_long (state_after_start state line class name load_name).segment ≡ false = ap (λ (l : List Record). ltb (greatest_length class) (pieces.place_behind 0 l)) none ∙ by class in rw empty refl
   where
     by : (class : Class) → ltb (greatest_length class) 0 ≡ false
     by Code = refl
@@ -308,19 +308,19 @@ begun_fits state line class name load_name none =
     by PrivateData = refl
 
 pub start_step : (state : State) (number : ℕ) (name load_name : List ℕ) → state.segment ≡ None → state.front ≡ [] → IsPlainName name → IsLoadName load_name
-    → IsStep state (line_of 0 number (said_text (Begins false name load_name))) (Ok (begun state (line_of 0 number (said_text (Begins false name load_name))) Code name (padded load_name)))
-unfolding said_text IsDone operation_of operations.operation_use operations.mnemonic_of operations.beside operations.mnemonics operations.without_operand asm_operations.directives asm_operations.ignored
+    → IsStep state (line_of 0 number (said_text (StartIs false name load_name))) (Ok (state_after_start state (line_of 0 number (said_text (StartIs false name load_name))) Code name (padded load_name)))
+unfolding said_text IsDone operation_of operations.operation_use operations.mnemonic_of operations.value_of_spelling operations.mnemonics operations.without_operand asm_operations.directives asm_operations.ignored_directives
 start_step state number name load_name here none is load =
     let line = line_of 0 number (statement_text name (codes "START") load_name) in
-    step_of state number name (codes "START") load_name (Direct (directives.Begin Code)) (Ok (begun state line Code name (padded load_name))) (front_is name is) (refl, (refl, (refl, (refl, (refl, tt))))) (load_ink load_name load) tt refl
-    (outside_to state (begun state line Code name (padded load_name)) line (Direct (directives.Begin Code)) name load_name here refl
+    step_of state number name (codes "START") load_name (Direct (directives.Begin Code)) (Ok (state_after_start state line Code name (padded load_name))) (front_is name is) (refl, (refl, (refl, (refl, (refl, tt))))) (load_ink load_name load) tt refl
+    (outside_to state (state_after_start state line Code name (padded load_name)) line (Direct (directives.Begin Code)) name load_name here refl
     (rw (outside_label state Code name here is, load_is load_name load) refl) (begun_fits state line Code name (padded load_name) none))
 
 pub data_step : (state : State) (number : ℕ) (name load_name : List ℕ) → state.segment ≡ None → state.front ≡ [] → IsPlainName name → IsLoadName load_name
-    → IsStep state (line_of 0 number (said_text (Begins true name load_name))) (Ok (begun state (line_of 0 number (said_text (Begins true name load_name))) Data name (padded load_name)))
-unfolding said_text IsDone operation_of operations.operation_use operations.mnemonic_of operations.beside operations.mnemonics operations.without_operand asm_operations.directives asm_operations.ignored
+    → IsStep state (line_of 0 number (said_text (StartIs true name load_name))) (Ok (state_after_start state (line_of 0 number (said_text (StartIs true name load_name))) Data name (padded load_name)))
+unfolding said_text IsDone operation_of operations.operation_use operations.mnemonic_of operations.value_of_spelling operations.mnemonics operations.without_operand asm_operations.directives asm_operations.ignored_directives
 data_step state number name load_name here none is load =
     let line = line_of 0 number (statement_text name (codes "DATA") load_name) in
-    step_of state number name (codes "DATA") load_name (Direct (directives.Begin Data)) (Ok (begun state line Data name (padded load_name))) (front_is name is) (refl, (refl, (refl, (refl, tt)))) (load_ink load_name load) tt refl
-    (outside_to state (begun state line Data name (padded load_name)) line (Direct (directives.Begin Data)) name load_name here refl
+    step_of state number name (codes "DATA") load_name (Direct (directives.Begin Data)) (Ok (state_after_start state line Data name (padded load_name))) (front_is name is) (refl, (refl, (refl, (refl, tt)))) (load_ink load_name load) tt refl
+    (outside_to state (state_after_start state line Data name (padded load_name)) line (Direct (directives.Begin Data)) name load_name here refl
     (rw (outside_label state Data name here is, load_is load_name load) refl) (begun_fits state line Data name (padded load_name) none))

@@ -30,7 +30,7 @@ use Rattle.asm_meaning.specs.Constant.{Constants, Known, amount}
 use Rattle.asm_meaning.specs.Instruction as instructions
 use Rattle.asm_meaning.specs.Instruction.{Widths, instruction, kind_of, operand_bytes, with_amount, without_amount}
 use Rattle.asm_meaning.specs.Pieces.{records_of, records_behind}
-use Rattle.asm_meaning.specs.State.{State, Segment, cells_of, greatest_length, marked, in_segment}
+use Rattle.asm_meaning.specs.State.{State, Segment, cells_of, greatest_length, with_local_record, in_segment}
 use Rattle.asm_meaning.specs.Statement.{IsStep, IsDone, IsOperandOf, Good, constants_of}
 use Rattle.list_meaning.specs.laws.LineText.{HasNoBlank, IsTaken}
 use Rattle.list_meaning.specs.Listed.{statement_text}
@@ -82,7 +82,7 @@ takes_name modes.LongX takes = tt
 takes_name modes.Signature takes = tt
 
 -- what fits its bytes is held
-holds_it : (w : Widths) (m : Mnemonic) (way : Mode) (n : ℕ) → TakesNumber way → n < 256 ^ operand_bytes w m way → instructions.holds (prefix_in way) (kind_of way) (operand_bytes w m way) n ≡ true
+holds_it : (w : Widths) (m : Mnemonic) (way : Mode) (n : ℕ) → TakesNumber way → n < 256 ^ operand_bytes w m way → instructions.is_operand_of_width (prefix_in way) (kind_of way) (operand_bytes w m way) n ≡ true
 unfolding kind_of operand_bytes lengths.length_of
 holds_it w m modes.Implied n takes fits = absurd takes
 holds_it w m modes.Accumulator n takes fits = absurd takes
@@ -131,7 +131,7 @@ few_bytes w m modes.LongX = omega arith
 few_bytes w m _ = omega arith
 
 known : (constants : Constants) (n : ℕ) → amount constants (Leaf (expression.Constant n)) ≡ Ok (Known n)
-unfolding amount constant.worth
+unfolding amount constant.known_value
 known constants n = refl
 
 -- the opcode and the bytes of the number
@@ -147,8 +147,8 @@ number_gives constants w k m way n is takes fits =
     rw (one_mode k m way is, known constants n, holds_it w m way n takes fits, no_distance way takes, no_shift way, opcode_back k m way is, same, few) refl
 
 pub number_step : (state : State) (s : Segment) (number k : ℕ) (m : Mnemonic) (way : Mode) (n : ℕ) → state.segment ≡ Some s → slice_get matrix k ≡ Some (m, way) → TakesNumber way → n < 2 ^ 32
-    → n < 256 ^ operand_bytes state.widths m way → cells_of (marked [] 0x4D (number_records state.widths k m way n) s) ≤ greatest_length s.class
-    → IsStep state (line_of 0 number (said_text (Instructs m way (Number (operand_bytes state.widths m way) n)))) (Ok (in_segment (marked [] 0x4D (number_records state.widths k m way n)) state))
+    → n < 256 ^ operand_bytes state.widths m way → cells_of (with_local_record [] 0x4D (number_records state.widths k m way n) s) ≤ greatest_length s.class
+    → IsStep state (line_of 0 number (said_text (Instructs m way (Number (operand_bytes state.widths m way) n)))) (Ok (in_segment (with_local_record [] 0x4D (number_records state.widths k m way n)) state))
 unfolding said_text IsDone
 number_step state s number k m way n here is takes small fits room =
     let w = Number (operand_bytes state.widths m way) n in
@@ -156,8 +156,8 @@ number_step state s number k m way n here is takes small fits room =
     let used = used_as m way name (used_is k m way is) in
     let contents = number_records state.widths k m way n in
     let taken : IsTaken (operation_use (spelling_of m)) (operand_text way w) = rw (use_is m) (taken_as (use_of m) (operand_text way w) used.some (first_is way w name small)) in
-    step_of state number [] (spelling_of m) (operand_text way w) (Instruct m) (Ok (in_segment (marked [] 0x4D contents) state)) tt (spelled m).named (operand_ink way w small) taken (operation_is m)
-    (inside state s (line_of 0 number (statement_text [] (spelling_of m) (operand_text way w))) (Instruct m) [] (operand_text way w) (marked [] 0x4D contents) here refl
+    step_of state number [] (spelling_of m) (operand_text way w) (Instruct m) (Ok (in_segment (with_local_record [] 0x4D contents) state)) tt (spelled m).named (operand_ink way w small) taken (operation_is m)
+    (inside state s (line_of 0 number (statement_text [] (spelling_of m) (operand_text way w))) (Instruct m) [] (operand_text way w) (with_local_record [] 0x4D contents) here refl
     (Ok (meaning_in way w), good_operand m way w name small used.other, rw (number_gives (constants_of state) state.widths k m way n is takes fits) refl) room)
 
 -- ---- the accumulator
@@ -178,15 +178,15 @@ taken_a : (way : OperandUse) → is_never way ≡ false → IsTaken way (codes "
 taken_a way some = taken_as way (codes "A") some refl
 
 pub accumulator_step : (state : State) (s : Segment) (number k : ℕ) (m : Mnemonic) → state.segment ≡ Some s → slice_get matrix k ≡ Some (m, modes.Accumulator)
-    → cells_of (marked [] 0x4D (Const (k ∷ []) ∷ []) s) ≤ greatest_length s.class
-    → IsStep state (line_of 0 number (said_text (Instructs m modes.Accumulator listed.None'))) (Ok (in_segment (marked [] 0x4D (Const (k ∷ []) ∷ [])) state))
+    → cells_of (with_local_record [] 0x4D (Const (k ∷ []) ∷ []) s) ≤ greatest_length s.class
+    → IsStep state (line_of 0 number (said_text (Instructs m modes.Accumulator listed.None'))) (Ok (in_segment (with_local_record [] 0x4D (Const (k ∷ []) ∷ [])) state))
 unfolding said_text IsDone listed.shape_of
 accumulator_step state s number k m here is room =
     let means = accumulates k m is in
     let some : is_never (use_of m) ≡ false = by (use_of m) means in
     let taken : IsTaken (operation_use (spelling_of m)) (codes "A") = rw (use_is m) (taken_a (use_of m) some) in
-    step_of state number [] (spelling_of m) (codes "A") (Instruct m) (Ok (in_segment (marked [] 0x4D (Const (k ∷ []) ∷ [])) state)) tt (spelled m).named (refl, tt) taken (operation_is m)
-    (inside state s (line_of 0 number (statement_text [] (spelling_of m) (codes "A"))) (Instruct m) [] (codes "A") (marked [] 0x4D (Const (k ∷ []) ∷ [])) here refl
+    step_of state number [] (spelling_of m) (codes "A") (Instruct m) (Ok (in_segment (with_local_record [] 0x4D (Const (k ∷ []) ∷ [])) state)) tt (spelled m).named (refl, tt) taken (operation_is m)
+    (inside state s (line_of 0 number (statement_text [] (spelling_of m) (codes "A"))) (Instruct m) [] (codes "A") (with_local_record [] 0x4D (Const (k ∷ []) ∷ [])) here refl
     (Ok gathered, is_gathered_operand m means, rw (gathered_gives (constants_of state) state.widths k m is) refl) room)
   where
     by : (way : OperandUse) → means_accumulator way ≡ true → is_never way ≡ false
@@ -232,8 +232,8 @@ banks_gives constants w k m source destination is low high =
     rw (one_mode k m modes.Move is, known constants source, known constants destination, lt-ltb source 256 low, lt-ltb destination 256 high, opcode_back k m modes.Move is) refl
 
 pub banks_step : (state : State) (s : Segment) (number k : ℕ) (m : Mnemonic) (source destination : ℕ) → state.segment ≡ Some s → slice_get matrix k ≡ Some (m, modes.Move) → source < 256 → destination < 256
-    → cells_of (marked [] 0x4D (Const (k ∷ destination ∷ source ∷ []) ∷ []) s) ≤ greatest_length s.class
-    → IsStep state (line_of 0 number (said_text (Instructs m modes.Move (listed.Banks source destination)))) (Ok (in_segment (marked [] 0x4D (Const (k ∷ destination ∷ source ∷ []) ∷ [])) state))
+    → cells_of (with_local_record [] 0x4D (Const (k ∷ destination ∷ source ∷ []) ∷ []) s) ≤ greatest_length s.class
+    → IsStep state (line_of 0 number (said_text (Instructs m modes.Move (listed.Banks source destination)))) (Ok (in_segment (with_local_record [] 0x4D (Const (k ∷ destination ∷ source ∷ []) ∷ [])) state))
 unfolding said_text IsDone
 banks_step state s number k m source destination here is low high room =
     let text = number_text 2 source ++ (0x2C ∷ number_text 2 destination) in
@@ -241,7 +241,7 @@ banks_step state s number k m source destination here is low high room =
     let some : is_never (use_of m) ≡ false = not_true (is_never (use_of m)) (used_is k m modes.Move is) in
     let taken : IsTaken (operation_use (spelling_of m)) text = rw (use_is m) (taken_as (use_of m) text some refl) in
     let ink : HasNoBlank text = ink_push (number_text 2 source) (0x2C ∷ number_text 2 destination) (number_ink 2 source (omega (arith, low))) (refl, number_ink 2 destination (omega (arith, high))) in
-    subst (λ (l : List ℕ). IsStep state (line_of 0 number (statement_text [] (spelling_of m) l)) (Ok (in_segment (marked [] 0x4D contents) state))) (sym (banks_text source destination))
-    (step_of state number [] (spelling_of m) text (Instruct m) (Ok (in_segment (marked [] 0x4D contents) state)) tt (spelled m).named ink taken (operation_is m)
-    (inside state s (line_of 0 number (statement_text [] (spelling_of m) text)) (Instruct m) [] text (marked [] 0x4D contents) here refl
+    subst (λ (l : List ℕ). IsStep state (line_of 0 number (statement_text [] (spelling_of m) l)) (Ok (in_segment (with_local_record [] 0x4D contents) state))) (sym (banks_text source destination))
+    (step_of state number [] (spelling_of m) text (Instruct m) (Ok (in_segment (with_local_record [] 0x4D contents) state)) tt (spelled m).named ink taken (operation_is m)
+    (inside state s (line_of 0 number (statement_text [] (spelling_of m) text)) (Instruct m) [] text (with_local_record [] 0x4D contents) here refl
     (Ok (banks_meaning source destination), is_banks_operand m source destination (moves_alone k m is) low high, rw (banks_gives (constants_of state) state.widths k m source destination is low high) refl) room))

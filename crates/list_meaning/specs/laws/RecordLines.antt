@@ -26,9 +26,9 @@ use Rattle.asm_meaning.specs.Instruction as instructions
 use Rattle.asm_meaning.specs.Instruction.{Widths, Kind, Missing, Value, Address, Distance, Sign, kind_of, operand_bytes, operand_record, opcode_in}
 use Rattle.asm_meaning.specs.laws.PieceLaws.{all-append}
 use Rattle.list_meaning.specs.Listed as listed
-use Rattle.list_meaning.specs.Listed.{Said, Aligns, Moves, Spaces, Uses, Asks, Labels, Equates, Instructs, Weakly, Sums, Wanted, Moved}
+use Rattle.list_meaning.specs.Listed.{ListedStatement, Aligns, OrgIs, Ds, UsingIs, StrongIs, Labels, Equates, Instructs, WeakIs, FormulaIs, Wanted, Moved}
 use Rattle.list_meaning.specs.Listing as listing
-use Rattle.list_meaning.specs.Listing.{Before, Given, decoded, said_rest, widths_rest, is_listable, is_among, simple_of, weak_of, record_by, is_record, flushed, then_said, with_name, behind_byte, split_last, apart, held_back, is_held, formula_given, formula_listable, term_listable, term_may_stand, is_open, is_some_name, is_some_wanted, both_long, follows_opcode, are_short, if_short, number_of, equate_given, on_tree, given_by}
+use Rattle.list_meaning.specs.Listing.{PendingRun, Given, instruction_of_opcode, said_rest, widths_rest, is_listable, is_among, simple_of, weak_of, record_by, is_record, with_run_written, then_said, with_name, behind_byte, split_last, dc_of_formula, held_back, is_held, formula_given, formula_listable, term_listable, term_may_stand, is_open, is_some_name, is_some_wanted, both_long, follows_opcode, are_short, if_short, number_of, equate_given, on_tree, given_by}
 use Rattle.list_meaning.specs.Flat.{parts_from, respelled, text_or}
 use Rattle.list_meaning.specs.Given.{records_said, name_said, widths_said, code_of, tree_of}
 use Rattle.list_meaning.specs.laws.BytesLine.{AreBytes}
@@ -46,18 +46,18 @@ use Rattle.list_meaning.specs.laws.Content.{IsLike, SameAt, same_const, same_lon
 -- ---- what the lines of a record do
 
 -- the lines can stand there, leave this, and stand for the record behind the run
-pub record IsPut (f : Fields) (equates : List (List ℕ)) (b : Before) (r : Record) (g : Given) : Type 0 where
+pub record IsPut (f : Fields) (equates : List (List ℕ)) (b : PendingRun) (r : Record) (g : Given) : Type 0 where
   pub fine : AreFine equates f.align b.names b.widths g.0
   pub widths : widths_after b.widths g.0 ≡ g.1.widths
   pub names : names_after b.names g.0 ≡ g.1.names
   pub bytes : AreBytes g.1.run
   pub same : (at : ℕ) → SameAt f.lab_len at b.run r (given b.widths g.0) g.1.run
 
-abbrev pub widths_at : Before → Widths
+abbrev pub widths_at : PendingRun → Widths
 widths_at b = widths_rest b.widths 0 b.run
 
 -- the lines of the run and one more, which stands for one record
-put_line : (f : Fields) (equates : List (List ℕ)) (b : Before) (r x : Record) (said : Said) (names : List (List ℕ)) → AreBytes b.run
+put_line : (f : Fields) (equates : List (List ℕ)) (b : PendingRun) (r x : Record) (said : ListedStatement) (names : List (List ℕ)) → AreBytes b.run
     → IsFine equates f.align b.names (widths_at b) said → records_said (widths_at b) said ≡ x ∷ [] → widths_said said (widths_at b) ≡ widths_at b → name_said said ++ b.names ≡ names
     → IsLike f.lab_len r x → IsPut f equates b r (said_rest b.widths 0 b.run ++ said ∷ [], record { widths = widths_at b; run = []; names = names })
 put_line f equates b r x said names are fine gives same_widths same_names like =
@@ -77,7 +77,7 @@ put_line f equates b r x said names are fine gives same_widths same_names like =
     }
 
 -- a byte of the run that is held back, and its record
-put_held : (f : Fields) (equates : List (List ℕ)) (b : Before) (r x : Record) (front : List ℕ) (k : ℕ) (said : Said) → AreBytes front → b.run ≡ front ++ k ∷ []
+put_held : (f : Fields) (equates : List (List ℕ)) (b : PendingRun) (r x : Record) (front : List ℕ) (k : ℕ) (said : ListedStatement) → AreBytes front → b.run ≡ front ++ k ∷ []
     → IsFine equates f.align b.names (widths_rest b.widths 0 front) said → records_said (widths_rest b.widths 0 front) said ≡ Const (k ∷ []) ∷ x ∷ []
     → widths_said said (widths_rest b.widths 0 front) ≡ widths_rest b.widths 0 front → name_said said ≡ []
     → IsLike f.lab_len r x → IsPut f equates b r (said_rest b.widths 0 front ++ said ∷ [], record { widths = widths_rest b.widths 0 front; run = []; names = b.names })
@@ -118,11 +118,11 @@ if_parts holds g given is = by holds (are_short g) refl refl is
     by false b p q e = absurd cc
 
 -- a record's lines are short, and put
-pub record IsGiven (f : Fields) (equates : List (List ℕ)) (b : Before) (r : Record) (g : Given) : Type 0 where
+pub record IsGiven (f : Fields) (equates : List (List ℕ)) (b : PendingRun) (r : Record) (g : Given) : Type 0 where
   pub short : are_short g ≡ true
   pub put : IsPut f equates b r g
 
-given_as : (f : Fields) (equates : List (List ℕ)) (b : Before) (r : Record) (holds : Bool) (g given : Given) → (holds ≡ true → IsPut f equates b r g) → if_short holds g ≡ Some given → IsGiven f equates b r given
+given_as : (f : Fields) (equates : List (List ℕ)) (b : PendingRun) (r : Record) (holds : Bool) (g given : Given) → (holds ≡ true → IsPut f equates b r g) → if_short holds g ≡ Some given → IsGiven f equates b r given
 given_as f equates b r holds g given puts is =
     let parts = if_parts holds g given is in
     subst (IsGiven f equates b r) parts.2 (record { short = parts.1; put = puts parts.0 })
@@ -263,15 +263,15 @@ distance_none : (code n : ℕ) → eqb code 0xEB ≡ true → IsDistance (eqb co
 distance_none code n e is = subst (λ (k : ℕ). IsDistance (eqb k 0xEE) n) (eqb-true code 0xEB e) is
 
 -- the opcode is held back
-held_put : (f : Fields) (equates : List (List ℕ)) (b : Before) (code count n : ℕ) (expr : List ℕ) (t : Tree) (found : List ℕ × ℕ) (w : Wanted) → f.lab_len ≤ 255 → IsTree f.lab_len t → depth t ≤ 64
+held_put : (f : Fields) (equates : List (List ℕ)) (b : PendingRun) (code count n : ℕ) (expr : List ℕ) (t : Tree) (found : List ℕ × ℕ) (w : Wanted) → f.lab_len ≤ 255 → IsTree f.lab_len t → depth t ≤ 64
     → tree_in f.lab_len expr ≡ Some t → list_all (term_listable equates) (terms_of t) ≡ true → AreBytes b.run → split_last b.run ≡ Some found → simple_of t ≡ Some w → is_held b code count n found ≡ true
     → IsPut f equates b (records.Formula code count n expr) (held_back b found.0 found.1 w)
 held_put f equates b code count n expr t found w low formed shallow there names are split simple held =
     let parts = split_is b.run found split in
     let fits = front_bytes found.0 found.1 (subst AreBytes parts are) in
     let v = widths_rest b.widths 0 found.0 in
-    let m = (decoded found.1).0 in
-    let way = (decoded found.1).1 in
+    let m = (instruction_of_opcode found.1).0 in
+    let way = (instruction_of_opcode found.1).1 in
     let is = simple_is f.lab_len equates t w formed names simple in
     let back = opcode_is found.1 fits.1 in
     let matrix_is : slice_get matrix (opcode_in m way) ≡ Some (m, way) = ap (slice_get matrix) back ∙ decoded_is found.1 fits.1 in
@@ -291,9 +291,9 @@ held_put f equates b code count n expr t found w low formed shallow there names 
     fits_name constants m way (Moved name adds k) is takes named unknown = (is, (takes, named, unknown))
 
 -- DC A or DC S
-apart_put : (f : Fields) (equates : List (List ℕ)) (b : Before) (code count n : ℕ) (expr : List ℕ) (t : Tree) → f.lab_len ≤ 255 → IsTree f.lab_len t → depth t ≤ 64 → tree_in f.lab_len expr ≡ Some t
+apart_put : (f : Fields) (equates : List (List ℕ)) (b : PendingRun) (code count n : ℕ) (expr : List ℕ) (t : Tree) → f.lab_len ≤ 255 → IsTree f.lab_len t → depth t ≤ 64 → tree_in f.lab_len expr ≡ Some t
     → IsCount count → eqb code 0xEB ≡ true → n ≡ 0 → list_all (term_listable equates) (terms_of t) ≡ true → listing.expr_listable count t ≡ true → AreBytes b.run
-    → IsPut f equates b (records.Formula code count n expr) (then_said (apart count t (weak_of t) ∷ []) (flushed b))
+    → IsPut f equates b (records.Formula code count n expr) (then_said (dc_of_formula count t (weak_of t) ∷ []) (with_run_written b))
 unfolding weak_of
 apart_put f equates b code count n expr t low formed shallow there counted is_expr none names may are = by (weak_of t) refl may
   where
@@ -304,16 +304,16 @@ apart_put f equates b code count n expr t low formed shallow there counted is_ex
 
     by : (o : Option (List ℕ)) → weak_of t ≡ o
         → cond (is_some_name o) (eqb count 2) (list_all term_may_stand (terms_of t) && list_any is_open (terms_of t)) ≡ true
-        → IsPut f equates b (records.Formula code count n expr) (then_said (apart count t o ∷ []) (flushed b))
+        → IsPut f equates b (records.Formula code count n expr) (then_said (dc_of_formula count t o ∷ []) (with_run_written b))
     by None weak may =
         let both = and_parts (list_all term_may_stand (terms_of t)) (list_any is_open (terms_of t)) may in
         let can = can_write f.lab_len equates t formed both.0 names in
-        put_line f equates b (records.Formula code count n expr) (records.Formula 0xEB count 0 (expression_text t)) (Sums count t) b.names are
+        put_line f equates b (records.Formula code count n expr) (records.Formula 0xEB count 0 (expression_text t)) (FormulaIs count t) b.names are
         (counted, can.write, can.unknown, sym (open_is t) ∙ both.1, subst (λ (k : ℕ). k ≤ 64) (sym (pending_is t)) shallow) refl refl refl like
     by (Some name) weak may =
         let two = eqb-true count 2 may in
         let is = weak_is t name names weak in
-        put_line f equates b (records.Formula code count n expr) (records.Formula 0xEB count 0 (expression_text t)) (Weakly name) b.names are is.1
+        put_line f equates b (records.Formula code count n expr) (records.Formula 0xEB count 0 (expression_text t)) (WeakIs name) b.names are is.1
         (ap (λ (u : Tree). records.Formula 0xEB 2 0 (expression_text u) ∷ []) (sym is.0) ∙ ap (λ (k : ℕ). records.Formula 0xEB k 0 (expression_text t) ∷ []) (sym two)) refl refl like
       where
         some_name : (a b : List ℕ) → Some a ≡ Some b → a ≡ b
@@ -331,7 +331,7 @@ apart_put f equates b code count n expr t low formed shallow there counted is_ex
         weak_is _ name names is = absurd cc
 
 -- all expression records
-formula_put : (f : Fields) (equates : List (List ℕ)) (b : Before) (code count n : ℕ) (expr : List ℕ) (t : Tree) → f.lab_len ≤ 255 → IsTree f.lab_len t → depth t ≤ 64 → tree_in f.lab_len expr ≡ Some t
+formula_put : (f : Fields) (equates : List (List ℕ)) (b : PendingRun) (code count n : ℕ) (expr : List ℕ) (t : Tree) → f.lab_len ≤ 255 → IsTree f.lab_len t → depth t ≤ 64 → tree_in f.lab_len expr ≡ Some t
     → IsCount count → IsDistance (eqb code 0xEE) n → AreBytes b.run → formula_listable equates b code count n t ≡ true
     → IsPut f equates b (records.Formula code count n expr) (formula_given b code count n t (split_last b.run) (simple_of t))
 unfolding formula_listable formula_given
@@ -341,16 +341,16 @@ formula_put f equates b code count n expr t low formed shallow there counted dis
     by (eqb code 0xEB) (split_last b.run) (simple_of t) refl refl refl both.0 both.1
   where
     aside : eqb code 0xEB ≡ true → list_all (term_listable equates) (terms_of t) ≡ true → listing.expr_listable count t ≡ true
-        → IsPut f equates b (records.Formula code count n expr) (then_said (apart count t (weak_of t) ∷ []) (flushed b))
+        → IsPut f equates b (records.Formula code count n expr) (then_said (dc_of_formula count t (weak_of t) ∷ []) (with_run_written b))
     aside e names may = apart_put f equates b code count n expr t low formed shallow there counted e (distance_none code n e distance) names may are
 
     by_held : (c : Bool) (found : List ℕ × ℕ) (w : Wanted) → eqb code 0xEB ≡ c → split_last b.run ≡ Some found → simple_of t ≡ Some w → list_all (term_listable equates) (terms_of t) ≡ true
         → cond c (listing.expr_listable count t) (true && is_record code count n (listing.record_of_opcode both_long found.1)) ≡ true → (h : Bool) → is_held b code count n found ≡ h
-        → IsPut f equates b (records.Formula code count n expr) (cond h (held_back b found.0 found.1 w) (then_said (apart count t (weak_of t) ∷ []) (flushed b)))
+        → IsPut f equates b (records.Formula code count n expr) (cond h (held_back b found.0 found.1 w) (then_said (dc_of_formula count t (weak_of t) ∷ []) (with_run_written b)))
     by_held c found w e split simple names may true held = held_put f equates b code count n expr t found w low formed shallow there names are split simple held
     by_held true found w e split simple names may false held = aside e names may
     by_held false found w e split simple names may false held =
-        let same = same_at_widths (widths_rest b.widths 0 found.0) both_long (decoded found.1).0 (decoded found.1).1 code count n e in
+        let same = same_at_widths (widths_rest b.widths 0 found.0) both_long (instruction_of_opcode found.1).0 (instruction_of_opcode found.1).1 code count n e in
         let clash : false ≡ true = sym held ∙ same ∙ may in absurd cc
 
     by : (c : Bool) (s : Option (List ℕ × ℕ)) (w : Option Wanted) → eqb code 0xEB ≡ c → split_last b.run ≡ s → simple_of t ≡ w → list_all (term_listable equates) (terms_of t) ≡ true
@@ -383,7 +383,7 @@ private_zero true private is = ap (scope_of true) (eqb-true private 0 is)
 private_zero false private is = refl
 
 -- the lines of a record other than END
-pub record_given : (f : Fields) (equates : List (List ℕ)) (b : Before) (l : Layout) (r : Record) (g : Given) → l.lab_len ≡ f.lab_len → f.lab_len ≤ 255 → IsRecord l r → IsKnown equates r → AreBytes b.run
+pub record_given : (f : Fields) (equates : List (List ℕ)) (b : PendingRun) (l : Layout) (r : Record) (g : Given) → l.lab_len ≡ f.lab_len → f.lab_len ≤ 255 → IsRecord l r → IsKnown equates r → AreBytes b.run
     → is_end r ≡ false → given_by f equates b r ≡ Some g → IsGiven f equates b r g
 unfolding given_by
 record_given f equates b l records.End g same low is known are no_end gives = absurd cc
@@ -394,29 +394,29 @@ record_given f equates b l (records.LongConst bytes) g same low is known are no_
     subst (IsGiven f equates b (records.LongConst bytes)) (some_given ([], record b { run = b.run ++ bytes }) g gives)
     (record { short = refl; put = record { fine = tt; widths = refl; names = refl; bytes = append_bytes b.run bytes are known; same = λ at. same_long f.lab_len at b.run bytes } })
 record_given f equates b l (records.Align n) g same low is known are no_end gives =
-    given_as f equates b (records.Align n) (is_power_of_two n && nat_le n 0x10000 && nat_le n (alignment_of f.align)) (then_said (Aligns n ∷ []) (flushed b)) g
+    given_as f equates b (records.Align n) (is_power_of_two n && nat_le n 0x10000 && nat_le n (alignment_of f.align)) (then_said (Aligns n ∷ []) (with_run_written b)) g
     (λ holds. let all = and_parts (is_power_of_two n && nat_le n 0x10000) (nat_le n (alignment_of f.align)) holds in
     let power = and_parts (is_power_of_two n) (nat_le n 0x10000) all.0 in
     put_line f equates b (records.Align n) (records.Align n) (Aligns n) b.names are (is, power.0, leb-true n (alignment_of f.align) all.1) refl refl refl
     (record { places = λ p. refl; size = λ p. refl; defined = λ p. refl; using' = refl; strong = refl })) gives
 record_given f equates b l (records.Org n) g same low is known are no_end gives =
-    given_as f equates b (records.Org n) true (then_said (Moves n ∷ []) (flushed b)) g
-    (λ holds. put_line f equates b (records.Org n) (records.Org n) (Moves n) b.names are is refl refl refl
+    given_as f equates b (records.Org n) true (then_said (OrgIs n ∷ []) (with_run_written b)) g
+    (λ holds. put_line f equates b (records.Org n) (records.Org n) (OrgIs n) b.names are is refl refl refl
     (record { places = λ p. refl; size = λ p. refl; defined = λ p. refl; using' = refl; strong = refl })) gives
 record_given f equates b l (records.Space n) g same low is known are no_end gives =
-    given_as f equates b (records.Space n) true (then_said (Spaces n ∷ []) (flushed b)) g
-    (λ holds. put_line f equates b (records.Space n) (records.Space n) (Spaces n) b.names are is refl refl refl
+    given_as f equates b (records.Space n) true (then_said (Ds n ∷ []) (with_run_written b)) g
+    (λ holds. put_line f equates b (records.Space n) (records.Space n) (Ds n) b.names are is refl refl refl
     (record { places = λ p. refl; size = λ p. refl; defined = λ p. refl; using' = refl; strong = refl })) gives
 record_given f equates b l (records.Using name) g same low is known are no_end gives =
-    given_as f equates b (records.Using name) (is_listable name) (then_said (Uses name ∷ []) (flushed b)) g
-    (λ holds. put_line f equates b (records.Using name) (records.Using name) (Uses name) b.names are (plain_name name holds) refl refl refl
+    given_as f equates b (records.Using name) (is_listable name) (then_said (UsingIs name ∷ []) (with_run_written b)) g
+    (λ holds. put_line f equates b (records.Using name) (records.Using name) (UsingIs name) b.names are (plain_name name holds) refl refl refl
     (record { places = λ p. refl; size = λ p. refl; defined = λ p. refl; using' = refl; strong = refl })) gives
 record_given f equates b l (records.Strong name) g same low is known are no_end gives =
-    given_as f equates b (records.Strong name) (is_listable name) (then_said (Asks name ∷ []) (flushed b)) g
-    (λ holds. put_line f equates b (records.Strong name) (records.Strong name) (Asks name) b.names are (plain_name name holds) refl refl refl
+    given_as f equates b (records.Strong name) (is_listable name) (then_said (StrongIs name ∷ []) (with_run_written b)) g
+    (λ holds. put_line f equates b (records.Strong name) (records.Strong name) (StrongIs name) b.names are (plain_name name holds) refl refl refl
     (record { places = λ p. refl; size = λ p. refl; defined = λ p. refl; using' = refl; strong = refl })) gives
 record_given f equates b l (records.Label global name size form private) g same low is known are no_end gives =
-    given_as f equates b (records.Label global name size form private) ((not global || private == 0) && is_listable name && not (is_among b.names name)) (with_name name (then_said (Labels global name ∷ []) (flushed b))) g
+    given_as f equates b (records.Label global name size form private) ((not global || private == 0) && is_listable name && not (is_among b.names name)) (with_name name (then_said (Labels global name ∷ []) (with_run_written b))) g
     (λ holds. let all = and_parts ((not global || private == 0) && is_listable name) (not (is_among b.names name)) holds in
     let front = and_parts (not global || private == 0) (is_listable name) all.0 in
     put_line f equates b (records.Label global name size form private) (records.Label global name 0 0x4E 0) (Labels global name) (name ∷ b.names) are (plain_name name front.1, not-true (is_among b.names name) all.1) refl refl refl
@@ -442,7 +442,7 @@ record_given f equates b l (records.Equate global name size form private expr) g
         let number = number_is spelled.tree n spelled.spells.formed at in
         let value : tree_in f.lab_len expr ≡ tree_in 0 (expression_text (Leaf (expression.Constant n))) =
         there ∙ ap (λ (t : Tree). Some t) number.0 ∙ sym (tree_back 0 (Leaf (expression.Constant n)) (omega arith) number.1 (omega arith)) in
-        given_as f equates b (records.Equate global name size form private expr) (is_listable name && not (is_among b.names name)) (with_name name (then_said (Equates global name n ∷ []) (flushed b))) g
+        given_as f equates b (records.Equate global name size form private expr) (is_listable name && not (is_among b.names name)) (with_name name (then_said (Equates global name n ∷ []) (with_run_written b))) g
         (λ holds. let all = and_parts (is_listable name) (not (is_among b.names name)) holds in
         put_line f equates b (records.Equate global name size form private expr) (records.Equate global name 0 0x4E 0 (expression_text (Leaf (expression.Constant n)))) (Equates global name n) (name ∷ b.names) are
         ((plain_name name all.0, not-true (is_among b.names name) all.1), number.1, known) refl refl refl (record {

@@ -18,8 +18,8 @@ use Rattle.orca_meaning.specs.Matrix.{matrix}
 use Rattle.asm_meaning.specs.declared.directives.Switch.TheVariants.{LongA, LongI}
 use Rattle.asm_meaning.specs.Instruction.{Widths, kind_of, operand_bytes, opcode_in}
 use Rattle.asm_meaning.specs.laws.PieceLaws.{all-append}
-use Rattle.list_meaning.specs.Listed.{Said, Turns, Instructs, Bytes, Number}
-use Rattle.list_meaning.specs.Listing.{decoded, behind_opcode, widths_behind, turns_between, same_bool, operand_by, written_or, said_instruction, widths_past, said_rest, widths_rest}
+use Rattle.list_meaning.specs.Listed.{ListedStatement, SwitchIs, Instructs, Bytes, Number}
+use Rattle.list_meaning.specs.Listing.{instruction_of_opcode, behind_opcode, widths_behind, turns_between, same_bool, operand_by, written_or, said_instruction, widths_past, said_rest, widths_rest}
 use Rattle.list_meaning.specs.laws.ModeLaw.{has_it}
 use Rattle.list_meaning.specs.laws.RunLaw.{decoded_is, opcode_is, two_bytes, no_bytes, rejoined}
 use Rattle.list_meaning.specs.laws.BytesLine.{AreBytes}
@@ -61,7 +61,7 @@ IsConst (Const bytes) = Unit {0}
 IsConst _ = ⊥
 
 -- these lines can stand there, leave these widths, and give these bytes
-pub record Runs (equates : List (List ℕ)) (align : ℕ) (names : List (List ℕ)) (w v : Widths) (lines : List Said) (bytes : List ℕ) : Type 0 where
+pub record Runs (equates : List (List ℕ)) (align : ℕ) (names : List (List ℕ)) (w v : Widths) (lines : List ListedStatement) (bytes : List ℕ) : Type 0 where
   pub fine : AreFine equates align names w lines
   pub widths : widths_after w lines ≡ v
   pub same_names : names_after names lines ≡ names
@@ -69,7 +69,7 @@ pub record Runs (equates : List (List ℕ)) (align : ℕ) (names : List (List �
   pub bytes_given : flat_map content_of (given w lines) ≡ bytes
 
 module _ (equates : List (List ℕ)) (align : ℕ) (names : List (List ℕ)) where
-  pub runs_on : (w v u : Widths) (xs ys : List Said) (a b : List ℕ) → Runs equates align names w v xs a → Runs equates align names v u ys b → Runs equates align names w u (xs ++ ys) (a ++ b)
+  pub runs_on : (w v u : Widths) (xs ys : List ListedStatement) (a b : List ℕ) → Runs equates align names w v xs a → Runs equates align names v u ys b → Runs equates align names w u (xs ++ ys) (a ++ b)
   runs_on w v u xs ys a b p q =
       let whole = given-append w xs ys in
       let behind : given (widths_after w xs) ys ≡ given v ys = ap (λ (x : Widths). given x ys) p.widths in
@@ -184,7 +184,7 @@ module _ (equates : List (List ℕ)) (align : ℕ) (names : List (List ℕ)) whe
       widths_of a i = record { long_a = a; long_i = i }
 
       by : (a i : Bool) → (a ≡ true → w.long_a ≡ v.long_a) → (i ≡ true → w.long_i ≡ v.long_i)
-          → Runs equates align names w v (cond a [] (Turns LongA v.long_a ∷ []) ++ cond i [] (Turns LongI v.long_i ∷ [])) []
+          → Runs equates align names w v (cond a [] (SwitchIs LongA v.long_a ∷ []) ++ cond i [] (SwitchIs LongI v.long_i ∷ [])) []
       by true true ea ei = record {
         fine = tt;
         widths = ap (λ (a : Bool). widths_of a w.long_i) (ea refl) ∙ ap (λ (i : Bool). widths_of v.long_a i) (ei refl);
@@ -203,18 +203,18 @@ module _ (equates : List (List ℕ)) (align : ℕ) (names : List (List ℕ)) whe
   instruction_runs w opcode bytes fits are most = by (eqb (length bytes) (behind_opcode w opcode)) refl
     where
       few : length bytes ≤ 3
-      few = omega (arith, most, few_bytes w (decoded opcode).0 (decoded opcode).1)
+      few = omega (arith, most, few_bytes w (instruction_of_opcode opcode).0 (instruction_of_opcode opcode).1)
 
       by : (b : Bool) → eqb (length bytes) (behind_opcode w opcode) ≡ b
-          → Runs equates align names w (cond b (widths_behind (decoded opcode).0 bytes w) w)
-          (cond b (written_or (decoded opcode).0 (decoded opcode).1 (opcode ∷ bytes) (operand_by (kind_of (decoded opcode).1) bytes) ++ turns_between w (widths_behind (decoded opcode).0 bytes w)) (Bytes (opcode ∷ bytes) ∷ []))
+          → Runs equates align names w (cond b (widths_behind (instruction_of_opcode opcode).0 bytes w) w)
+          (cond b (written_or (instruction_of_opcode opcode).0 (instruction_of_opcode opcode).1 (opcode ∷ bytes) (operand_by (kind_of (instruction_of_opcode opcode).1) bytes) ++ turns_between w (widths_behind (instruction_of_opcode opcode).0 bytes w)) (Bytes (opcode ∷ bytes) ∷ []))
           (opcode ∷ bytes)
       by true e =
-          let v = widths_behind (decoded opcode).0 bytes w in
-          let lines = written_or (decoded opcode).0 (decoded opcode).1 (opcode ∷ bytes) (operand_by (kind_of (decoded opcode).1) bytes) in
+          let v = widths_behind (instruction_of_opcode opcode).0 bytes w in
+          let lines = written_or (instruction_of_opcode opcode).0 (instruction_of_opcode opcode).1 (opcode ∷ bytes) (operand_by (kind_of (instruction_of_opcode opcode).1) bytes) in
           subst (λ (l : List ℕ). Runs equates align names w v (lines ++ turns_between w v) l) (append-nil (opcode ∷ bytes))
           (runs_on w w v lines (turns_between w v) (opcode ∷ bytes) []
-          (written_runs w (decoded opcode).0 (decoded opcode).1 opcode bytes (decoded_is opcode fits) (opcode_is opcode fits) fits are (eqb-true (length bytes) (behind_opcode w opcode) e)) (turns_run w v))
+          (written_runs w (instruction_of_opcode opcode).0 (instruction_of_opcode opcode).1 opcode bytes (decoded_is opcode fits) (opcode_is opcode fits) fits are (eqb-true (length bytes) (behind_opcode w opcode) e)) (turns_run w v))
       by false e = bytes_run w opcode bytes fits are few
 
   -- the rest of a run, of which so many bytes were taken

@@ -6,20 +6,20 @@ use Rattle.byteorder.specs.Endian.{little_number}
 use Rattle.orca_meaning.specs.Matrix.{matrix, Instruction}
 use Rattle.asm_meaning.specs.Instruction.{opcode_in}
 use Rattle.list_meaning.specs.laws.ModeLaw.{opcode_back}
-use Rattle.list_meaning.specs.Listing.{decoded, or_brk}
+use Rattle.list_meaning.specs.Listing.{instruction_of_opcode, or_brk}
 
 -- each byte is an opcode
 matrix_length : length matrix ≡ 256
 unfolding matrix
 matrix_length = refl
 
-pub decoded_is : (opcode : ℕ) → opcode < 256 → slice_get matrix opcode ≡ Some (decoded opcode)
+pub decoded_is : (opcode : ℕ) → opcode < 256 → slice_get matrix opcode ≡ Some (instruction_of_opcode opcode)
 decoded_is opcode fits =
     let here = slice_get-get_or matrix opcode (or_brk None) (omega (arith, matrix_length, fits)) in
     here ∙ ap (λ (i : Instruction). Some i) (sym (ap or_brk here))
 
-pub opcode_is : (opcode : ℕ) → opcode < 256 → opcode_in (decoded opcode).0 (decoded opcode).1 ≡ opcode
-opcode_is opcode fits = opcode_back opcode (decoded opcode).0 (decoded opcode).1 (decoded_is opcode fits)
+pub opcode_is : (opcode : ℕ) → opcode < 256 → opcode_in (instruction_of_opcode opcode).0 (instruction_of_opcode opcode).1 ≡ opcode
+opcode_is opcode fits = opcode_back opcode (instruction_of_opcode opcode).0 (instruction_of_opcode opcode).1 (decoded_is opcode fits)
 
 pub two_bytes : (bytes : List ℕ) → length bytes ≡ 2 → little_number 1 bytes ∷ little_number 1 (drop 1 bytes) ∷ [] ≡ bytes
 two_bytes [] is = absurd (omega (arith, is))

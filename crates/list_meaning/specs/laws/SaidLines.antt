@@ -19,14 +19,14 @@ use Rattle.orca_meaning.specs.Formula.{operator_code}
 use Rattle.orca_meaning.specs.Line.{part, three_fields}
 use Rattle.orca_meaning.specs.Operation as operations
 use Rattle.macro_meaning.specs.declared.statements.Statement.TheVariants.{Nothing}
-use Rattle.macro_meaning.specs.Deed.{operation_or_anop}
+use Rattle.macro_meaning.specs.Effect.{operation_or_anop}
 use Rattle.macro_meaning.specs.Statements as statements
 use Rattle.macro_meaning.specs.Statements.{is_operation}
 use Rattle.asm_meaning.specs.declared.directives.Switch.TheVariants.{LongA, LongI, Msb}
 use Rattle.asm_meaning.specs.Instruction.{Widths}
 use Rattle.asm_meaning.specs.State.{no_constants}
 use Rattle.list_meaning.specs.Listed as listed
-use Rattle.list_meaning.specs.Listed.{Said, NextAlign, NextOrg, Begins, Kinds, Turns, Spaces, Aligns, Moves, Uses, Asks, Labels, Equates, Instructs, Bytes, Weakly, Sums, Ends, Wanted, None', Number, Banks, Label, Moved, said_text, spaced, statement_text, number_text, operand_text, wanted_text, quoted, formula_text, spelling_of}
+use Rattle.list_meaning.specs.Listed.{ListedStatement, NextAlignIs, NextOrg, StartIs, KindIs, SwitchIs, Ds, Aligns, OrgIs, UsingIs, StrongIs, Labels, Equates, Instructs, Bytes, WeakIs, FormulaIs, EndIs, Wanted, None', Number, Banks, Label, Moved, said_text, with_leading_space, statement_text, number_text, operand_text, wanted_text, quoted_value, formula_text, spelling_of}
 use Rattle.list_meaning.specs.Listing.{is_short}
 use Rattle.list_meaning.specs.laws.LineText.{HasNoBlank, IsOperation, IsLabelFront, laid_three, no_comment}
 use Rattle.list_meaning.specs.laws.Expands.{IsPlainLine, IsOfAssembler, Other, Labelled, HasNoSymbol, HasNoDot}
@@ -167,13 +167,13 @@ fits_text w m _ (Banks source destination) fits = absurd fits
 fits_text w m way (Label name) fits = fits.1
 fits_text w m way (Moved name adds n) fits = fits.1
 
-quoted_clean : (form value : List ℕ) → AreClean form → AreClean value → AreClean (quoted form value)
+quoted_clean : (form value : List ℕ) → AreClean form → AreClean value → AreClean (quoted_value form value)
 quoted_clean form value p q = push form (codes "'" ++ (value ++ codes "'")) p (refl, push value (codes "'") q (refl, tt))
 
 -- ---- a line of three fields
 
 -- the fields of a line, and that the assembler gets it as it stands
-record Shape (said : Said) : Type 0 where
+record Shape (said : ListedStatement) : Type 0 where
   label : List ℕ
   operation : List ℕ
   operand : List ℕ
@@ -206,18 +206,18 @@ onto : (P : ℕ → Type 0) (a b : List ℕ) → AllByRecursion P a → AllByRec
 onto P [] b p q = q
 onto P (byte ∷ a) b p q = (p.0, onto P a b p.1 q)
 
-spaced_all : (P : ℕ → Type 0) → P 0x20 → (operand : List ℕ) → AllByRecursion P operand → AllByRecursion P (spaced operand)
+spaced_all : (P : ℕ → Type 0) → P 0x20 → (operand : List ℕ) → AllByRecursion P operand → AllByRecursion P (with_leading_space operand)
 spaced_all P blank [] are = tt
 spaced_all P blank (byte ∷ operand) are = (blank, are)
 
 whole_all : (P : ℕ → Type 0) → P 0x20 → (label operation operand : List ℕ) → AllByRecursion P label → AllByRecursion P operation → AllByRecursion P operand → AllByRecursion P (statement_text label operation operand)
-whole_all P blank label operation operand p q r = onto P label (0x20 ∷ (operation ++ spaced operand)) p (blank, onto P operation (spaced operand) q (spaced_all P blank operand r))
+whole_all P blank label operation operand p q r = onto P label (0x20 ∷ (operation ++ with_leading_space operand)) p (blank, onto P operation (with_leading_space operand) q (spaced_all P blank operand r))
 
 dotless : (label operation operand : List ℕ) → IsLabelFront label → HasNoDot (statement_text label operation operand)
 dotless [] operation operand front = refl
 dotless (byte ∷ label) operation operand front = front.3
 
-shaped : (said : Said) → is_short said ≡ true → Shape said → IsSaidLine said
+shaped : (said : ListedStatement) → is_short said ≡ true → Shape said → IsSaidLine said
 shaped said short s =
     let text = statement_text s.label s.operation s.operand in
     let laid = laid_three s.label s.operation s.operand s.front s.named (ink s.operand s.operand_clean') in
@@ -244,7 +244,7 @@ record IsDirective (operation : List ℕ) : Type 0 where
   no_macro : is_operation (codes "MACRO") operation ≡ false
   other : operation_or_anop operation ≡ None
 
-directive_shape : (said : Said) (label operation operand : List ℕ) → said_text said ≡ statement_text label operation operand → IsDirective operation → IsLabelFront label → AreClean label → AreClean operand → Shape said
+directive_shape : (said : ListedStatement) (label operation operand : List ℕ) → said_text said ≡ statement_text label operation operand → IsDirective operation → IsLabelFront label → AreClean label → AreClean operand → Shape said
 directive_shape said label operation operand text is front label_is operand_is = record {
   label = label;
   operation = operation;
@@ -276,69 +276,69 @@ letters_clean [] are = tt
 letters_clean (byte ∷ text) are = (named_clean byte are.0, letters_clean text are.1)
 
 align_is : IsDirective (codes "ALIGN")
-unfolding operations.beside statements.statement_of statements.statements statements.other_statements
+unfolding operations.value_of_spelling statements.statement_of statements.statements statements.other_statements
 align_is = record { named = (refl, (refl, (refl, (refl, (refl, tt))))); clean = (refl, (refl, (refl, (refl, (refl, tt))))); no_macro = refl; other = refl }
 
 org_is : IsDirective (codes "ORG")
-unfolding operations.beside statements.statement_of statements.statements statements.other_statements
+unfolding operations.value_of_spelling statements.statement_of statements.statements statements.other_statements
 org_is = record { named = (refl, (refl, (refl, tt))); clean = (refl, (refl, (refl, tt))); no_macro = refl; other = refl }
 
 start_is : IsDirective (codes "START")
-unfolding operations.beside statements.statement_of statements.statements statements.other_statements
+unfolding operations.value_of_spelling statements.statement_of statements.statements statements.other_statements
 start_is = record { named = (refl, (refl, (refl, (refl, (refl, tt))))); clean = (refl, (refl, (refl, (refl, (refl, tt))))); no_macro = refl; other = refl }
 
 data_is : IsDirective (codes "DATA")
-unfolding operations.beside statements.statement_of statements.statements statements.other_statements
+unfolding operations.value_of_spelling statements.statement_of statements.statements statements.other_statements
 data_is = record { named = (refl, (refl, (refl, (refl, tt)))); clean = (refl, (refl, (refl, (refl, tt)))); no_macro = refl; other = refl }
 
 kind_is : IsDirective (codes "KIND")
-unfolding operations.beside statements.statement_of statements.statements statements.other_statements
+unfolding operations.value_of_spelling statements.statement_of statements.statements statements.other_statements
 kind_is = record { named = (refl, (refl, (refl, (refl, tt)))); clean = (refl, (refl, (refl, (refl, tt)))); no_macro = refl; other = refl }
 
 long_a_is : IsDirective (codes "LONGA")
-unfolding operations.beside statements.statement_of statements.statements statements.other_statements
+unfolding operations.value_of_spelling statements.statement_of statements.statements statements.other_statements
 long_a_is = record { named = (refl, (refl, (refl, (refl, (refl, tt))))); clean = (refl, (refl, (refl, (refl, (refl, tt))))); no_macro = refl; other = refl }
 
 long_i_is : IsDirective (codes "LONGI")
-unfolding operations.beside statements.statement_of statements.statements statements.other_statements
+unfolding operations.value_of_spelling statements.statement_of statements.statements statements.other_statements
 long_i_is = record { named = (refl, (refl, (refl, (refl, (refl, tt))))); clean = (refl, (refl, (refl, (refl, (refl, tt))))); no_macro = refl; other = refl }
 
 msb_is : IsDirective (codes "MSB")
-unfolding operations.beside statements.statement_of statements.statements statements.other_statements
+unfolding operations.value_of_spelling statements.statement_of statements.statements statements.other_statements
 msb_is = record { named = (refl, (refl, (refl, tt))); clean = (refl, (refl, (refl, tt))); no_macro = refl; other = refl }
 
 ds_is : IsDirective (codes "DS")
-unfolding operations.beside statements.statement_of statements.statements statements.other_statements
+unfolding operations.value_of_spelling statements.statement_of statements.statements statements.other_statements
 ds_is = record { named = (refl, (refl, tt)); clean = (refl, (refl, tt)); no_macro = refl; other = refl }
 
 using_is : IsDirective (codes "USING")
-unfolding operations.beside statements.statement_of statements.statements statements.other_statements
+unfolding operations.value_of_spelling statements.statement_of statements.statements statements.other_statements
 using_is = record { named = (refl, (refl, (refl, (refl, (refl, tt))))); clean = (refl, (refl, (refl, (refl, (refl, tt))))); no_macro = refl; other = refl }
 
 dc_is : IsDirective (codes "DC")
-unfolding operations.beside statements.statement_of statements.statements statements.other_statements
+unfolding operations.value_of_spelling statements.statement_of statements.statements statements.other_statements
 dc_is = record { named = (refl, (refl, tt)); clean = (refl, (refl, tt)); no_macro = refl; other = refl }
 
 entry_is : IsDirective (codes "ENTRY")
-unfolding operations.beside statements.statement_of statements.statements statements.other_statements
+unfolding operations.value_of_spelling statements.statement_of statements.statements statements.other_statements
 entry_is = record { named = (refl, (refl, (refl, (refl, (refl, tt))))); clean = (refl, (refl, (refl, (refl, (refl, tt))))); no_macro = refl; other = refl }
 
 equ_is : IsDirective (codes "EQU")
-unfolding operations.beside statements.statement_of statements.statements statements.other_statements
+unfolding operations.value_of_spelling statements.statement_of statements.statements statements.other_statements
 equ_is = record { named = (refl, (refl, (refl, tt))); clean = (refl, (refl, (refl, tt))); no_macro = refl; other = refl }
 
 gequ_is : IsDirective (codes "GEQU")
-unfolding operations.beside statements.statement_of statements.statements statements.other_statements
+unfolding operations.value_of_spelling statements.statement_of statements.statements statements.other_statements
 gequ_is = record { named = (refl, (refl, (refl, (refl, tt)))); clean = (refl, (refl, (refl, (refl, tt)))); no_macro = refl; other = refl }
 
 end_is : IsDirective (codes "END")
-unfolding operations.beside statements.statement_of statements.statements statements.other_statements
+unfolding operations.value_of_spelling statements.statement_of statements.statements statements.other_statements
 end_is = record { named = (refl, (refl, (refl, tt))); clean = (refl, (refl, (refl, tt))); no_macro = refl; other = refl }
 
 -- ---- the lines
 
 local_shape : (name : List ℕ) → IsPlainName name → Shape (Labels false name)
-unfolding said_text operations.beside statements.statement_of statements.statements statements.other_statements
+unfolding said_text operations.value_of_spelling statements.statement_of statements.statements statements.other_statements
 local_shape name is = record {
   label = name;
   operation = codes "ANOP";
@@ -370,44 +370,44 @@ instruction_shape m way operand is = record {
 }
 
 -- the lines of the front and the last
-pub front_line : (n : ℕ) → n < 2 ^ 32 → is_short (NextAlign n) ≡ true → IsSaidLine (NextAlign n)
+pub front_line : (n : ℕ) → n < 2 ^ 32 → is_short (NextAlignIs n) ≡ true → IsSaidLine (NextAlignIs n)
 unfolding said_text
-front_line n fits short = shaped (NextAlign n) short (directive_shape (NextAlign n) [] (codes "ALIGN") (number_text 8 n) refl align_is tt tt (number_clean 8 n fits))
+front_line n fits short = shaped (NextAlignIs n) short (directive_shape (NextAlignIs n) [] (codes "ALIGN") (number_text 8 n) refl align_is tt tt (number_clean 8 n fits))
 
 pub origin_line : (n : ℕ) → n < 2 ^ 32 → is_short (NextOrg n) ≡ true → IsSaidLine (NextOrg n)
 unfolding said_text
 origin_line n fits short = shaped (NextOrg n) short (directive_shape (NextOrg n) [] (codes "ORG") (number_text 8 n) refl org_is tt tt (number_clean 8 n fits))
 
-pub begins_line : (crosses : Bool) (name load_name : List ℕ) → IsPlainName name → IsLoadName load_name → is_short (Begins crosses name load_name) ≡ true → IsSaidLine (Begins crosses name load_name)
+pub begins_line : (crosses : Bool) (name load_name : List ℕ) → IsPlainName name → IsLoadName load_name → is_short (StartIs crosses name load_name) ≡ true → IsSaidLine (StartIs crosses name load_name)
 unfolding said_text
 begins_line true name load_name is load short =
-    shaped (Begins true name load_name) short (directive_shape (Begins true name load_name) name (codes "DATA") load_name refl data_is (front_is name is) (name_clean name is) (load_clean load_name load))
+    shaped (StartIs true name load_name) short (directive_shape (StartIs true name load_name) name (codes "DATA") load_name refl data_is (front_is name is) (name_clean name is) (load_clean load_name load))
 begins_line false name load_name is load short =
-    shaped (Begins false name load_name) short (directive_shape (Begins false name load_name) name (codes "START") load_name refl start_is (front_is name is) (name_clean name is) (load_clean load_name load))
+    shaped (StartIs false name load_name) short (directive_shape (StartIs false name load_name) name (codes "START") load_name refl start_is (front_is name is) (name_clean name is) (load_clean load_name load))
 
-pub kind_line : (n : ℕ) → n < 2 ^ 32 → is_short (Kinds n) ≡ true → IsSaidLine (Kinds n)
+pub kind_line : (n : ℕ) → n < 2 ^ 32 → is_short (KindIs n) ≡ true → IsSaidLine (KindIs n)
 unfolding said_text
-kind_line n fits short = shaped (Kinds n) short (directive_shape (Kinds n) [] (codes "KIND") (number_text 4 n) refl kind_is tt tt (number_clean 4 n fits))
+kind_line n fits short = shaped (KindIs n) short (directive_shape (KindIs n) [] (codes "KIND") (number_text 4 n) refl kind_is tt tt (number_clean 4 n fits))
 
-pub end_line : is_short Ends ≡ true → IsSaidLine Ends
+pub end_line : is_short EndIs ≡ true → IsSaidLine EndIs
 unfolding said_text
-end_line short = shaped Ends short (directive_shape Ends [] (codes "END") [] refl end_is tt tt tt)
+end_line short = shaped EndIs short (directive_shape EndIs [] (codes "END") [] refl end_is tt tt tt)
 
 -- the lines inside a segment
-fine_shape : (equates : List (List ℕ)) (align : ℕ) (names : List (List ℕ)) (w : Widths) (said : Said) → IsFine equates align names w said → Shape said
+fine_shape : (equates : List (List ℕ)) (align : ℕ) (names : List (List ℕ)) (w : Widths) (said : ListedStatement) → IsFine equates align names w said → Shape said
 unfolding said_text
-fine_shape equates align names w (NextAlign n) fine = absurd fine
+fine_shape equates align names w (NextAlignIs n) fine = absurd fine
 fine_shape equates align names w (NextOrg n) fine = absurd fine
-fine_shape equates align names w (Begins crosses name load_name) fine = absurd fine
-fine_shape equates align names w (Kinds n) fine = absurd fine
-fine_shape equates align names w (Turns LongA on) fine = directive_shape (Turns LongA on) [] (codes "LONGA") (listed.on_text on) refl long_a_is tt tt (on_clean on)
-fine_shape equates align names w (Turns LongI on) fine = directive_shape (Turns LongI on) [] (codes "LONGI") (listed.on_text on) refl long_i_is tt tt (on_clean on)
-fine_shape equates align names w (Turns Msb on) fine = directive_shape (Turns Msb on) [] (codes "MSB") (listed.on_text on) refl msb_is tt tt (on_clean on)
-fine_shape equates align names w (Spaces n) fine = directive_shape (Spaces n) [] (codes "DS") (number_text 8 n) refl ds_is tt tt (number_clean 8 n fine)
+fine_shape equates align names w (StartIs crosses name load_name) fine = absurd fine
+fine_shape equates align names w (KindIs n) fine = absurd fine
+fine_shape equates align names w (SwitchIs LongA on) fine = directive_shape (SwitchIs LongA on) [] (codes "LONGA") (listed.on_text on) refl long_a_is tt tt (on_clean on)
+fine_shape equates align names w (SwitchIs LongI on) fine = directive_shape (SwitchIs LongI on) [] (codes "LONGI") (listed.on_text on) refl long_i_is tt tt (on_clean on)
+fine_shape equates align names w (SwitchIs Msb on) fine = directive_shape (SwitchIs Msb on) [] (codes "MSB") (listed.on_text on) refl msb_is tt tt (on_clean on)
+fine_shape equates align names w (Ds n) fine = directive_shape (Ds n) [] (codes "DS") (number_text 8 n) refl ds_is tt tt (number_clean 8 n fine)
 fine_shape equates align names w (Aligns n) fine = directive_shape (Aligns n) [] (codes "ALIGN") (number_text 8 n) refl align_is tt tt (number_clean 8 n fine.0)
-fine_shape equates align names w (Moves n) fine = directive_shape (Moves n) [] (codes "ORG") (codes "*+" ++ number_text 8 n) refl org_is tt tt (refl, (refl, number_clean 8 n (omega (arith, fine))))
-fine_shape equates align names w (Uses name) fine = directive_shape (Uses name) [] (codes "USING") name refl using_is tt tt (name_clean name fine)
-fine_shape equates align names w (Asks name) fine = directive_shape (Asks name) [] (codes "DC") (quoted (codes "R") name) refl dc_is tt tt (quoted_clean (codes "R") name (refl, tt) (name_clean name fine))
+fine_shape equates align names w (OrgIs n) fine = directive_shape (OrgIs n) [] (codes "ORG") (codes "*+" ++ number_text 8 n) refl org_is tt tt (refl, (refl, number_clean 8 n (omega (arith, fine))))
+fine_shape equates align names w (UsingIs name) fine = directive_shape (UsingIs name) [] (codes "USING") name refl using_is tt tt (name_clean name fine)
+fine_shape equates align names w (StrongIs name) fine = directive_shape (StrongIs name) [] (codes "DC") (quoted_value (codes "R") name) refl dc_is tt tt (quoted_clean (codes "R") name (refl, tt) (name_clean name fine))
 fine_shape equates align names w (Labels true name) fine = directive_shape (Labels true name) name (codes "ENTRY") [] refl entry_is (front_is name fine.0) (name_clean name fine.0) tt
 fine_shape equates align names w (Labels false name) fine = local_shape name fine.0
 fine_shape equates align names w (Equates true name n) fine =
@@ -416,12 +416,12 @@ fine_shape equates align names w (Equates false name n) fine =
     directive_shape (Equates false name n) name (codes "EQU") (number_text 8 n) refl equ_is (front_is name fine.0.0) (name_clean name fine.0.0) (number_clean 8 n fine.1)
 fine_shape equates align names w (Instructs m way operand) fine = instruction_shape m way operand (fits_text w m way operand (fine no_constants (λ name other. refl)).1)
 fine_shape equates align names w (Bytes bytes) fine =
-    directive_shape (Bytes bytes) [] (codes "DC") (quoted (codes "H") (digits_of bytes)) refl dc_is tt tt (quoted_clean (codes "H") (digits_of bytes) (refl, tt) (digits_clean bytes fine.1))
-fine_shape equates align names w (Weakly name) fine = directive_shape (Weakly name) [] (codes "DC") (quoted (codes "S") name) refl dc_is tt tt (quoted_clean (codes "S") name (refl, tt) (name_clean name fine))
-fine_shape equates align names w (Sums count tree) fine =
-    directive_shape (Sums count tree) [] (codes "DC") (quoted (codes "A" ++ hexadecimal 1 count) (formula_text tree)) refl dc_is tt tt
+    directive_shape (Bytes bytes) [] (codes "DC") (quoted_value (codes "H") (digits_of bytes)) refl dc_is tt tt (quoted_clean (codes "H") (digits_of bytes) (refl, tt) (digits_clean bytes fine.1))
+fine_shape equates align names w (WeakIs name) fine = directive_shape (WeakIs name) [] (codes "DC") (quoted_value (codes "S") name) refl dc_is tt tt (quoted_clean (codes "S") name (refl, tt) (name_clean name fine))
+fine_shape equates align names w (FormulaIs count tree) fine =
+    directive_shape (FormulaIs count tree) [] (codes "DC") (quoted_value (codes "A" ++ hexadecimal 1 count) (formula_text tree)) refl dc_is tt tt
     (quoted_clean (codes "A" ++ hexadecimal 1 count) (formula_text tree) (refl, hexadecimal_clean 1 count (omega (arith, fine.0.1))) (formula_clean tree fine.1))
-fine_shape equates align names w Ends fine = absurd fine
+fine_shape equates align names w EndIs fine = absurd fine
 
-pub fine_line : (equates : List (List ℕ)) (align : ℕ) (names : List (List ℕ)) (w : Widths) (said : Said) → IsFine equates align names w said → is_short said ≡ true → IsSaidLine said
+pub fine_line : (equates : List (List ℕ)) (align : ℕ) (names : List (List ℕ)) (w : Widths) (said : ListedStatement) → IsFine equates align names w said → is_short said ≡ true → IsSaidLine said
 fine_line equates align names w said fine short = shaped said short (fine_shape equates align names w said fine)

@@ -25,11 +25,11 @@ use Rattle.asm_meaning.specs.Pieces.{place_behind}
 use Rattle.asm_meaning.specs.laws.PieceLaws.{all-append, place_behind-append}
 use Rattle.asm_meaning.specs.laws.ObjectFileLaws.{same_place}
 use Rattle.asm_meaning.specs.State as states
-use Rattle.asm_meaning.specs.State.{State, Segment, Ended, begun, closed, marked, in_segment, ended_of, bank_size_of, no_names}
+use Rattle.asm_meaning.specs.State.{State, Segment, Ended, state_after_start, state_after_end, with_local_record, in_segment, ended_of, bank_size_of, no_names}
 use Rattle.asm_meaning.specs.Statement.{IsStep, value_in}
-use Rattle.list_meaning.specs.Listed.{Said, NextAlign, NextOrg, Begins, Kinds, Turns, Spaces, Ends, said_text}
+use Rattle.list_meaning.specs.Listed.{ListedStatement, NextAlignIs, NextOrg, StartIs, KindIs, SwitchIs, Ds, EndIs, said_text}
 use Rattle.list_meaning.specs.Listing as listing
-use Rattle.list_meaning.specs.Listing.{Before, Given, unpadded, is_padded, is_listable, is_listable_load_name, is_listed_form, greatest_length, has_lost_place, has_listable_header, unless_zero, front_of, widths_rest, said_rest, is_among, is_short, are_short, given_by, flushed, then_said, equate_name, equates_of, or_record, said_from, at_front, both_long, listing_of, listing_from}
+use Rattle.list_meaning.specs.Listing.{PendingRun, Given, without_padding, is_padded, is_listable, is_listable_load_name, is_listed_form, greatest_length, has_lost_place, has_listable_header, unless_zero, front_of, widths_rest, said_rest, is_among, is_short, are_short, given_by, with_run_written, then_said, equate_name, equates_of, or_record, said_from, at_front, both_long, listing_of, listing_from}
 use Rattle.list_meaning.specs.Flat.{contents_of}
 use Rattle.list_meaning.specs.Given.{name_said, widths_said, Opens, Closes}
 use Rattle.list_meaning.specs.laws.BytesLine.{AreBytes}
@@ -48,14 +48,14 @@ use Rattle.list_meaning.specs.laws.ReadFacts.{HasBytes, EndsLast, IsReadSegment}
 -- ---- the records of a segment
 
 -- the lines of records up to END: those before END can stand there, and stand for the same
-pub record IsWritten (f : Fields) (equates : List (List ℕ)) (b : Before) (rs : List Record) (lines : List Said) : Type 0 where
-  pub mids : List Said
-  pub whole : lines ≡ mids ++ Ends ∷ []
+pub record IsWritten (f : Fields) (equates : List (List ℕ)) (b : PendingRun) (rs : List Record) (lines : List ListedStatement) : Type 0 where
+  pub mids : List ListedStatement
+  pub whole : lines ≡ mids ++ EndIs ∷ []
   pub short : AllByRecursion (λ said. is_short said ≡ true) lines
   pub fine : AreFine equates f.align b.names b.widths mids
   pub alike : (at : ℕ) → Alike f.lab_len f.res_spc at b.run rs (given b.widths mids)
 
-all_short : (lines : List Said) → list_all is_short lines ≡ true → AllByRecursion (λ said. is_short said ≡ true) lines
+all_short : (lines : List ListedStatement) → list_all is_short lines ≡ true → AllByRecursion (λ said. is_short said ≡ true) lines
 all_short [] e = tt
 all_short (said ∷ lines) e = let both = and_parts (is_short said) (list_all is_short lines) e in (both.0, all_short lines both.1)
 
@@ -69,32 +69,32 @@ or_is at (Some x) g e = ap (λ (y : Given). Some y) (same x g e)
     same : (x y : Given) → right x ≡ right y → x ≡ y
     same x y e = cc
 
-abbrev right_lines : List Said → Result (List Said) ℕ
+abbrev right_lines : List ListedStatement → Result (List ListedStatement) ℕ
 right_lines l = Ok l
 
-same_lines : (a b : List Said) → right_lines a ≡ right_lines b → a ≡ b
+same_lines : (a b : List ListedStatement) → right_lines a ≡ right_lines b → a ≡ b
 same_lines a b e = cc
 
 -- the lines of a record, and of those behind it
-record Parts (f : Fields) (equates : List (List ℕ)) (b : Before) (found : ℕ × Record) (founds : List (ℕ × Record)) (lines : List Said) : Type 0 where
+record Parts (f : Fields) (equates : List (List ℕ)) (b : PendingRun) (found : ℕ × Record) (founds : List (ℕ × Record)) (lines : List ListedStatement) : Type 0 where
   first : Given
   gives : given_by f equates b found.1 ≡ Some first
-  more : List Said
+  more : List ListedStatement
   rest : said_from f equates first.1 founds ≡ Ok more
   whole : lines ≡ first.0 ++ more
 
-parts_of : (f : Fields) (equates : List (List ℕ)) (b : Before) (found : ℕ × Record) (founds : List (ℕ × Record)) (lines : List Said) → said_from f equates b (found ∷ founds) ≡ Ok lines
+parts_of : (f : Fields) (equates : List (List ℕ)) (b : PendingRun) (found : ℕ × Record) (founds : List (ℕ × Record)) (lines : List ListedStatement) → said_from f equates b (found ∷ founds) ≡ Ok lines
     → Parts f equates b found founds lines
 unfolding said_from
 parts_of f equates b found founds lines is =
     let one = bind_ok (or_record found.0 (given_by f equates b found.1)) (λ (g : Given). said_from f equates g.1 founds >>= λ more. Ok (g.0 ++ more)) lines is in
-    let two = bind_ok (said_from f equates one.0.1 founds) (λ (more : List Said). Ok (one.0.0 ++ more)) lines one.2 in
+    let two = bind_ok (said_from f equates one.0.1 founds) (λ (more : List ListedStatement). Ok (one.0.0 ++ more)) lines one.2 in
     record { first = one.0; gives = or_is found.0 (given_by f equates b found.1) one.0 one.1; more = two.0; rest = two.1; whole = sym (same_lines (one.0.0 ++ two.0) lines two.2) }
 
 -- DS for RESSPC
 record SpacesStand (equates : List (List ℕ)) (align : ℕ) (names : List (List ℕ)) (w : Widths) (n : ℕ) : Type 0 where
-  fine : AreFine equates align names w (unless_zero Spaces n)
-  gives : given w (unless_zero Spaces n) ≡ spaces_of n
+  fine : AreFine equates align names w (unless_zero Ds n)
+  gives : given w (unless_zero Ds n) ≡ spaces_of n
 
 spaces_stand : (equates : List (List ℕ)) (align : ℕ) (names : List (List ℕ)) (w : Widths) (n : ℕ) → n < 2 ^ 32 → SpacesStand equates align names w n
 spaces_stand equates align names w n fits = let both = by (eqb n 0) refl in record { fine = both.0; gives = both.1 }
@@ -103,24 +103,24 @@ spaces_stand equates align names w n fits = let both = by (eqb n 0) refl in reco
     some zero e = absurd cc
     some (suc n) e = refl
 
-    by : (b : Bool) → eqb n 0 ≡ b → AreFine equates align names w (cond b [] (Spaces n ∷ [])) × (given w (cond b [] (Spaces n ∷ [])) ≡ spaces_of n)
+    by : (b : Bool) → eqb n 0 ≡ b → AreFine equates align names w (cond b [] (Ds n ∷ [])) × (given w (cond b [] (Ds n ∷ [])) ≡ spaces_of n)
     by true e = (tt, ap spaces_of (sym (eqb-true n 0 e)))
     by false e = ((fits, tt), some n e)
 
 -- END
-end_written : (f : Fields) (equates : List (List ℕ)) (b : Before) (lines : List Said) (g : Given) (more : List Said) → f.res_spc < 2 ^ 32 → AreBytes b.run → given_by f equates b End ≡ Some g → more ≡ [] → lines ≡ g.0 ++ more
+end_written : (f : Fields) (equates : List (List ℕ)) (b : PendingRun) (lines : List ListedStatement) (g : Given) (more : List ListedStatement) → f.res_spc < 2 ^ 32 → AreBytes b.run → given_by f equates b End ≡ Some g → more ≡ [] → lines ≡ g.0 ++ more
     → IsWritten f equates b (End ∷ []) lines
 unfolding given_by
 end_written f equates b lines g more fits are gives none whole = by (are_short answer) refl gives
   where
-    run_lines : List Said
+    run_lines : List ListedStatement
     run_lines = said_rest b.widths 0 b.run
 
-    spaces : List Said
-    spaces = unless_zero Spaces f.res_spc
+    spaces : List ListedStatement
+    spaces = unless_zero Ds f.res_spc
 
     answer : Given
-    answer = then_said (spaces ++ Ends ∷ []) (flushed b)
+    answer = then_said (spaces ++ EndIs ∷ []) (with_run_written b)
 
     v : Widths
     v = widths_rest b.widths 0 b.run
@@ -129,15 +129,15 @@ end_written f equates b lines g more fits are gives none whole = by (are_short a
     by false short e = absurd cc
     by true short e =
         let same : answer ≡ g = some_given answer g e in
-        let all : lines ≡ run_lines ++ (spaces ++ Ends ∷ []) = whole ∙ ap (λ (l : List Said). g.0 ++ l) none ∙ append-nil g.0 ∙ ap (λ (x : Given). x.0) (sym same) in
+        let all : lines ≡ run_lines ++ (spaces ++ EndIs ∷ []) = whole ∙ ap (λ (l : List ListedStatement). g.0 ++ l) none ∙ append-nil g.0 ∙ ap (λ (x : Given). x.0) (sym same) in
         let runs : Runs equates f.align b.names b.widths v run_lines b.run = rest_runs equates f.align b.names b.widths 0 b.run are in
         let stands = spaces_stand equates f.align b.names v f.res_spc fits in
         let gives : given b.widths (run_lines ++ spaces) ≡ given b.widths run_lines ++ spaces_of f.res_spc =
         given-append b.widths run_lines spaces ∙ ap (λ (w : Widths). given b.widths run_lines ++ given w spaces) runs.widths ∙ ap (λ (l : List Record). given b.widths run_lines ++ l) stands.gives in
         record {
           mids = run_lines ++ spaces;
-          whole = all ∙ sym (append_assoc run_lines spaces (Ends ∷ []));
-          short = subst (AllByRecursion (λ said. is_short said ≡ true)) (sym all) (all_short (run_lines ++ (spaces ++ Ends ∷ [])) short);
+          whole = all ∙ sym (append_assoc run_lines spaces (EndIs ∷ []));
+          short = subst (AllByRecursion (λ said. is_short said ≡ true)) (sym all) (all_short (run_lines ++ (spaces ++ EndIs ∷ [])) short);
           fine = AreFine-append equates f.align b.names b.widths run_lines spaces runs.fine
               (subst (λ (n : List (List ℕ)). AreFine equates f.align n (widths_after b.widths run_lines) spaces) (sym runs.same_names)
               (subst (λ (w : Widths). AreFine equates f.align b.names w spaces) (sym runs.widths) stands.fine));
@@ -151,11 +151,11 @@ end_written f equates b lines g more fits are gives none whole = by (are_short a
 abbrev pub AreKnown : List (List ℕ) → Layout → List (ℕ × Record) → Type 0
 AreKnown equates l founds = AllByRecursion (λ found. IsRecord l found.1 × IsKnown equates found.1) founds
 
-none_left : (f : Fields) (equates : List (List ℕ)) (b : Before) (more : List Said) → said_from f equates b [] ≡ Ok more → more ≡ []
+none_left : (f : Fields) (equates : List (List ℕ)) (b : PendingRun) (more : List ListedStatement) → said_from f equates b [] ≡ Ok more → more ≡ []
 unfolding said_from
 none_left f equates b more is = sym (same_lines [] more is)
 
-pub records_written : (f : Fields) (equates : List (List ℕ)) (l : Layout) (b : Before) (founds : List (ℕ × Record)) (lines : List Said) → l.lab_len ≡ f.lab_len → f.lab_len ≤ 255 → f.res_spc < 2 ^ 32
+pub records_written : (f : Fields) (equates : List (List ℕ)) (l : Layout) (b : PendingRun) (founds : List (ℕ × Record)) (lines : List ListedStatement) → l.lab_len ≡ f.lab_len → f.lab_len ≤ 255 → f.res_spc < 2 ^ 32
     → AreKnown equates l founds → EndsLast (map (λ found. found.1) founds) → AreBytes b.run → said_from f equates b founds ≡ Ok lines → IsWritten f equates b (map (λ found. found.1) founds) lines
 records_written f equates l b [] lines same low fits known ends are is = absurd ends
 records_written f equates l b (found ∷ []) lines same low fits known ends are is =
@@ -173,7 +173,7 @@ records_written f equates l b (found ∷ next ∷ founds) lines same low fits kn
     let rs = map (λ (x : ℕ × Record). x.1) (next ∷ founds) in
     record {
       mids = g.0 ++ others.mids;
-      whole = parts.whole ∙ ap (λ (x : List Said). g.0 ++ x) others.whole ∙ sym (append_assoc g.0 others.mids (Ends ∷ []));
+      whole = parts.whole ∙ ap (λ (x : List ListedStatement). g.0 ++ x) others.whole ∙ sym (append_assoc g.0 others.mids (EndIs ∷ []));
       short = subst (AllByRecursion (λ said. is_short said ≡ true)) (sym parts.whole) (all-append (λ said. is_short said ≡ true) g.0 parts.more (all_short g.0 first.short) others.short);
       fine = AreFine-append equates f.align b.names b.widths g.0 others.mids put.fine
           (subst (λ (n : List (List ℕ)). AreFine equates f.align n (widths_after b.widths g.0) others.mids) (sym put.names)
@@ -264,19 +264,19 @@ cut_at zero text = refl
 cut_at (suc n) [] = refl
 cut_at (suc n) (byte ∷ text) = ap (λ (l : List ℕ). byte ∷ l) (cut_at n text)
 
-pub padded_back : (text : List ℕ) → length text ≡ 10 → is_padded text ≡ true → padded (unpadded text) ≡ text
+pub padded_back : (text : List ℕ) → length text ≡ 10 → is_padded text ≡ true → padded (without_padding text) ≡ text
 padded_back text size is =
     let n = position_or_len (λ byte. byte == 0x20) text in
     let whole = cut_at n text in
     let count : length (drop n text) ≡ 10 - length (take n text) = omega (arith, ap length whole, length-append (take n text) (drop n text), size) in
     ap (λ (k : ℕ). take n text ++ replicate k 0x20) (sym count) ∙ ap (λ (l : List ℕ). take n text ++ l) (sym (all_spaces (drop n text) is)) ∙ whole
 
-pub load_name_is : (text : List ℕ) → length text ≡ 10 → is_listable_load_name text ≡ true → IsLoadName (unpadded text) × (padded (unpadded text) ≡ text)
+pub load_name_is : (text : List ℕ) → length text ≡ 10 → is_listable_load_name text ≡ true → IsLoadName (without_padding text) × (padded (without_padding text) ≡ text)
 load_name_is text size is =
-    let both = and_parts (is_padded text) (bytes_eq (unpadded text) [] || is_listable (unpadded text)) is in
+    let both = and_parts (is_padded text) (bytes_eq (without_padding text) [] || is_listable (without_padding text)) is in
     let n = position_or_len (λ byte. byte == 0x20) text in
-    let few : length (unpadded text) ≤ 10 = omega (arith, ap length (cut_at n text), length-append (take n text) (drop n text), size) in
-    (by (unpadded text) both.1 few, padded_back text size both.0)
+    let few : length (without_padding text) ≤ 10 = omega (arith, ap length (cut_at n text), length-append (take n text) (drop n text), size) in
+    (by (without_padding text) both.1 few, padded_back text size both.0)
   where
     by : (name : List ℕ) → (bytes_eq name [] || is_listable name) ≡ true → length name ≤ 10 → IsLoadName name
     by [] is few = tt
@@ -293,15 +293,15 @@ pub record Ready (align org : ℕ) (ended : List Ended) (state : State) : Type 0
   pub front : state.front ≡ []
   pub ended_is : state.ended ≡ ended
 
-record ReadyBehind (align org : ℕ) (ended : List Ended) (state : State) (number : ℕ) (lines : List Said) : Type 0 where
+record ReadyBehind (align org : ℕ) (ended : List Ended) (state : State) (number : ℕ) (lines : List ListedStatement) : Type 0 where
   next : State
   leads : Leads state number lines next
   ready : Ready align org ended next
 
-align_ready : (n : ℕ) (ended : List Ended) (state : State) (number : ℕ) → (n == 0 || (is_power_of_two n && nat_le n 0x10000)) ≡ true → Ready 0 0 ended state → ReadyBehind n 0 ended state number (unless_zero NextAlign n)
+align_ready : (n : ℕ) (ended : List Ended) (state : State) (number : ℕ) → (n == 0 || (is_power_of_two n && nat_le n 0x10000)) ≡ true → Ready 0 0 ended state → ReadyBehind n 0 ended state number (unless_zero NextAlignIs n)
 align_ready n ended state number may ready = by (eqb n 0) refl may
   where
-    by : (b : Bool) → eqb n 0 ≡ b → (b || (is_power_of_two n && nat_le n 0x10000)) ≡ true → ReadyBehind n 0 ended state number (cond b [] (NextAlign n ∷ []))
+    by : (b : Bool) → eqb n 0 ≡ b → (b || (is_power_of_two n && nat_le n 0x10000)) ≡ true → ReadyBehind n 0 ended state number (cond b [] (NextAlignIs n ∷ []))
     by true e may = record { next = state; leads = refl; ready = subst (λ (k : ℕ). Ready k 0 ended state) (sym (eqb-true n 0 e)) ready }
     by false e may =
         let both = and_parts (is_power_of_two n) (nat_le n 0x10000) may in
@@ -329,7 +329,7 @@ class_of false = Code
 -- behind START or DATA
 record HasBegun (crosses : Bool) (name load_name : List ℕ) (align org : ℕ) (ended : List Ended) (state : State) (number : ℕ) : Type 0 where
   next : State
-  step : IsStep state (line_of 0 number (said_text (Begins crosses name load_name))) (Ok next)
+  step : IsStep state (line_of 0 number (said_text (StartIs crosses name load_name))) (Ok next)
   left : Opens crosses name load_name state next
   s : Segment
   here : next.segment ≡ Some s
@@ -353,16 +353,16 @@ bank_of true = refl
 bank_of false = refl
 
 begun_is : (crosses : Bool) (name load_name : List ℕ) (align org : ℕ) (ended : List Ended) (state : State) (number : ℕ) → Ready align org ended state
-    → IsStep state (line_of 0 number (said_text (Begins crosses name load_name))) (Ok (begun state (line_of 0 number (said_text (Begins crosses name load_name))) (class_of crosses) name (padded load_name)))
+    → IsStep state (line_of 0 number (said_text (StartIs crosses name load_name))) (Ok (state_after_start state (line_of 0 number (said_text (StartIs crosses name load_name))) (class_of crosses) name (padded load_name)))
     → HasBegun crosses name load_name align org ended state number
 begun_is crosses name load_name align org ended state number ready step =
-    let line = line_of 0 number (said_text (Begins crosses name load_name)) in
+    let line = line_of 0 number (said_text (StartIs crosses name load_name)) in
     let class = class_of crosses in
     record {
-      next = begun state line class name (padded load_name);
+      next = state_after_start state line class name (padded load_name);
       step = step;
       left = record {
-        after = record { begun = line; class = class; header = states.header_of state class name (padded load_name); names = with_name name None no_names; body = state.front };
+        after = record { state_after_start = line; class = class; header = states.header_of state class name (padded load_name); names = with_name name None no_names; body = state.front };
         was = ready.none;
         here = refl;
         name_is = refl;
@@ -374,7 +374,7 @@ begun_is crosses name load_name align org ended state number ready step =
         body = ready.front;
         ended = refl;
       };
-      s = record { begun = line; class = class; header = states.header_of state class name (padded load_name); names = with_name name None no_names; body = state.front };
+      s = record { state_after_start = line; class = class; header = states.header_of state class name (padded load_name); names = with_name name None no_names; body = state.front };
       here = refl;
       class = refl;
       name_is = refl;
@@ -415,7 +415,7 @@ pub record IsEndedAs (s : format.Segment) (e : Ended) : Type 0 where
   pub body : e.body ≡ written ++ End ∷ []
   pub alike : Alike s.fields.lab_len s.fields.res_spc 0 [] (contents_of s) written
 
-pub record SegmentRan (s : format.Segment) (ended : List Ended) (state : State) (number : ℕ) (lines : List Said) : Type 0 where
+pub record SegmentRan (s : format.Segment) (ended : List Ended) (state : State) (number : ℕ) (lines : List ListedStatement) : Type 0 where
   pub last : State
   pub leads : Leads state number lines last
   pub e : Ended
@@ -424,21 +424,21 @@ pub record SegmentRan (s : format.Segment) (ended : List Ended) (state : State) 
   pub said : AllByRecursion IsSaidLine lines
 
 -- the parts of a listing
-record ListedParts (s : format.Segment) (lines : List Said) : Type 0 where
+record ListedParts (s : format.Segment) (lines : List ListedStatement) : Type 0 where
   header : has_listable_header s ≡ true
   front_short : list_all is_short (front_of s.fields) ≡ true
-  more : List Said
+  more : List ListedStatement
   rest : said_from s.fields (equates_of s) (at_front s.fields) s.records ≡ Ok more
   whole : lines ≡ front_of s.fields ++ more
 
-listed_parts : (s : format.Segment) (lines : List Said) → listing_of s ≡ Ok lines → ListedParts s lines
+listed_parts : (s : format.Segment) (lines : List ListedStatement) → listing_of s ≡ Ok lines → ListedParts s lines
 unfolding listing_of
 listed_parts s lines is = by (has_listable_header s) (list_all is_short (front_of s.fields)) refl refl is
   where
     by : (a b : Bool) → has_listable_header s ≡ a → list_all is_short (front_of s.fields) ≡ b
         → cond (a && b) (said_from s.fields (equates_of s) (at_front s.fields) s.records >>= λ more. Ok (front_of s.fields ++ more)) (Err s.start) ≡ Ok lines → ListedParts s lines
     by true true p q e =
-        let two = bind_ok (said_from s.fields (equates_of s) (at_front s.fields) s.records) (λ (more : List Said). Ok (front_of s.fields ++ more)) lines e in
+        let two = bind_ok (said_from s.fields (equates_of s) (at_front s.fields) s.records) (λ (more : List ListedStatement). Ok (front_of s.fields ++ more)) lines e in
         record { header = p; front_short = q; more = two.0; rest = two.1; whole = sym (same_lines (front_of s.fields ++ two.0) lines two.2) }
     by true false p q e = absurd cc
     by false b p q e = absurd cc
@@ -467,14 +467,14 @@ all_parts : {A : Type 0} (P : A → Type 0) (a b : List A) → AllByRecursion P 
 all_parts P [] b all = (tt, all)
 all_parts P (x ∷ a) b all = let more = all_parts P a b all.1 in ((all.0, more.0), more.1)
 
-mids_said : (equates : List (List ℕ)) (align : ℕ) (names : List (List ℕ)) (w : Widths) (mids : List Said) → AreFine equates align names w mids → AllByRecursion (λ said. is_short said ≡ true) mids → AllByRecursion IsSaidLine mids
+mids_said : (equates : List (List ℕ)) (align : ℕ) (names : List (List ℕ)) (w : Widths) (mids : List ListedStatement) → AreFine equates align names w mids → AllByRecursion (λ said. is_short said ≡ true) mids → AllByRecursion IsSaidLine mids
 mids_said equates align names w [] fine short = tt
 mids_said equates align names w (said ∷ mids) fine short = (fine_line equates align names w said fine.0 short.0, mids_said equates align (name_said said ++ names) (widths_said said w) mids fine.1 short.1)
 
-align_said : (n : ℕ) → (n == 0 || (is_power_of_two n && nat_le n 0x10000)) ≡ true → AllByRecursion (λ said. is_short said ≡ true) (unless_zero NextAlign n) → AllByRecursion IsSaidLine (unless_zero NextAlign n)
+align_said : (n : ℕ) → (n == 0 || (is_power_of_two n && nat_le n 0x10000)) ≡ true → AllByRecursion (λ said. is_short said ≡ true) (unless_zero NextAlignIs n) → AllByRecursion IsSaidLine (unless_zero NextAlignIs n)
 align_said n may = by (eqb n 0) may
   where
-    by : (b : Bool) → (b || (is_power_of_two n && nat_le n 0x10000)) ≡ true → AllByRecursion (λ said. is_short said ≡ true) (cond b [] (NextAlign n ∷ [])) → AllByRecursion IsSaidLine (cond b [] (NextAlign n ∷ []))
+    by : (b : Bool) → (b || (is_power_of_two n && nat_le n 0x10000)) ≡ true → AllByRecursion (λ said. is_short said ≡ true) (cond b [] (NextAlignIs n ∷ [])) → AllByRecursion IsSaidLine (cond b [] (NextAlignIs n ∷ []))
     by true may short = tt
     by false may short = (front_line n (omega (arith, leb-true n 0x10000 (and_parts (is_power_of_two n) (nat_le n 0x10000) may).1)) short.0, tt)
 
@@ -485,7 +485,7 @@ org_said n fits = by (eqb n 0)
     by true short = tt
     by false short = (origin_line n fits short.0, tt)
 
-module _ (s : format.Segment) (lines : List Said) (ended : List Ended) (state : State) (number : ℕ) (read : IsReadSegment s) (parts : ListedParts s lines) (ready : Ready 0 0 ended state) where
+module _ (s : format.Segment) (lines : List ListedStatement) (ended : List Ended) (state : State) (number : ℕ) (read : IsReadSegment s) (parts : ListedParts s lines) (ready : Ready 0 0 ended state) where
   abbrev f : Fields
   f = s.fields
 
@@ -505,11 +505,11 @@ module _ (s : format.Segment) (lines : List Said) (ended : List Ended) (state : 
       records_written s.fields (equates_of s) read.layout (at_front s.fields) s.records parts.more read.same_names read.fields.lab_len res_fits
       (all_known (equates_of s) read.layout s.records (λ name is. is) read.forms read.bytes) read.ends tt parts.rest
 
-  first : ReadyBehind f.align 0 ended state number (unless_zero NextAlign f.align)
+  first : ReadyBehind f.align 0 ended state number (unless_zero NextAlignIs f.align)
   first = align_ready s.fields.align ended state number listed'.align ready
 
   abbrev number1 : ℕ
-  number1 = number + length (unless_zero NextAlign f.align)
+  number1 = number + length (unless_zero NextAlignIs f.align)
 
   second : ReadyBehind f.align f.org ended first.next number1 (unless_zero NextOrg f.org)
   second = org_ready f.align f.org ended first.next number1 read.fields.org first.ready
@@ -517,18 +517,18 @@ module _ (s : format.Segment) (lines : List Said) (ended : List Ended) (state : 
   abbrev number2 : ℕ
   number2 = number1 + length (unless_zero NextOrg f.org)
 
-  load : IsLoadName (unpadded f.load_name) × (padded (unpadded f.load_name) ≡ f.load_name)
+  load : IsLoadName (without_padding f.load_name) × (padded (without_padding f.load_name) ≡ f.load_name)
   load = load_name_is f.load_name read.fields.load_name listed'.load_name
 
-  third : HasBegun (f.bank_size == 0) f.name (unpadded f.load_name) f.align f.org ended second.next number2
-  third = begins (f.bank_size == 0) f.name (unpadded f.load_name) f.align f.org ended second.next number2 (plain_name f.name listed'.name) load.0 second.ready
+  third : HasBegun (f.bank_size == 0) f.name (without_padding f.load_name) f.align f.org ended second.next number2
+  third = begins (f.bank_size == 0) f.name (without_padding f.load_name) f.align f.org ended second.next number2 (plain_name f.name listed'.name) load.0 second.ready
 
   kind_room : place_behind 0 (third.s.body ++ []) ≤ states.greatest_length third.s.class
   unfolding place_behind
   kind_room = subst (λ (l : List Record). place_behind 0 (l ++ []) ≤ states.greatest_length third.s.class) (sym third.body) (omega arith)
 
-  fourth : Stands (Kinds f.kind) third.next third.s (number2 + 1)
-  fourth = line_gives third.next third.s (number2 + 1) (Kinds f.kind) third.here (omega (arith, read.fields.kind), listed'.listed) kind_room
+  fourth : Stands (KindIs f.kind) third.next third.s (number2 + 1)
+  fourth = line_gives third.next third.s (number2 + 1) (KindIs f.kind) third.here (omega (arith, read.fields.kind), listed'.listed) kind_room
 
   body_none : fourth.leaves.after.body ≡ []
   body_none = fourth.leaves.body ∙ ap (λ (l : List Record). l ++ []) third.body
@@ -543,8 +543,8 @@ module _ (s : format.Segment) (lines : List Said) (ended : List Ended) (state : 
     widths = refl;
   }
 
-  abbrev inner_lines : List Said
-  inner_lines = Turns LongA true ∷ Turns LongI true ∷ written.mids
+  abbrev inner_lines : List ListedStatement
+  inner_lines = SwitchIs LongA true ∷ SwitchIs LongI true ∷ written.mids
 
   abbrev records' : List Record
   records' = given both_long written.mids
@@ -565,7 +565,7 @@ module _ (s : format.Segment) (lines : List Said) (ended : List Ended) (state : 
   ran = lines_run (equates_of s) f.align (f.name ∷ []) fourth.next.widths fourth.next fourth.leaves.after (number2 + 1 + 1) inner_lines holds (tt, (tt, written.fine)) room
 
   abbrev last_state : State
-  last_state = closed (in_segment (marked [] 0x4E (End ∷ [])) ran.last)
+  last_state = state_after_end (in_segment (with_local_record [] 0x4E (End ∷ [])) ran.last)
 
   abbrev ending : Ended
   ending = record { header = record ran.after.header { length = place_behind 0 (ran.after.body ++ End ∷ []) }; body = ran.after.body ++ End ∷ [] }
@@ -574,7 +574,7 @@ module _ (s : format.Segment) (lines : List Said) (ended : List Ended) (state : 
   body_is = ran.body ∙ ap (λ (l : List Record). l ++ given both_long written.mids) body_none
 
   ends_with : last_state.ended ≡ ran.last.ended ++ ending ∷ []
-  ends_with = ap (λ (o : Option Segment). ran.last.ended ++ ended_of (option_map (marked [] 0x4E (End ∷ [])) o)) ran.here
+  ends_with = ap (λ (o : Option Segment). ran.last.ended ++ ended_of (option_map (with_local_record [] 0x4E (End ∷ [])) o)) ran.here
 
   end_left : Closes ran.last last_state
   end_left = record { s = ran.after; was = ran.here; here = refl; ended = ends_with }
@@ -582,20 +582,20 @@ module _ (s : format.Segment) (lines : List Said) (ended : List Ended) (state : 
   leads : Leads state number lines last_state
   unfolding front_of
   leads =
-      let a = unless_zero NextAlign f.align in
+      let a = unless_zero NextAlignIs f.align in
       let o = unless_zero NextOrg f.org in
-      let b = Begins (f.bank_size == 0) f.name (unpadded f.load_name) in
-      let tail = b ∷ Kinds f.kind ∷ Turns LongA true ∷ Turns LongI true ∷ [] in
-      let whole : lines ≡ a ++ (o ++ (b ∷ Kinds f.kind ∷ (inner_lines ++ Ends ∷ []))) =
-      parts.whole ∙ ap (λ (l : List Said). (a ++ (o ++ tail)) ++ l) written.whole ∙ append_assoc a (o ++ tail) (written.mids ++ Ends ∷ [])
-      ∙ ap (λ (l : List Said). a ++ l) (append_assoc o tail (written.mids ++ Ends ∷ [])) in
-      let at_end : Leads ran.last (number2 + 1 + 1 + length inner_lines) (Ends ∷ []) last_state = (last_state, (end_step ran.last ran.after (number2 + 1 + 1 + length inner_lines) ran.here, end_left), refl) in
-      let inside = leads_on fourth.next ran.last last_state (number2 + 1 + 1) inner_lines (Ends ∷ []) ran.leads at_end in
-      let behind_start : Leads second.next number2 (b ∷ Kinds f.kind ∷ (inner_lines ++ Ends ∷ [])) last_state = (third.next, (third.step, third.left), (fourth.next, (fourth.step, (third.s, third.here, fourth.leaves)), inside)) in
-      let behind_align : Leads first.next number1 (o ++ (b ∷ Kinds f.kind ∷ (inner_lines ++ Ends ∷ []))) last_state =
-      leads_on first.next second.next last_state number1 o (b ∷ Kinds f.kind ∷ (inner_lines ++ Ends ∷ [])) second.leads behind_start in
-      subst (λ (l : List Said). Leads state number l last_state) (sym whole)
-      (leads_on state first.next last_state number a (o ++ (b ∷ Kinds f.kind ∷ (inner_lines ++ Ends ∷ []))) first.leads behind_align)
+      let b = StartIs (f.bank_size == 0) f.name (without_padding f.load_name) in
+      let tail = b ∷ KindIs f.kind ∷ SwitchIs LongA true ∷ SwitchIs LongI true ∷ [] in
+      let whole : lines ≡ a ++ (o ++ (b ∷ KindIs f.kind ∷ (inner_lines ++ EndIs ∷ []))) =
+      parts.whole ∙ ap (λ (l : List ListedStatement). (a ++ (o ++ tail)) ++ l) written.whole ∙ append_assoc a (o ++ tail) (written.mids ++ EndIs ∷ [])
+      ∙ ap (λ (l : List ListedStatement). a ++ l) (append_assoc o tail (written.mids ++ EndIs ∷ [])) in
+      let at_end : Leads ran.last (number2 + 1 + 1 + length inner_lines) (EndIs ∷ []) last_state = (last_state, (end_step ran.last ran.after (number2 + 1 + 1 + length inner_lines) ran.here, end_left), refl) in
+      let inside = leads_on fourth.next ran.last last_state (number2 + 1 + 1) inner_lines (EndIs ∷ []) ran.leads at_end in
+      let behind_start : Leads second.next number2 (b ∷ KindIs f.kind ∷ (inner_lines ++ EndIs ∷ [])) last_state = (third.next, (third.step, third.left), (fourth.next, (fourth.step, (third.s, third.here, fourth.leaves)), inside)) in
+      let behind_align : Leads first.next number1 (o ++ (b ∷ KindIs f.kind ∷ (inner_lines ++ EndIs ∷ []))) last_state =
+      leads_on first.next second.next last_state number1 o (b ∷ KindIs f.kind ∷ (inner_lines ++ EndIs ∷ [])) second.leads behind_start in
+      subst (λ (l : List ListedStatement). Leads state number l last_state) (sym whole)
+      (leads_on state first.next last_state number a (o ++ (b ∷ KindIs f.kind ∷ (inner_lines ++ EndIs ∷ []))) first.leads behind_align)
 
   header_is : ran.after.header ≡ record third.s.header { kind = f.kind }
   header_is = ran.header ∙ fourth.leaves.header
@@ -630,20 +630,20 @@ module _ (s : format.Segment) (lines : List Said) (ended : List Ended) (state : 
   said : AllByRecursion IsSaidLine lines
   unfolding front_of
   said =
-      let a = unless_zero NextAlign s.fields.align in
+      let a = unless_zero NextAlignIs s.fields.align in
       let o = unless_zero NextOrg s.fields.org in
-      let tail = Begins (s.fields.bank_size == 0) s.fields.name (unpadded s.fields.load_name) ∷ Kinds s.fields.kind ∷ Turns LongA true ∷ Turns LongI true ∷ [] in
+      let tail = StartIs (s.fields.bank_size == 0) s.fields.name (without_padding s.fields.load_name) ∷ KindIs s.fields.kind ∷ SwitchIs LongA true ∷ SwitchIs LongI true ∷ [] in
       let short = all_short (a ++ (o ++ tail)) parts.front_short in
       let short_a = all_parts (λ said. is_short said ≡ true) a (o ++ tail) short in
       let short_o = all_parts (λ said. is_short said ≡ true) o tail short_a.1 in
       let rest = short_o.1 in
-      let short_mids = all_parts (λ said. is_short said ≡ true) written.mids (Ends ∷ []) (subst (AllByRecursion (λ said. is_short said ≡ true)) written.whole written.short) in
+      let short_mids = all_parts (λ said. is_short said ≡ true) written.mids (EndIs ∷ []) (subst (AllByRecursion (λ said. is_short said ≡ true)) written.whole written.short) in
       let front : AllByRecursion IsSaidLine tail = (
-        begins_line (s.fields.bank_size == 0) s.fields.name (unpadded s.fields.load_name) (plain_name s.fields.name listed'.name) load.0 rest.0,
-        (kind_line s.fields.kind (omega (arith, read.fields.kind)) rest.1.0, (fine_line [] 0 [] both_long (Turns LongA true) tt rest.1.1.0, (fine_line [] 0 [] both_long (Turns LongI true) tt rest.1.1.1.0, tt))),
+        begins_line (s.fields.bank_size == 0) s.fields.name (without_padding s.fields.load_name) (plain_name s.fields.name listed'.name) load.0 rest.0,
+        (kind_line s.fields.kind (omega (arith, read.fields.kind)) rest.1.0, (fine_line [] 0 [] both_long (SwitchIs LongA true) tt rest.1.1.0, (fine_line [] 0 [] both_long (SwitchIs LongI true) tt rest.1.1.1.0, tt))),
       ) in
       let inside = mids_said (equates_of s) s.fields.align (s.fields.name ∷ []) both_long written.mids written.fine short_mids.0 in
-      let behind = all-append IsSaidLine written.mids (Ends ∷ []) inside (end_line short_mids.1.0, tt) in
+      let behind = all-append IsSaidLine written.mids (EndIs ∷ []) inside (end_line short_mids.1.0, tt) in
       subst (AllByRecursion IsSaidLine) (sym parts.whole)
       (all-append IsSaidLine (a ++ (o ++ tail)) parts.more (all-append IsSaidLine a (o ++ tail) (align_said s.fields.align listed'.align short_a.0) (all-append IsSaidLine o tail (org_said s.fields.org read.fields.org short_o.0) front))
       (subst (AllByRecursion IsSaidLine) (sym written.whole) behind))
@@ -659,7 +659,7 @@ AreEndedAs [] (e ∷ ended) = ⊥
 AreEndedAs (s ∷ segments) [] = ⊥
 AreEndedAs (s ∷ segments) (e ∷ ended) = IsEndedAs s e × AreEndedAs segments ended
 
-pub record FileRan (segments : List format.Segment) (ended : List Ended) (state : State) (number : ℕ) (lines : List Said) : Type 0 where
+pub record FileRan (segments : List format.Segment) (ended : List Ended) (state : State) (number : ℕ) (lines : List ListedStatement) : Type 0 where
   pub last : State
   pub leads : Leads state number lines last
   pub more : List Ended
@@ -668,45 +668,45 @@ pub record FileRan (segments : List format.Segment) (ended : List Ended) (state 
   pub said : AllByRecursion IsSaidLine lines
 
 -- the lines of the first segment, and of the others
-record FileParts (k : ℕ) (s : format.Segment) (segments : List format.Segment) (lines : List Said) : Type 0 where
-  first : List Said
+record FileParts (k : ℕ) (s : format.Segment) (segments : List format.Segment) (lines : List ListedStatement) : Type 0 where
+  first : List ListedStatement
   here : listing_of s ≡ Ok first
-  more : List Said
+  more : List ListedStatement
   rest : listing_from (k + 1) segments ≡ Ok more
   whole : lines ≡ first ++ more
 
-abbrev right_file : List Said → Result (List Said) (ℕ × ℕ)
+abbrev right_file : List ListedStatement → Result (List ListedStatement) (ℕ × ℕ)
 right_file l = Ok l
 
-same_file : (a b : List Said) → right_file a ≡ right_file b → a ≡ b
+same_file : (a b : List ListedStatement) → right_file a ≡ right_file b → a ≡ b
 same_file a b e = cc
 
-in_is : (k : ℕ) (r : Result (List Said) ℕ) (l : List Said) → listing.in_segment k r ≡ Ok l → r ≡ Ok l
+in_is : (k : ℕ) (r : Result (List ListedStatement) ℕ) (l : List ListedStatement) → listing.in_segment k r ≡ Ok l → r ≡ Ok l
 in_is k (Ok x) l is = ap right_lines (same_file x l is)
 in_is k (Err at) l is = absurd cc
 
-file_parts : (k : ℕ) (s : format.Segment) (segments : List format.Segment) (lines : List Said) → listing_from k (s ∷ segments) ≡ Ok lines → FileParts k s segments lines
+file_parts : (k : ℕ) (s : format.Segment) (segments : List format.Segment) (lines : List ListedStatement) → listing_from k (s ∷ segments) ≡ Ok lines → FileParts k s segments lines
 unfolding listing_from
 file_parts k s segments lines is =
-    let one = bind_ok (listing.in_segment k (listing_of s)) (λ (first : List Said). listing_from (k + 1) segments >>= λ more. Ok (first ++ more)) lines is in
-    let two = bind_ok (listing_from (k + 1) segments) (λ (more : List Said). Ok (one.0 ++ more)) lines one.2 in
+    let one = bind_ok (listing.in_segment k (listing_of s)) (λ (first : List ListedStatement). listing_from (k + 1) segments >>= λ more. Ok (first ++ more)) lines is in
+    let two = bind_ok (listing_from (k + 1) segments) (λ (more : List ListedStatement). Ok (one.0 ++ more)) lines one.2 in
     record { first = one.0; here = in_is k (listing_of s) one.0 one.1; more = two.0; rest = two.1; whole = sym (same_file (one.0 ++ two.0) lines two.2) }
 
-none_listed : (k : ℕ) (lines : List Said) → listing_from k [] ≡ Ok lines → lines ≡ []
+none_listed : (k : ℕ) (lines : List ListedStatement) → listing_from k [] ≡ Ok lines → lines ≡ []
 unfolding listing_from
 none_listed k lines is = sym (same_file [] lines is)
 
-pub file_runs : (k : ℕ) (segments : List format.Segment) (lines : List Said) (ended : List Ended) (state : State) (number : ℕ) → AllByRecursion IsReadSegment segments → listing_from k segments ≡ Ok lines → Ready 0 0 ended state
+pub file_runs : (k : ℕ) (segments : List format.Segment) (lines : List ListedStatement) (ended : List Ended) (state : State) (number : ℕ) → AllByRecursion IsReadSegment segments → listing_from k segments ≡ Ok lines → Ready 0 0 ended state
     → FileRan segments ended state number lines
 file_runs k [] lines ended state number read is ready =
-    record { last = state; leads = subst (λ (l : List Said). Leads state number l state) (sym (none_listed k lines is)) refl; more = []; ready = subst (λ (x : List Ended). Ready 0 0 x state) (sym (append-nil ended)) ready; are = tt; said = subst (AllByRecursion IsSaidLine) (sym (none_listed k lines is)) tt }
+    record { last = state; leads = subst (λ (l : List ListedStatement). Leads state number l state) (sym (none_listed k lines is)) refl; more = []; ready = subst (λ (x : List Ended). Ready 0 0 x state) (sym (append-nil ended)) ready; are = tt; said = subst (AllByRecursion IsSaidLine) (sym (none_listed k lines is)) tt }
 file_runs k (s ∷ segments) lines ended state number read is ready =
     let parts = file_parts k s segments lines is in
     let first = segment_runs s parts.first ended state number read.0 (listed_parts s parts.first parts.here) ready in
     let others = file_runs (k + 1) segments parts.more (ended ++ first.e ∷ []) first.last (number + length parts.first) read.1 parts.rest first.ready in
     record {
       last = others.last;
-      leads = subst (λ (l : List Said). Leads state number l others.last) (sym parts.whole) (leads_on state first.last others.last number parts.first parts.more first.leads others.leads);
+      leads = subst (λ (l : List ListedStatement). Leads state number l others.last) (sym parts.whole) (leads_on state first.last others.last number parts.first parts.more first.leads others.leads);
       more = first.e ∷ others.more;
       ready = subst (λ (x : List Ended). Ready 0 0 x others.last) (append_assoc ended (first.e ∷ []) others.more) others.ready;
       are = (first.is, others.are);

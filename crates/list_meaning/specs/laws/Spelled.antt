@@ -3,7 +3,7 @@ use Rattle.std.proofs.Common.{◌≡◌, true, false, Some, None, refl}
 use Rattle.std.specs.Prelude.{codes}
 use Rattle.std.specs.List.{AllByRecursion}
 use Rattle.orca_meaning.specs.Characters.{is_name_byte}
-use Rattle.macro_meaning.specs.Deed.{operation_or_anop}
+use Rattle.macro_meaning.specs.Effect.{operation_or_anop}
 use Rattle.macro_meaning.specs.Statements as statements
 use Rattle.macro_meaning.specs.Statements.{is_operation}
 use Rattle.orca_meaning.specs.declared.mnemonics.Mnemonic.{Mnemonic}
@@ -21,7 +21,7 @@ pub record IsSpelled (m : Mnemonic) : Type 0 where
   pub letters : AllByRecursion (λ b. is_name_byte b ≡ true) (spelling_of m)
 
 pub spelled : (m : Mnemonic) → IsSpelled m
-unfolding spelling_of mnemonic_of operations.beside operations.mnemonics statements.statement_of statements.statements statements.other_statements
+unfolding spelling_of mnemonic_of operations.value_of_spelling operations.mnemonics statements.statement_of statements.statements statements.other_statements
 spelled Adc = record { read = refl; named = (refl, (refl, (refl, tt))); statement = refl; no_macro = refl; letters = (refl, (refl, (refl, tt))) }
 spelled And = record { read = refl; named = (refl, (refl, (refl, tt))); statement = refl; no_macro = refl; letters = (refl, (refl, (refl, tt))) }
 spelled Asl = record { read = refl; named = (refl, (refl, (refl, tt))); statement = refl; no_macro = refl; letters = (refl, (refl, (refl, tt))) }

@@ -11,10 +11,10 @@ use Rattle.omf_format.specs.Field.{◌>>=◌}
 use Rattle.omf_format.specs.Record.{Formula}
 use Rattle.orca_meaning.specs.Formula.{pending, has_large, is_large}
 use Rattle.orca_meaning.specs.Token as tokens
-use Rattle.asm_meaning.specs.Constant.{Constants, Worth, Number, Open, Divided, worth, worth_of_two, with_values, amount}
+use Rattle.asm_meaning.specs.Constant.{Constants, KnownValue, Number, Open, Divided, known_value, worth_of_two, with_values, amount}
 use Rattle.asm_meaning.specs.Elements as elements
 use Rattle.asm_meaning.specs.Elements.{Element, list_pieces}
-use Rattle.asm_meaning.specs.Formulas.{expression_text, judged}
+use Rattle.asm_meaning.specs.Formulas.{expression_text, checked_formula}
 use Rattle.asm_meaning.specs.Pieces.{records_of, records_behind}
 use Rattle.list_meaning.specs.laws.FormulaLaw.{CanWrite}
 use Rattle.list_meaning.specs.Listing.{is_open}
@@ -49,13 +49,13 @@ same_values constants (Leaf (expression.Offset n)) can are = refl
 same_values constants (Unary code a) can are = ap (λ (x : Tree). Unary code x) (same_values constants a can.1 are)
 same_values constants (Binary code a b) can are = ap (λ (x : Tree). Binary code x (with_values constants b)) (same_values constants a can.1 are.0) ∙ ap (λ (x : Tree). Binary code a x) (same_values constants b can.2 are.1)
 
-open_right : (code : ℕ) (w : Worth) → worth_of_two code w Open ≡ Open
+open_right : (code : ℕ) (w : KnownValue) → worth_of_two code w Open ≡ Open
 open_right code (Number a) = refl
 open_right code Open = refl
 open_right code Divided = refl
 
-open_worth : (constants : Constants) (t : Tree) → CanWrite t → AreUnknown constants t → has_open t ≡ true → worth constants t ≡ Open
-unfolding worth
+open_worth : (constants : Constants) (t : Tree) → CanWrite t → AreUnknown constants t → has_open t ≡ true → known_value constants t ≡ Open
+unfolding known_value
 open_worth constants (Leaf (expression.Operator code)) can are is = refl
 open_worth constants (Leaf expression.Location) can are is = refl
 open_worth constants (Leaf (expression.Constant n)) can are is = absurd cc
@@ -64,10 +64,10 @@ open_worth constants (Leaf (expression.Offset n)) can are is = refl
 open_worth constants (Unary code a) can are is = rw (open_worth constants a can.1 are is) refl
 open_worth constants (Binary code a b) can are is = by (has_open a) refl is (open_worth constants a can.1 are.0) (open_worth constants b can.2 are.1)
   where
-    by : (o : Bool) → has_open a ≡ o → (o || has_open b) ≡ true → (has_open a ≡ true → worth constants a ≡ Open) → (has_open b ≡ true → worth constants b ≡ Open)
-        → worth_of_two code (worth constants a) (worth constants b) ≡ Open
+    by : (o : Bool) → has_open a ≡ o → (o || has_open b) ≡ true → (has_open a ≡ true → known_value constants a ≡ Open) → (has_open b ≡ true → known_value constants b ≡ Open)
+        → worth_of_two code (known_value constants a) (known_value constants b) ≡ Open
     by true left h to_left to_right = rw (to_left left) refl
-    by false left h to_left to_right = rw (to_right h) (open_right code (worth constants a))
+    by false left h to_left to_right = rw (to_right h) (open_right code (known_value constants a))
 
 any_append : (p : expression.Term → Bool) (a b : List expression.Term) → list_any p a ≡ false → list_any p b ≡ false → list_any p (a ++ b) ≡ false
 any_append p a b pa pb = list_any-append p a b ∙ rw (pa, pb) refl
@@ -88,7 +88,7 @@ element_of count tree = record { repeat = elements.Once; value = elements.Number
 
 pub sum_gives : (constants : Constants) (msb : Bool) (count : ℕ) (t : Tree) → CanWrite t → AreUnknown constants t → has_open t ≡ true → pending 1 t ≤ 64
     → (list_pieces constants msb (Some (element_of count t ∷ [])) >>= λ pieces. Ok (records_of pieces)) ≡ Ok (Formula 0xEB count 0 (expression_text t) ∷ [])
-unfolding elements.element_pieces judged amount records_behind
+unfolding elements.element_pieces checked_formula amount records_behind
 sum_gives constants msb count t can are open' few =
     rw (le-ltb 64 (pending 1 t) few, no_large t can, open_worth constants t can are open', same_values constants t can are) refl
 

@@ -13,7 +13,7 @@ use Rattle.omf_format.specs.Header.{is_dynamic, is_skipped, first_of}
 use Rattle.omf_format.specs.Record.{Record}
 use Rattle.omf_format.specs.File.{Segment, IsSegment, AreSegments, segment_at}
 use Rattle.omf_format.specs.Body.{body_bytes}
-use Rattle.load_meaning.specs.Cells.{Cell, Byte, Patch, parts_from, with_patch, segment_bytes, patched, patches_in, patches_of, cells}
+use Rattle.load_meaning.specs.Cells.{Cell, Byte, Patch, parts_from, with_patch, segment_bytes, patched_cells, patches_in, patches_of, cells}
 use Rattle.load_meaning.specs.laws.LayingLaws.{laid, Fit, length-laid}
 use Rattle.load_meaning.specs.Loadable.{Fault, IsLoadSegment, in_segment, first_in, shape_fault, is_kept, is_dynamic_at, patch_refusal, first_refusal, entry_refusal, target_refusal, first_target_fault, target_fault, pathnames_flaw, IsPathnames, pathnames_fault, table_fault, later_fault, IsLoadable, patch_list, IsPatch, IsSoundSegment}
 use Rattle.load_meaning.specs.Pathnames.{ArePaths, has_pathnames, most_paths, paths_in, paths_of, rows_flaw, is_one_long}
@@ -29,7 +29,7 @@ placed_patches s found = map (λ p. (found.0, p)) (patches_in s found.1)
 -- the cells of a segment without patches are its bytes
 pub cells-bytes : (s : Segment) → patches_of s ≡ [] → cells s ≡ map Byte (segment_bytes s)
 unfolding cells
-cells-bytes s none = ap (λ (l : List (ℕ × Patch)). patched (map Byte (segment_bytes s)) (map (λ (p : ℕ × Patch). p.1) l)) none
+cells-bytes s none = ap (λ (l : List (ℕ × Patch)). patched_cells (map Byte (segment_bytes s)) (map (λ (p : ℕ × Patch). p.1) l)) none
 
 -- where LENGTH has room for the bytes of the records, the bytes are LENGTH in all
 pub length-segment_bytes : (s : Segment) → length (body_bytes s) ≤ s.fields.length → length (segment_bytes s) ≡ s.fields.length
@@ -278,7 +278,7 @@ length-parts_from p index zero = refl
 length-parts_from p index (suc n) = ap suc (length-parts_from p (index + 1) n)
 
 -- patches over cells are the pieces of their parts
-pub patched-laid : (patches : List Patch) (xs : List Cell) → patched xs patches ≡ laid (λ p. parts_from p 0 p.count) xs patches
+pub patched-laid : (patches : List Patch) (xs : List Cell) → patched_cells xs patches ≡ laid (λ p. parts_from p 0 p.count) xs patches
 patched-laid [] xs = refl
 patched-laid (p ∷ patches) xs = patched-laid patches (with_patch xs p)
 

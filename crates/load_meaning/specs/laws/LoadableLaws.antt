@@ -9,7 +9,7 @@ use Rattle.load_meaning.specs.declared.load.LoadFault.{LoadFault}
 use Rattle.omf_format.specs.Header.{Fields, fields_of, version_of, header_fault}
 use Rattle.omf_format.specs.Record.{Record}
 use Rattle.omf_format.specs.Reading.{Reader, next_answer, after_next, HandsOut}
-use Rattle.omf_format.specs.File.{Segment, body_reader, IsHeader, IsSegment, AreSegments, IsFile, told_header, told_record}
+use Rattle.omf_format.specs.File.{Segment, body_reader, IsHeader, IsSegment, AreSegments, IsFile, to_file_header_fault, to_file_record_fault}
 use Rattle.omf_format.specs.laws.FileLaws.{segment_same, file_same, open_at_some}
 use Rattle.load_meaning.specs.Loadable.{Fault, segment_refusal, record_refusal, as_load, front_fault, answer_fault, IsLoadSegment, HasReadFault, OfFront, OfRecord, in_segment, later_fault, IsLoadable, IsFirstLoadFault, IsEmpty, OfReading, OfSegments}
 
@@ -180,12 +180,12 @@ some_header of = Some of
 
 -- a header's fault is told as in any file
 pub header_fault-told : (of : HeaderFault) (start : ℕ) (file : List ℕ) → header_fault (drop start file) ≡ Some of
-    → HasReadFault start file (as_load (told_header start (version_of (drop start file)) of))
+    → HasReadFault start file (as_load (to_file_header_fault start (version_of (drop start file)) of))
 unfolding front_fault
 header_fault-told of start file e =
     let there : header_fault (drop start file) ≡ some_header of = e in
     OfFront (rw there refl)
 
 -- and so is a record's
-pub record_fault-told : (of : RecordFault) → answer_fault (Err of) ≡ Some (as_load (told_record of))
+pub record_fault-told : (of : RecordFault) → answer_fault (Err of) ≡ Some (as_load (to_file_record_fault of))
 record_fault-told of = refl

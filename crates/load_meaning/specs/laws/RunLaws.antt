@@ -7,7 +7,7 @@ use Rattle.omf_format.specs.declared.fault.RecordFault.{RecordFault}
 use Rattle.omf_format.specs.Field.{written_layout}
 use Rattle.omf_format.specs.Record.{Record, End, spelling, IsRecord}
 use Rattle.omf_format.specs.laws.RecordLaws.{front-again}
-use Rattle.omf_format.specs.Reading.{Reader, front, told, moved, is_end, next_answer, after_next, HandsOut}
+use Rattle.omf_format.specs.Reading.{Reader, first_record, answer_of_reader, reader_after, is_end, next_answer, after_next, HandsOut}
 
 -- a record that isn't END and has a spelling
 abbrev pub IsBodyRecord : Record → Type 0
@@ -26,14 +26,14 @@ placed end [] = (end - 1, End) ∷ []
 placed end (r ∷ rs) = (end - length (text (r ∷ rs)), r) ∷ placed end rs
 
 end_runs : (end : ℕ) → HandsOut (reader_at end (0 ∷ []) false) ((end - 1, End) ∷ []) (reader_at end [] true)
-unfolding next_answer after_next front
+unfolding next_answer after_next first_record
 end_runs end = (refl, refl)
 
-next_is : (end : ℕ) (left : List ℕ) (answer : Result (Option (ℕ × Record)) RecordFault) → told (reader_at end left false) (front written_layout left) ≡ answer → next_answer (reader_at end left false) ≡ answer
+next_is : (end : ℕ) (left : List ℕ) (answer : Result (Option (ℕ × Record)) RecordFault) → answer_of_reader (reader_at end left false) (first_record written_layout left) ≡ answer → next_answer (reader_at end left false) ≡ answer
 unfolding next_answer
 next_is end left answer e = e
 
-after_is : (end : ℕ) (left : List ℕ) (reader : Reader) → moved (reader_at end left false) (front written_layout left) ≡ reader → after_next (reader_at end left false) ≡ reader
+after_is : (end : ℕ) (left : List ℕ) (reader : Reader) → reader_after (reader_at end left false) (first_record written_layout left) ≡ reader → after_next (reader_at end left false) ≡ reader
 unfolding after_next
 after_is end left reader e = e
 
@@ -49,9 +49,9 @@ runs [] end all = end_text end
 runs (r ∷ rs) end all =
     let left = text (r ∷ rs) in
     let parts : left ≡ spelling written_layout r ++ text rs = ap (λ (l : List ℕ). l ++ spelling written_layout End) (flat_map-cons (spelling written_layout) r rs) ∙ append_assoc (spelling written_layout r) (flat_map (spelling written_layout) rs) (spelling written_layout End) in
-    let read : front written_layout left ≡ found r (text rs) = ap (front written_layout) parts ∙ front-again written_layout r (text rs) all.0.0 in
-    let given : told (reader_at end left false) (front written_layout left) ≡ Ok (Some (end - length left, r)) = ap (told (reader_at end left false)) read in
-    let goes : moved (reader_at end left false) (front written_layout left) ≡ reader_at end (text rs) false = ap (moved (reader_at end left false)) read ∙ ap (λ (b : Bool). reader_at end (text rs) b) all.0.1 in
+    let read : first_record written_layout left ≡ found r (text rs) = ap (first_record written_layout) parts ∙ front-again written_layout r (text rs) all.0.0 in
+    let given : answer_of_reader (reader_at end left false) (first_record written_layout left) ≡ Ok (Some (end - length left, r)) = ap (answer_of_reader (reader_at end left false)) read in
+    let goes : reader_after (reader_at end left false) (first_record written_layout left) ≡ reader_at end (text rs) false = ap (reader_after (reader_at end left false)) read ∙ ap (λ (b : Bool). reader_at end (text rs) b) all.0.1 in
     (next_is end left _ given, subst (λ (x : Reader). HandsOut x (placed end rs) (reader_at end [] true)) (sym (after_is end left _ goes)) (runs rs end all.1))
 
 -- what the records give, with END or without it

@@ -10,8 +10,8 @@ use Rattle.std.proofs.lemmas.Option.{slice_get_past, slice_get-map, slice_get-ge
 use Rattle.byteorder.specs.Endian.{little_bytes, little_number}
 use Rattle.byteorder.specs.Numbers.{little_number-reads_back}
 use Rattle.omf_format.specs.Number.{number_at}
-use Rattle.load_meaning.specs.Cells.{Cell, Byte, Part, Patch, parts_from, with_patch, patched}
-use Rattle.load_meaning.specs.WrittenBody.{IsWrittenPatch, AreWritten, super_form, stored_as, stored, with_stored, is_zero, zeros_behind, written_cells, written_data}
+use Rattle.load_meaning.specs.Cells.{Cell, Byte, Part, Patch, parts_from, with_patch, patched_cells}
+use Rattle.load_meaning.specs.WrittenBody.{IsWrittenPatch, AreWritten, super_form, stored_as, stored_bytes, with_stored, is_zero, zeros_behind, written_cells, written_data}
 use Rattle.load_meaning.specs.laws.LayingLaws.{get-front, get-behind, get-take, get-drop, same_list, Covers, Has, Missed, Found, look, laid, Fit, length-laid, get-missed, get-found, Apart}
 use Rattle.load_meaning.specs.laws.FormLaws.{Holds, length-stored}
 
@@ -59,18 +59,18 @@ get-parts p index (suc n) zero lt = ap (λ (i : ℕ). some_part i) (omega arith)
     some_part i = Some (Part p.file p.segment p.offset p.shift i)
 get-parts p index (suc n) (suc k) lt = get-parts p (index + 1) n k (omega arith) ∙ ap (λ (i : ℕ). Some (Part p.file p.segment p.offset p.shift i)) (omega arith)
 
-pub patched-laid : (cells : List Cell) (patches : List Patch) → patched cells patches ≡ laid parts cells patches
+pub patched-laid : (cells : List Cell) (patches : List Patch) → patched_cells cells patches ≡ laid parts cells patches
 patched-laid cells [] = refl
 patched-laid cells (p ∷ patches) = patched-laid (with_patch cells p) patches
 
-pub stored-laid : (own : ℕ) (bytes : List ℕ) (patches : List Patch) → with_stored own bytes patches ≡ laid (stored own) bytes patches
+pub stored-laid : (own : ℕ) (bytes : List ℕ) (patches : List Patch) → with_stored own bytes patches ≡ laid (stored_bytes own) bytes patches
 stored-laid own bytes [] = refl
-stored-laid own bytes (p ∷ patches) = stored-laid own (take p.location bytes ++ stored own p ++ drop (p.location + p.count) bytes) patches
+stored-laid own bytes (p ∷ patches) = stored-laid own (take p.location bytes ++ stored_bytes own p ++ drop (p.location + p.count) bytes) patches
 
 pub fit-parts : (size : ℕ) (patches : List Patch) → AreWritten size 0 patches → Fit parts size patches
 fit-parts size patches are p has = let is = written_is size 0 patches p are has in (length-parts_from p 0 p.count, is.0.inside)
 
-pub fit-stored : (own size : ℕ) (patches : List Patch) → AreWritten size 0 patches → Fit (stored own) size patches
+pub fit-stored : (own size : ℕ) (patches : List Patch) → AreWritten size 0 patches → Fit (stored_bytes own) size patches
 fit-stored own size patches are p has = let is = written_is size 0 patches p are has in (length-stored own p, is.0.inside)
 
 -- ---- a piece stands whole
@@ -97,15 +97,15 @@ piece_at {A} piece patches xs p fit apart has = same_list (take p.count (drop p.
 
 -- the data from a patch on
 from_piece : (own : ℕ) (patches : List Patch) (content : List ℕ) (p : Patch) → AreWritten (length content) 0 patches → Has patches p
-    → drop p.location (with_stored own content patches) ≡ stored own p ++ drop p.count (drop p.location (with_stored own content patches))
+    → drop p.location (with_stored own content patches) ≡ stored_bytes own p ++ drop p.count (drop p.location (with_stored own content patches))
 from_piece own patches content p are has =
     let all = with_stored own content patches in
-    let is = piece_at (stored own) patches content p (fit-stored own (length content) patches are) (written_apart (length content) 0 patches are) has in
-    let here : take p.count (drop p.location all) ≡ stored own p = ap (λ (l : List ℕ). take p.count (drop p.location l)) (stored-laid own content patches) ∙ is in
+    let is = piece_at (stored_bytes own) patches content p (fit-stored own (length content) patches are) (written_apart (length content) 0 patches are) has in
+    let here : take p.count (drop p.location all) ≡ stored_bytes own p = ap (λ (l : List ℕ). take p.count (drop p.location l)) (stored-laid own content patches) ∙ is in
     sym (take-append-drop p.count (drop p.location all)) ∙ ap (λ (l : List ℕ). l ++ drop p.count (drop p.location all)) here
 
 -- the stored bytes begin with the low bytes of the offset
-stored-begins : (own : ℕ) (p : Patch) → 2 ≤ p.count → (rest : List ℕ) × (stored own p ≡ little_bytes 2 p.offset ++ rest)
+stored-begins : (own : ℕ) (p : Patch) → 2 ≤ p.count → (rest : List ℕ) × (stored_bytes own p ≡ little_bytes 2 p.offset ++ rest)
 stored-begins own p two = by_form (super_form own p)
   where
     by_count : (n : ℕ) → 2 ≤ n → (rest : List ℕ) × (little_bytes n p.offset ≡ little_bytes 2 p.offset ++ rest)
@@ -132,7 +132,7 @@ holds own patches content p are has =
           from ∙ ap (λ (l : List ℕ). l ++ drop p.count (drop p.location all)) begins.1 ∙ append_assoc (little_bytes 2 p.offset) begins.0 (drop p.count (drop p.location all)) in
           ap (little_number 2) whole ∙ little_number-reads_back 2 p.offset (begins.0 ++ drop p.count (drop p.location all)) (omega (arith, near));
       segment = λ e.
-          let is : stored own p ≡ little_bytes 2 p.offset ++ p.segment ∷ [] = ap (stored_as p) e in
+          let is : stored_bytes own p ≡ little_bytes 2 p.offset ++ p.segment ∷ [] = ap (stored_as p) e in
           let whole : drop p.location all ≡ little_bytes 2 p.offset ++ p.segment ∷ drop p.count (drop p.location all) = from ∙ ap (λ (l : List ℕ). l ++ drop p.count (drop p.location all)) is in
           third p.location p.segment (drop p.count (drop p.location all)) all (ap (drop 2) whole);
     }
@@ -198,7 +198,7 @@ unfolding written_data written_cells
 restored own patches content are = same_list all (take m all ++ replicate (length content - length (take m all)) 0) at
   where
     cells : List Cell
-    cells = patched (map Byte content) patches
+    cells = patched_cells (map Byte content) patches
 
     all : List ℕ
     all = with_stored own content patches
@@ -207,7 +207,7 @@ restored own patches content are = same_list all (take m all ++ replicate (lengt
     m = length content - zeros_behind cells
 
     len : length all ≡ length content
-    len = ap length (stored-laid own content patches) ∙ length-laid (stored own) patches content (fit-stored own (length content) patches are)
+    len = ap length (stored-laid own content patches) ∙ length-laid (stored_bytes own) patches content (fit-stored own (length content) patches are)
 
     size : length (take m all) ≡ m
     size = omega (arith, length-take m all, len)
@@ -237,7 +237,7 @@ restored own patches content are = same_list all (take m all ++ replicate (lengt
         absurd cc
     at_zero k from lt (inr none) =
         let content_at : slice_get all k ≡ slice_get content k =
-        ap (λ (l : List ℕ). slice_get l k) (stored-laid own content patches) ∙ get-missed (stored own) patches content k (fit-stored own (length content) patches are) none in
+        ap (λ (l : List ℕ). slice_get l k) (stored-laid own content patches) ∙ get-missed (stored_bytes own) patches content k (fit-stored own (length content) patches are) none in
         let cell_at : slice_get cells k ≡ option_map Byte (slice_get content k) =
         ap (λ (l : List Cell). slice_get l k) (patched-laid (map Byte content) patches) ∙ get-missed parts patches (map Byte content) k fit-cells none ∙ slice_get-map Byte content k in
         content_at ∙ byte_zero (slice_get content k) k content refl lt (λ c e. zero_cell cells k c (omega (arith, from, cells_len)) (cell_at ∙ e))
@@ -254,10 +254,10 @@ restored own patches content are = same_list all (take m all ++ replicate (lengt
     ]
 
 pub length-data : (own : ℕ) (patches : List Patch) (content : List ℕ) → AreWritten (length content) 0 patches → length (with_stored own content patches) ≡ length content
-length-data own patches content are = ap length (stored-laid own content patches) ∙ length-laid (stored own) patches content (fit-stored own (length content) patches are)
+length-data own patches content are = ap length (stored-laid own content patches) ∙ length-laid (stored_bytes own) patches content (fit-stored own (length content) patches are)
 
 pub data-missed : (own : ℕ) (patches : List Patch) (content : List ℕ) (k : ℕ) → AreWritten (length content) 0 patches → Missed patches k → slice_get (with_stored own content patches) k ≡ slice_get content k
-data-missed own patches content k are none = ap (λ (l : List ℕ). slice_get l k) (stored-laid own content patches) ∙ get-missed (stored own) patches content k (fit-stored own (length content) patches are) none
+data-missed own patches content k are none = ap (λ (l : List ℕ). slice_get l k) (stored-laid own content patches) ∙ get-missed (stored_bytes own) patches content k (fit-stored own (length content) patches are) none
 
 pub fit-cells : (patches : List Patch) (content : List ℕ) → AreWritten (length content) 0 patches → Fit parts (length (map Byte content)) patches
 fit-cells patches content are p has = let there = fit-parts (length content) patches are p has in (there.0, omega (arith, there.1, length-map content (λ (n : ℕ). Byte n)))
@@ -299,13 +299,13 @@ zeros_exact cells n each (inr some) le =
       | inr past ↦ let clash : false ≡ true = sym some.1.2 ∙ zero_cell cells (n - 1) some.1.0 past some.1.1 in absurd cc
     ]
 
-pub cells_size : (content : List ℕ) (patches : List Patch) → AreWritten (length content) 0 patches → length (patched (map Byte content) patches) ≡ length content
+pub cells_size : (content : List ℕ) (patches : List Patch) → AreWritten (length content) 0 patches → length (patched_cells (map Byte content) patches) ≡ length content
 cells_size content patches are = ap length (patched-laid (map Byte content) patches) ∙ length-laid parts patches (map Byte content) (fit-cells patches content are) ∙ length-map content (λ (n : ℕ). Byte n)
 
 -- what is left behind the data
 pub zeros_left : (own : ℕ) (content : List ℕ) (patches : List Patch) → AreWritten (length content) 0 patches → length content - length (written_data own content patches) ≡ zeros_behind (written_cells content patches)
 unfolding written_data written_cells
 zeros_left own content patches are =
-    let cells = patched (map Byte content) patches in
+    let cells = patched_cells (map Byte content) patches in
     let all = with_stored own content patches in
     omega (arith, length-take (length content - zeros_behind cells) all, length-data own patches content are, zeros-le cells, cells_size content patches are)

@@ -17,9 +17,9 @@ use Rattle.omf_format.specs.laws.FileLaws.{HandsOut-same}
 use Rattle.omf_format.specs.Body.{body_bytes}
 use Rattle.load_meaning.specs.laws.ExportLaws.{exports_content, exports_patches}
 use Rattle.load_meaning.specs.WrittenFile.{IsExport}
-use Rattle.load_meaning.specs.Cells.{Byte, Patch, segment_bytes, patched, super_patch, patches_in, patches_of, cells}
+use Rattle.load_meaning.specs.Cells.{Byte, Patch, segment_bytes, patched_cells, super_patch, patches_in, patches_of, cells}
 use Rattle.load_meaning.specs.WrittenPages.{pages_of, pages_text, Rise}
-use Rattle.load_meaning.specs.WrittenBody.{IsWrittenPatch, AreWritten, is_own, is_short, super_form, lone_record, with_stored, zeros_behind, written_cells, written_data, data_records, is_form, has_none, of_form, lone, super_records, supers_from, body_records, body_text, HasBody}
+use Rattle.load_meaning.specs.WrittenBody.{IsWrittenPatch, AreWritten, is_own, is_short, super_form, lone_record, with_stored, zeros_behind, written_cells, written_data, data_records, is_form, has_none, of_form, patches_stored_alone, super_records, supers_from, body_records, body_text, HasBody}
 use Rattle.load_meaning.specs.laws.PageLaws.{read_again}
 use Rattle.load_meaning.specs.laws.LayingLaws.{Has, Missed, same_laid}
 use Rattle.load_meaning.specs.laws.FormLaws.{IsForm, Own2, Own3, Other3, Named, NamedBank, form_is, Holds, super_gives, lone_gives, lone_fits, lone_content}
@@ -203,10 +203,10 @@ length-written own content patches = omega (arith, length-take (length content -
 pub records_fit : (own : ℕ) (content : List ℕ) (patches : List Patch) → length content ≤ 0xFFFFFF → AreWritten (length content) 0 patches → AllByRecursion IsBodyRecord (body_records own content patches)
 unfolding body_records
 records_fit own content patches small are =
-    all-append IsBodyRecord (data_records (written_data own content patches)) (map (lone_record own) (lone own patches) ++ supers_from own patches 0 38)
+    all-append IsBodyRecord (data_records (written_data own content patches)) (map (lone_record own) (patches_stored_alone own patches) ++ supers_from own patches 0 38)
     (data_fits (written_data own content patches) (omega (arith, small, length-written own content patches)))
-    (all-append IsBodyRecord (map (lone_record own) (lone own patches)) (supers_from own patches 0 38)
-    (lones_fit own (length content) (lone own patches) (omega (arith, small)) (λ p h. (written_is (length content) 0 patches p are (has-unfilter (λ q. has_none (super_form own q)) patches p h).0).0))
+    (all-append IsBodyRecord (map (lone_record own) (patches_stored_alone own patches)) (supers_from own patches 0 38)
+    (lones_fit own (length content) (patches_stored_alone own patches) (omega (arith, small)) (λ p h. (written_is (length content) 0 patches p are (has-unfilter (λ q. has_none (super_form own q)) patches p h).0).0))
     (supers_fit own (length content) patches 0 38 small are))
 
 -- ---- the content of the records
@@ -233,10 +233,10 @@ supers_content own patches form (suc n) =
 records_content : (own : ℕ) (content : List ℕ) (patches : List Patch) → flat_map content_of (body_records own content patches) ≡ written_data own content patches
 unfolding body_records
 records_content own content patches =
-    let lones = map (lone_record own) (lone own patches) in
+    let lones = map (lone_record own) (patches_stored_alone own patches) in
     let supers = supers_from own patches 0 38 in
     flat_map-append content_of (data_records (written_data own content patches)) (lones ++ supers)
-    ∙ ap (λ (c : List ℕ). flat_map content_of (data_records (written_data own content patches)) ++ c) (flat_map-append content_of lones supers ∙ ap (λ (c : List ℕ). c ++ flat_map content_of supers) (lone_contents own (lone own patches)) ∙ supers_content own patches 0 38)
+    ∙ ap (λ (c : List ℕ). flat_map content_of (data_records (written_data own content patches)) ++ c) (flat_map-append content_of lones supers ∙ ap (λ (c : List ℕ). c ++ flat_map content_of supers) (lone_contents own (patches_stored_alone own patches)) ∙ supers_content own patches 0 38)
     ∙ append-nil (flat_map content_of (data_records (written_data own content patches)))
     ∙ data_content (written_data own content patches)
 
@@ -298,17 +298,17 @@ data_patches s [] = refl
 data_patches s (byte ∷ bytes) = flat_map-cons (patches_in s) (LongConst (byte ∷ bytes)) []
 
 records_patches : (own : ℕ) (content : List ℕ) (patches : List Patch) (s : Segment) → Stands own patches s
-    → flat_map (patches_in s) (body_records own content patches) ≡ lone own patches ++ by_forms own patches 0 38
+    → flat_map (patches_in s) (body_records own content patches) ≡ patches_stored_alone own patches ++ by_forms own patches 0 38
 unfolding body_records
 records_patches own content patches s st =
-    let lones = map (lone_record own) (lone own patches) in
+    let lones = map (lone_record own) (patches_stored_alone own patches) in
     let supers = supers_from own patches 0 38 in
-    let file : (p : Patch) → Has (lone own patches) p → p.file ≡ 1 = λ p h. (written_is s.fields.length 0 patches p st.written (has-unfilter (λ q. has_none (super_form own q)) patches p h).0).0.file' in
+    let file : (p : Patch) → Has (patches_stored_alone own patches) p → p.file ≡ 1 = λ p h. (written_is s.fields.length 0 patches p st.written (has-unfilter (λ q. has_none (super_form own q)) patches p h).0).0.file' in
     flat_map-append (patches_in s) (data_records (written_data own content patches)) (lones ++ supers)
     ∙ ap (λ (l : List Patch). l ++ flat_map (patches_in s) (lones ++ supers)) (data_patches s (written_data own content patches))
     ∙ flat_map-append (patches_in s) lones supers
-    ∙ ap (λ (l : List Patch). l ++ flat_map (patches_in s) supers) (lone_patches own s (lone own patches) st.number file)
-    ∙ ap (λ (l : List Patch). lone own patches ++ l) (supers_patches own patches s 0 38 st)
+    ∙ ap (λ (l : List Patch). l ++ flat_map (patches_in s) supers) (lone_patches own s (patches_stored_alone own patches) st.number file)
+    ∙ ap (λ (l : List Patch). patches_stored_alone own patches ++ l) (supers_patches own patches s 0 38 st)
 
 -- they are the same patches
 in_forms : (own : ℕ) (patches : List Patch) (p : Patch) (of form n : ℕ) → Has patches p → super_form own p ≡ Some of → form ≤ of → of < form + n → Has (by_forms own patches form n) p
@@ -325,15 +325,15 @@ from_forms own patches p form (suc n) h = elim (has-parts (of_form own patches f
   | inr more ↦ from_forms own patches p (form + 1) n more
 ]
 
-pub to_records : (own : ℕ) (patches : List Patch) (p : Patch) → Has patches p → Has (lone own patches ++ by_forms own patches 0 38) p
+pub to_records : (own : ℕ) (patches : List Patch) (p : Patch) → Has patches p → Has (patches_stored_alone own patches ++ by_forms own patches 0 38) p
 to_records own patches p h = by_option (super_form own p) refl
   where
-    by_option : (o : Option ℕ) → super_form own p ≡ o → Has (lone own patches ++ by_forms own patches 0 38) p
-    by_option None e = has-append (lone own patches) (by_forms own patches 0 38) p (inl (has-filter (λ q. has_none (super_form own q)) patches p h (ap has_none e)))
-    by_option (Some form) e = has-append (lone own patches) (by_forms own patches 0 38) p (inr (in_forms own patches p form 0 38 h e (omega arith) (omega (arith, form_below own p form (form_is own p form e)))))
+    by_option : (o : Option ℕ) → super_form own p ≡ o → Has (patches_stored_alone own patches ++ by_forms own patches 0 38) p
+    by_option None e = has-append (patches_stored_alone own patches) (by_forms own patches 0 38) p (inl (has-filter (λ q. has_none (super_form own q)) patches p h (ap has_none e)))
+    by_option (Some form) e = has-append (patches_stored_alone own patches) (by_forms own patches 0 38) p (inr (in_forms own patches p form 0 38 h e (omega arith) (omega (arith, form_below own p form (form_is own p form e)))))
 
-pub from_records : (own : ℕ) (patches : List Patch) (p : Patch) → Has (lone own patches ++ by_forms own patches 0 38) p → Has patches p
-from_records own patches p h = elim (has-parts (lone own patches) (by_forms own patches 0 38) p h) [
+pub from_records : (own : ℕ) (patches : List Patch) (p : Patch) → Has (patches_stored_alone own patches ++ by_forms own patches 0 38) p → Has patches p
+from_records own patches p h = elim (has-parts (patches_stored_alone own patches) (by_forms own patches 0 38) p h) [
   | inl here ↦ (has-unfilter (λ q. has_none (super_form own q)) patches p here).0
   | inr more ↦ from_forms own patches p 0 38 more
 ]
@@ -376,7 +376,7 @@ without_places s (found ∷ founds) =
 
 -- its patches are those that it is written for, in the order of its records
 pub patches_are : (own : ℕ) (content : List ℕ) (patches : List Patch) (s : Segment) → HasRecords own content patches s → Stands own patches s
-    → map (λ p. p.1) (patches_of s) ≡ lone own patches ++ by_forms own patches 0 38
+    → map (λ p. p.1) (patches_of s) ≡ patches_stored_alone own patches ++ by_forms own patches 0 38
 unfolding patches_of
 patches_are own content patches s has st =
     without_places s s.records
@@ -397,13 +397,13 @@ unfolding cells written_cells
 cells_are own content patches s number len are has =
     let bytes = segment_has own content patches s len are has in
     let st = stands own content patches s number len are has in
-    let qs = lone own patches ++ by_forms own patches 0 38 in
+    let qs = patches_stored_alone own patches ++ by_forms own patches 0 38 in
     let all = with_stored own content patches in
     let sizes : length (map Byte content) ≡ length (map Byte all) = length-map content (λ (n : ℕ). Byte n) ∙ sym (length-data own patches content are) ∙ sym (length-map all (λ (n : ℕ). Byte n)) in
     let outside : (k : ℕ) → Missed patches k → slice_get (map Byte content) k ≡ slice_get (map Byte all) k =
     λ k none. slice_get-map Byte content k ∙ ap (option_map Byte) (sym (data-missed own patches content k are none)) ∙ sym (slice_get-map Byte all k) in
-    ap (λ (l : List ℕ). patched (map Byte l) (map (λ p. p.1) (patches_of s))) bytes
-    ∙ ap (λ (l : List Patch). patched (map Byte all) l) (patches_are own content patches s has st)
+    ap (λ (l : List ℕ). patched_cells (map Byte l) (map (λ p. p.1) (patches_of s))) bytes
+    ∙ ap (λ (l : List Patch). patched_cells (map Byte all) l) (patches_are own content patches s has st)
     ∙ patched-laid (map Byte all) qs
     ∙ sym (same_laid parts patches qs (map Byte content) (map Byte all) sizes (fit-cells patches content are) (written_apart (length content) 0 patches are) (to_records own patches) (from_records own patches) outside)
     ∙ sym (patched-laid (map Byte content) patches)

@@ -13,7 +13,7 @@ use Rattle.omf_format.specs.File.{Segment, body_reader, IsSegment, AreSegments, 
 use Rattle.omf_format.specs.Body.{body_bytes}
 use Rattle.std.specs.Prelude.{cond}
 use Rattle.omf_format.specs.laws.FileLaws.{HandsOut-same}
-use Rattle.load_meaning.specs.Cells.{Byte, Patch, segment_bytes, patches_in, patches_of, patched, cells}
+use Rattle.load_meaning.specs.Cells.{Byte, Patch, segment_bytes, patches_in, patches_of, patched_cells, cells}
 use Rattle.load_meaning.specs.laws.ExportLaws.{exports_fit, exports_content, exports_patches}
 use Rattle.load_meaning.specs.WrittenBody.{body_records, HasBody, data_records, written_cells}
 use Rattle.load_meaning.specs.laws.RunLaws.{reader_at, text, placed, runs, IsBodyRecord, flat-placed}
@@ -93,8 +93,8 @@ whole_cells content exports end s all len is =
     let none : map (λ (p : ℕ × Patch). p.1) (flat_map (λ (found : ℕ × Record). map (λ (p : Patch). (found.0, p)) (patches_in s found.1)) s.records) ≡ [] =
     without_places s s.records ∙ ap (flat_map (λ (found : ℕ × Record). patches_in s found.1)) is ∙ flat-placed (patches_in s) end (data_records content ++ exports) refl
     ∙ without (patches_in s) (data_records content) exports (exports_patches s exports all) ∙ data_patches s content in
-    ap (λ (l : List ℕ). patched (map Byte l) (map (λ (p : ℕ × Patch). p.1) (flat_map (λ (found : ℕ × Record). map (λ (p : Patch). (found.0, p)) (patches_in s found.1)) s.records))) all_bytes
-    ∙ ap (λ (l : List Patch). patched (map Byte content) l) none
+    ap (λ (l : List ℕ). patched_cells (map Byte l) (map (λ (p : ℕ × Patch). p.1) (flat_map (λ (found : ℕ × Record). map (λ (p : Patch). (found.0, p)) (patches_in s found.1)) s.records))) all_bytes
+    ∙ ap (λ (l : List Patch). patched_cells (map Byte content) l) none
 
 -- a part of a file: what stands before a segment, the segment, and what stands behind it
 record IsPart (at : ℕ) (image : Image) (rest file : List ℕ) : Type 0 where

@@ -8,7 +8,7 @@ use Rattle.iigs_meaning.specs.declared.handles.Handle.{Handle}
 use Rattle.iigs_meaning.specs.declared.wants.Block.{Block}
 use Rattle.iigs_meaning.specs.Slots.{get}
 use Rattle.iigs_meaning.specs.Blocks.{AreApart}
-use Rattle.loader_machine.specs.declared.seen.Head.{Head}
+use Rattle.loader_machine.specs.declared.seen.SegmentHead.{SegmentHead}
 use Rattle.iigs_meaning.specs.Fits.{Slots}
 use Rattle.loader_machine.specs.Rule.{RoomRule}
 use Rattle.iigs_meaning.specs.laws.SlideRoomLaws.{purges_or_slides_once}
@@ -19,7 +19,7 @@ use Rattle.loader_machine.specs.Found.{HoldsLoad}
 use Rattle.loader_machine.specs.Steps.{Sees}
 use Rattle.loader_machine.specs.laws.OnceLaws.{IsApartState, one_load, steps_once}
 use Rattle.loader_agrees.specs.StepsOnce.{StepsOnce}
-use Rattle.loader_agrees.specs.Agrees.{Kept, Loaded, Outline, outline, outline_of, Agrees, Has, IsSound}
+use Rattle.loader_agrees.specs.Agrees.{LoadedUser, Loaded, Outline, outline, outline_of, Agrees, Has, IsSound}
 use Rattle.loader_agrees.specs.laws.Lists.{number_map}
 use Rattle.loader_agrees.specs.laws.Seeing.{made_at, same_outlines, kept_is, has_any}
 
@@ -27,17 +27,17 @@ use Rattle.loader_agrees.specs.laws.Seeing.{made_at, same_outlines, kept_is, has
 
 module _ (held : FileMap) (loader : Loaded) (state : Machine) (agrees : Agrees held loader state) (sound : IsSound loader.memory loader.users) where
   -- a user of the state is one of the loader
-  pub back : (id : ℕ) (user : User) → user_of state.users id ≡ Some user → (kept : Kept) × (user_of loader.users id ≡ Some kept) × (kept.handles ≡ handles_of user)
+  pub back : (id : ℕ) (user : User) → user_of state.users id ≡ Some user → (kept : LoadedUser) × (user_of loader.users id ≡ Some kept) × (kept.handles ≡ handles_of user)
   back id user is = go (user_of loader.users id) refl
     where
-      outlines : (o : Option Kept) → user_of loader.users id ≡ o → option_map outline o ≡ Some (outline_of user)
+      outlines : (o : Option LoadedUser) → user_of loader.users id ≡ o → option_map outline o ≡ Some (outline_of user)
       outlines o e = ap (option_map outline) (sym e) ∙ same_outlines held loader state agrees id ∙ ap (option_map outline_of) is
 
-      go : (o : Option Kept) → user_of loader.users id ≡ o → (kept : Kept) × (user_of loader.users id ≡ Some kept) × (kept.handles ≡ handles_of user)
+      go : (o : Option LoadedUser) → user_of loader.users id ≡ o → (kept : LoadedUser) × (user_of loader.users id ≡ Some kept) × (kept.handles ≡ handles_of user)
       go None e = let clash = outlines None e in absurd cc
       go (Some kept) e = (kept, e, ap (λ (o : Outline). o.handles) (same_Some (outline kept) (outline_of user) (outlines (Some kept) e)))
 
-  has_one : (id n : ℕ) (sees : Sees held state id) (h : Handle) → handle_at (handles_of sees.user) n ≡ Some h → (head : Head) × Has loader.users (id - first_id) n head h
+  has_one : (id n : ℕ) (sees : Sees held state id) (h : Handle) → handle_at (handles_of sees.user) n ≡ Some h → (head : SegmentHead) × Has loader.users (id - first_id) n head h
   has_one id n sees h is =
       let kept = back id sees.user sees.made in
       has_any loader sound (id - first_id) kept.0 (made_at loader.users id kept.0 kept.1).0 n h (rw kept.2 is)
@@ -57,12 +57,12 @@ module _ (held : FileMap) (loader : Loaded) (state : Machine) (agrees : Agrees h
       let path : kept.0.path ≡ sees.user.path = ap (λ (o : Outline). o.path) in_state.does_agree.same ∙ ap (λ (u : User). u.path) user in
       let segments = one_load held sees.user.path in_state.does_agree.segments sees.segments (subst (λ (p : List ℕ). HoldsLoad held p in_state.does_agree.segments) path in_state.does_agree.holds) sees.holds in
       let its_kept : one.1.kept ≡ kept.0 = kept_same one.1.kept kept.0 (sym one.1.made ∙ (made_at loader.users id kept.0 kept.1).0) in
-      let facts : Some one.0 ≡ Some (head_of s) = sym one.1.head' ∙ ap (λ (k : Kept). at_number k.heads n) its_kept ∙ ap (λ (fs : List Head). at_number fs n) in_state.does_agree.heads
+      let facts : Some one.0 ≡ Some (head_of s) = sym one.1.head' ∙ ap (λ (k : LoadedUser). at_number k.heads n) its_kept ∙ ap (λ (fs : List SegmentHead). at_number fs n) in_state.does_agree.heads
       ∙ number_map head_of in_state.does_agree.segments n ∙ ap (λ (ss : List Segment). option_map head_of (segment_at ss n)) segments ∙ ap (option_map head_of) found in
       let f : one.0 ≡ head_of s = same_Some one.0 (head_of s) facts in
-      omega (arith, is_of.want, ap (λ (x : Head). x.length) f, ap (λ (b : Block). b.want.size) same)
+      omega (arith, is_of.want, ap (λ (x : SegmentHead). x.length) f, ap (λ (b : Block). b.want.size) same)
     where
-      kept_same : (a b : Kept) → Some (Some a) ≡ Some (Some b) → a ≡ b
+      kept_same : (a b : LoadedUser) → Some (Some a) ≡ Some (Some b) → a ≡ b
       kept_same a b e = cc
 
   pub is_apart : AreApart loader.memory.banks loader.memory.slots → IsApartState held state

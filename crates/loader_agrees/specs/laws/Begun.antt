@@ -11,30 +11,30 @@ use Rattle.omf_format.specs.File.{Segment, segment_at}
 use Rattle.omf_io.specs.Files.{FileMap}
 use Rattle.iigs_meaning.specs.declared.handles.Handle.{Handle}
 use Rattle.iigs_meaning.specs.declared.slots.Slot.{Slot}
-use Rattle.iigs_meaning.specs.declared.slots.Content.{Content}
-use Rattle.iigs_meaning.specs.declared.slots.Content.TheVariants.{Free, Used, Retired}
+use Rattle.iigs_meaning.specs.declared.slots.SlotContent.{SlotContent}
+use Rattle.iigs_meaning.specs.declared.slots.SlotContent.TheVariants.{Free, Used, Retired}
 use Rattle.iigs_meaning.specs.declared.wants.Want.{Want}
 use Rattle.iigs_meaning.specs.declared.wants.Block.{Block}
 use Rattle.iigs_meaning.specs.Slots.{slot_at, new_slot, get, used_value, is_free, is_free_content, lowest_free, new_handle, after_take}
 use Rattle.iigs_meaning.specs.Placement.{can_purge}
 use Rattle.iigs_meaning.specs.Fits.{Slots}
-use Rattle.iigs_meaning.specs.Puts.{Puts, PutsAll, placed}
+use Rattle.iigs_meaning.specs.Puts.{Puts, PutsAll, placed_block}
 use Rattle.loader_machine.specs.Rule.{RoomRule}
 use Rattle.iigs_meaning.specs.laws.Left.{IsLeft, AreLeft}
 use Rattle.iigs_meaning.specs.laws.SlideRoomLaws.{are_left}
 use Rattle.iigs_meaning.specs.laws.Left.IsLeft.{Unmoved, Emptied, Shifted}
 use Rattle.iigs_meaning.specs.Memory.{Memory}
-use Rattle.loader_machine.specs.declared.seen.Head.{Head}
+use Rattle.loader_machine.specs.declared.seen.SegmentHead.{SegmentHead}
 use Rattle.loader_machine.specs.Heads.{head_of, at_number, is_static, wants_of}
-use Rattle.loader_machine.specs.State.{Held, User, absent, no_pokes, first_id, max_users, held_at}
+use Rattle.loader_machine.specs.State.{HeldSegment, User, absent, no_pokes, first_id, max_users, held_at}
 use Rattle.loader_machine.specs.Presences.{handle_at, presence, presence_at, there_at, is_active}
 use Rattle.loader_machine.specs.Found.{HoldsLoad}
 use Rattle.loader_machine.specs.Refusals.{load_refusal}
-use Rattle.loader_machine.specs.Steps.{spread, started_user}
-use Rattle.loader_machine.specs.Stands.{Far, nowhere, setting, setting_with, target_with}
+use Rattle.loader_machine.specs.Steps.{held_of_heads, started_user}
+use Rattle.loader_machine.specs.Stands.{Far, no_far_segment, setting, setting_with, target_with}
 use Rattle.loader_machine.specs.laws.StandsLaws.{AreAlike, stands_alike}
 use Rattle.load_meaning.specs.laws.CellLaws.{loadable_has}
-use Rattle.loader_agrees.specs.Agrees.{Kept, Loaded, UserAgrees, IsSound}
+use Rattle.loader_agrees.specs.Agrees.{LoadedUser, Loaded, UserAgrees, IsSound}
 use Rattle.loader_agrees.specs.laws.Frame.{Keeps, Same, Gone, agrees_still}
 use Rattle.loader_agrees.specs.Acts.{HasPlaced, started_kept}
 use Rattle.loader_agrees.specs.laws.Lists.{number_map}
@@ -46,7 +46,7 @@ use Rattle.loader_agrees.specs.laws.Stay.{Stays, placement_keeps, all_stay}
 left_free : (was now : Slot Block) → IsLeft was now → (is_free now ≡ is_free was) × (now.generation ≡ was.generation)
 left_free was now = go
   where
-    used : (block : Block) (content : Content Block) → used_value content ≡ Some block → is_free_content content ≡ false
+    used : (block : Block) (content : SlotContent Block) → used_value content ≡ Some block → is_free_content content ≡ false
     used block Free e = absurd cc
     used block Retired e = refl
     used block (Used b) e = refl
@@ -113,21 +113,21 @@ locked_stays old new h block stays is fixed locked = elim (stays block is fixed)
 
 -- a new handle's block
 pub puts_here : (banks : List ℕ) (slots next : Slots) (want : Want) (user : ℕ) (locked : Bool) (level : ℕ) (movable : Bool) (h : Handle) → (puts : Puts RoomRule banks slots want user locked level movable h next)
-    → get next h ≡ Some (placed want puts.address user locked level movable)
+    → get next h ≡ Some (placed_block want puts.address user locked level movable)
 puts_here banks slots next want user locked level movable h puts =
     ap (λ (t : Slots). get t h) puts.next_is
-    ∙ put_here slots puts.room (are_left banks slots want puts.address puts.room puts.makes) (placed want puts.address user locked level movable) h puts.handle
+    ∙ put_here slots puts.room (are_left banks slots want puts.address puts.room puts.makes) (placed_block want puts.address user locked level movable) h puts.handle
 
 -- each new handle is of a block of its want, locked with level 0
 pub all_placed : (banks : List ℕ) (user : ℕ) (slots last : Slots) (wants : List Want) (hs : List Handle) → PutsAll RoomRule banks user slots wants hs last → (i : ℕ) (h : Handle) → slice_get hs i ≡ Some h
-    → (want : Want) × (address : ℕ) × (slice_get wants i ≡ Some want) × (get last h ≡ Some (placed want address user true 0 false))
+    → (want : Want) × (address : ℕ) × (slice_get wants i ≡ Some want) × (get last h ≡ Some (placed_block want address user true 0 false))
 all_placed banks user slots last [] [] all i h is = absurd cc
 all_placed banks user slots last [] (k ∷ hs) all i h is = absurd all
 all_placed banks user slots last (want ∷ wants) [] all i h is = absurd all
 all_placed banks user slots last (want ∷ wants) (k ∷ hs) all zero h is =
     let handle : k ≡ h = same_Some k h is in
     let puts = all.1 in
-    let value = placed want puts.address user true 0 false in
+    let value = placed_block want puts.address user true 0 false in
     let here = puts_here banks slots all.0 want user true 0 false k puts in
     let there = locked_stays all.0 last k value (all_stay banks user all.0 last wants hs k all.2) here refl refl in
     (want, puts.address, refl, ap (get last) (sym handle) ∙ there)
@@ -149,7 +149,7 @@ pub decide : (t : Bool) → (t ≡ true) ⊎ (t ≡ false)
 decide true = inl refl
 decide false = inr refl
 
-pub spread_length : (heads : List Head) (hs : List Handle) → length (spread heads hs) ≡ length heads
+pub spread_length : (heads : List SegmentHead) (hs : List Handle) → length (held_of_heads heads hs) ≡ length heads
 spread_length [] hs = refl
 spread_length (f ∷ heads) [] = ap (λ (n : ℕ). suc n) (spread_length heads [])
 spread_length (f ∷ heads) (h ∷ hs) = elim (decide (is_static f)) [
@@ -158,7 +158,7 @@ spread_length (f ∷ heads) (h ∷ hs) = elim (decide (is_static f)) [
 ]
 
 -- none has pokes
-spread_pokes : (heads : List Head) (hs : List Handle) (k : ℕ) → (option_map_or (λ held. held) (slice_get (spread heads hs) k) absent).pokes ≡ no_pokes
+spread_pokes : (heads : List SegmentHead) (hs : List Handle) (k : ℕ) → (option_map_or (λ held. held) (slice_get (held_of_heads heads hs) k) absent).pokes ≡ no_pokes
 spread_pokes [] hs k = refl
 spread_pokes (f ∷ heads) [] zero = refl
 spread_pokes (f ∷ heads) [] (suc k) = spread_pokes heads [] k
@@ -166,25 +166,25 @@ spread_pokes (f ∷ heads) (h ∷ hs) zero = elim (decide (is_static f)) [ inl s
 spread_pokes (f ∷ heads) (h ∷ hs) (suc k) = elim (decide (is_static f)) [ inl static ↦ rw static (spread_pokes heads hs k) | inr other ↦ rw other (spread_pokes heads (h ∷ hs) k) ]
 
 -- each static one has one of the handles
-abbrev HasOne : List Head → List Handle → ℕ → Type 0
-HasOne heads hs k = (i : ℕ) × (h : Handle) × (slice_get hs i ≡ Some h) × (slice_get (map (λ (held : Held). held.handle) (spread heads hs)) k ≡ Some (Some h))
+abbrev HasOne : List SegmentHead → List Handle → ℕ → Type 0
+HasOne heads hs k = (i : ℕ) × (h : Handle) × (slice_get hs i ≡ Some h) × (slice_get (map (λ (held : HeldSegment). held.handle) (held_of_heads heads hs)) k ≡ Some (Some h))
 
-one_later : (g : Head) (heads : List Head) (h : Handle) (hs : List Handle) (k : ℕ) → is_static g ≡ true → HasOne heads hs k → HasOne (g ∷ heads) (h ∷ hs) (suc k)
+one_later : (g : SegmentHead) (heads : List SegmentHead) (h : Handle) (hs : List Handle) (k : ℕ) → is_static g ≡ true → HasOne heads hs k → HasOne (g ∷ heads) (h ∷ hs) (suc k)
 one_later g heads h hs k e one = (suc one.0, one.1, one.2, rw e one.3)
 
-one_passed : (g : Head) (heads : List Head) (h : Handle) (hs : List Handle) (k : ℕ) → is_static g ≡ false → HasOne heads (h ∷ hs) k → HasOne (g ∷ heads) (h ∷ hs) (suc k)
+one_passed : (g : SegmentHead) (heads : List SegmentHead) (h : Handle) (hs : List Handle) (k : ℕ) → is_static g ≡ false → HasOne heads (h ∷ hs) k → HasOne (g ∷ heads) (h ∷ hs) (suc k)
 one_passed g heads h hs k e one = (one.0, one.1, one.2, rw e one.3)
 
-one_here : (g : Head) (heads : List Head) (h : Handle) (hs : List Handle) → is_static g ≡ true → HasOne (g ∷ heads) (h ∷ hs) zero
+one_here : (g : SegmentHead) (heads : List SegmentHead) (h : Handle) (hs : List Handle) → is_static g ≡ true → HasOne (g ∷ heads) (h ∷ hs) zero
 one_here g heads h hs e = (zero, h, refl, rw e refl)
 
-wants_cons : (g : Head) (heads : List Head) → is_static g ≡ true → length (wants_of (g ∷ heads)) ≡ suc (length (wants_of heads))
+wants_cons : (g : SegmentHead) (heads : List SegmentHead) → is_static g ≡ true → length (wants_of (g ∷ heads)) ≡ suc (length (wants_of heads))
 wants_cons g heads e = rw e refl
 
-wants_pass : (g : Head) (heads : List Head) → is_static g ≡ false → length (wants_of (g ∷ heads)) ≡ length (wants_of heads)
+wants_pass : (g : SegmentHead) (heads : List SegmentHead) → is_static g ≡ false → length (wants_of (g ∷ heads)) ≡ length (wants_of heads)
 wants_pass g heads e = rw e refl
 
-pub spread_static : (heads : List Head) (hs : List Handle) → length hs ≡ length (wants_of heads) → (k : ℕ) (f : Head) → slice_get heads k ≡ Some f → is_static f ≡ true → HasOne heads hs k
+pub spread_static : (heads : List SegmentHead) (hs : List Handle) → length hs ≡ length (wants_of heads) → (k : ℕ) (f : SegmentHead) → slice_get heads k ≡ Some f → is_static f ≡ true → HasOne heads hs k
 spread_static [] hs long k f is static = absurd cc
 spread_static (g ∷ heads) [] long zero f is static = absurd (omega (arith, long, wants_cons g heads (ap is_static (same_Some g f is) ∙ static)))
 spread_static (g ∷ heads) [] long (suc k) f is static = elim (decide (is_static g)) [
@@ -218,7 +218,7 @@ module _ (held : FileMap) (old new : Loaded) (path : List ℕ) (segments : List 
   abbrev pub user : User
   user = record (started_user path (map head_of segments) begun.handles) { attached = ids }
 
-  abbrev pub kept : Kept
+  abbrev pub kept : LoadedUser
   kept = record (started_kept path (map head_of segments) begun.handles) { attached = ids }
 
   heads_at : (n : ℕ) (s : Segment) → segment_at segments n ≡ Some s → at_number (map head_of segments) n ≡ Some (head_of s)
@@ -259,10 +259,10 @@ module _ (held : FileMap) (old new : Loaded) (path : List ℕ) (segments : List 
         rw (no_poke n, ← same) (begun.begins n s h found has);
   }
     where
-      far_none : (file m : ℕ) → 2 ≤ file → target_with nowhere new.memory.slots kept.handles file m ≡ target_with far new.memory.slots kept.handles file m
+      far_none : (file m : ℕ) → 2 ≤ file → target_with no_far_segment new.memory.slots kept.handles file m ≡ target_with far new.memory.slots kept.handles file m
       far_none file m above = let other : (file == 1) ≡ false = grind arith in rw other (sym (none file m))
 
-  pub others_agree : (far now : Far) (place : ℕ) (kept' : Kept) (user' : User) → slice_get old.users place ≡ Some (Some kept') → ((file n : ℕ) → 2 ≤ file → now file n ≡ far file n)
+  pub others_agree : (far now : Far) (place : ℕ) (kept' : LoadedUser) (user' : User) → slice_get old.users place ≡ Some (Some kept') → ((file n : ℕ) → 2 ≤ file → now file n ≡ far file n)
       → UserAgrees held old.memory far (first_id + place) kept' user' → UserAgrees held new.memory now (first_id + place) kept' user'
   others_agree far now place kept' user' made same was = agrees_still held old.memory new.memory far now (first_id + place) kept' user' was
       (λ n h found. let one = has_any old sound place kept' made n h found in

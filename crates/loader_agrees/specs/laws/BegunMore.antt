@@ -12,13 +12,13 @@ use Rattle.load_meaning.specs.Loadable.{IsLoadable}
 use Rattle.load_meaning.specs.Runtime.{IsRuntime}
 use Rattle.iigs_meaning.specs.declared.handles.Handle.{Handle}
 use Rattle.iigs_meaning.specs.Memory.{bytes_at}
-use Rattle.loader_machine.specs.declared.seen.Head.{Head}
+use Rattle.loader_machine.specs.declared.seen.SegmentHead.{SegmentHead}
 use Rattle.loader_machine.specs.Heads.{head_of, at_number, is_table}
 use Rattle.loader_machine.specs.State.{ids_from}
 use Rattle.loader_machine.specs.Presences.{handle_at}
 use Rattle.loader_machine.specs.Stands.{setting}
 use Rattle.loader_machine.specs.Steps.{lost_refusal}
-use Rattle.loader_agrees.specs.Agrees.{Kept, Loaded, AreAttached, IsCall, IsSound}
+use Rattle.loader_agrees.specs.Agrees.{LoadedUser, Loaded, AreAttached, IsCall, IsSound}
 use Rattle.loader_agrees.specs.Acts.{IsAdded, HasBegun, started_kept, no_handle_of, joined_kept, joined_kepts}
 use Rattle.loader_agrees.specs.laws.BegunSound.{sound_placed}
 use Rattle.loader_agrees.specs.laws.EntryReads.{its_call, number_within}
@@ -49,7 +49,7 @@ quiet path segments called short = record {
   none = λ number h is. let clash : None ≡ Some h = sym (without_handle (map head_of segments) number) ∙ is in absurd cc;
   dynamic = λ number head is static.
       let one = headed segments number head is in
-      let kind : is_dynamic head.kind ≡ true = ap (λ (g : Head). is_dynamic g.kind) (sym one.2) ∙ (called number one.0 one.1).0 in
+      let kind : is_dynamic head.kind ≡ true = ap (λ (g : SegmentHead). is_dynamic g.kind) (sym one.2) ∙ (called number one.0 one.1).0 in
       absurd (not_static (is_dynamic head.kind) (is_skipped head.kind) kind static);
   alone = refl;
 }
@@ -57,20 +57,20 @@ quiet path segments called short = record {
 module _ (old new : Loaded) (path : List ℕ) (segments : List Segment) (all : List (List Segment)) (id : ℕ) (entry : Option ℕ) (sound : IsSound old.memory old.users)
     (begun : HasBegun old path segments all id entry new) (file : List ℕ) (loadable : IsLoadable file segments) (runtimes : AreRuntimes all)
     (none : lost_refusal (map (map head_of) all) segments ≡ None) where
-  abbrev first : Kept
+  abbrev first : LoadedUser
   first = started_kept path (map head_of segments) begun.placed.handles
 
-  abbrev its : Kept
+  abbrev its : LoadedUser
   its = record (started_kept path (map head_of segments) begun.placed.handles) { attached = ids_from (id + 1) (length (paths_of segments)) }
 
-  abbrev joined : List (Option Kept)
+  abbrev joined : List (Option LoadedUser)
   joined = joined_kepts (paths_of segments) all
 
-  abbrev made : List (Option Kept)
+  abbrev made : List (Option LoadedUser)
   made = old.users ++ Some its ∷ joined_kepts (paths_of segments) all
 
   -- the users before the program has anything in memory
-  abbrev middle : List (Option Kept)
+  abbrev middle : List (Option LoadedUser)
   middle = old.users ++ None ∷ joined_kepts (paths_of segments) all
 
   called : (j : ℕ) (other : List Segment) → slice_get all j ≡ Some other → AreCalled other
@@ -85,7 +85,7 @@ module _ (old new : Loaded) (path : List ℕ) (segments : List Segment) (all : L
     which = λ place kept is. go place kept (lies old.users None joined place (Some kept) is);
   }
     where
-      go : (place : ℕ) (kept : Kept) → Lies old.users None joined place (Some kept) → (slice_get old.users place ≡ Some (Some kept)) ⊎ IsQuiet kept
+      go : (place : ℕ) (kept : LoadedUser) → Lies old.users None joined place (Some kept) → (slice_get old.users place ≡ Some (Some kept)) ⊎ IsQuiet kept
       go place kept (Front less is) = inl is
       go place kept (Midst at is) = absurd cc
       go place kept (Behind j at is) =
@@ -105,12 +105,12 @@ module _ (old new : Loaded) (path : List ℕ) (segments : List Segment) (all : L
     stay = λ p k is. stays p k (lies old.users None joined p (Some k) is);
   }
     where
-      which : (p : ℕ) (k : Kept) → Lies old.users (Some its) joined p (Some k) → ((p ≢ length old.users) × (slice_get middle p ≡ Some (Some k))) ⊎ ((p ≡ length old.users) × (k ≡ its))
+      which : (p : ℕ) (k : LoadedUser) → Lies old.users (Some its) joined p (Some k) → ((p ≢ length old.users) × (slice_get middle p ≡ Some (Some k))) ⊎ ((p ≡ length old.users) × (k ≡ its))
       which p k (Front less is) = inl ((λ e. omega (arith, e, less)), front_at old.users None joined p (Some k) is)
       which p k (Midst at is) = inr (at, same_Some k its is)
       which p k (Behind j at is) = inl ((λ e. omega (arith, e, at)), ap (slice_get middle) at ∙ behind_at old.users None joined j ∙ is)
 
-      stays : (p : ℕ) (k : Kept) → Lies old.users None joined p (Some k) → slice_get made p ≡ Some (Some k)
+      stays : (p : ℕ) (k : LoadedUser) → Lies old.users None joined p (Some k) → slice_get made p ≡ Some (Some k)
       stays p k (Front less is) = front_at old.users (Some its) joined p (Some k) is
       stays p k (Midst at is) = absurd cc
       stays p k (Behind j at is) = ap (slice_get made) at ∙ behind_at old.users (Some its) joined j ∙ is
@@ -122,7 +122,7 @@ module _ (old new : Loaded) (path : List ℕ) (segments : List Segment) (all : L
       let less : t.file - 2 < length (paths_of segments) = omega (arith, within, length-map all (map head_of), begun.long) in
       let row = row_user old.users (paths_of segments) all id rows first refl (t.file - 2) less in
       let heads = row_heads (paths_of segments) all (t.file - 2) row.0 row.1 reached.heads row.2 reached.row in
-      let head' : at_number (map head_of row.1) t.segment ≡ Some reached.head = ap (λ (hs : List Head). at_number hs t.segment) heads ∙ reached.head' in
+      let head' : at_number (map head_of row.1) t.segment ≡ Some reached.head = ap (λ (hs : List SegmentHead). at_number hs t.segment) heads ∙ reached.head' in
       let s = headed row.1 t.segment reached.head head' in
       let kind = called (t.file - 2) row.1 row.2.segments' t.segment s.0 s.1 in
       let other : (t.file == 1) ≡ false = grind arith in (
@@ -133,20 +133,20 @@ module _ (old new : Loaded) (path : List ℕ) (segments : List Segment) (all : L
           made = row.3;
           head = reached.head;
           head' = head';
-          dynamic = ap (λ (g : Head). is_dynamic g.kind) (sym s.2) ∙ kind.0;
-          loaded = ap (λ (g : Head). is_skipped g.kind) (sym s.2) ∙ kind.1;
+          dynamic = ap (λ (g : SegmentHead). is_dynamic g.kind) (sym s.2) ∙ kind.0;
+          loaded = ap (λ (g : SegmentHead). is_skipped g.kind) (sym s.2) ∙ kind.1;
         },
         omega (arith, less, few_paths segments),
         omega (arith, number_within row.1 t.segment s.0 s.1, begun.shorts (t.file - 2) row.1 row.2.segments'),
       )
 
-  its_calls : (number k : ℕ) (head : Head) (h : Handle) → at_number (map head_of segments) number ≡ Some head → handle_at first.handles number ≡ Some h → is_table head ≡ true → k < entry_count head.length
+  its_calls : (number k : ℕ) (head : SegmentHead) (h : Handle) → at_number (map head_of segments) number ≡ Some head → handle_at first.handles number ≡ Some h → is_table head ≡ true → k < entry_count head.length
       → IsCall made id (target_at (bytes_at new.memory h.slot) k)
   its_calls number k head h head' handle table inside =
       let s = headed segments number head head' in
       let table' = ap is_table s.2 ∙ table in
       its_call file segments loadable begun.placed.short made id its (its_there old.users (paths_of segments) all id rows first refl) refl (setting id new.memory.slots first.handles) number k s.0
-      (bytes_at new.memory h.slot) s.1 table' (begun.placed.begins number s.0 h s.1 handle) (omega (arith, inside, ap (λ (x : Head). entry_count x.length) s.2))
+      (bytes_at new.memory h.slot) s.1 table' (begun.placed.begins number s.0 h s.1 handle) (omega (arith, inside, ap (λ (x : SegmentHead). entry_count x.length) s.2))
       (λ t found above. far_call t above (all_reached file segments (map (map head_of) all) loadable none number k s.0 t s.1 table' found above))
 
   -- after a load the loader is sound
@@ -154,4 +154,4 @@ module _ (old new : Loaded) (path : List ℕ) (segments : List Segment) (all : L
   sound_begun = sound_placed (record { memory = old.memory; users = middle }) new path segments id entry sound_middle begun.placed (ids_from (id + 1) (length (paths_of segments))) (length old.users) begun.id_is
       (subst (IsAdded middle (length old.users) its) (sym begun.users) added)
       (subst AreAttached (sym begun.users) (attached_made old.users (paths_of segments) all id rows first refl))
-      (λ number k head h head' handle table inside. subst (λ (us : List (Option Kept)). IsCall us id (target_at (bytes_at new.memory h.slot) k)) (sym begun.users) (its_calls number k head h head' handle table inside))
+      (λ number k head h head' handle table inside. subst (λ (us : List (Option LoadedUser)). IsCall us id (target_at (bytes_at new.memory h.slot) k)) (sym begun.users) (its_calls number k head h head' handle table inside))

@@ -10,7 +10,7 @@ use Rattle.omf_io.specs.Files.{FileMap}
 use Rattle.load_meaning.specs.declared.table.Target.{Target}
 use Rattle.load_meaning.specs.LoadTable.{is_table, targets_of}
 use Rattle.iigs_meaning.specs.declared.handles.Handle.{Handle}
-use Rattle.loader_machine.specs.declared.seen.Head.{Head}
+use Rattle.loader_machine.specs.declared.seen.SegmentHead.{SegmentHead}
 use Rattle.loader_machine.specs.declared.seen.Life.TheVariants.{Running}
 use Rattle.loader_machine.specs.Heads.{head_of, at_number}
 use Rattle.loader_machine.specs.State.{User, Machine, Outline, absent, first_id, user_of, attached_at, handles_in, ids_from, outline_of, outlines}
@@ -19,7 +19,7 @@ use Rattle.loader_machine.specs.Stands.{Far, far_of}
 use Rattle.loader_machine.specs.Found.{HoldsLoad}
 use Rattle.loader_machine.specs.Steps.{started_user, joined_user, joined_users}
 use Rattle.loader_machine.specs.laws.OnceLaws.{one_load}
-use Rattle.loader_agrees.specs.Agrees.{Kept, Loaded, outline, kept_outlines, AreAttached, LeadsFar, EntriesLead, UserAgrees, Agrees, IsSound}
+use Rattle.loader_agrees.specs.Agrees.{LoadedUser, Loaded, outline, kept_outlines, AreAttached, LeadsFar, EntriesLead, UserAgrees, Agrees, IsSound}
 use Rattle.loader_agrees.specs.Acts.{HasPlaced, started_kept, joined_kept, joined_kepts}
 use Rattle.loader_agrees.specs.laws.Begun.{user_agrees, others_agree, begun_keeps}
 use Rattle.loader_agrees.specs.laws.Joining.{user_stays}
@@ -33,19 +33,19 @@ module _ (held : FileMap) (old new : Loaded) (state : Machine) (path : List ℕ)
     (holds : HoldsLoad held path segments) (files : (j : ℕ) (p : List ℕ) (ss : List Segment) → IsRow paths all j p ss → HoldsLoad held p ss)
     (reached : (n k : ℕ) (s : Segment) (t : Target) → segment_at segments n ≡ Some s → is_table s ≡ true → slice_get (targets_of s) k ≡ Some t → 2 ≤ t.file → IsReached (map (map head_of) all) t)
     (users : new.users ≡ old.users ++ Some (record (started_kept path (map head_of segments) begun.handles) { attached = ids_from (id + 1) (length paths) }) ∷ joined_kepts paths all) where
-  abbrev first : Kept
+  abbrev first : LoadedUser
   first = started_kept path (map head_of segments) begun.handles
 
   abbrev ids : List ℕ
   ids = ids_from (id + 1) (length paths)
 
-  abbrev its : Kept
+  abbrev its : LoadedUser
   its = record (started_kept path (map head_of segments) begun.handles) { attached = ids }
 
   abbrev its_user : User
   its_user = record (started_user path (map head_of segments) begun.handles) { attached = ids }
 
-  abbrev made : List (Option Kept)
+  abbrev made : List (Option LoadedUser)
   made = old.users ++ Some its ∷ joined_kepts paths all
 
   no_table : (j : ℕ) (p : List ℕ) (ss : List Segment) (n : ℕ) (s : Segment) → IsRow paths all j p ss → segment_at ss n ≡ Some s → is_table s ≡ true → ⊥
@@ -78,7 +78,7 @@ module _ (held : FileMap) (old new : Loaded) (state : Machine) (path : List ℕ)
             kept = joined_kept row.0 (map head_of row.1);
             made = row.3;
             head = one.head;
-            head' = ap (λ (hs : List Head). at_number hs t.segment) (row_heads paths all (t.file - 2) row.0 row.1 one.heads row.2 one.row) ∙ one.head';
+            head' = ap (λ (hs : List SegmentHead). at_number hs t.segment) (row_heads paths all (t.file - 2) row.0 row.1 one.heads row.2 one.row) ∙ one.head';
             inside = one.inside;
           })
 
@@ -86,11 +86,11 @@ module _ (held : FileMap) (old new : Loaded) (state : Machine) (path : List ℕ)
       go (Front less was) = lift (agrees.entries p n k user segs s t was holds' found table target above)
       go (Midst at its') =
           let same : user ≡ its = same_Some user its its' in
-          far (one_load held path segs segments (subst (λ (x : Kept). HoldsLoad held x.path segs) same holds') holds) at
+          far (one_load held path segs segments (subst (λ (x : LoadedUser). HoldsLoad held x.path segs) same holds') holds) at
       go (Behind j at row') =
           let one = row_kept paths all j (Some user) row' in
           let same : user ≡ joined_kept one.0 (map head_of one.1) = same_Some user (joined_kept one.0 (map head_of one.1)) one.3 in
-          let segs_same = one_load held one.0 segs one.1 (subst (λ (x : Kept). HoldsLoad held x.path segs) same holds') (files j one.0 one.1 one.2) in
+          let segs_same = one_load held one.0 segs one.1 (subst (λ (x : LoadedUser). HoldsLoad held x.path segs) same holds') (files j one.0 one.1 one.2) in
           absurd (no_table j one.0 one.1 n s one.2 (ap (λ (ss : List Segment). segment_at ss n) (sym segs_same) ∙ found) table)
 
   -- ---- each user agrees
@@ -115,7 +115,7 @@ module _ (held : FileMap) (old new : Loaded) (state : Machine) (path : List ℕ)
       go (Some m) e = let one = id_at (id + 1) (length paths) (f - 2) m e in row (f - 2) m one.0 one.1
 
   -- of an old user's attached ones they are active where they were
-  old_far : (p : ℕ) (k : Kept) → slice_get old.users p ≡ Some (Some k) → (f n : ℕ) → far_of new.memory.slots (kept_outlines made) (first_id + p) f n ≡ far_of old.memory.slots (kept_outlines old.users) (first_id + p) f n
+  old_far : (p : ℕ) (k : LoadedUser) → slice_get old.users p ≡ Some (Some k) → (f n : ℕ) → far_of new.memory.slots (kept_outlines made) (first_id + p) f n ≡ far_of old.memory.slots (kept_outlines old.users) (first_id + p) f n
   old_far p k is f n = step ∙ far_kept old new.memory sound all_kept (first_id + p) f n
     where
       was : user_of old.users (first_id + p) ≡ Some k
@@ -147,7 +147,7 @@ module _ (held : FileMap) (old new : Loaded) (state : Machine) (path : List ℕ)
     segments = ss;
     holds = files j path' ss row;
     heads = refl;
-    count = length-map (map head_of ss) (λ (head : Head). absent) ∙ length-map ss head_of;
+    count = length-map (map head_of ss) (λ (head : SegmentHead). absent) ∙ length-map ss head_of;
     unpoked = λ n s found table. absurd (no_table j path' ss n s row found table);
     statics = λ running n s found static. absurd (not_static (is_dynamic s.fields.kind) (is_skipped s.fields.kind) (rows.called j ss row.segments' n s found).0 static);
     begins = λ there n s h found has present. let clash : None ≡ Some h = sym (without_handle (map head_of ss) n) ∙ has in absurd cc;
@@ -163,10 +163,10 @@ module _ (held : FileMap) (old new : Loaded) (state : Machine) (path : List ℕ)
   abbrev next : Machine
   next = record { banks = state.banks; slots = new.memory.slots; users = state.users ++ Some its_user ∷ joined_users paths all }
 
-  abbrev Agreeing : List (Option Kept) → ℕ → Kept → User → Type 0
+  abbrev Agreeing : List (Option LoadedUser) → ℕ → LoadedUser → User → Type 0
   Agreeing us p k user = UserAgrees held new.memory (far_of new.memory.slots (kept_outlines us) (first_id + p)) (first_id + p) k user
 
-  each_agrees : (p : ℕ) (k : Kept) (user : User) → Lies old.users (Some its) (joined_kepts paths all) p (Some k) → Lies state.users (Some its_user) (joined_users paths all) p (Some user) → Agreeing made p k user
+  each_agrees : (p : ℕ) (k : LoadedUser) (user : User) → Lies old.users (Some its) (joined_kepts paths all) p (Some k) → Lies state.users (Some its_user) (joined_users paths all) p (Some user) → Agreeing made p k user
   each_agrees p k user (Front less is) (Front less' is') =
       others_agree held old new path segments id entry sound begun holds ids (far_of old.memory.slots (kept_outlines old.users) (first_id + p)) (far_of new.memory.slots (kept_outlines made) (first_id + p)) p k user is
       (λ f n above. old_far p k is f n) (agrees.each p k user is is')
@@ -176,7 +176,7 @@ module _ (held : FileMap) (old new : Loaded) (state : Machine) (path : List ℕ)
       let at_id : id ≡ first_id + p = omega (arith, rows.id_is, at) in
       subst (λ (q : ℕ). UserAgrees held new.memory (far_of new.memory.slots (kept_outlines made) q) q k user) at_id
       (subst (λ (u : User). UserAgrees held new.memory (far_of new.memory.slots (kept_outlines made) id) id k u) (sym user_is')
-      (subst (λ (x : Kept). UserAgrees held new.memory (far_of new.memory.slots (kept_outlines made) id) id x its_user) (sym kept_is)
+      (subst (λ (x : LoadedUser). UserAgrees held new.memory (far_of new.memory.slots (kept_outlines made) id) id x its_user) (sym kept_is)
       (user_agrees held old new path segments id entry sound begun holds ids (far_of new.memory.slots (kept_outlines made) id) none_active)))
   each_agrees p k user (Behind j at is) (Behind i at' is') =
       let one = row_kept paths all j (Some k) is in
@@ -184,7 +184,7 @@ module _ (held : FileMap) (old new : Loaded) (state : Machine) (path : List ℕ)
       let same : i ≡ j = omega (arith, at, at', same_count) in
       let there : Some (Some user) ≡ Some (Some (joined_user one.0 (map head_of one.1))) = sym is' ∙ ap (slice_get (joined_users paths all)) same ∙ user_row paths all j one.0 one.1 one.2 in
       let user_is' : user ≡ joined_user one.0 (map head_of one.1) = two_Some user (joined_user one.0 (map head_of one.1)) there in
-      subst (λ (u : User). Agreeing made p k u) (sym user_is') (subst (λ (x : Kept). Agreeing made p x (joined_user one.0 (map head_of one.1))) (sym kept_is) (row_agrees j p one.0 one.1 (far_of new.memory.slots (kept_outlines made) (first_id + p)) one.2))
+      subst (λ (u : User). Agreeing made p k u) (sym user_is') (subst (λ (x : LoadedUser). Agreeing made p x (joined_user one.0 (map head_of one.1))) (sym kept_is) (row_agrees j p one.0 one.1 (far_of new.memory.slots (kept_outlines made) (first_id + p)) one.2))
     where
       two_Some : (a b : User) → Some (Some a) ≡ Some (Some b) → a ≡ b
       two_Some a b e = cc
@@ -206,7 +206,7 @@ module _ (held : FileMap) (old new : Loaded) (state : Machine) (path : List ℕ)
         ∙ sym (map-append (option_map outline_of) state.users (Some its_user ∷ joined_users paths all));
     attached = subst AreAttached (sym users) (attached_made old.users paths all id rows first refl);
     entries = subst (EntriesLead held) (sym users) entries_made;
-    each = λ p k user made' made''. subst (λ (us : List (Option Kept)). Agreeing us p k user) (sym users)
-        (each_agrees p k user (lies old.users (Some its) (joined_kepts paths all) p (Some k) (ap (λ (us : List (Option Kept)). slice_get us p) (sym users) ∙ made'))
+    each = λ p k user made' made''. subst (λ (us : List (Option LoadedUser)). Agreeing us p k user) (sym users)
+        (each_agrees p k user (lies old.users (Some its) (joined_kepts paths all) p (Some k) (ap (λ (us : List (Option LoadedUser)). slice_get us p) (sym users) ∙ made'))
         (lies state.users (Some its_user) (joined_users paths all) p (Some user) made''));
   }

@@ -10,16 +10,16 @@ use Rattle.iigs_meaning.specs.declared.wants.Want.{Want}
 use Rattle.iigs_meaning.specs.declared.wants.Block.{Block}
 use Rattle.iigs_meaning.specs.Slots.{get, slot_at}
 use Rattle.iigs_meaning.specs.Fits.{Slots, block_in}
-use Rattle.iigs_meaning.specs.Puts.{Puts, PutsAll, placed}
+use Rattle.iigs_meaning.specs.Puts.{Puts, PutsAll, placed_block}
 use Rattle.loader_machine.specs.Rule.{RoomRule}
 use Rattle.iigs_meaning.specs.Memory.{bytes_at}
-use Rattle.loader_machine.specs.declared.seen.Head.{Head}
+use Rattle.loader_machine.specs.declared.seen.SegmentHead.{SegmentHead}
 use Rattle.loader_machine.specs.declared.seen.Life.TheVariants.{Running, Dormant}
 use Rattle.loader_machine.specs.Heads.{head_of, at_number, is_static, is_stack, is_table, stack_want, plain_want, want_of, wants_of}
-use Rattle.loader_machine.specs.State.{Held, first_id}
+use Rattle.loader_machine.specs.State.{HeldSegment, first_id}
 use Rattle.loader_machine.specs.Presences.{handle_at, presence, presence_at, is_active}
-use Rattle.loader_machine.specs.Steps.{spread}
-use Rattle.loader_agrees.specs.Agrees.{Kept, Loaded, AreAttached, IsCall, IsOf, Has, IsSound}
+use Rattle.loader_machine.specs.Steps.{held_of_heads}
+use Rattle.loader_agrees.specs.Agrees.{LoadedUser, Loaded, AreAttached, IsCall, IsOf, Has, IsSound}
 use Rattle.loader_agrees.specs.laws.Joining.{call_stays}
 use Rattle.load_meaning.specs.LoadTable.{target_at, entry_count}
 use Rattle.loader_agrees.specs.Acts.{HasPlaced, IsAdded, started_kept}
@@ -74,17 +74,17 @@ all_only banks user slots last (want ∷ wants) (x ∷ hs) all n block is = elim
 
 -- ---- handles and segments
 
-abbrev pub spread_handles : List Head → List Handle → List (Option Handle)
-spread_handles heads hs = map (λ (held : Held). held.handle) (spread heads hs)
+abbrev pub spread_handles : List SegmentHead → List Handle → List (Option Handle)
+spread_handles heads hs = map (λ (held : HeldSegment). held.handle) (held_of_heads heads hs)
 
 -- a segment's handle is one of them, placed for its want
-abbrev pub HasWant : List Head → List Handle → Head → Handle → Type 0
+abbrev pub HasWant : List SegmentHead → List Handle → SegmentHead → Handle → Type 0
 HasWant heads hs head h = (i : ℕ) × (slice_get hs i ≡ Some h) × (slice_get (wants_of heads) i ≡ Some (want_of head))
 
 no_handle : (h : Handle) → ◌≡◌ {A = Option (Option Handle)} (Some None) (Some (Some h)) → ⊥
 no_handle h e = cc
 
-pub spread_want : (heads : List Head) (hs : List Handle) (k : ℕ) (head : Head) (h : Handle) → slice_get heads k ≡ Some head → slice_get (spread_handles heads hs) k ≡ Some (Some h) → HasWant heads hs head h
+pub spread_want : (heads : List SegmentHead) (hs : List Handle) (k : ℕ) (head : SegmentHead) (h : Handle) → slice_get heads k ≡ Some head → slice_get (spread_handles heads hs) k ≡ Some (Some h) → HasWant heads hs head h
 spread_want [] hs k head h is has = absurd cc
 spread_want (g ∷ heads) [] zero head h is has = absurd (no_handle h has)
 spread_want (g ∷ heads) [] (suc k) head h is has = let one = spread_want heads [] k head h is has in let none = one.1 in absurd cc
@@ -97,7 +97,7 @@ spread_want (g ∷ heads) (x ∷ hs) zero head h is has = elim (decide (is_stati
     here static e =
         let same : x ≡ h = same_Some x h (same_Some (Some x) (Some h) e) in
         let it : g ≡ head = same_Some g head is in
-        (zero, ap (λ (y : Handle). Some y) same, rw static (ap (λ (y : Head). Some (want_of y)) it))
+        (zero, ap (λ (y : Handle). Some y) same, rw static (ap (λ (y : SegmentHead). Some (want_of y)) it))
 spread_want (g ∷ heads) (x ∷ hs) (suc k) head h is has = elim (decide (is_static g)) [
   | inl static ↦ later static (spread_want heads hs k head h is (rw static at has))
   | inr other ↦ passed other (spread_want heads (x ∷ hs) k head h is (rw other at has))
@@ -110,7 +110,7 @@ spread_want (g ∷ heads) (x ∷ hs) (suc k) head h is has = elim (decide (is_st
     passed other one = (one.0, one.1, rw other one.2)
 
 -- the same without the want
-pub spread_index : (heads : List Head) (hs : List Handle) (k : ℕ) (h : Handle) → slice_get (spread_handles heads hs) k ≡ Some (Some h) → (i : ℕ) × (slice_get hs i ≡ Some h)
+pub spread_index : (heads : List SegmentHead) (hs : List Handle) (k : ℕ) (h : Handle) → slice_get (spread_handles heads hs) k ≡ Some (Some h) → (i : ℕ) × (slice_get hs i ≡ Some h)
 spread_index [] hs k h has = absurd cc
 spread_index (g ∷ heads) [] zero h has = absurd (no_handle h has)
 spread_index (g ∷ heads) [] (suc k) h has = spread_index heads [] k h has
@@ -124,7 +124,7 @@ spread_index (g ∷ heads) (x ∷ hs) (suc k) h has = elim (decide (is_static g)
 ]
 
 -- no two segments have one slot
-pub spread_once : (heads : List Head) (hs : List Handle) → AreDistinct hs → (k l : ℕ) (h j : Handle) → slice_get (spread_handles heads hs) k ≡ Some (Some h)
+pub spread_once : (heads : List SegmentHead) (hs : List Handle) → AreDistinct hs → (k l : ℕ) (h j : Handle) → slice_get (spread_handles heads hs) k ≡ Some (Some h)
     → slice_get (spread_handles heads hs) l ≡ Some (Some j) → h.slot ≡ j.slot → k ≡ l
 spread_once [] hs distinct k l h j has has' same = absurd cc
 spread_once (g ∷ heads) [] distinct k l h j has has' same = let one = spread_index (g ∷ heads) [] k h has in let none = one.1 in absurd cc
@@ -149,10 +149,10 @@ spread_once (g ∷ heads) (x ∷ hs) distinct (suc k) (suc l) h j has has' same 
 ]
 
 -- each handle is a segment's
-abbrev HasSegment : List Head → List Handle → Handle → Type 0
-HasSegment heads hs h = (k : ℕ) × (head : Head) × (slice_get heads k ≡ Some head) × (slice_get (spread_handles heads hs) k ≡ Some (Some h))
+abbrev HasSegment : List SegmentHead → List Handle → Handle → Type 0
+HasSegment heads hs h = (k : ℕ) × (head : SegmentHead) × (slice_get heads k ≡ Some head) × (slice_get (spread_handles heads hs) k ≡ Some (Some h))
 
-spread_has : (heads : List Head) (hs : List Handle) → length hs ≡ length (wants_of heads) → (i : ℕ) (h : Handle) → slice_get hs i ≡ Some h → HasSegment heads hs h
+spread_has : (heads : List SegmentHead) (hs : List Handle) → length hs ≡ length (wants_of heads) → (i : ℕ) (h : Handle) → slice_get hs i ≡ Some h → HasSegment heads hs h
 spread_has [] [] long i h is = absurd cc
 spread_has [] (x ∷ hs) long i h is = absurd (omega (arith, long))
 spread_has (g ∷ heads) [] long i h is = absurd cc
@@ -178,7 +178,7 @@ spread_has (g ∷ heads) (x ∷ hs) long (suc i) h is = elim (decide (is_static 
     passed other one = (suc one.0, one.1, one.2, rw other one.3)
 
 -- a want has room for LENGTH bytes
-pub want_size : (head : Head) → head.length ≤ (want_of head).size
+pub want_size : (head : SegmentHead) → head.length ≤ (want_of head).size
 unfolding want_of stack_want plain_want
 want_size head = elim (decide (is_stack head)) [ inl stack ↦ rw stack (grind arith) | inr plain ↦ rw plain (grind arith) ]
 
@@ -187,18 +187,18 @@ want_size head = elim (decide (is_stack head)) [ inl stack ↦ rw stack (grind a
 module _ (old new : Loaded) (path : List ℕ) (segments : List Segment) (id : ℕ) (entry : Option ℕ) (sound : IsSound old.memory old.users) (begun : HasPlaced old.memory path segments id entry new.memory)
     (ids : List ℕ) (its_place : ℕ) (id_is : id ≡ first_id + its_place) (added : IsAdded old.users its_place (record (started_kept path (map head_of segments) begun.handles) { attached = ids }) new.users)
     (attached : AreAttached new.users)
-    (its_calls : (number k : ℕ) (head : Head) (h : Handle) → at_number (map head_of segments) number ≡ Some head → handle_at (started_kept path (map head_of segments) begun.handles).handles number ≡ Some h
+    (its_calls : (number k : ℕ) (head : SegmentHead) (h : Handle) → at_number (map head_of segments) number ≡ Some head → handle_at (started_kept path (map head_of segments) begun.handles).handles number ≡ Some h
     → is_table head ≡ true → k < entry_count head.length → IsCall new.users id (target_at (bytes_at new.memory h.slot) k)) where
-  abbrev heads : List Head
+  abbrev heads : List SegmentHead
   heads = map head_of segments
 
   abbrev hs : List Handle
   hs = begun.handles
 
-  abbrev its : Kept
+  abbrev its : LoadedUser
   its = record (started_kept path (map head_of segments) begun.handles) { attached = ids }
 
-  abbrev users : List (Option Kept)
+  abbrev users : List (Option LoadedUser)
   users = new.users
 
   long : length begun.handles ≡ length (wants_of (map head_of segments))
@@ -210,10 +210,10 @@ module _ (old new : Loaded) (path : List ℕ) (segments : List Segment) (id : �
       begun_keeps old.memory new.memory path segments id entry begun h of'.block of'.live of'.fixed
 
   -- a user is an old one, or the new one
-  abbrev Which : ℕ → Kept → Type 0
+  abbrev Which : ℕ → LoadedUser → Type 0
   Which p kept = (slice_get old.users p ≡ Some (Some kept)) ⊎ ((p ≡ its_place) × (kept ≡ its))
 
-  which : (p : ℕ) (kept : Kept) → slice_get users p ≡ Some (Some kept) → Which p kept
+  which : (p : ℕ) (kept : LoadedUser) → slice_get users p ≡ Some (Some kept) → Which p kept
   which p kept made = elim (added.which p kept made) [ inl was ↦ inl was.1 | inr last ↦ inr last ]
 
   handle_in : (number : ℕ) (h : Handle) → handle_at its.handles number ≡ Some h → (k : ℕ) × (number ≡ suc k) × (slice_get (spread_handles (map head_of segments) begun.handles) k ≡ Some (Some h))
@@ -225,7 +225,7 @@ module _ (old new : Loaded) (path : List ℕ) (segments : List Segment) (id : �
       inner (Some None) e = absurd cc
       inner (Some (Some x)) e = cc
 
-  its_static : (number : ℕ) (head : Head) → at_number (map head_of segments) number ≡ Some head → is_static head ≡ true → is_active (presence_at new.memory.slots its.handles number) ≡ true
+  its_static : (number : ℕ) (head : SegmentHead) → at_number (map head_of segments) number ≡ Some head → is_static head ≡ true → is_active (presence_at new.memory.slots its.handles number) ≡ true
   its_static zero head has static = absurd cc
   its_static (suc k) head has static =
       let one = spread_static (map head_of segments) begun.handles long k head has static in
@@ -233,7 +233,7 @@ module _ (old new : Loaded) (path : List ℕ) (segments : List Segment) (id : �
       let handle : handle_at its.handles (suc k) ≡ Some one.1 = ap (option_and_then (λ (o : Option Handle). o)) one.3 in
       ap (λ (o : Option Handle). is_active (presence new.memory.slots o)) handle ∙ subst (λ (t : Slots). is_active (presence t (Some one.1)) ≡ true) (sym begun.slots) active
 
-  its_block : (number : ℕ) (head : Head) (h : Handle) → at_number (map head_of segments) number ≡ Some head → handle_at its.handles number ≡ Some h → IsOf new.memory id head h
+  its_block : (number : ℕ) (head : SegmentHead) (h : Handle) → at_number (map head_of segments) number ≡ Some head → handle_at its.handles number ≡ Some h → IsOf new.memory id head h
   its_block zero head h has is = absurd cc
   its_block (suc k) head h has is =
       let found = handle_in (suc k) h is in
@@ -243,8 +243,8 @@ module _ (old new : Loaded) (path : List ℕ) (segments : List Segment) (id : �
       let want : there.0 ≡ want_of head = same_Some there.0 (want_of head) (sym there.2 ∙ one.2) in
       let zeros : bytes_at begun.middle h.slot ≡ replicate (want_of head).size 0 = begun.placed.zeros one.0 (want_of head) h one.2 one.1 in
       record {
-        block = placed (want_of head) there.1 id true 0 false;
-        live = ap (λ (t : Slots). get t h) begun.slots ∙ there.3 ∙ ap (λ (w : Want). Some (placed w there.1 id true 0 false)) want;
+        block = placed_block (want_of head) there.1 id true 0 false;
+        live = ap (λ (t : Slots). get t h) begun.slots ∙ there.3 ∙ ap (λ (w : Want). Some (placed_block w there.1 id true 0 false)) want;
         user = refl;
         fixed = refl;
         form = inl (refl, refl);
@@ -253,26 +253,26 @@ module _ (old new : Loaded) (path : List ℕ) (segments : List Segment) (id : �
       }
 
   -- the parts of a segment's handle, by its user
-  parts_old : (place number : ℕ) (head : Head) (h : Handle) → (has : Has users place number head h) → slice_get old.users place ≡ Some (Some has.kept) → Has old.users place number head h
+  parts_old : (place number : ℕ) (head : SegmentHead) (h : Handle) → (has : Has users place number head h) → slice_get old.users place ≡ Some (Some has.kept) → Has old.users place number head h
   parts_old place number head h has was = record { kept = has.kept; made = was; head' = has.head'; handle = has.handle }
 
-  lift : (place number : ℕ) (head : Head) (h : Handle) → Has old.users place number head h → Has users place number head h
+  lift : (place number : ℕ) (head : SegmentHead) (h : Handle) → Has old.users place number head h → Has users place number head h
   lift place number head h has = record { kept = has.kept; made = added.stay place has.kept has.made; head' = has.head'; handle = has.handle }
 
-  its_head : (place number : ℕ) (head : Head) (h : Handle) → (has : Has users place number head h) → has.kept ≡ its → at_number (map head_of segments) number ≡ Some head
-  its_head place number head h has is = sym (ap (λ (k : Kept). at_number k.heads number) is) ∙ has.head'
+  its_head : (place number : ℕ) (head : SegmentHead) (h : Handle) → (has : Has users place number head h) → has.kept ≡ its → at_number (map head_of segments) number ≡ Some head
+  its_head place number head h has is = sym (ap (λ (k : LoadedUser). at_number k.heads number) is) ∙ has.head'
 
-  its_handle : (place number : ℕ) (head : Head) (h : Handle) → (has : Has users place number head h) → has.kept ≡ its → handle_at its.handles number ≡ Some h
-  its_handle place number head h has is = sym (ap (λ (k : Kept). handle_at k.handles number) is) ∙ has.handle
+  its_handle : (place number : ℕ) (head : SegmentHead) (h : Handle) → (has : Has users place number head h) → has.kept ≡ its → handle_at its.handles number ≡ Some h
+  its_handle place number head h has is = sym (ap (λ (k : LoadedUser). handle_at k.handles number) is) ∙ has.handle
 
-  each : (place number : ℕ) (head : Head) (h : Handle) → Has users place number head h → IsOf new.memory (first_id + place) head h
+  each : (place number : ℕ) (head : SegmentHead) (h : Handle) → Has users place number head h → IsOf new.memory (first_id + place) head h
   each place number head h has = elim (which place has.kept has.made) [
     | inl was ↦ of_kept old.memory new.memory (first_id + place) head h (sound.each place number head h (parts_old place number head h has was)) (all_kept place number head h (parts_old place number head h has was))
     | inr last ↦ subst (λ (n : ℕ). IsOf new.memory n head h) (omega (arith, id_is, last.0)) (its_block number head h (its_head place number head h has last.1) (its_handle place number head h has last.1))
   ]
 
   -- a new handle isn't in the slot of an old one
-  apart : (place number n : ℕ) (head : Head) (h k : Handle) → Has old.users place number head h → handle_at its.handles n ≡ Some k → h.slot ≡ k.slot → ⊥
+  apart : (place number n : ℕ) (head : SegmentHead) (h k : Handle) → Has old.users place number head h → handle_at its.handles n ≡ Some k → h.slot ≡ k.slot → ⊥
   apart place number n head h k has is same =
       let of' = sound.each place number head h has in
       let live : IsSome (get old.memory.slots h) = rw of'.live refl in
@@ -287,7 +287,7 @@ module _ (old new : Loaded) (path : List ℕ) (segments : List Segment) (id : �
       let distinct = all_distinct old.memory.banks id old.memory.slots begun.middle.slots (wants_of (map head_of segments)) begun.handles begun.placed.puts in
       omega (arith, one.1, two.1, spread_once (map head_of segments) begun.handles distinct one.0 two.0 h k one.2 two.2 same)
 
-  once : (place other number n : ℕ) (head second : Head) (h k : Handle) → Has users place number head h → Has users other n second k → h.slot ≡ k.slot → (place ≡ other) × (number ≡ n)
+  once : (place other number n : ℕ) (head second : SegmentHead) (h k : Handle) → Has users place number head h → Has users other n second k → h.slot ≡ k.slot → (place ≡ other) × (number ≡ n)
   once place other number n head second h k has has' same = elim (which place has.kept has.made) [
     | inl was ↦ elim (which other has'.kept has'.made) [
       | inl was' ↦ sound.once place other number n head second h k (parts_old place number head h has was) (parts_old other n second k has' was') same
@@ -300,7 +300,7 @@ module _ (old new : Loaded) (path : List ℕ) (segments : List Segment) (id : �
   ]
 
   abbrev IsSegments' : ℕ → Type 0
-  IsSegments' slot = (place : ℕ) × (number : ℕ) × (head : Head) × (h : Handle) × Has users place number head h × (h.slot ≡ slot)
+  IsSegments' slot = (place : ℕ) × (number : ℕ) × (head : SegmentHead) × (h : Handle) × Has users place number head h × (h.slot ≡ slot)
 
   only : (slot : ℕ) (block : Block) → block_in (slot_at new.memory.slots slot) ≡ Some block → block.user ≢ 0 → IsSegments' slot
   only slot block is user = elim (all_only old.memory.banks id old.memory.slots begun.middle.slots (wants_of (map head_of segments)) begun.handles begun.placed.puts slot block
@@ -324,7 +324,7 @@ module _ (old new : Loaded) (path : List ℕ) (segments : List Segment) (id : �
     few = added.few;
     lengths = λ place kept made. elim (which place kept made) [
       | inl was ↦ sound.lengths place kept was
-      | inr last ↦ rw last.1 (length-map (spread (map head_of segments) begun.handles) (λ (held : Held). held.handle) ∙ spread_length (map head_of segments) begun.handles)
+      | inr last ↦ rw last.1 (length-map (held_of_heads (map head_of segments) begun.handles) (λ (held : HeldSegment). held.handle) ∙ spread_length (map head_of segments) begun.handles)
     ];
     short = λ place kept made. elim (which place kept made) [
       | inl was ↦ sound.short place kept was
@@ -332,11 +332,11 @@ module _ (old new : Loaded) (path : List ℕ) (segments : List Segment) (id : �
     ];
     statics = λ place kept number head made runs has static. elim (which place kept made) [
       | inl was ↦ statics_kept old new.memory sound all_kept place kept number head was runs has static
-      | inr last ↦ rw last.1 (its_static number head (sym (ap (λ (k : Kept). at_number k.heads number) last.1) ∙ has) static)
+      | inr last ↦ rw last.1 (its_static number head (sym (ap (λ (k : LoadedUser). at_number k.heads number) last.1) ∙ has) static)
     ];
     rests = λ place kept number made life. elim (which place kept made) [
       | inl was ↦ rests_kept old new.memory sound all_kept place kept number was life
-      | inr last ↦ (let clash : Running ≡ Dormant = ap (λ (k : Kept). k.life) (sym last.1) ∙ life in absurd cc)
+      | inr last ↦ (let clash : Running ≡ Dormant = ap (λ (k : LoadedUser). k.life) (sym last.1) ∙ life in absurd cc)
     ];
     each = each;
     once = once;

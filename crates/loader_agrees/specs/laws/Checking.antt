@@ -7,50 +7,50 @@ use Rattle.iigs_meaning.specs.Slots.{get}
 use Rattle.iigs_meaning.specs.Fits.{Slots}
 use Rattle.loader_machine.specs.declared.faults.LoaderFault.{LoaderFault}
 use Rattle.loader_machine.specs.declared.faults.LoaderFault.TheVariants.{NotActive, OutOfSegment, NoUser, Stale, LoaderOwned, Empty}
-use Rattle.loader_machine.specs.declared.seen.Head.{Head}
-use Rattle.loader_machine.specs.State.{Seen}
+use Rattle.loader_machine.specs.declared.seen.SegmentHead.{SegmentHead}
+use Rattle.loader_machine.specs.State.{UserSeen}
 use Rattle.loader_machine.specs.Presences.{presence, handle_at, is_active}
 use Rattle.loader_machine.specs.Refusals.{Refuse, of_user, of_running, of_segment, of_active, of_inside, bytes_refusal, info_refusal, free_refusal, change_refusal, state_refusal}
 use Rattle.loader_agrees.specs.Checks.{PassesRunning, StopsRunning, PassesSegment, StopsSegment}
 
-pub active_none : (slots : Slots) (seen : Seen) (number : ℕ) (o : Option Handle) (rest : Refuse) → handle_at seen.handles number ≡ o → is_active (presence slots o) ≡ false
+pub active_none : (slots : Slots) (seen : UserSeen) (number : ℕ) (o : Option Handle) (rest : Refuse) → handle_at seen.handles number ≡ o → is_active (presence slots o) ≡ false
     → of_active slots seen number rest ≡ Some NotActive
 active_none slots seen number o rest has is = rw (has, is) refl
 
-pub active_passes : (slots : Slots) (seen : Seen) (number : ℕ) (o : Option Handle) (rest : Refuse) → handle_at seen.handles number ≡ o → is_active (presence slots o) ≡ true
+pub active_passes : (slots : Slots) (seen : UserSeen) (number : ℕ) (o : Option Handle) (rest : Refuse) → handle_at seen.handles number ≡ o → is_active (presence slots o) ≡ true
     → of_active slots seen number rest ≡ rest
 active_passes slots seen number o rest has is = rw (has, is) refl
 
-pub inside_none : (at count : ℕ) (head : Head) (rest : Refuse) → head.length < at + count → of_inside at count head rest ≡ Some OutOfSegment
+pub inside_none : (at count : ℕ) (head : SegmentHead) (rest : Refuse) → head.length < at + count → of_inside at count head rest ≡ Some OutOfSegment
 inside_none at count head rest past = let no : nat_le (at + count) head.length ≡ false = grind arith in rw no refl
 
-pub inside_passes : (at count : ℕ) (head : Head) (rest : Refuse) → at + count ≤ head.length → of_inside at count head rest ≡ rest
+pub inside_passes : (at count : ℕ) (head : SegmentHead) (rest : Refuse) → at + count ≤ head.length → of_inside at count head rest ≡ rest
 inside_passes at count head rest within = let yes : nat_le (at + count) head.length ≡ true = grind arith in rw yes refl
 
 -- ---- bytes
 
 module _ (slots : Slots) (number at count : ℕ) where
-  abbrev pub after_active : Head → Refuse
+  abbrev pub after_active : SegmentHead → Refuse
   after_active head = of_inside at count head None
 
-  abbrev pub after_segment : Seen → Head → Refuse
+  abbrev pub after_segment : UserSeen → SegmentHead → Refuse
   after_segment seen head = of_active slots seen number (after_active head)
 
-  abbrev pub after_running : Seen → Refuse
+  abbrev pub after_running : UserSeen → Refuse
   after_running seen = of_segment seen number (after_segment seen)
 
-  pub bytes_is : (user : Option Seen) → bytes_refusal slots user number at count ≡ of_user user (λ seen. of_running seen (after_running seen))
+  pub bytes_is : (user : Option UserSeen) → bytes_refusal slots user number at count ≡ of_user user (λ seen. of_running seen (after_running seen))
   unfolding bytes_refusal
   bytes_is user = refl
 
-  pub stops_running : (user : Option Seen) (fault : LoaderFault) → StopsRunning user fault → bytes_refusal slots user number at count ≡ Some fault
+  pub stops_running : (user : Option UserSeen) (fault : LoaderFault) → StopsRunning user fault → bytes_refusal slots user number at count ≡ Some fault
   stops_running user fault stops = bytes_is user ∙ stops after_running
 
-  module _ (user : Option Seen) (seen : Seen) (runs : PassesRunning user seen) where
+  module _ (user : Option UserSeen) (seen : UserSeen) (runs : PassesRunning user seen) where
     pub stops_segment : (fault : LoaderFault) → StopsSegment seen number fault → bytes_refusal slots user number at count ≡ Some fault
     stops_segment fault stops = bytes_is user ∙ runs after_running ∙ stops (after_segment seen)
 
-    module _ (head : Head) (o : Option Handle) (has : PassesSegment seen number head) (handle : handle_at seen.handles number ≡ o) where
+    module _ (head : SegmentHead) (o : Option Handle) (has : PassesSegment seen number head) (handle : handle_at seen.handles number ≡ o) where
       to_segment : bytes_refusal slots user number at count ≡ after_segment seen head
       to_segment = bytes_is user ∙ runs after_running ∙ has (after_segment seen)
 
@@ -73,11 +73,11 @@ pub info_no_user : (number : ℕ) → info_refusal None number ≡ Some NoUser
 unfolding info_refusal
 info_no_user number = refl
 
-pub info_stops : (seen : Seen) (number : ℕ) (fault : LoaderFault) → StopsSegment seen number fault → info_refusal (Some seen) number ≡ Some fault
+pub info_stops : (seen : UserSeen) (number : ℕ) (fault : LoaderFault) → StopsSegment seen number fault → info_refusal (Some seen) number ≡ Some fault
 unfolding info_refusal
 info_stops seen number fault stops = stops (λ head. None)
 
-pub info_passes : (seen : Seen) (number : ℕ) (head : Head) → PassesSegment seen number head → info_refusal (Some seen) number ≡ None
+pub info_passes : (seen : UserSeen) (number : ℕ) (head : SegmentHead) → PassesSegment seen number head → info_refusal (Some seen) number ≡ None
 unfolding info_refusal
 info_passes seen number head has = has (λ head. None)
 

@@ -15,12 +15,12 @@ use Rattle.load_meaning.specs.LoadTable.{is_table, entry_count, target_at, targe
 use Rattle.load_meaning.specs.Loadable.{IsLoadable, IsSoundSegment, IsOwnTarget, IsTarget}
 use Rattle.load_meaning.specs.laws.LoadTableLaws.{length-targets_from}
 use Rattle.load_meaning.specs.laws.CellLaws.{loadable_has}
-use Rattle.loader_machine.specs.declared.seen.Head.{Head}
+use Rattle.loader_machine.specs.declared.seen.SegmentHead.{SegmentHead}
 use Rattle.loader_machine.specs.Heads.{head_of, at_number}
 use Rattle.loader_machine.specs.State.{no_pokes, user_of, named_by}
-use Rattle.loader_machine.specs.Stands.{Setting, entry_for, entries_bytes, read_bytes, stands}
+use Rattle.loader_machine.specs.Stands.{AddressSetting, entry_for, entries_bytes, read_bytes, stands}
 use Rattle.loader_machine.specs.laws.PokeLaws.{over_none}
-use Rattle.loader_agrees.specs.Agrees.{Kept, kept_outlines, IsCall}
+use Rattle.loader_agrees.specs.Agrees.{LoadedUser, kept_outlines, IsCall}
 use Rattle.loader_agrees.specs.laws.EntryBytes.{file_is, segment_is, offset_is}
 use Rattle.loader_agrees.specs.laws.Lists.{get_inside}
 use Rattle.loader_agrees.specs.laws.Reads.{head_at}
@@ -39,7 +39,7 @@ splits (y ∷ xs) (suc k) x is =
     let at = splits xs k x is in
     record { before = y ∷ at.before; behind = at.behind; whole = ap (λ zs. y ∷ zs) at.whole; long = ap suc at.long }
 
-module _ (at : Setting) (targets : List Target) (bytes : List ℕ) (front : IsFront (table_bytes (map (entry_for at) targets)) bytes) (k : ℕ) (t : Target) (is : slice_get targets k ≡ Some t) where
+module _ (at : AddressSetting) (targets : List Target) (bytes : List ℕ) (front : IsFront (table_bytes (map (entry_for at) targets)) bytes) (k : ℕ) (t : Target) (is : slice_get targets k ≡ Some t) where
   here : Splits targets k t
   here = splits targets k t is
 
@@ -65,7 +65,7 @@ module _ (at : Setting) (targets : List Target) (bytes : List ℕ) (front : IsFr
 
 -- ---- a table of a load file
 
-pub table_stands : (s : Segment) (at : Setting) → is_table s ≡ true → stands at no_pokes s ≡ table_bytes (map (entry_for at) (targets_of s))
+pub table_stands : (s : Segment) (at : AddressSetting) → is_table s ≡ true → stands at no_pokes s ≡ table_bytes (map (entry_for at) (targets_of s))
 unfolding stands read_bytes entries_bytes
 table_stands s at table = over_none (read_bytes at s) ∙ ap (λ (t : Bool). cond t (entries_bytes at (targets_of s)) (map (byte_of at.place) (cells s))) table
 
@@ -85,8 +85,8 @@ get_all P [] n x found all = absurd cc
 get_all P (y ∷ xs) zero x found all = subst P (same_Some y x found) all.0
 get_all P (y ∷ xs) (suc n) x found all = get_all P xs n x found all.1
 
-module _ (file : List ℕ) (segments : List Segment) (loadable : IsLoadable file segments) (short : length segments < 2 ^ 16) (users : List (Option Kept)) (id : ℕ) (kept : Kept)
-    (made : user_of users id ≡ Some kept) (heads : kept.heads ≡ map head_of segments) (at : Setting) (number k : ℕ) (s : Segment) (bytes : List ℕ) (is : segment_at segments number ≡ Some s) (table : is_table s ≡ true)
+module _ (file : List ℕ) (segments : List Segment) (loadable : IsLoadable file segments) (short : length segments < 2 ^ 16) (users : List (Option LoadedUser)) (id : ℕ) (kept : LoadedUser)
+    (made : user_of users id ≡ Some kept) (heads : kept.heads ≡ map head_of segments) (at : AddressSetting) (number k : ℕ) (s : Segment) (bytes : List ℕ) (is : segment_at segments number ≡ Some s) (table : is_table s ≡ true)
     (front : IsFront (stands at no_pokes s) bytes) (inside : k < entry_count s.fields.length)
     (far : (t : Target) → slice_get (targets_of s) k ≡ Some t → 2 ≤ t.file → IsCall users id t × (t.file < 2 ^ 16) × (t.segment < 2 ^ 16)) where
   sound : IsSoundSegment segments number s
@@ -120,7 +120,7 @@ module _ (file : List ℕ) (segments : List Segment) (loadable : IsLoadable file
     kept = kept;
     made = made;
     head = head_of own.segment';
-    head' = ap (λ (hs : List Head). at_number hs t.segment) heads ∙ head_at segments t.segment own.segment' own.is;
+    head' = ap (λ (hs : List SegmentHead). at_number hs t.segment) heads ∙ head_at segments t.segment own.segment' own.is;
     dynamic = own.dynamic;
     loaded = own.kept;
   }

@@ -5,7 +5,7 @@ use Rattle.load_meaning.specs.Cells as load
 use Rattle.load_meaning.specs.Cells.{Cell, Byte, Part, byte_of, cells}
 use Rattle.load_meaning.specs.LoadTable.{is_table, targets_of}
 use Rattle.loader_machine.specs.State.{no_pokes}
-use Rattle.loader_machine.specs.Stands.{Setting, entries_bytes, read_bytes, stands}
+use Rattle.loader_machine.specs.Stands.{AddressSetting, entries_bytes, read_bytes, stands}
 use Rattle.loader_machine.specs.laws.PokeLaws.{over_none}
 
 byte_same : (p q : ℕ → ℕ) → ((n : ℕ) → p n ≡ q n) → (c : Cell) → byte_of p c ≡ byte_of q c
@@ -17,7 +17,7 @@ map_same p q same [] = refl
 map_same p q same (c ∷ cs) = cc (byte_same p q same c, map_same p q same cs)
 
 -- what a file stands for at these addresses is what stands in a segment that is no table, without pokes
-pub plain_stands : (at : Setting) (s : Segment) (places : ℕ → ℕ) → is_table s ≡ false → ((n : ℕ) → places n ≡ at.place n) → stands at no_pokes s ≡ load.stands places s
+pub plain_stands : (at : AddressSetting) (s : Segment) (places : ℕ → ℕ) → is_table s ≡ false → ((n : ℕ) → places n ≡ at.place n) → stands at no_pokes s ≡ load.stands places s
 unfolding stands read_bytes
 plain_stands at s places plain same =
     over_none (read_bytes at s) ∙ ap (λ (t : Bool). cond t (entries_bytes at (targets_of s)) (map (byte_of at.place) (cells s))) plain

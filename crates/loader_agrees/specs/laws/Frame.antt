@@ -13,7 +13,7 @@ use Rattle.loader_machine.specs.Presences.{handle_at, presence, presence_at, lie
 use Rattle.loader_machine.specs.Stands.{Far, setting_with, target_with}
 use Rattle.loader_machine.specs.laws.StandsLaws.{AreAlike, stands_alike}
 use Rattle.load_meaning.specs.laws.CellLaws.{loadable_has}
-use Rattle.loader_agrees.specs.Agrees.{Kept, AreThere, UserAgrees}
+use Rattle.loader_agrees.specs.Agrees.{LoadedUser, AreThere, UserAgrees}
 
 -- the handle's block is as before, and so are its bytes if it is there; or it was purgeable, and is empty now
 pub data Keeps (old new : Memory) (h : Handle) : Type 0 where
@@ -91,7 +91,7 @@ module _ (old new : Memory) (handles : List (Option Handle)) (kept : AreKept old
   here : (number : ℕ) → IsSome (there_at (presence_at new.slots handles number)) → presence_at new.slots handles number ≡ presence_at old.slots handles number
   here number there = now_there number (handle_at handles number) refl there
 
-module _ (held : FileMap) (old new : Memory) (far now : Far) (id : ℕ) (kept : Kept) (user : User) (agrees : UserAgrees held old far id kept user) (stay : AreKept old new kept.handles)
+module _ (held : FileMap) (old new : Memory) (far now : Far) (id : ℕ) (kept : LoadedUser) (user : User) (agrees : UserAgrees held old far id kept user) (stay : AreKept old new kept.handles)
     (same_far : (file n : ℕ) → 2 ≤ file → now file n ≡ far file n) where
   were_there : AreThere new.slots kept.handles agrees.segments → AreThere old.slots kept.handles agrees.segments
   were_there there number s is static = rw (← here old new kept.handles stay number (there number s is static)) (there number s is static)

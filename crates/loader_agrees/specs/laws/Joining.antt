@@ -6,47 +6,47 @@ use Rattle.load_meaning.specs.Pathnames.{most_paths}
 use Rattle.load_meaning.specs.declared.table.Target.{Target}
 use Rattle.iigs_meaning.specs.declared.handles.Handle.{Handle}
 use Rattle.iigs_meaning.specs.Memory.{Memory}
-use Rattle.loader_machine.specs.declared.seen.Head.{Head}
+use Rattle.loader_machine.specs.declared.seen.SegmentHead.{SegmentHead}
 use Rattle.loader_machine.specs.declared.seen.Life.TheVariants.{Running, Dormant}
 use Rattle.loader_machine.specs.Heads.{at_number, is_static}
 use Rattle.loader_machine.specs.State.{first_id, max_users, user_of, named_by, attached_at}
 use Rattle.loader_machine.specs.Presences.{handle_at}
-use Rattle.loader_agrees.specs.Agrees.{Kept, Outline, outline, kept_outlines, AreAttached, IsCall, Has, IsSound}
+use Rattle.loader_agrees.specs.Agrees.{LoadedUser, Outline, outline, kept_outlines, AreAttached, IsCall, Has, IsSound}
 use Rattle.loader_agrees.specs.laws.Seeing.{user_is}
 
 -- a user without a handle, none of whose segments is static, to which nothing is attached
-pub record IsQuiet (kept : Kept) : Type 0 where
+pub record IsQuiet (kept : LoadedUser) : Type 0 where
   pub lengths : length kept.handles ≡ length kept.heads
   pub short : length kept.heads < 2 ^ 16
   pub runs : kept.life ≡ Running
   pub none : (number : ℕ) (h : Handle) → handle_at kept.handles number ≡ Some h → ⊥
-  pub dynamic : (number : ℕ) (head : Head) → at_number kept.heads number ≡ Some head → is_static head ≡ true → ⊥
+  pub dynamic : (number : ℕ) (head : SegmentHead) → at_number kept.heads number ≡ Some head → is_static head ≡ true → ⊥
   pub alone : kept.attached ≡ []
 
 -- users of whom the old ones are there as they were, and the others are quiet
-pub record AreMore (old new : List (Option Kept)) : Type 0 where
-  pub stay : (place : ℕ) (kept : Kept) → slice_get old place ≡ Some (Some kept) → slice_get new place ≡ Some (Some kept)
-  pub which : (place : ℕ) (kept : Kept) → slice_get new place ≡ Some (Some kept) → (slice_get old place ≡ Some (Some kept)) ⊎ IsQuiet kept
+pub record AreMore (old new : List (Option LoadedUser)) : Type 0 where
+  pub stay : (place : ℕ) (kept : LoadedUser) → slice_get old place ≡ Some (Some kept) → slice_get new place ≡ Some (Some kept)
+  pub which : (place : ℕ) (kept : LoadedUser) → slice_get new place ≡ Some (Some kept) → (slice_get old place ≡ Some (Some kept)) ⊎ IsQuiet kept
 
-module _ (old new : List (Option Kept)) (stay : (place : ℕ) (kept : Kept) → slice_get old place ≡ Some (Some kept) → slice_get new place ≡ Some (Some kept)) where
+module _ (old new : List (Option LoadedUser)) (stay : (place : ℕ) (kept : LoadedUser) → slice_get old place ≡ Some (Some kept) → slice_get new place ≡ Some (Some kept)) where
   -- an old user is there under its ID
-  pub user_stays : (id : ℕ) (kept : Kept) → user_of old id ≡ Some kept → user_of new id ≡ Some kept
+  pub user_stays : (id : ℕ) (kept : LoadedUser) → user_of old id ≡ Some kept → user_of new id ≡ Some kept
   user_stays id kept is = go (nat_lt id first_id) is
     where
-      inner : (o p : Option (Option Kept)) → ((k : Kept) → o ≡ Some (Some k) → p ≡ Some (Some k)) → option_and_then (λ (u : Option Kept). u) o ≡ Some kept → option_and_then (λ (u : Option Kept). u) p ≡ Some kept
+      inner : (o p : Option (Option LoadedUser)) → ((k : LoadedUser) → o ≡ Some (Some k) → p ≡ Some (Some k)) → option_and_then (λ (u : Option LoadedUser). u) o ≡ Some kept → option_and_then (λ (u : Option LoadedUser). u) p ≡ Some kept
       inner None p f e = absurd cc
       inner (Some None) p f e = absurd cc
       inner (Some (Some k)) p f e = rw (f k refl) e
 
-      go : (b : Bool) → cond b None (option_and_then (λ (u : Option Kept). u) (slice_get old (id - first_id))) ≡ Some kept
-          → cond b None (option_and_then (λ (u : Option Kept). u) (slice_get new (id - first_id))) ≡ Some kept
+      go : (b : Bool) → cond b None (option_and_then (λ (u : Option LoadedUser). u) (slice_get old (id - first_id))) ≡ Some kept
+          → cond b None (option_and_then (λ (u : Option LoadedUser). u) (slice_get new (id - first_id))) ≡ Some kept
       go true e = absurd cc
       go false e = inner (slice_get old (id - first_id)) (slice_get new (id - first_id)) (stay (id - first_id)) e
 
   named_stays : (id file other : ℕ) → named_by (kept_outlines old) id file ≡ Some other → named_by (kept_outlines new) id file ≡ Some other
   named_stays id file other is = go (file == 1) is
     where
-      far : (o p : Option Kept) → ((k : Kept) → o ≡ Some k → p ≡ Some k) → option_and_then (λ (u : Outline). slice_get u.attached (file - 2)) (option_map outline o) ≡ Some other
+      far : (o p : Option LoadedUser) → ((k : LoadedUser) → o ≡ Some k → p ≡ Some k) → option_and_then (λ (u : Outline). slice_get u.attached (file - 2)) (option_map outline o) ≡ Some other
           → option_and_then (λ (u : Outline). slice_get u.attached (file - 2)) (option_map outline p) ≡ Some other
       far None p f e = absurd cc
       far (Some k) p f e = rw (f k refl) e
@@ -68,7 +68,7 @@ module _ (old new : List (Option Kept)) (stay : (place : ℕ) (kept : Kept) → 
   }
 
   -- users to which nothing is attached may come
-  pub attached_more : ((place : ℕ) (kept : Kept) → slice_get new place ≡ Some (Some kept) → (slice_get old place ≡ Some (Some kept)) ⊎ (kept.attached ≡ [])) → AreAttached old → AreAttached new
+  pub attached_more : ((place : ℕ) (kept : LoadedUser) → slice_get new place ≡ Some (Some kept) → (slice_get old place ≡ Some (Some kept)) ⊎ (kept.attached ≡ [])) → AreAttached old → AreAttached new
   attached_more which attached = record {
     few = λ place kept made. elim (which place kept made) [
       | inl was ↦ attached.few place kept was
@@ -87,10 +87,10 @@ module _ (old new : List (Option Kept)) (stay : (place : ℕ) (kept : Kept) → 
     ];
   }
     where
-      nothing : (kept : Kept) (i n : ℕ) → kept.attached ≡ [] → slice_get kept.attached i ≡ Some n → ⊥
+      nothing : (kept : LoadedUser) (i n : ℕ) → kept.attached ≡ [] → slice_get kept.attached i ≡ Some n → ⊥
       nothing kept i n alone is = let none : slice_get {X = ℕ} [] i ≡ Some n = subst (λ (ids : List ℕ). slice_get ids i ≡ Some n) alone is in cc
 
-module _ (old new : List (Option Kept)) (more : AreMore old new) where
+module _ (old new : List (Option LoadedUser)) (more : AreMore old new) where
   -- with them the loader is sound, where they aren't too many
   pub sound_more : (memory : Memory) → IsSound memory old → length new ≤ max_users → IsSound memory new
   sound_more memory sound few = record {
@@ -113,11 +113,11 @@ module _ (old new : List (Option Kept)) (more : AreMore old new) where
     calls = λ place number k head h has table there inside. call_stays old new more.stay (first_id + place) _ (sound.calls place number k head h (was place number head h has) table there inside);
   }
     where
-      was : (place number : ℕ) (head : Head) (h : Handle) → Has new place number head h → Has old place number head h
+      was : (place number : ℕ) (head : SegmentHead) (h : Handle) → Has new place number head h → Has old place number head h
       was place number head h has = elim (more.which place has.kept has.made) [
         | inl made ↦ record { kept = has.kept; made = made; head' = has.head'; handle = has.handle }
         | inr quiet ↦ absurd (quiet.none number h has.handle)
       ]
 
-      lift : (place number : ℕ) (head : Head) (h : Handle) → Has old place number head h → Has new place number head h
+      lift : (place number : ℕ) (head : SegmentHead) (h : Handle) → Has old place number head h → Has new place number head h
       lift place number head h has = record { kept = has.kept; made = more.stay place has.kept has.made; head' = has.head'; handle = has.handle }

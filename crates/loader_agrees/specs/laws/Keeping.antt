@@ -9,7 +9,7 @@ use Rattle.iigs_meaning.specs.declared.wants.Block.{Block}
 use Rattle.iigs_meaning.specs.Slots.{get, slot_at}
 use Rattle.iigs_meaning.specs.Fits.{Slots, block_in}
 use Rattle.iigs_meaning.specs.Memory.{Memory, bytes_at}
-use Rattle.loader_machine.specs.declared.seen.Head.{Head}
+use Rattle.loader_machine.specs.declared.seen.SegmentHead.{SegmentHead}
 use Rattle.loader_machine.specs.declared.seen.Life.TheVariants.{Running, Dormant}
 use Rattle.loader_machine.specs.Heads.{at_number, is_static, is_table}
 use Rattle.load_meaning.specs.LoadTable.{target_at, entry_count}
@@ -17,13 +17,13 @@ use Rattle.loader_machine.specs.Stands.{far_of}
 use Rattle.loader_machine.specs.State.{Machine, first_id, user_of, attached_at, handles_in}
 use Rattle.loader_machine.specs.Presences.{handle_at, presence, presence_at, there_at, active_at, is_active, lies_in, lies_at}
 use Rattle.loader_machine.specs.Steps.{with_slots}
-use Rattle.loader_agrees.specs.Agrees.{Kept, Loaded, Outline, outline, kept_outlines, far_in, AreAttached, EntriesLead, IsCall, Agrees, IsOf, Has, IsSegments, IsSound}
+use Rattle.loader_agrees.specs.Agrees.{LoadedUser, Loaded, Outline, outline, kept_outlines, far_in, AreAttached, EntriesLead, IsCall, Agrees, IsOf, Has, IsSegments, IsSound}
 use Rattle.loader_agrees.specs.laws.Frame.{Keeps, Same, Gone, AreKept, was_active, not_active_still, target_stays, agrees_still}
 use Rattle.loader_agrees.specs.laws.Seeing.{has_any, user_is, made_at}
 
 -- each handle of a user's segment is kept
 abbrev pub AllKept : Loaded → Memory → Type 0
-AllKept old new = (place number : ℕ) (head : Head) (h : Handle) → Has old.users place number head h → Keeps old.memory new h
+AllKept old new = (place number : ℕ) (head : SegmentHead) (h : Handle) → Has old.users place number head h → Keeps old.memory new h
 
 -- each user's block that is there now was a user's before, in the same slot
 abbrev pub OnlyOld : Memory → Memory → Type 0
@@ -40,7 +40,7 @@ lies slots h block is some = subst (λ (o : Option Block). IsSome (there_at (lie
     go (Some a) false e = refl
 
 -- a segment's block that is kept is a segment's block
-pub of_kept : (old new : Memory) (id : ℕ) (head : Head) (h : Handle) → IsOf old id head h → Keeps old new h → IsOf new id head h
+pub of_kept : (old new : Memory) (id : ℕ) (head : SegmentHead) (h : Handle) → IsOf old id head h → Keeps old new h → IsOf new id head h
 of_kept old new id head h of' (Same slot bytes) = record {
   block = of'.block;
   live = slot ∙ of'.live;
@@ -63,21 +63,21 @@ of_kept old new id head h of' (Gone block was can gone) =
     }
 
 module _ (old : Loaded) (new : Memory) (sound : IsSound old.memory old.users) (kept : AllKept old new) where
-  pub handles_kept : (place : ℕ) (user : Kept) → slice_get old.users place ≡ Some (Some user) → AreKept old.memory new user.handles
+  pub handles_kept : (place : ℕ) (user : LoadedUser) → slice_get old.users place ≡ Some (Some user) → AreKept old.memory new user.handles
   handles_kept place user made n h found = let one = has_any old sound place user made n h found in kept place n one.0 h one.1
 
-  pub statics_kept : (place : ℕ) (user : Kept) (number : ℕ) (head : Head) → slice_get old.users place ≡ Some (Some user) → user.life ≡ Running
+  pub statics_kept : (place : ℕ) (user : LoadedUser) (number : ℕ) (head : SegmentHead) → slice_get old.users place ≡ Some (Some user) → user.life ≡ Running
       → at_number user.heads number ≡ Some head → is_static head ≡ true → is_active (presence_at new.slots user.handles number) ≡ true
   statics_kept place user number head made runs has static =
       let before = sound.statics place user number head made runs has static in
       rw (was_active old.memory new user.handles (handles_kept place user made) number (handle_at user.handles number) refl before) before
 
-  pub rests_kept : (place : ℕ) (user : Kept) (number : ℕ) → slice_get old.users place ≡ Some (Some user) → user.life ≡ Dormant → is_active (presence_at new.slots user.handles number) ≡ false
+  pub rests_kept : (place : ℕ) (user : LoadedUser) (number : ℕ) → slice_get old.users place ≡ Some (Some user) → user.life ≡ Dormant → is_active (presence_at new.slots user.handles number) ≡ false
   rests_kept place user number made life =
       not_active_still old.memory new user.handles (handles_kept place user made) number (handle_at user.handles number) refl (sound.rests place user number made life)
 
   -- an entry of a table that is there leads where it led
-  pub calls_kept : (place number k : ℕ) (head : Head) (h : Handle) → Has old.users place number head h → is_table head ≡ true → IsSome (there_at (presence new.slots (Some h)))
+  pub calls_kept : (place number k : ℕ) (head : SegmentHead) (h : Handle) → Has old.users place number head h → is_table head ≡ true → IsSome (there_at (presence new.slots (Some h)))
       → k < entry_count head.length → IsCall old.users (first_id + place) (target_at (bytes_at new h.slot) k)
   calls_kept place number k head h has table there inside = elim (kept place number head h has) [
     | Same slot bytes ↦
@@ -90,7 +90,7 @@ module _ (old : Loaded) (new : Memory) (sound : IsSound old.memory old.users) (k
   pub far_kept : (id file n : ℕ) → far_of new.slots (kept_outlines old.users) id file n ≡ far_of old.memory.slots (kept_outlines old.users) id file n
   far_kept id file n = go (attached_at (kept_outlines old.users) id file)
     where
-      of_user : (other : ℕ) (o : Option Kept) → user_of old.users other ≡ o
+      of_user : (other : ℕ) (o : Option LoadedUser) → user_of old.users other ≡ o
           → active_at (presence_at new.slots (option_map_or (λ (u : Outline). u.handles) (option_map outline o) []) n)
           ≡ active_at (presence_at old.memory.slots (option_map_or (λ (u : Outline). u.handles) (option_map outline o) []) n)
       of_user other None is = nothing n
@@ -131,10 +131,10 @@ module _ (held : FileMap) (old new : Loaded) (state : Machine) (sound : IsSound 
     slots = refl;
     users = ap (map (option_map outline)) users ∙ agrees.users;
     attached = subst AreAttached (sym users) agrees.attached;
-    entries = subst (λ (us : List (Option Kept)). EntriesLead held us) (sym users) agrees.entries;
+    entries = subst (λ (us : List (Option LoadedUser)). EntriesLead held us) (sym users) agrees.entries;
     each = λ place user made_user made made'.
-        let made_old : slice_get old.users place ≡ Some (Some user) = ap (λ (us : List (Option Kept)). slice_get us place) (sym users) ∙ made in
+        let made_old : slice_get old.users place ≡ Some (Some user) = ap (λ (us : List (Option LoadedUser)). slice_get us place) (sym users) ∙ made in
         agrees_still held old.memory new.memory (far_in old (first_id + place)) (far_in new (first_id + place)) (first_id + place) user made_user (agrees.each place user made_user made_old made')
         (handles_kept old new.memory sound kept place user made_old)
-        (λ file n above. ap (λ (us : List (Option Kept)). far_of new.memory.slots (kept_outlines us) (first_id + place) file n) users ∙ far_kept old new.memory sound kept (first_id + place) file n);
+        (λ file n above. ap (λ (us : List (Option LoadedUser)). far_of new.memory.slots (kept_outlines us) (first_id + place) file n) users ∙ far_kept old new.memory sound kept (first_id + place) file n);
   }

@@ -4,12 +4,12 @@ use Rattle.std.specs.Prelude.{slice_get, option_map, is_some}
 use Rattle.std.specs.Option.{option_and_then}
 use Rattle.std.proofs.lemmas.Option.{same_Some, slice_get-map}
 use Rattle.std.proofs.lemmas.Bool.{cases_eq}
-use Rattle.loader_machine.specs.declared.seen.Head.{Head}
+use Rattle.loader_machine.specs.declared.seen.SegmentHead.{SegmentHead}
 use Rattle.loader_machine.specs.declared.seen.Life.{Life}
 use Rattle.loader_machine.specs.Heads.{at_number}
 use Rattle.loader_machine.specs.Heads.{is_table as is_table_head}
 use Rattle.loader_machine.specs.State.{Outline, first_id, user_of, attached_at, file_in, holder_from, holder_of, is_attached, led_by}
-use Rattle.loader_agrees.specs.Agrees.{Kept, outline, kept_outlines, IsJoined, AreAttached}
+use Rattle.loader_agrees.specs.Agrees.{LoadedUser, outline, kept_outlines, IsJoined, AreAttached}
 use Rattle.loader_agrees.specs.laws.RowUsers.{user_there}
 use Rattle.loader_agrees.specs.laws.Seeing.{user_is, made_at}
 
@@ -97,19 +97,19 @@ holder_is n owner (suc p) i (Some u ∷ users) user made is only =
 
 -- ---- what is found
 
-kept_back : (users : List (Option Kept)) (q : ℕ) (u : Outline) → slice_get (kept_outlines users) q ≡ Some (Some u) → (k : Kept) × (slice_get users q ≡ Some (Some k)) × (outline k ≡ u)
+kept_back : (users : List (Option LoadedUser)) (q : ℕ) (u : Outline) → slice_get (kept_outlines users) q ≡ Some (Some u) → (k : LoadedUser) × (slice_get users q ≡ Some (Some k)) × (outline k ≡ u)
 kept_back users q u is = go (slice_get users q) refl (sym (slice_get-map (option_map outline) users q) ∙ is)
   where
-    go : (o : Option (Option Kept)) → slice_get users q ≡ o → option_map (option_map outline) o ≡ Some (Some u) → (k : Kept) × (slice_get users q ≡ Some (Some k)) × (outline k ≡ u)
+    go : (o : Option (Option LoadedUser)) → slice_get users q ≡ o → option_map (option_map outline) o ≡ Some (Some u) → (k : LoadedUser) × (slice_get users q ≡ Some (Some k)) × (outline k ≡ u)
     go None e is = absurd cc
     go (Some None) e is = absurd cc
     go (Some (Some k)) e is = (k, e, cc)
 
-outline_there : (users : List (Option Kept)) (p : ℕ) (k : Kept) → slice_get users p ≡ Some (Some k) → slice_get (kept_outlines users) p ≡ Some (Some (outline k))
+outline_there : (users : List (Option LoadedUser)) (p : ℕ) (k : LoadedUser) → slice_get users p ≡ Some (Some k) → slice_get (kept_outlines users) p ≡ Some (Some (outline k))
 outline_there users p k made = slice_get-map (option_map outline) users p ∙ ap (option_map (option_map outline)) made
 
 -- an attached user's segments are led to by its own user's tables, under the file of its row
-pub led_there : (users : List (Option Kept)) (p i n : ℕ) (kept : Kept) → AreAttached users → slice_get users p ≡ Some (Some kept) → slice_get kept.attached i ≡ Some n
+pub led_there : (users : List (Option LoadedUser)) (p i n : ℕ) (kept : LoadedUser) → AreAttached users → slice_get users p ≡ Some (Some kept) → slice_get kept.attached i ≡ Some n
     → led_by (kept_outlines users) n ≡ (first_id + p, 2 + i)
 unfolding holder_of
 led_there users p i n kept attached made is =
@@ -123,11 +123,11 @@ unfolding holder_of
 led_own users n none = rw none refl
 
 -- a row of a user's file names an attached user
-pub row_of : (users : List (Option Kept)) (q f n : ℕ) → attached_at (kept_outlines users) q f ≡ Some n → (k : Kept) × (user_of users q ≡ Some k) × (slice_get k.attached (f - 2) ≡ Some n)
+pub row_of : (users : List (Option LoadedUser)) (q f n : ℕ) → attached_at (kept_outlines users) q f ≡ Some n → (k : LoadedUser) × (user_of users q ≡ Some k) × (slice_get k.attached (f - 2) ≡ Some n)
 row_of users q f n is = go (user_of users q) refl (ap (option_and_then (λ (u : Outline). slice_get u.attached (f - 2))) (sym (user_is outline users q)) ∙ is)
   where
-    go : (o : Option Kept) → user_of users q ≡ o → option_and_then (λ (u : Outline). slice_get u.attached (f - 2)) (option_map outline o) ≡ Some n
-        → (k : Kept) × (user_of users q ≡ Some k) × (slice_get k.attached (f - 2) ≡ Some n)
+    go : (o : Option LoadedUser) → user_of users q ≡ o → option_and_then (λ (u : Outline). slice_get u.attached (f - 2)) (option_map outline o) ≡ Some n
+        → (k : LoadedUser) × (user_of users q ≡ Some k) × (slice_get k.attached (f - 2) ≡ Some n)
     go None e is = absurd cc
     go (Some k) e is = (k, e, is)
 
@@ -135,19 +135,19 @@ row_of users q f n is = go (user_of users q) refl (ap (option_and_then (λ (u : 
 
 -- the tables of this user lead to the segments of the user of an ID, under this file number: its own under 1, or those of the user to which
 -- it is attached
-pub data Leading (users : List (Option Kept)) (id owner file : ℕ) : Type 0 where
+pub data Leading (users : List (Option LoadedUser)) (id owner file : ℕ) : Type 0 where
   Its : owner ≡ id → file ≡ 1 → ((q f : ℕ) → attached_at (kept_outlines users) q f ≡ Some id → ⊥) → Leading users id owner file
   Holder : 2 ≤ file → owner ≢ id → attached_at (kept_outlines users) owner file ≡ Some id → ((f : ℕ) → attached_at (kept_outlines users) id f ≡ None)
       → ((q f : ℕ) → 2 ≤ f → attached_at (kept_outlines users) q f ≡ Some id → (q ≡ owner) × (f ≡ file)) → Leading users id owner file
 
 -- the user whose tables lead to a user's segments; one with a row has no table itself
-pub record IsLed (users : List (Option Kept)) (id : ℕ) (kept : Kept) (owner file : ℕ) : Type 0 where
-  pub lead : Kept
+pub record IsLed (users : List (Option LoadedUser)) (id : ℕ) (kept : LoadedUser) (owner file : ℕ) : Type 0 where
+  pub lead : LoadedUser
   pub made : user_of users owner ≡ Some lead
   pub leading : Leading users id owner file
-  pub alone : (file ≡ 1) ⊎ ((n : ℕ) (g : Head) → at_number kept.heads n ≡ Some g → is_table_head g ≡ false)
+  pub alone : (file ≡ 1) ⊎ ((n : ℕ) (g : SegmentHead) → at_number kept.heads n ≡ Some g → is_table_head g ≡ false)
 
-module _ (users : List (Option Kept)) (id : ℕ) (kept : Kept) (attached : AreAttached users) (made : user_of users id ≡ Some kept) where
+module _ (users : List (Option LoadedUser)) (id : ℕ) (kept : LoadedUser) (attached : AreAttached users) (made : user_of users id ≡ Some kept) where
   own_led : ((q j : ℕ) (u : Outline) → slice_get (kept_outlines users) q ≡ Some (Some u) → slice_get u.attached j ≡ Some id → ⊥) → IsLed users id kept id 1
   own_led none = record {
     lead = kept;
@@ -159,17 +159,17 @@ module _ (users : List (Option Kept)) (id : ℕ) (kept : Kept) (attached : AreAt
     alone = inl refl;
   }
 
-  module _ (p i : ℕ) (lead : Kept) (is : slice_get users p ≡ Some (Some lead)) (found : slice_get lead.attached i ≡ Some id) where
+  module _ (p i : ℕ) (lead : LoadedUser) (is : slice_get users p ≡ Some (Some lead)) (found : slice_get lead.attached i ≡ Some id) where
     joined : IsJoined lead.life kept
     joined =
         let one = attached.each p i id lead is found in
-        subst (λ (k : Kept). IsJoined lead.life k) (same_Some one.0 kept (sym one.1 ∙ made)) one.2
+        subst (λ (k : LoadedUser). IsJoined lead.life k) (same_Some one.0 kept (sym one.1 ∙ made)) one.2
 
     -- a user with rows is no attached one
     apart : first_id + p ≢ id
     apart same =
         let it : lead ≡ kept = same_Some lead kept (sym (user_there users p lead is) ∙ ap (user_of users) same ∙ made) in
-        nothing_at i id (ap (λ (ids : List ℕ). slice_get ids i) (sym (ap (λ (k : Kept). k.attached) it ∙ joined.alone)) ∙ found)
+        nothing_at i id (ap (λ (ids : List ℕ). slice_get ids i) (sym (ap (λ (k : LoadedUser). k.attached) it ∙ joined.alone)) ∙ found)
 
     row_there : attached_at (kept_outlines users) (first_id + p) (2 + i) ≡ Some id
     row_there =
@@ -202,7 +202,7 @@ module _ (users : List (Option Kept)) (id : ℕ) (kept : Kept) (attached : AreAt
   ]
 
 -- a user that is attached to another has dynamic segments alone
-pub joined_of : (users : List (Option Kept)) (id : ℕ) (kept : Kept) → AreAttached users → user_of users id ≡ Some kept → is_attached (kept_outlines users) id ≡ true → (life : Life) × IsJoined life kept
+pub joined_of : (users : List (Option LoadedUser)) (id : ℕ) (kept : LoadedUser) → AreAttached users → user_of users id ≡ Some kept → is_attached (kept_outlines users) id ≡ true → (life : Life) × IsJoined life kept
 unfolding holder_of
 joined_of users id kept attached made is = elim (holder_cases id first_id (kept_outlines users)) [
   | inl none ↦ (let clash : false ≡ true = ap is_some (sym none.0) ∙ is in absurd cc)
@@ -210,5 +210,5 @@ joined_of users id kept attached made is = elim (holder_cases id first_id (kept_
       let back = kept_back users some.0 some.2 some.3 in
       let found : slice_get back.0.attached some.1 ≡ Some id = ap (λ (o : Outline). slice_get o.attached some.1) back.2 ∙ some.4 in
       let one = attached.each some.0 some.1 id back.0 back.1 found in
-      (back.0.life, subst (λ (k : Kept). IsJoined back.0.life k) (same_Some one.0 kept (sym one.1 ∙ made)) one.2)
+      (back.0.life, subst (λ (k : LoadedUser). IsJoined back.0.life k) (same_Some one.0 kept (sym one.1 ∙ made)) one.2)
 ]

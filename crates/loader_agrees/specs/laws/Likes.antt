@@ -5,29 +5,29 @@ use Rattle.std.specs.Option.{option_and_then}
 use Rattle.omf_io.specs.Files.{FileMap}
 use Rattle.load_meaning.specs.declared.table.Target.{Target}
 use Rattle.load_meaning.specs.Pathnames.{most_paths}
-use Rattle.loader_machine.specs.declared.seen.Head.{Head}
+use Rattle.loader_machine.specs.declared.seen.SegmentHead.{SegmentHead}
 use Rattle.loader_machine.specs.declared.seen.Life.{Life}
 use Rattle.loader_machine.specs.Heads.{at_number}
 use Rattle.loader_machine.specs.State.{Outline, first_id, user_of, attached_at, named_by}
 use Rattle.loader_machine.specs.Found.{HoldsLoad}
-use Rattle.loader_agrees.specs.Agrees.{Kept, outline, kept_outlines, IsJoined, AreAttached, LeadsFar, EntriesLead, IsCall}
+use Rattle.loader_agrees.specs.Agrees.{LoadedUser, outline, kept_outlines, IsJoined, AreAttached, LeadsFar, EntriesLead, IsCall}
 use Rattle.loader_agrees.specs.laws.RowUsers.{user_there}
 use Rattle.loader_agrees.specs.laws.Seeing.{user_is, made_at}
 
 -- all but the handles of a user is as before
-pub record IsLike (was now : Kept) : Type 0 where
+pub record IsLike (was now : LoadedUser) : Type 0 where
   pub path : now.path ≡ was.path
   pub life : now.life ≡ was.life
   pub heads : now.heads ≡ was.heads
   pub attached : now.attached ≡ was.attached
 
 -- and so it is of all users
-pub record AreLike (old new : List (Option Kept)) : Type 0 where
-  pub back : (place : ℕ) (now : Kept) → slice_get new place ≡ Some (Some now) → (was : Kept) × (slice_get old place ≡ Some (Some was)) × IsLike was now
-  pub forth : (place : ℕ) (was : Kept) → slice_get old place ≡ Some (Some was) → (now : Kept) × (slice_get new place ≡ Some (Some now)) × IsLike was now
+pub record AreLike (old new : List (Option LoadedUser)) : Type 0 where
+  pub back : (place : ℕ) (now : LoadedUser) → slice_get new place ≡ Some (Some now) → (was : LoadedUser) × (slice_get old place ≡ Some (Some was)) × IsLike was now
+  pub forth : (place : ℕ) (was : LoadedUser) → slice_get old place ≡ Some (Some was) → (now : LoadedUser) × (slice_get new place ≡ Some (Some now)) × IsLike was now
 
-module _ (old new : List (Option Kept)) (like : AreLike old new) where
-  pub like_user : (id : ℕ) (was : Kept) → user_of old id ≡ Some was → (now : Kept) × (user_of new id ≡ Some now) × IsLike was now
+module _ (old new : List (Option LoadedUser)) (like : AreLike old new) where
+  pub like_user : (id : ℕ) (was : LoadedUser) → user_of old id ≡ Some was → (now : LoadedUser) × (user_of new id ≡ Some now) × IsLike was now
   like_user id was is =
       let there = made_at old id was is in
       let one = like.forth (id - first_id) was there.0 in
@@ -36,7 +36,7 @@ module _ (old new : List (Option Kept)) (like : AreLike old new) where
   like_none : (id : ℕ) → user_of old id ≡ None → user_of new id ≡ None
   like_none id none = go (user_of new id) refl
     where
-      go : (o : Option Kept) → user_of new id ≡ o → user_of new id ≡ None
+      go : (o : Option LoadedUser) → user_of new id ≡ o → user_of new id ≡ None
       go None e = e
       go (Some now) e =
           let there = made_at new id now e in
@@ -48,10 +48,10 @@ module _ (old new : List (Option Kept)) (like : AreLike old new) where
   pub like_row : (id file : ℕ) → attached_at (kept_outlines new) id file ≡ attached_at (kept_outlines old) id file
   like_row id file = rw (user_is outline new id, user_is outline old id) (go (user_of old id) refl)
     where
-      row : Option Kept → Option ℕ
+      row : Option LoadedUser → Option ℕ
       row o = option_and_then (λ (u : Outline). slice_get u.attached (file - 2)) (option_map outline o)
 
-      go : (o : Option Kept) → user_of old id ≡ o
+      go : (o : Option LoadedUser) → user_of old id ≡ o
           → option_and_then (λ (u : Outline). slice_get u.attached (file - 2)) (option_map outline (user_of new id)) ≡ option_and_then (λ (u : Outline). slice_get u.attached (file - 2)) (option_map outline o)
       go None e = ap row (like_none id e)
       go (Some was) e = let one = like_user id was e in ap row one.1 ∙ ap (λ (ids : List ℕ). slice_get ids (file - 2)) one.2.attached
@@ -69,17 +69,17 @@ module _ (old new : List (Option Kept)) (like : AreLike old new) where
         kept = one.0;
         made = one.1;
         head = is.head;
-        head' = ap (λ (hs : List Head). at_number hs t.segment) one.2.heads ∙ is.head';
+        head' = ap (λ (hs : List SegmentHead). at_number hs t.segment) one.2.heads ∙ is.head';
         dynamic = is.dynamic;
         loaded = is.loaded;
       }
 
-  joined_like : (life life' : Life) (was now : Kept) → life' ≡ life → IsLike was now → IsJoined life was → IsJoined life' now
+  joined_like : (life life' : Life) (was now : LoadedUser) → life' ≡ life → IsLike was now → IsJoined life was → IsJoined life' now
   joined_like life life' was now lives is joined = record {
     same = is.life ∙ joined.same ∙ sym lives;
     alone = is.attached ∙ joined.alone;
-    dynamic = λ number head found. joined.dynamic number head (ap (λ (hs : List Head). at_number hs number) (sym is.heads) ∙ found);
-    plain = λ number head found. joined.plain number head (ap (λ (hs : List Head). at_number hs number) (sym is.heads) ∙ found);
+    dynamic = λ number head found. joined.dynamic number head (ap (λ (hs : List SegmentHead). at_number hs number) (sym is.heads) ∙ found);
+    plain = λ number head found. joined.plain number head (ap (λ (hs : List SegmentHead). at_number hs number) (sym is.heads) ∙ found);
   }
 
   pub like_attached : AreAttached old → AreAttached new
@@ -105,7 +105,7 @@ module _ (old new : List (Option Kept)) (like : AreLike old new) where
         kept = one.0;
         made = one.1;
         head = is.head;
-        head' = ap (λ (hs : List Head). at_number hs t.segment) one.2.heads ∙ is.head';
+        head' = ap (λ (hs : List SegmentHead). at_number hs t.segment) one.2.heads ∙ is.head';
         inside = is.inside;
       }
 

@@ -11,7 +11,7 @@ use Rattle.iigs_meaning.specs.declared.handles.Handle.{Handle}
 use Rattle.iigs_meaning.specs.Fits.{Slots}
 use Rattle.iigs_meaning.specs.Puts.{MakesRoom}
 use Rattle.iigs_meaning.specs.Memory.{bytes_at}
-use Rattle.loader_machine.specs.declared.seen.Head.{Head}
+use Rattle.loader_machine.specs.declared.seen.SegmentHead.{SegmentHead}
 use Rattle.loader_machine.specs.declared.seen.Life.TheVariants.{Running}
 use Rattle.loader_machine.specs.declared.seen.Presence.{Presence}
 use Rattle.loader_machine.specs.declared.seen.Presence.TheVariants.{Absent, Purged, Idle, Active}
@@ -26,7 +26,7 @@ use Rattle.loader_machine.specs.Commands.{Bytes, Info, Where, Shown, SegmentIs, 
 use Rattle.loader_machine.specs.Refusals.{bytes_refusal, info_refusal}
 use Rattle.loader_machine.specs.Steps.{Sees, StandsIn, IsAt, Nowhere, In, place_reply}
 use Rattle.loader_machine.specs.laws.OnceLaws.{active_is, one_load}
-use Rattle.loader_agrees.specs.Agrees.{Kept, Loaded, Outline, outlines, kept_outlines, far_in, seen_by, AreThere, UserAgrees, Agrees, IsSound, Met}
+use Rattle.loader_agrees.specs.Agrees.{LoadedUser, Loaded, Outline, outlines, kept_outlines, far_in, seen_by, AreThere, UserAgrees, Agrees, IsSound, Met}
 use Rattle.loader_agrees.specs.Acts.{IsActive, HasLent, HasTold, LiesIn}
 use Rattle.loader_agrees.specs.laws.Lists.{number_map}
 use Rattle.loader_agrees.specs.laws.Seeing.{IsKept, kept_is, refuses, does}
@@ -37,7 +37,7 @@ number_is segments zero = refl
 number_is segments (suc k) = refl
 
 -- the segment whose header is kept
-pub headed : (segments : List Segment) (number : ℕ) (head : Head) → at_number (map head_of segments) number ≡ Some head
+pub headed : (segments : List Segment) (number : ℕ) (head : SegmentHead) → at_number (map head_of segments) number ≡ Some head
     → (s : Segment) × (segment_at segments number ≡ Some s) × (head_of s ≡ head)
 headed segments number head is = go (segment_at segments number) refl (ap (option_map head_of) (sym (number_is segments number)) ∙ sym (number_map head_of segments number) ∙ is)
   where
@@ -55,7 +55,7 @@ active_there (Idle h a) e = absurd cc
 active_there (Active h a) e = refl
 
 -- while a user runs, its static segments are there
-pub all_there : (held : FileMap) (loader : Loaded) (id : ℕ) (kept : Kept) (user : User) → (agrees : UserAgrees held loader.memory (far_in loader id) id kept user) → kept.life ≡ Running
+pub all_there : (held : FileMap) (loader : Loaded) (id : ℕ) (kept : LoadedUser) (user : User) → (agrees : UserAgrees held loader.memory (far_in loader id) id kept user) → kept.life ≡ Running
     → AreThere loader.memory.slots kept.handles agrees.segments
 all_there held loader id kept user agrees runs number s is static = active_there (presence_at loader.memory.slots kept.handles number) (agrees.statics runs number s is static)
 
@@ -67,7 +67,7 @@ within_front front rest at count within =
 
 module _ (held : FileMap) (loader : Loaded) (state : Machine) (agrees : Agrees held loader state) where
   -- the machine's user of a kept one, with the segments of its file
-  abbrev pub sees_of : (id : ℕ) (kept : Kept) → (is : IsKept held loader state agrees id kept) → Sees held state id
+  abbrev pub sees_of : (id : ℕ) (kept : LoadedUser) → (is : IsKept held loader state agrees id kept) → Sees held state id
   sees_of id kept is =
       let path : kept.path ≡ is.user.path = ap (λ (o : Outline). o.path) is.does_agree.same in
       record { user = is.user; made = is.made; segments = is.does_agree.segments; holds = subst (λ (p : List ℕ). HoldsLoad held p is.does_agree.segments) path is.does_agree.holds }
@@ -80,7 +80,7 @@ module _ (held : FileMap) (loader : Loaded) (state : Machine) (agrees : Agrees h
     user = one.user
 
     pub its_segment : (s : Segment) × (segment_at one.does_agree.segments number ≡ Some s) × (head_of s ≡ is.head)
-    its_segment = headed one.does_agree.segments number is.head (ap (λ (hs : List Head). at_number hs number) (sym one.does_agree.heads) ∙ is.head')
+    its_segment = headed one.does_agree.segments number is.head (ap (λ (hs : List SegmentHead). at_number hs number) (sym one.does_agree.heads) ∙ is.head')
 
     pub handles : is.kept.handles ≡ handles_of user
     handles = ap (λ (o : Outline). o.handles) one.does_agree.same
@@ -106,7 +106,7 @@ module _ (held : FileMap) (loader : Loaded) (state : Machine) (agrees : Agrees h
     pub stands_size : length (stands (setting_with (far_in loader id) id loader.memory.slots is.kept.handles) (held_at user number).pokes its_segment.0) ≡ is.head.length
     stands_size = stands_long one.does_agree.segments number its_segment.0 (setting_with (far_in loader id) id loader.memory.slots is.kept.handles) (held_at user number).pokes
         (loadable_has one.does_agree.holds.file one.does_agree.segments one.does_agree.holds.loadable number its_segment.0 its_segment.1)
-        ∙ ap (λ (head : Head). head.length) its_segment.2
+        ∙ ap (λ (head : SegmentHead). head.length) its_segment.2
 
     abbrev pub at_there : (address offset : ℕ) → is.address + offset ≡ address → offset < is.head.length → IsAt held state address id number offset
     at_there address offset sum inside = record {
@@ -118,7 +118,7 @@ module _ (held : FileMap) (loader : Loaded) (state : Machine) (agrees : Agrees h
       first = is.address;
       active = ap (λ (hs : List (Option Handle)). presence_at state.slots hs number) (sym handles) ∙ ap (λ (t : Slots). presence_at t is.kept.handles number) (sym agrees.slots) ∙ present;
       sum = sum;
-      inside = omega (arith, inside, ap (λ (head : Head). head.length) its_segment.2);
+      inside = omega (arith, inside, ap (λ (head : SegmentHead). head.length) its_segment.2);
     }
 
   module _ (Makes : MakesRoom) where
@@ -152,12 +152,12 @@ module _ (held : FileMap) (loader : Loaded) (state : Machine) (agrees : Agrees h
         → Met Makes held state (Info id number) (SegmentIs where' length' kind) loader
     told_met id number where' length' kind told =
         let kept = kept_is held loader state agrees id told.kept told.made in
-        let segment = headed kept.does_agree.segments number told.head (ap (λ (hs : List Head). at_number hs number) (sym kept.does_agree.heads) ∙ told.head') in
+        let segment = headed kept.does_agree.segments number told.head (ap (λ (hs : List SegmentHead). at_number hs number) (sym kept.does_agree.heads) ∙ told.head') in
         let reply : SegmentIs where' length' kind ≡ SegmentIs (presence_at state.slots (handles_of kept.user) number) segment.0.fields.length segment.0.fields.kind =
         ap (λ (p : Presence). SegmentIs p length' kind) (told.presence_is ∙ ap (λ (t : Slots). presence_at t told.kept.handles number) agrees.slots
         ∙ ap (λ (hs : List (Option Handle)). presence_at state.slots hs number) (ap (λ (o : Outline). o.handles) kept.does_agree.same))
-        ∙ ap (λ (n : ℕ). SegmentIs (presence_at state.slots (handles_of kept.user) number) n kind) (told.length_is ∙ sym (ap (λ (head : Head). head.length) segment.2))
-        ∙ ap (λ (n : ℕ). SegmentIs (presence_at state.slots (handles_of kept.user) number) segment.0.fields.length n) (told.kind_is ∙ sym (ap (λ (head : Head). head.kind) segment.2)) in (
+        ∙ ap (λ (n : ℕ). SegmentIs (presence_at state.slots (handles_of kept.user) number) n kind) (told.length_is ∙ sym (ap (λ (head : SegmentHead). head.length) segment.2))
+        ∙ ap (λ (n : ℕ). SegmentIs (presence_at state.slots (handles_of kept.user) number) segment.0.fields.length n) (told.kind_is ∙ sym (ap (λ (head : SegmentHead). head.kind) segment.2)) in (
           state,
           does held loader state agrees id (λ seen. info_refusal seen number) (SegmentIs where' length' kind) state _ told.passes
               kept.user kept.made (sees_of id told.kept kept, segment.0, segment.1, reply, refl),
@@ -181,7 +181,7 @@ module _ (held : FileMap) (loader : Loaded) (state : Machine) (agrees : Agrees h
           let path : kept.0.path ≡ is.sees.user.path = ap (λ (o : Outline). o.path) in_state.does_agree.same ∙ ap (λ (u : User). u.path) same in
           let life : kept.0.life ≡ Running = ap (λ (o : Outline). o.life) in_state.does_agree.same ∙ ap (λ (u : User). u.life) same ∙ is.runs in
           let segments = one_load held is.sees.user.path in_state.does_agree.segments is.sees.segments (subst (λ (p : List ℕ). HoldsLoad held p in_state.does_agree.segments) path in_state.does_agree.holds) is.sees.holds in
-          let head : at_number kept.0.heads number ≡ Some (head_of is.s) = ap (λ (hs : List Head). at_number hs number) in_state.does_agree.heads
+          let head : at_number kept.0.heads number ≡ Some (head_of is.s) = ap (λ (hs : List SegmentHead). at_number hs number) in_state.does_agree.heads
           ∙ ap (λ (ss : List Segment). at_number (map head_of ss) number) segments ∙ head_at is.sees.segments number is.s is.is in
           let there = active_is held state (handle_at (handles_of is.sees.user) number) is.h is.first is.active in
           let handle : handle_at kept.0.handles number ≡ Some is.h = ap (λ (hs : List (Option Handle)). handle_at hs number) kept.2 ∙ there.0 in

@@ -18,10 +18,10 @@ use Rattle.load_meaning.specs.LoadTable.{is_table, table_of, targets_of}
 use Rattle.load_meaning.specs.Loadable.{Fault, first_in, in_segment, IsLoadable}
 use Rattle.load_meaning.specs.Runtime.{kind_fault, runtime_fault, IsRuntime}
 use Rattle.load_meaning.specs.laws.CellLaws.{loadable_has}
-use Rattle.loader_machine.specs.declared.seen.Head.{Head}
+use Rattle.loader_machine.specs.declared.seen.SegmentHead.{SegmentHead}
 use Rattle.loader_machine.specs.declared.faults.LoaderFault.TheVariants.{BadFile}
 use Rattle.loader_machine.specs.Heads.{head_of, at_number}
-use Rattle.loader_machine.specs.Found.{HoldsLoad, HoldsRuntime, Found, Unread, Bad, Good, IsRowFound, Joined, Stops, Joins, JoinsFound, AreJoined, joined_behind}
+use Rattle.loader_machine.specs.Found.{HoldsLoad, HoldsRuntime, FileFound, Unread, Bad, Good, IsRowFound, Joined, Stops, Joins, JoinsFound, AreJoined, joined_behind}
 use Rattle.loader_machine.specs.Steps.{is_reached, lost_from, lost_in, lost_refusal}
 use Rattle.loader_agrees.specs.laws.Begun.{decide}
 use Rattle.loader_agrees.specs.laws.RowUsers.{IsRow, AreCalled}
@@ -87,28 +87,28 @@ runtime_called file segments is (suc k) s found =
 -- ---- entries
 
 -- an entry for another file leads to a segment of that one of these files, and to an offset below its LENGTH
-pub record IsReached (all : List (List Head)) (t : Target) : Type 0 where
-  pub heads : List Head
-  pub head : Head
+pub record IsReached (all : List (List SegmentHead)) (t : Target) : Type 0 where
+  pub heads : List SegmentHead
+  pub head : SegmentHead
   pub row : slice_get all (t.file - 2) ≡ Some heads
   pub head' : at_number heads t.segment ≡ Some head
   pub inside : t.offset < head.length
 
-reached_at : (all : List (List Head)) (t : Target) → 2 ≤ t.file → is_reached all t ≡ true → IsReached all t
+reached_at : (all : List (List SegmentHead)) (t : Target) → 2 ≤ t.file → is_reached all t ≡ true → IsReached all t
 reached_at all t above is =
     let own : nat_le t.file 1 ≡ false = grind arith in
     go (slice_get all (t.file - 2)) refl (rw own at is)
   where
-    inner : (heads : List Head) (o : Option Head) → slice_get all (t.file - 2) ≡ Some heads → at_number heads t.segment ≡ o → option_map_or (λ (head : Head). nat_lt t.offset head.length) o false ≡ true → IsReached all t
+    inner : (heads : List SegmentHead) (o : Option SegmentHead) → slice_get all (t.file - 2) ≡ Some heads → at_number heads t.segment ≡ o → option_map_or (λ (head : SegmentHead). nat_lt t.offset head.length) o false ≡ true → IsReached all t
     inner heads None row e is = absurd cc
     inner heads (Some head) row e is = let test : nat_lt t.offset head.length ≡ true = is in record { heads = heads; head = head; row = row; head' = e; inside = grind (arith, nat_tests, test) }
 
-    go : (o : Option (List Head)) → slice_get all (t.file - 2) ≡ o
-        → option_map_or (λ (heads : List Head). option_map_or (λ (head : Head). nat_lt t.offset head.length) (at_number heads t.segment) false) o false ≡ true → IsReached all t
+    go : (o : Option (List SegmentHead)) → slice_get all (t.file - 2) ≡ o
+        → option_map_or (λ (heads : List SegmentHead). option_map_or (λ (head : SegmentHead). nat_lt t.offset head.length) (at_number heads t.segment) false) o false ≡ true → IsReached all t
     go None e is = absurd cc
     go (Some heads) e is = inner heads (at_number heads t.segment) e refl is
 
-none_lost : (all : List (List Head)) (k : ℕ) (ts : List Target) → lost_from all k ts ≡ None → (i : ℕ) (t : Target) → slice_get ts i ≡ Some t → is_reached all t ≡ true
+none_lost : (all : List (List SegmentHead)) (k : ℕ) (ts : List Target) → lost_from all k ts ≡ None → (i : ℕ) (t : Target) → slice_get ts i ≡ Some t → is_reached all t ≡ true
 none_lost all k [] e i t found = absurd cc
 none_lost all k (u ∷ ts) e i t found = go (is_reached all u) refl i e found (none_lost all (k + 1) ts)
   where
@@ -118,7 +118,7 @@ none_lost all k (u ∷ ts) e i t found = go (is_reached all u) refl i e found (n
     go true is (suc j) e found rest = rest e j t found
     go false is j e found rest = absurd cc
 
-lost_none : (all : List (List Head)) (segments : List Segment) (number : ℕ) (s : Segment) → table_of segments ≡ Some number → segment_at segments number ≡ Some s → lost_refusal all segments ≡ None
+lost_none : (all : List (List SegmentHead)) (segments : List Segment) (number : ℕ) (s : Segment) → table_of segments ≡ Some number → segment_at segments number ≡ Some s → lost_refusal all segments ≡ None
     → lost_from all 0 (targets_of s) ≡ None
 unfolding lost_refusal
 lost_none all segments number s table is none = third (lost_from all 0 (targets_of s)) (rw is at (second (lost_in all segments number) (rw table at none)))
@@ -132,13 +132,13 @@ lost_none all segments number s table is none = third (lost_from all 0 (targets_
     third (Some k) e = absurd cc
 
 -- where no entry of a file's table is lost, each for another file leads to one
-pub all_reached : (file : List ℕ) (segments : List Segment) (all : List (List Head)) → IsLoadable file segments → lost_refusal all segments ≡ None
+pub all_reached : (file : List ℕ) (segments : List Segment) (all : List (List SegmentHead)) → IsLoadable file segments → lost_refusal all segments ≡ None
     → (n k : ℕ) (s : Segment) (t : Target) → segment_at segments n ≡ Some s → is_table s ≡ true → slice_get (targets_of s) k ≡ Some t → 2 ≤ t.file → IsReached all t
 all_reached file segments all loadable none n k s t is table found above =
     reached_at all t above (none_lost all 0 (targets_of s) (lost_none all segments n s ((loadable_has file segments loadable n s is).only table) is none) k t found)
 
 -- the headers of a row's file
-pub row_heads : (paths : List (List ℕ)) (all : List (List Segment)) (j : ℕ) (path : List ℕ) (segments : List Segment) (heads : List Head) → IsRow paths all j path segments
+pub row_heads : (paths : List (List ℕ)) (all : List (List Segment)) (j : ℕ) (path : List ℕ) (segments : List Segment) (heads : List SegmentHead) → IsRow paths all j path segments
     → slice_get (map (map head_of) all) j ≡ Some heads → map head_of segments ≡ heads
 row_heads paths all j path segments heads row is = same_Some (map head_of segments) heads (ap (option_map (map head_of)) (sym row.segments') ∙ sym (slice_get-map (map head_of) all j) ∙ is)
 
@@ -160,7 +160,7 @@ held_behind held path paths segments all others holds e rest zero p ss row =
 held_behind held path paths segments all others holds e rest (suc j) p ss row =
     rest j p ss (record { path' = row.path'; segments' = ap (λ (l : List (List Segment)). slice_get l (suc j)) (sym e) ∙ row.segments' })
 
-held_found : (held : FileMap) (path : List ℕ) (paths : List (List ℕ)) (all : List (List Segment)) (found : Found) → IsRowFound held path found → JoinsFound found (AreJoined held paths) (Joins all)
+held_found : (held : FileMap) (path : List ℕ) (paths : List (List ℕ)) (all : List (List Segment)) (found : FileFound) → IsRowFound held path found → JoinsFound found (AreJoined held paths) (Joins all)
     → ((others : List (List Segment)) → AreJoined held paths (Joins others) → AreHeld held paths others) → AreHeld held (path ∷ paths) all
 held_found held path paths all Unread is joins rest = absurd cc
 held_found held path paths all (Bad fault) is joins rest = absurd cc

@@ -6,13 +6,13 @@ use Rattle.std.proofs.lemmas.Option.{same_Some}
 use Rattle.omf_io.specs.Files.{FileMap}
 use Rattle.iigs_meaning.specs.declared.handles.Handle.{Handle}
 use Rattle.iigs_meaning.specs.declared.slots.Slot.{Slot}
-use Rattle.iigs_meaning.specs.declared.slots.Content.TheVariants.{Free, Used, Retired}
+use Rattle.iigs_meaning.specs.declared.slots.SlotContent.TheVariants.{Free, Used, Retired}
 use Rattle.iigs_meaning.specs.declared.wants.Want.{Want}
 use Rattle.iigs_meaning.specs.declared.wants.Block.{Block}
 use Rattle.iigs_meaning.specs.Slots.{get, slot_at, new_handle, with_slot, with_value, after_release, released}
 use Rattle.iigs_meaning.specs.Fits.{Slots, block_in}
 use Rattle.iigs_meaning.specs.Puts.{LacksRoom, Puts}
-use Rattle.iigs_meaning.specs.Slide.{can_move, mover, moved_to, count_moved}
+use Rattle.iigs_meaning.specs.Slide.{can_move, movable_block, moved_to, count_moved}
 use Rattle.iigs_meaning.specs.laws.SlideLaws.{mover_in}
 use Rattle.loader_machine.specs.Rule.{RoomRule}
 use Rattle.iigs_meaning.specs.Moves.{IsSlid}
@@ -20,7 +20,7 @@ use Rattle.iigs_meaning.specs.Blocks.{state_of}
 use Rattle.iigs_meaning.specs.Memory.{Memory, KeepsBut, IsPlaced, IsFreed, Changes}
 use Rattle.loader_machine.specs.declared.faults.LoaderFault.{LoaderFault}
 use Rattle.loader_machine.specs.declared.faults.LoaderFault.TheVariants.{NoHandle, NoRoom}
-use Rattle.loader_machine.specs.declared.seen.Head.{Head}
+use Rattle.loader_machine.specs.declared.seen.SegmentHead.{SegmentHead}
 use Rattle.loader_machine.specs.State.{Machine}
 use Rattle.loader_machine.specs.Commands.{Compact, Moved, Reply, Free as FreeIt, StateOf, Okay, Placed, BlockIs, Refused}
 use Rattle.loader_machine.specs.Refusals.{Refuse, free_refusal, change_refusal, state_refusal}
@@ -42,7 +42,7 @@ not_one a b ne found = go found.0 found.1 found.2
     go k lt e = let z : k ≡ 0 = omega arith in ne (sym (subst (λ (n : ℕ). slice_index_or (a ∷ []) n b ≡ b) z e))
 
 -- a block that isn't movable doesn't move
-pub slot_stays : (slot : Slot Block) (block : Block) → block_in slot ≡ Some block → (can_move block ≡ true → ⊥) → mover slot ≡ None
+pub slot_stays : (slot : Slot Block) (block : Block) → block_in slot ≡ Some block → (can_move block ≡ true → ⊥) → movable_block slot ≡ None
 slot_stays slot block is cant = rw is (go (can_move block) refl)
   where
     go : (b : Bool) → can_move block ≡ b → ◌≡◌ {A = Option Block} (cond b (Some block) None) None
@@ -52,7 +52,7 @@ slot_stays slot block is cant = rw is (go (can_move block) refl)
 module _ (old : Loaded) (sound : IsSound old.memory old.users) where
   -- a user's handle isn't in the slot of a block of the script
   apart : (h : Handle) (block : Block) → get old.memory.slots h ≡ Some block → block.user ≡ 0
-      → (place number : ℕ) (head : Head) (k : Handle) → Has old.users place number head k → k.slot ≢ h.slot
+      → (place number : ℕ) (head : SegmentHead) (k : Handle) → Has old.users place number head k → k.slot ≢ h.slot
   apart h block is script place number head k has same =
       let of' = sound.each place number head k has in
       let one = one_block old.memory.slots k h of'.block block of'.live is same in
@@ -100,9 +100,9 @@ module _ (old : Loaded) (sound : IsSound old.memory old.users) where
         Same (get_is new.slots k ∙ ap (λ (s : Slot Block). in_slot s k) same ∙ sym (get_is old.memory.slots k)) (λ there. slid.kept.bytes k.slot (none_in k.slot) (is_there new k there))
 
     pub slid_only : OnlyOld old.memory new
-    slid_only n b here of_user = go (mover (slot_at old.memory.slots n)) refl
+    slid_only n b here of_user = go (movable_block (slot_at old.memory.slots n)) refl
       where
-        go : (o : Option Block) → mover (slot_at old.memory.slots n) ≡ o → (was : Block) × (block_in (slot_at old.memory.slots n) ≡ Some was) × (was.user ≢ 0)
+        go : (o : Option Block) → movable_block (slot_at old.memory.slots n) ≡ o → (was : Block) × (block_in (slot_at old.memory.slots n) ≡ Some was) × (was.user ≢ 0)
         go None e = (b, ap block_in (sym (slid.slides.stay n e)) ∙ here, of_user)
         go (Some block) e =
             let goes = slid.slides.goes n block e in

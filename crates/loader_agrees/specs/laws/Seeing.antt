@@ -11,18 +11,18 @@ use Rattle.iigs_meaning.specs.declared.wants.Block.{Block}
 use Rattle.iigs_meaning.specs.Slots.{get}
 use Rattle.iigs_meaning.specs.Memory.{bytes_at}
 use Rattle.loader_machine.specs.declared.faults.LoaderFault.{LoaderFault}
-use Rattle.loader_machine.specs.declared.seen.Head.{Head}
+use Rattle.loader_machine.specs.declared.seen.SegmentHead.{SegmentHead}
 use Rattle.loader_machine.specs.declared.seen.Presence.TheVariants.{Active}
 use Rattle.iigs_meaning.specs.Fits.{Slots}
 use Rattle.loader_machine.specs.Heads.{head_of}
-use Rattle.loader_machine.specs.State.{User, Machine, Seen, first_id, user_of, handles_of}
+use Rattle.loader_machine.specs.State.{User, Machine, UserSeen, first_id, user_of, handles_of}
 use Rattle.loader_machine.specs.Presences.{handle_at, presence, lies_in, lies_at}
 use Rattle.loader_machine.specs.Found.{HoldsLoad}
 use Rattle.loader_machine.specs.Refusals.{Refuse}
 use Rattle.loader_machine.specs.Steps as steps
 use Rattle.loader_machine.specs.Commands.{Reply, Refused}
 use Rattle.loader_machine.specs.Steps.{IsSeen, Does}
-use Rattle.loader_agrees.specs.Agrees.{Kept, Loaded, Outline, outline, outline_of, far_in, seen_in, seen_by, UserAgrees, Agrees, IsOf, Has, IsSound}
+use Rattle.loader_agrees.specs.Agrees.{LoadedUser, Loaded, Outline, outline, outline_of, far_in, seen_in, seen_by, UserAgrees, Agrees, IsOf, Has, IsSound}
 use Rattle.loader_agrees.specs.Acts.{IsActive}
 
 -- ---- users by ID
@@ -58,12 +58,12 @@ same_outlines held loader state agrees id = sym (user_is outline loader.users id
 
 module _ (held : FileMap) (loader : Loaded) (state : Machine) (agrees : Agrees held loader state) (id : ℕ) where
   -- a user of the loader is one of the state
-  pub record IsKept (kept : Kept) : Type 0 where
+  pub record IsKept (kept : LoadedUser) : Type 0 where
     pub user : User
     pub made : user_of state.users id ≡ Some user
     pub does_agree : UserAgrees held loader.memory (far_in loader id) id kept user
 
-  pub kept_is : (kept : Kept) → user_of loader.users id ≡ Some kept → IsKept kept
+  pub kept_is : (kept : LoadedUser) → user_of loader.users id ≡ Some kept → IsKept kept
   kept_is kept is = go (user_of state.users id) refl
     where
       outlines : (o : Option User) → user_of state.users id ≡ o → Some (outline kept) ≡ option_map outline_of o
@@ -76,7 +76,7 @@ module _ (held : FileMap) (loader : Loaded) (state : Machine) (agrees : Agrees h
           let two = made_at state.users id user e in
           record { user = user; made = e; does_agree = subst (λ (n : ℕ). UserAgrees held loader.memory (far_in loader n) n kept user) one.1 (agrees.each (id - first_id) kept user one.0 two.0) }
 
-  seen_same : (kept : Kept) (user : User) (segments : List Segment) → outline kept ≡ outline_of user → kept.heads ≡ map head_of segments → seen_in kept ≡ steps.seen_of user segments
+  seen_same : (kept : LoadedUser) (user : User) (segments : List Segment) → outline kept ≡ outline_of user → kept.heads ≡ map head_of segments → seen_in kept ≡ steps.seen_of user segments
   seen_same kept user segments same heads =
       let life : kept.life ≡ user.life = ap (λ (o : Outline). o.life) same in
       let handles : kept.handles ≡ handles_of user = ap (λ (o : Outline). o.handles) same in
@@ -89,7 +89,7 @@ module _ (held : FileMap) (loader : Loaded) (state : Machine) (agrees : Agrees h
       none None e = refl
       none (Some user) e = absurd cc
 
-      go : (o : Option Kept) → user_of loader.users id ≡ o → IsSeen held state id (option_map seen_in o)
+      go : (o : Option LoadedUser) → user_of loader.users id ≡ o → IsSeen held state id (option_map seen_in o)
       go None e = none (user_of state.users id) (ap (option_map outline) (sym e) ∙ same_outlines held loader state agrees id)
       go (Some kept) e =
           let is = kept_is kept e in
@@ -99,10 +99,10 @@ module _ (held : FileMap) (loader : Loaded) (state : Machine) (agrees : Agrees h
           )
 
   -- a call is refused as the step is
-  pub refuses : (refusal : Option Seen → Refuse) (fault : LoaderFault) (Done : User → Type 0) → refusal (seen_by loader id) ≡ Some fault → Does held state id refusal (Refused fault) state Done
+  pub refuses : (refusal : Option UserSeen → Refuse) (fault : LoaderFault) (Done : User → Type 0) → refusal (seen_by loader id) ≡ Some fault → Does held state id refusal (Refused fault) state Done
   refuses refusal fault Done is = record { seen = seen_by loader id; is_seen = is_seen; is = rw is (refl, refl) }
 
-  pub does : (refusal : Option Seen → Refuse) (reply : Reply) (next : Machine) (Done : User → Type 0) → refusal (seen_by loader id) ≡ None
+  pub does : (refusal : Option UserSeen → Refuse) (reply : Reply) (next : Machine) (Done : User → Type 0) → refusal (seen_by loader id) ≡ None
       → (user : User) → user_of state.users id ≡ Some user → Done user → Does held state id refusal reply next Done
   does refusal reply next Done is user made done = record { seen = seen_by loader id; is_seen = is_seen; is = rw is (user, made, done) }
 
@@ -130,8 +130,8 @@ module _ (loader : Loaded) (sound : IsSound loader.memory loader.users) (id numb
   block_room = its_block.room block_there
 
 -- each handle of a user is a segment's
-pub has_any : (loader : Loaded) → IsSound loader.memory loader.users → (place : ℕ) (kept : Kept) → slice_get loader.users place ≡ Some (Some kept) → (number : ℕ) (h : Handle)
-    → handle_at kept.handles number ≡ Some h → (head : Head) × Has loader.users place number head h
+pub has_any : (loader : Loaded) → IsSound loader.memory loader.users → (place : ℕ) (kept : LoadedUser) → slice_get loader.users place ≡ Some (Some kept) → (number : ℕ) (h : Handle)
+    → handle_at kept.handles number ≡ Some h → (head : SegmentHead) × Has loader.users place number head h
 has_any loader sound place kept made zero h is = absurd cc
 has_any loader sound place kept made (suc k) h is =
     let inside : k < length kept.handles = in_list (slice_get kept.handles k) refl is in

@@ -7,14 +7,14 @@ use Rattle.std.proofs.lemmas.List.{get_or-set_other}
 use Rattle.std.proofs.lemmas.Option.{same_Some}
 use Rattle.iigs_meaning.specs.declared.handles.Handle.{Handle}
 use Rattle.iigs_meaning.specs.declared.slots.Slot.{Slot}
-use Rattle.iigs_meaning.specs.declared.slots.Content.{Content}
-use Rattle.iigs_meaning.specs.declared.slots.Content.TheVariants.{Free, Used, Retired}
+use Rattle.iigs_meaning.specs.declared.slots.SlotContent.{SlotContent}
+use Rattle.iigs_meaning.specs.declared.slots.SlotContent.TheVariants.{Free, Used, Retired}
 use Rattle.iigs_meaning.specs.declared.wants.Want.{Want}
 use Rattle.iigs_meaning.specs.declared.wants.Block.{Block}
 use Rattle.iigs_meaning.specs.Slots.{slot_at, new_slot, get, used_value, lowest_free, new_handle, with_slot}
 use Rattle.iigs_meaning.specs.Fits.{Slots, block_in}
 use Rattle.iigs_meaning.specs.Placement.{emptied_where}
-use Rattle.iigs_meaning.specs.Puts.{Puts, placed}
+use Rattle.iigs_meaning.specs.Puts.{Puts, placed_block}
 use Rattle.iigs_meaning.specs.Slide.{moved_to}
 use Rattle.loader_machine.specs.Rule.{RoomRule}
 use Rattle.iigs_meaning.specs.laws.Left.{IsLeft, AreLeft}
@@ -79,7 +79,7 @@ in_emptied test slot block = go slot.generation slot.content
     by_test generation b true e = let same : record b { at = None } ≡ block = same_Some (record b { at = None }) block e in ap (λ (x : Block). x.user) same
     by_test generation b false e = ap (λ (x : Block). x.user) (same_Some b block e)
 
-    go : (generation : ℕ) (content : Content Block) → block_in (emptied_where test (record { generation = generation; content = content })) ≡ Some block
+    go : (generation : ℕ) (content : SlotContent Block) → block_in (emptied_where test (record { generation = generation; content = content })) ≡ Some block
         → (was : Block) × (used_value content ≡ Some was) × (was.user ≡ block.user)
     go generation Free e = absurd cc
     go generation Retired e = absurd cc
@@ -101,12 +101,12 @@ lowest_is slots h place is low = go (lowest_free slots) low is
 -- a block among slots in which one was put is the new one, or was there before, of the same user
 pub in_put : (banks : List ℕ) (slots next : Slots) (want : Want) (user : ℕ) (locked : Bool) (level : ℕ) (movable : Bool) (h : Handle) → (puts : Puts RoomRule banks slots want user locked level movable h next)
     → (n : ℕ) (block : Block) → block_in (slot_at next n) ≡ Some block
-    → ((n ≡ h.slot) × (block ≡ placed want puts.address user locked level movable)) ⊎ ((was : Block) × (block_in (slot_at slots n) ≡ Some was) × (was.user ≡ block.user))
+    → ((n ≡ h.slot) × (block ≡ placed_block want puts.address user locked level movable)) ⊎ ((was : Block) × (block_in (slot_at slots n) ≡ Some was) × (was.user ≡ block.user))
 in_put banks slots next want user locked level movable h puts n block is =
     go (lowest_free puts.room) refl (sym (ap (λ (t : Slots). block_in (slot_at t n)) puts.next_is) ∙ is)
   where
     value : Block
-    value = placed want puts.address user locked level movable
+    value = placed_block want puts.address user locked level movable
 
     left : AreLeft slots puts.room
     left = are_left banks slots want puts.address puts.room puts.makes

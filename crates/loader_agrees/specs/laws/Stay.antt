@@ -8,14 +8,14 @@ use Rattle.std.proofs.lemmas.List.Quantifiers.{position-Some}
 use Rattle.std.proofs.lemmas.Option.{cond_some}
 use Rattle.iigs_meaning.specs.declared.handles.Handle.{Handle}
 use Rattle.iigs_meaning.specs.declared.slots.Slot.{Slot}
-use Rattle.iigs_meaning.specs.declared.slots.Content.{Content}
-use Rattle.iigs_meaning.specs.declared.slots.Content.TheVariants.{Free, Used, Retired}
+use Rattle.iigs_meaning.specs.declared.slots.SlotContent.{SlotContent}
+use Rattle.iigs_meaning.specs.declared.slots.SlotContent.TheVariants.{Free, Used, Retired}
 use Rattle.iigs_meaning.specs.declared.wants.Want.{Want}
 use Rattle.iigs_meaning.specs.declared.wants.Block.{Block}
 use Rattle.iigs_meaning.specs.Slots.{slot_at, new_slot, get, used_value, is_free, is_free_content, lowest_free, new_handle, after_take}
 use Rattle.iigs_meaning.specs.Fits.{Slots, block_in}
 use Rattle.iigs_meaning.specs.Placement.{can_purge, emptied_where}
-use Rattle.iigs_meaning.specs.Puts.{Puts, PutsAll, placed}
+use Rattle.iigs_meaning.specs.Puts.{Puts, PutsAll, placed_block}
 use Rattle.iigs_meaning.specs.Slide.{can_move, moved_to}
 use Rattle.loader_machine.specs.Rule.{RoomRule}
 use Rattle.iigs_meaning.specs.laws.Left.{IsLeft, AreLeft}
@@ -71,7 +71,7 @@ emptied_block test slot h block = go slot.generation slot.content
     by_test generation b true g = rw g refl
     by_test generation b false g = rw g refl
 
-    go : (generation : ℕ) (content : Content Block) → cond (generation == h.generation) (used_value content) None ≡ Some block
+    go : (generation : ℕ) (content : SlotContent Block) → cond (generation == h.generation) (used_value content) None ≡ Some block
         → in_slot (emptied_where test (record { generation = generation; content = content })) h ≡ Some (cond (test block) (record block { at = None }) block)
     go generation Free e = absurd (never (generation == h.generation) block e)
     go generation Retired e = absurd (never (generation == h.generation) block e)
@@ -108,7 +108,7 @@ get_left slots room left h block is = rw (get_is room h) (left_in (slot_at slots
 pub used_slot : (slots : Slots) (h : Handle) → IsSome (get slots h) → is_free (slot_at slots h.slot) ≡ false
 used_slot slots h some = go ((slot_at slots h.slot).generation == h.generation) (slot_at slots h.slot).content some
   where
-    go : (b : Bool) (content : Content Block) → IsSome (cond b (used_value content) None) → is_free_content content ≡ false
+    go : (b : Bool) (content : SlotContent Block) → IsSome (cond b (used_value content) None) → is_free_content content ≡ false
     go true Free e = absurd cc
     go true (Used block) e = refl
     go true Retired e = refl
@@ -152,7 +152,7 @@ cant_move block fixed can = go (is_some block.at) block.movable (not block.locke
 
 module _ (banks : List ℕ) (slots next : Slots) (want : Want) (user : ℕ) (locked : Bool) (level : ℕ) (movable : Bool) (k : Handle) (puts : Puts RoomRule banks slots want user locked level movable k next) where
   abbrev value : Block
-  value = placed want puts.address user locked level movable
+  value = placed_block want puts.address user locked level movable
 
   left : AreLeft slots puts.room
   left = are_left banks slots want puts.address puts.room puts.makes

@@ -20,15 +20,15 @@ use Rattle.iigs_meaning.specs.Puts.{MakesRoom, IsOnce, without_user}
 use Rattle.iigs_meaning.specs.Room.{IsRoom}
 use Rattle.iigs_meaning.specs.Slide.{count_moved}
 use Rattle.iigs_meaning.specs.laws.SlideLaws.{slides_once}
-use Rattle.loader_machine.specs.Heads.{Head, head_of, is_table, want_of, wants_of}
-use Rattle.loader_machine.specs.State.{User, Machine, Seen, fresh, held_at, first_id, user_of, handles_of}
+use Rattle.loader_machine.specs.Heads.{SegmentHead, head_of, is_table, want_of, wants_of}
+use Rattle.loader_machine.specs.State.{User, Machine, UserSeen, fresh, held_at, first_id, user_of, handles_of}
 use Rattle.loader_machine.specs.Presences.{Presence, Absent, Purged, Idle, Active, presence, presence_at, handle_at, lies_in, lies_at}
 use Rattle.loader_machine.specs.Stands.{stands}
 use Rattle.loader_machine.specs.Alloc.{alloc_want, is_locked, level_in, is_movable}
-use Rattle.loader_machine.specs.Found.{HoldsFile, HoldsLoad, HoldsFault, HoldsRuntime, HoldsRuntimeFault, Found, Unread, Bad, Good, IsFound, IsRowFound, Joined, Stops, Joins, JoinsFound, AreJoined, joined_behind}
+use Rattle.loader_machine.specs.Found.{HoldsFile, HoldsLoad, HoldsFault, HoldsRuntime, HoldsRuntimeFault, FileFound, Unread, Bad, Good, IsFound, IsRowFound, Joined, Stops, Joins, JoinsFound, AreJoined, joined_behind}
 use Rattle.loader_machine.specs.Commands.{Command, Banks, Load, LoadSegment, UnloadSegment, Jsl, ShutDown, Restart, Purge, Poke, Bytes, Where, Info, Alloc, Free, Lock, Unlock, Level, StateOf, Room, Compact, Reply, Entered, Shown, SegmentIs, Placed, BlockIs, RoomIs, Moved}
 use Rattle.loader_machine.specs.Refusals.{Refuse, load_refusal, rows_refusal, purge_refusal, free_refusal, change_refusal, state_refusal}
-use Rattle.loader_machine.specs.Steps.{seen_of, Sees, IsSeen, Decides, Does, Either, with_slots, with_both, with_segment, active_block, changed, Put, NoSlots, Lacks, PutIn, Lands, Begins, lost_refusal, LoadsJoined, LoadsFound, StepsLoad, begun_users, again_users, setting_in, Outcome, OutOfSlots, OutOfRoom, Made, ComesAnew, ComesFirst, Activates, Answers, MakesActive, StandsIn, IsAt, Place, Nowhere, In, IsLocated, place_reply, EntersEntry, EntersSegment, Enters, target_at_code, address_of, no_jsl, StepsJsl, StepsShutDown, are_there, RestartsInPlace, StepsRestart, StepsAlloc, StepsChange, Steps}
+use Rattle.loader_machine.specs.Steps.{seen_of, Sees, IsSeen, Decides, Does, Either, with_slots, with_both, with_segment, active_block, with_block_changed, Put, NoSlots, Lacks, PutIn, Lands, Begins, lost_refusal, LoadsJoined, LoadsFound, StepsLoad, begun_users, again_users, setting_in, Activation, OutOfSlots, OutOfRoom, Made, ComesAnew, ComesFirst, Activates, Answers, MakesActive, StandsIn, IsAt, AddressPlace, Nowhere, In, IsLocated, place_reply, EntersEntry, EntersSegment, Enters, target_at_code, address_of, no_jsl, StepsJsl, StepsShutDown, are_there, RestartsInPlace, StepsRestart, StepsAlloc, StepsChange, Steps}
 use Rattle.loader_machine.specs.Steps.StepsAlloc.{IsPlaced, HasNoHandle, HasNoRoom}
 use Rattle.loader_machine.specs.laws.PutLaws.{counts_once, puts_once, anew_once, put_once}
 
@@ -63,7 +63,7 @@ no_fault held path segments fault p q =
     let file = one_file held path p.file q.file p.is_held q.is_held in
     loadable_sound q.file segments fault (subst (λ (f : List ℕ). IsLoadable f segments) file p.loadable) q.first
 
-pub found_once : (held : FileMap) (path : List ℕ) (a b : Found) → IsFound held path a → IsFound held path b → a ≡ b
+pub found_once : (held : FileMap) (path : List ℕ) (a b : FileFound) → IsFound held path a → IsFound held path b → a ≡ b
 found_once held path Unread Unread p q = refl
 found_once held path Unread (Bad fault) p q = absurd (p q.file q.is_held)
 found_once held path Unread (Good segments) p q = absurd (p q.file q.is_held)
@@ -103,7 +103,7 @@ no_row_fault held path segments fault p q =
     let file = one_file held path p.file q.file p.is_held q.is_held in
     sound_row q.file segments fault (subst (λ (f : List ℕ). IsRuntime f segments) file p.runtime) q.first
 
-row_once : (held : FileMap) (path : List ℕ) (a b : Found) → IsRowFound held path a → IsRowFound held path b → a ≡ b
+row_once : (held : FileMap) (path : List ℕ) (a b : FileFound) → IsRowFound held path a → IsRowFound held path b → a ≡ b
 row_once held path Unread Unread p q = refl
 row_once held path Unread (Bad fault) p q = absurd (p q.file q.is_held)
 row_once held path Unread (Good segments) p q = absurd (p q.file q.is_held)
@@ -114,7 +114,7 @@ row_once held path (Good segments) Unread p q = absurd (q p.file p.is_held)
 row_once held path (Good segments) (Bad fault) p q = absurd (no_row_fault held path segments fault p q)
 row_once held path (Good a) (Good b) p q = ap (λ (ss : List Segment). Good ss) (one_runtime held path a b p q)
 
-joins_same : (found : Found) (Rest : Joined → Type 0) → ((x y : Joined) → Rest x → Rest y → x ≡ y) → (a b : Joined) → JoinsFound found Rest a → JoinsFound found Rest b → a ≡ b
+joins_same : (found : FileFound) (Rest : Joined → Type 0) → ((x y : Joined) → Rest x → Rest y → x ≡ y) → (a b : Joined) → JoinsFound found Rest a → JoinsFound found Rest b → a ≡ b
 joins_same Unread Rest one a b x y = x ∙ sym y
 joins_same (Bad fault) Rest one a b x y = x ∙ sym y
 joins_same (Good segments) Rest one a b x y = x.2 ∙ ap (joined_behind segments) (one x.0 y.0 x.1 y.1) ∙ sym y.2
@@ -123,7 +123,7 @@ joins_same (Good segments) Rest one a b x y = x.2 ∙ ap (joined_behind segments
 pub joined_once : (held : FileMap) (paths : List (List ℕ)) (a b : Joined) → AreJoined held paths a → AreJoined held paths b → a ≡ b
 joined_once held [] a b p q = p ∙ sym q
 joined_once held (path ∷ paths) a b p q = joins_same q.0 (AreJoined held paths) (joined_once held paths) a b
-    (subst (λ (f : Found). JoinsFound f (AreJoined held paths) a) (row_once held path p.0 q.0 p.1 q.1) p.2) q.2
+    (subst (λ (f : FileFound). JoinsFound f (AreJoined held paths) a) (row_once held path p.0 q.0 p.1 q.1) p.2) q.2
 
 module _ (held : FileMap) (state : Machine) where
   module _ (id : ℕ) (p q : Sees held state id) where
@@ -139,28 +139,28 @@ module _ (held : FileMap) (state : Machine) where
   some_none : (id : ℕ) (user : User) → user_of state.users id ≡ Some user → user_of state.users id ≡ None → ⊥
   some_none id user p q = let clash : Some user ≡ None = sym p ∙ q in cc
 
-  pub seen_once : (id : ℕ) (a b : Option Seen) → IsSeen held state id a → IsSeen held state id b → a ≡ b
+  pub seen_once : (id : ℕ) (a b : Option UserSeen) → IsSeen held state id a → IsSeen held state id b → a ≡ b
   seen_once id None None p q = refl
   seen_once id None (Some seen) p q = absurd (some_none id q.0.user q.0.made p)
   seen_once id (Some seen) None p q = absurd (some_none id p.0.user p.0.made q)
   seen_once id (Some a) (Some b) p q =
       let user = user_same id p.0 q.0 in
       let segments = segments_same id p.0 q.0 in
-      ap (λ (x : Seen). Some x) (p.1 ∙ ap (λ (u : User). seen_of u p.0.segments) user ∙ ap (λ (ss : List Segment). seen_of q.0.user ss) segments ∙ sym q.1)
+      ap (λ (x : UserSeen). Some x) (p.1 ∙ ap (λ (u : User). seen_of u p.0.segments) user ∙ ap (λ (ss : List Segment). seen_of q.0.user ss) segments ∙ sym q.1)
 
   decided : (r : Refuse) (one other : Reply) (next last : Machine) (P Q : Type 0) → (P → Q → AreSame one other next last)
       → Decides r state one next P → Decides r state other last Q → AreSame one other next last
   decided None one other next last P Q f p q = f p q
   decided (Some fault) one other next last P Q f p q = (p.0 ∙ sym q.0, p.1 ∙ sym q.1)
 
-  does_once : (id : ℕ) (refusal : Option Seen → Refuse) (one other : Reply) (next last : Machine) (P Q : User → Type 0)
+  does_once : (id : ℕ) (refusal : Option UserSeen → Refuse) (one other : Reply) (next last : Machine) (P Q : User → Type 0)
       → ((user : User) → user_of state.users id ≡ Some user → P user → Q user → AreSame one other next last)
       → Does held state id refusal one next P → Does held state id refusal other last Q → AreSame one other next last
   does_once id refusal one other next last P Q f p q =
       let same = seen_once id p.seen q.seen p.is_seen q.is_seen in
       decided (refusal q.seen) one other next last ((user : User) × (user_of state.users id ≡ Some user) × P user) ((user : User) × (user_of state.users id ≡ Some user) × Q user)
       (λ x y. let user = same_Some y.0 x.0 (sym y.1 ∙ x.1) in f x.0 x.1 x.2 (subst Q user y.2))
-      (subst (λ (s : Option Seen). Decides (refusal s) state one next ((user : User) × (user_of state.users id ≡ Some user) × P user)) same p.is) q.is
+      (subst (λ (s : Option UserSeen). Decides (refusal s) state one next ((user : User) × (user_of state.users id ≡ Some user) × P user)) same p.is) q.is
 
   -- ---- where an address lies
 
@@ -216,7 +216,7 @@ module _ (held : FileMap) (state : Machine) where
         let begin : p.first ≡ q.first = cc in
         (same.0, same.1, omega (arith, begin, p.sum, q.sum))
 
-    located_once : (address : ℕ) (a b : Place) → IsLocated held state address a → IsLocated held state address b → a ≡ b
+    located_once : (address : ℕ) (a b : AddressPlace) → IsLocated held state address a → IsLocated held state address b → a ≡ b
     located_once address Nowhere Nowhere p q = refl
     located_once address Nowhere (In id n i) p q = absurd (p id n i q)
     located_once address (In id n i) Nowhere p q = absurd (q id n i p)
@@ -236,7 +236,7 @@ module _ (held : FileMap) (state : Machine) where
   module _ (Makes : MakesRoom) (makes : IsOnce Makes) where
     -- ---- placement
 
-    lands_once : (path : List ℕ) (id : ℕ) (heads : List Head) (users : User → List (Option User)) (put : Put) (one other : Reply) (next last : Machine)
+    lands_once : (path : List ℕ) (id : ℕ) (heads : List SegmentHead) (users : User → List (Option User)) (put : Put) (one other : Reply) (next last : Machine)
         → Lands state path id heads users put one next → Lands state path id heads users put other last → AreSame one other next last
     lands_once path id heads users NoSlots one other next last p q = (p.0 ∙ sym q.0, p.1 ∙ sym q.1)
     lands_once path id heads users (Lacks i) one other next last p q = (p.0 ∙ sym q.0, p.1 ∙ sym q.1)
@@ -257,7 +257,7 @@ module _ (held : FileMap) (state : Machine) where
     joins_once path segments (Joins all) one other next last p q = decided (lost_refusal (map (map head_of) all) segments) one other next last _ _
         (λ x y. begins_once state.slots path (first_id + length state.users) segments (begun_users state (paths_of segments) all) one other next last x y) p q
 
-    loads_once : (path : List ℕ) (found : Found) (one other : Reply) (next last : Machine) → LoadsFound Makes held state path found one next → LoadsFound Makes held state path found other last → AreSame one other next last
+    loads_once : (path : List ℕ) (found : FileFound) (one other : Reply) (next last : Machine) → LoadsFound Makes held state path found one next → LoadsFound Makes held state path found other last → AreSame one other next last
     loads_once path Unread one other next last p q = (p.0 ∙ sym q.0, p.1 ∙ sym q.1)
     loads_once path (Bad fault) one other next last p q = (p.0 ∙ sym q.0, p.1 ∙ sym q.1)
     loads_once path (Good segments) one other next last p q = decided (rows_refusal (length state.users) (length (paths_of segments))) one other next last _ _
@@ -266,8 +266,8 @@ module _ (held : FileMap) (state : Machine) where
 
     load_once : (path : List ℕ) (one other : Reply) (next last : Machine) → StepsLoad Makes held state path one next → StepsLoad Makes held state path other last → AreSame one other next last
     load_once path one other next last p q =
-        decided (load_refusal (length state.users)) one other next last ((found : Found) × IsFound held path found × LoadsFound Makes held state path found one next) ((found : Found) × IsFound held path found × LoadsFound Makes held state path found other last)
-        (λ x y. loads_once path y.0 one other next last (subst (λ (f : Found). LoadsFound Makes held state path f one next) (found_once held path x.0 y.0 x.1 y.1) x.2) y.2) p q
+        decided (load_refusal (length state.users)) one other next last ((found : FileFound) × IsFound held path found × LoadsFound Makes held state path found one next) ((found : FileFound) × IsFound held path found × LoadsFound Makes held state path found other last)
+        (λ x y. loads_once path y.0 one other next last (subst (λ (f : FileFound). LoadsFound Makes held state path f one next) (found_once held path x.0 y.0 x.1 y.1) x.2) y.2) p q
 
     -- ---- activation
 
@@ -278,7 +278,7 @@ module _ (held : FileMap) (state : Machine) where
     some_handle : (h : Handle) → new_handle state.slots ≡ Some h → new_handle state.slots ≡ None → ⊥
     some_handle h p q = let clash : Some h ≡ None = sym p ∙ q in cc
 
-    anew_same : (id : ℕ) (user : User) (number : ℕ) (want : Want) (h : Handle) (a b : Outcome) → ComesAnew Makes state id user number want h a → ComesAnew Makes state id user number want h b → a ≡ b
+    anew_same : (id : ℕ) (user : User) (number : ℕ) (want : Want) (h : Handle) (a b : Activation) → ComesAnew Makes state id user number want h a → ComesAnew Makes state id user number want h b → a ≡ b
     anew_same id user number want h OutOfSlots b p q = absurd p
     anew_same id user number want h OutOfRoom OutOfSlots p q = absurd q
     anew_same id user number want h OutOfRoom OutOfRoom p q = refl
@@ -289,9 +289,9 @@ module _ (held : FileMap) (state : Machine) where
         let same = anew_once Makes makes state.banks state.slots want h p.0 q.0 p.1 q.1 in
         let place : x ≡ y = sym p.2 ∙ same.1 ∙ q.2 in
         ap (λ (n : ℕ). Made n next) place ∙ ap (λ (m : Machine). Made y m) (p.3
-        ∙ ap (λ (t : Slots). with_both state id (changed active_block t h) (Some (with_segment user number (fresh (Some h))))) same.0 ∙ sym q.3)
+        ∙ ap (λ (t : Slots). with_both state id (with_block_changed active_block t h) (Some (with_segment user number (fresh (Some h))))) same.0 ∙ sym q.3)
 
-    first_same : (id : ℕ) (user : User) (number : ℕ) (want : Want) (a b : Outcome) → ComesFirst Makes state id user number want a → ComesFirst Makes state id user number want b → a ≡ b
+    first_same : (id : ℕ) (user : User) (number : ℕ) (want : Want) (a b : Activation) → ComesFirst Makes state id user number want a → ComesFirst Makes state id user number want b → a ≡ b
     first_same id user number want OutOfSlots OutOfSlots p q = refl
     first_same id user number want OutOfSlots OutOfRoom p q = absurd (no_handle (new_handle state.slots) p q.0)
     first_same id user number want OutOfSlots (Made y last) p q = absurd (some_handle q.0 q.2.handle p)
@@ -307,16 +307,16 @@ module _ (held : FileMap) (state : Machine) where
         ∙ ap (λ (k : Handle). with_both state id p.1 (Some (with_segment user number (fresh (Some k))))) same.0
         ∙ ap (λ (t : Slots). with_both state id t (Some (with_segment user number (fresh (Some q.0))))) same.1 ∙ sym q.4)
 
-    activates_once : (id : ℕ) (user : User) (number : ℕ) (want : Want) (where' : Presence) (a b : Outcome) → Activates Makes state id user number want where' a → Activates Makes state id user number want where' b → a ≡ b
+    activates_once : (id : ℕ) (user : User) (number : ℕ) (want : Want) (where' : Presence) (a b : Activation) → Activates Makes state id user number want where' a → Activates Makes state id user number want where' b → a ≡ b
     activates_once id user number want (Active h x) a b p q = p ∙ sym q
     activates_once id user number want (Idle h x) a b p q = p ∙ sym q
     activates_once id user number want (Purged h) a b p q = anew_same id user number want h a b p q
     activates_once id user number want Absent a b p q = first_same id user number want a b p q
 
-    answers_once : (number : ℕ) (a b : Outcome) (of : ℕ → Reply) (one other : Reply) (next last : Machine) → a ≡ b → Answers state number a of one next → Answers state number b of other last → AreSame one other next last
-    answers_once number a b of one other next last same p q = go b (subst (λ (o : Outcome). Answers state number o of one next) same p) q
+    answers_once : (number : ℕ) (a b : Activation) (of : ℕ → Reply) (one other : Reply) (next last : Machine) → a ≡ b → Answers state number a of one next → Answers state number b of other last → AreSame one other next last
+    answers_once number a b of one other next last same p q = go b (subst (λ (o : Activation). Answers state number o of one next) same p) q
       where
-        go : (o : Outcome) → Answers state number o of one next → Answers state number o of other last → AreSame one other next last
+        go : (o : Activation) → Answers state number o of one next → Answers state number o of other last → AreSame one other next last
         go OutOfSlots p q = (p.0 ∙ sym q.0, p.1 ∙ sym q.1)
         go OutOfRoom p q = (p.0 ∙ sym q.0, p.1 ∙ sym q.1)
         go (Made address m) p q = (p.0 ∙ sym q.0, p.1 ∙ sym q.1)
@@ -403,7 +403,7 @@ module _ (held : FileMap) (state : Machine) where
           active_once q.0 t.segment (λ address. Entered q.0 t.segment t.offset (address + t.offset)) one other next last
           (subst (λ (n : ℕ). MakesActive Makes held state n t.segment (λ address. Entered n t.segment t.offset (address + t.offset)) one next) same p.2) q.2
 
-      enters_once : (address : ℕ) (place : Place) (one other : Reply) (next last : Machine) → Enters Makes held state address place one next → Enters Makes held state address place other last → AreSame one other next last
+      enters_once : (address : ℕ) (place : AddressPlace) (one other : Reply) (next last : Machine) → Enters Makes held state address place one next → Enters Makes held state address place other last → AreSame one other next last
       enters_once address Nowhere one other next last p q = (p.0 ∙ sym q.0, p.1 ∙ sym q.1)
       enters_once address (In id number offset) one other next last p q =
           let s = segment_same id p.0 q.0 number p.1 q.1 p.2 q.2 in
@@ -418,12 +418,12 @@ module _ (held : FileMap) (state : Machine) where
       jsl_once id number at one other next last p q =
           let bytes = stands_once id number p.bytes q.bytes p.stands q.stands in
           let four = take 4 (drop at q.bytes) in
-          let To : Reply → Machine → Type 0 = λ (r : Reply) (m : Machine). (place : Place) × IsLocated held state (address_of four) place × Enters Makes held state (address_of four) place r m in
+          let To : Reply → Machine → Type 0 = λ (r : Reply) (m : Machine). (place : AddressPlace) × IsLocated held state (address_of four) place × Enters Makes held state (address_of four) place r m in
           decided (no_jsl four) one other next last (To one next) (To other last)
           (λ x y. enters_once (address_of four) y.0 one other next last
-          (subst (λ (place : Place). Enters Makes held state (address_of four) place one next) (located_once apart (address_of four) x.0 y.0 x.1 y.1) x.2) y.2)
+          (subst (λ (place : AddressPlace). Enters Makes held state (address_of four) place one next) (located_once apart (address_of four) x.0 y.0 x.1 y.1) x.2) y.2)
           (subst (λ (bs : List ℕ). let four = take 4 (drop at bs) in Decides (no_jsl four) state one next
-          ((place : Place) × IsLocated held state (address_of four) place × Enters Makes held state (address_of four) place one next)) bytes p.is) q.is
+          ((place : AddressPlace) × IsLocated held state (address_of four) place × Enters Makes held state (address_of four) place one next)) bytes p.is) q.is
 
       -- a command has one reply, and leads to one next state
       pub steps_once : (command : Command) (one other : Reply) (next last : Machine) → Steps Makes held state command one next → Steps Makes held state command other last → AreSame one other next last

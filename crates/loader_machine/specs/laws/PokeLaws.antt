@@ -9,7 +9,7 @@ use Rattle.std.proofs.lemmas.List.{set-append_left}
 use Rattle.omf_format.specs.File.{Segment}
 use Rattle.omf_io.specs.Counts.{IsFront}
 use Rattle.loader_machine.specs.State.{Pokes, no_pokes}
-use Rattle.loader_machine.specs.Stands.{Setting, over_from, over, read_bytes, stands}
+use Rattle.loader_machine.specs.Stands.{AddressSetting, over_from, with_pokes, read_bytes, stands}
 
 poked : (pokes : Pokes) (k b q : ℕ) → get (insert pokes k b) q ≡ cond (q == k) (Some b) (get pokes q)
 poked pokes k b q = get-insert nat_cmp_total pokes k b q ∙ ap (λ (t : Bool). cond t (Some b) (get pokes q)) (unsigned_tied q k)
@@ -34,11 +34,11 @@ from_set at j (suc k) b pokes (x ∷ bytes) is =
     cc (poked_apart pokes j b at ne, from_set (at + 1) j k b pokes bytes (omega arith))
 
 -- the bytes with one poke more are those with that byte set
-pub over_set : (pokes : Pokes) (bytes : List ℕ) (k b : ℕ) → over (insert pokes k b) bytes ≡ slice_set (over pokes bytes) k b
-unfolding over
+pub over_set : (pokes : Pokes) (bytes : List ℕ) (k b : ℕ) → with_pokes (insert pokes k b) bytes ≡ slice_set (with_pokes pokes bytes) k b
+unfolding with_pokes
 over_set pokes bytes k b = from_set 0 k k b pokes bytes (omega arith)
 
-pub stands_set : (at : Setting) (s : Segment) (pokes : Pokes) (k b : ℕ) → stands at (insert pokes k b) s ≡ slice_set (stands at pokes s) k b
+pub stands_set : (at : AddressSetting) (s : Segment) (pokes : Pokes) (k b : ℕ) → stands at (insert pokes k b) s ≡ slice_set (stands at pokes s) k b
 unfolding stands
 stands_set at s pokes k b = over_set pokes (read_bytes at s) k b
 
@@ -46,7 +46,7 @@ stands_set at s pokes k b = over_set pokes (read_bytes at s) k b
 pub front_set : (front bytes : List ℕ) (k b : ℕ) → k < length front → IsFront front bytes → IsFront (slice_set front k b) (slice_set bytes k b)
 front_set front bytes k b within is = (is.0, ap (λ (bs : List ℕ). slice_set bs k b) is.1 ∙ set-append_left front is.0 k b within)
 
-pub poked_begins : (at : Setting) (s : Segment) (pokes : Pokes) (k b : ℕ) (bytes : List ℕ) → k < length (stands at pokes s) → IsFront (stands at pokes s) bytes
+pub poked_begins : (at : AddressSetting) (s : Segment) (pokes : Pokes) (k b : ℕ) (bytes : List ℕ) → k < length (stands at pokes s) → IsFront (stands at pokes s) bytes
     → IsFront (stands at (insert pokes k b) s) (slice_set bytes k b)
 poked_begins at s pokes k b bytes within is = rw (stands_set at s pokes k b) (front_set (stands at pokes s) bytes k b within is)
 
@@ -54,8 +54,8 @@ length_from : (at : ℕ) (pokes : Pokes) (bytes : List ℕ) → length (over_fro
 length_from at pokes [] = refl
 length_from at pokes (x ∷ bytes) = ap (λ (n : ℕ). suc n) (length_from (at + 1) pokes bytes)
 
-pub length_over : (pokes : Pokes) (bytes : List ℕ) → length (over pokes bytes) ≡ length bytes
-unfolding over
+pub length_over : (pokes : Pokes) (bytes : List ℕ) → length (with_pokes pokes bytes) ≡ length bytes
+unfolding with_pokes
 length_over pokes bytes = length_from 0 pokes bytes
 
 none_from : (at : ℕ) (bytes : List ℕ) → over_from at no_pokes bytes ≡ bytes
@@ -63,6 +63,6 @@ none_from at [] = refl
 none_from at (x ∷ bytes) = cc (get-empty nat_cmp at, none_from (at + 1) bytes)
 
 -- without pokes it is the bytes themselves
-pub over_none : (bytes : List ℕ) → over no_pokes bytes ≡ bytes
-unfolding over
+pub over_none : (bytes : List ℕ) → with_pokes no_pokes bytes ≡ bytes
+unfolding with_pokes
 over_none bytes = none_from 0 bytes

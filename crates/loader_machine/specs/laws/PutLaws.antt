@@ -8,7 +8,7 @@ use Rattle.iigs_meaning.specs.declared.wants.Want.{Want}
 use Rattle.iigs_meaning.specs.declared.wants.Block.{Block}
 use Rattle.iigs_meaning.specs.Slots.{after_take, with_value}
 use Rattle.iigs_meaning.specs.Fits.{Slots}
-use Rattle.iigs_meaning.specs.Puts.{MakesRoom, LacksRoom, IsOnce, Puts, PutsAnew, PutsAll, LacksRoomAt, placed}
+use Rattle.iigs_meaning.specs.Puts.{MakesRoom, LacksRoom, IsOnce, Puts, PutsAnew, PutsAll, LacksRoomAt, placed_block}
 use Rattle.iigs_meaning.specs.Room.{CountsBelow}
 use Rattle.iigs_meaning.specs.Room.CountsBelow.{none, one_more, no_more}
 use Rattle.loader_machine.specs.Steps.{Put, NoSlots, Lacks, PutIn, IsPut}
@@ -29,7 +29,7 @@ module _ (Makes : MakesRoom) (makes : IsOnce Makes) (banks : List ℕ) where
     puts_once slots want h k x y p q =
         let same = makes.room banks slots want p.address q.address p.room q.room p.makes q.makes in (
           same_Some h k (sym p.handle ∙ q.handle),
-          p.next_is ∙ ap (λ (r : Slots). after_take r (placed want p.address user locked level movable)) same.1 ∙ ap (λ (n : ℕ). after_take q.room (placed want n user locked level movable)) same.0 ∙ sym q.next_is,
+          p.next_is ∙ ap (λ (r : Slots). after_take r (placed_block want p.address user locked level movable)) same.1 ∙ ap (λ (n : ℕ). after_take q.room (placed_block want n user locked level movable)) same.0 ∙ sym q.next_is,
           same.0,
         )
 
@@ -40,9 +40,9 @@ module _ (Makes : MakesRoom) (makes : IsOnce Makes) (banks : List ℕ) where
       let same = makes.room banks slots want p.address q.address p.room q.room p.makes q.makes in
       let block = same_Some p.block q.block (sym p.was ∙ q.was) in (
         p.next_is
-            ∙ ap (λ (r : Slots). with_value r h (placed want p.address p.block.user p.block.locked p.block.level false)) same.1
-            ∙ ap (λ (n : ℕ). with_value q.room h (placed want n p.block.user p.block.locked p.block.level false)) same.0
-            ∙ ap (λ (b : Block). with_value q.room h (placed want q.address b.user b.locked b.level false)) block
+            ∙ ap (λ (r : Slots). with_value r h (placed_block want p.address p.block.user p.block.locked p.block.level false)) same.1
+            ∙ ap (λ (n : ℕ). with_value q.room h (placed_block want n p.block.user p.block.locked p.block.level false)) same.0
+            ∙ ap (λ (b : Block). with_value q.room h (placed_block want q.address b.user b.locked b.level false)) block
             ∙ sym q.next_is,
         same.0,
       )

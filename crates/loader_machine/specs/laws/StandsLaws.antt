@@ -8,7 +8,7 @@ use Rattle.std.proofs.lemmas.List.{length-map, length-append}
 use Rattle.omf_format.specs.Header.{is_dynamic, is_skipped}
 use Rattle.omf_format.specs.File.{Segment, segment_at}
 use Rattle.load_meaning.specs.declared.table.Target.{Target}
-use Rattle.load_meaning.specs.Cells.{Cell, Byte, Part, Patch, cells, segment_bytes, parts_from, with_patch, patched, byte_of}
+use Rattle.load_meaning.specs.Cells.{Cell, Byte, Part, Patch, cells, segment_bytes, parts_from, with_patch, patched_cells, byte_of}
 use Rattle.load_meaning.specs.declared.table.Entry.{Entry}
 use Rattle.load_meaning.specs.Table.{entry_bytes, table_bytes, file_entry}
 use Rattle.load_meaning.specs.laws.TableLaws.{length-entry_bytes}
@@ -17,7 +17,7 @@ use Rattle.load_meaning.specs.Loadable.{patch_list, IsPatch, IsTarget, IsSoundSe
 use Rattle.load_meaning.specs.laws.CellLaws.{length-cells, length-segment_bytes}
 use Rattle.loader_machine.specs.Heads.{head_of, is_static}
 use Rattle.loader_machine.specs.State.{Pokes}
-use Rattle.loader_machine.specs.Stands.{Setting, entry_for, entries_bytes, over, read_bytes, stands}
+use Rattle.loader_machine.specs.Stands.{AddressSetting, entry_for, entries_bytes, with_pokes, read_bytes, stands}
 use Rattle.loader_machine.specs.laws.PokeLaws.{length_over}
 
 -- ---- cells
@@ -41,7 +41,7 @@ module _ (p q : ℕ → ℕ) where
   parts_same patch index zero e = All-nil (Same p q)
   parts_same patch index (suc n) e = All-cons (Same p q) (Part patch.file patch.segment patch.offset patch.shift index) (parts_from patch (index + 1) n) (part_same patch index e) (parts_same patch (index + 1) n e)
 
-  patched_same : (patches : List Patch) (cs : List Cell) → All (Same p q) cs → AllByRecursion (λ (patch : Patch). p patch.segment ≡ q patch.segment) patches → All (Same p q) (patched cs patches)
+  patched_same : (patches : List Patch) (cs : List Cell) → All (Same p q) cs → AllByRecursion (λ (patch : Patch). p patch.segment ≡ q patch.segment) patches → All (Same p q) (patched_cells cs patches)
   patched_same [] cs all es = all
   patched_same (patch ∷ patches) cs all es = patched_same patches (with_patch cs patch)
       (All-append (Same p q) (take patch.location cs ++ parts_from patch 0 patch.count) (drop (patch.location + patch.count) cs)
@@ -55,11 +55,11 @@ module _ (p q : ℕ → ℕ) where
   -- where the places of the patches' targets are the same, so are the bytes of the cells
   pub cells_same : (s : Segment) → AllByRecursion (λ (patch : Patch). p patch.segment ≡ q patch.segment) (patch_list s) → map (byte_of p) (cells s) ≡ map (byte_of q) (cells s)
   unfolding cells
-  cells_same s es = map_same (patched (map Byte (segment_bytes s)) (patch_list s)) (patched_same (patch_list s) (map Byte (segment_bytes s)) (bytes_same (segment_bytes s)) es)
+  cells_same s es = map_same (patched_cells (map Byte (segment_bytes s)) (patch_list s)) (patched_same (patch_list s) (map Byte (segment_bytes s)) (bytes_same (segment_bytes s)) es)
 
 -- ---- tables
 
-module _ (a b : Setting) (id : a.id ≡ b.id) where
+module _ (a b : AddressSetting) (id : a.id ≡ b.id) where
   entry_same : (t : Target) → a.target t.file t.segment ≡ b.target t.file t.segment → entry_for a t ≡ entry_for b t
   entry_same t target = cc
 
@@ -76,7 +76,7 @@ module _ (a b : Setting) (id : a.id ≡ b.id) where
 
 -- two settings are alike for a segment: its user is the same; it isn't a table, and the segment itself and the static ones
 -- are at the same places; or it is a table, and its targets are
-pub record AreAlike (segments : List Segment) (number : ℕ) (s : Segment) (a b : Setting) : Type 0 where
+pub record AreAlike (segments : List Segment) (number : ℕ) (s : Segment) (a b : AddressSetting) : Type 0 where
   pub id : a.id ≡ b.id
   pub own : a.place number ≡ b.place number
   pub static : (n : ℕ) (t : Segment) → segment_at segments n ≡ Some t → is_static (head_of t) ≡ true → a.place n ≡ b.place n
@@ -88,7 +88,7 @@ all_weaker : {X : Type 0} (P Q : X → Type 0) → ((x : X) → P x → Q x) →
 all_weaker P Q f [] all = tt
 all_weaker P Q f (x ∷ xs) all = (f x all.0, all_weaker P Q f xs all.1)
 
-module _ (segments : List Segment) (number : ℕ) (s : Segment) (sound : IsSoundSegment segments number s) (a b : Setting) (alike : AreAlike segments number s a b) where
+module _ (segments : List Segment) (number : ℕ) (s : Segment) (sound : IsSoundSegment segments number s) (a b : AddressSetting) (alike : AreAlike segments number s a b) where
   patch_place : (patch : Patch) → IsPatch segments s patch → a.place patch.segment ≡ b.place patch.segment
   patch_place patch is = elim is.near [
     | inl own ↦ rw (own, sound.number') alike.own
@@ -111,7 +111,7 @@ module _ (segments : List Segment) (number : ℕ) (s : Segment) (sound : IsSound
   -- on its targets
   pub stands_alike : (pokes : Pokes) → stands a pokes s ≡ stands b pokes s
   unfolding stands
-  stands_alike pokes = ap (over pokes) read_same
+  stands_alike pokes = ap (with_pokes pokes) read_same
 
 -- ---- lengths
 
@@ -129,14 +129,14 @@ length-table_bytes entries = omega (
   flat_length entries,
 )
 
-table_length : (segments : List Segment) (number : ℕ) (s : Segment) (at : Setting) → IsSoundSegment segments number s → is_table s ≡ true → length (entries_bytes at (targets_of s)) ≡ s.fields.length
+table_length : (segments : List Segment) (number : ℕ) (s : Segment) (at : AddressSetting) → IsSoundSegment segments number s → is_table s ≡ true → length (entries_bytes at (targets_of s)) ≡ s.fields.length
 unfolding entries_bytes
 table_length segments number s at sound is =
     let laid = (sound.table is).laid_out.size in
     length-table_bytes (map (entry_for at) (targets_of s))
     ∙ omega (arith, laid, length-map (targets_of s) (entry_for at), length-map (targets_of s) file_entry, length-segment_bytes s sound.fits)
 
-read_long : (segments : List Segment) (number : ℕ) (s : Segment) (at : Setting) → IsSoundSegment segments number s → length (read_bytes at s) ≡ s.fields.length
+read_long : (segments : List Segment) (number : ℕ) (s : Segment) (at : AddressSetting) → IsSoundSegment segments number s → length (read_bytes at s) ≡ s.fields.length
 unfolding read_bytes
 read_long segments number s at sound = go (is_table s) refl
   where
@@ -145,6 +145,6 @@ read_long segments number s at sound = go (is_table s) refl
     go false is = length-map (cells s) (byte_of at.place) ∙ length-cells segments number s sound
 
 -- LENGTH bytes stand in each segment of a load file
-pub stands_long : (segments : List Segment) (number : ℕ) (s : Segment) (at : Setting) (pokes : Pokes) → IsSoundSegment segments number s → length (stands at pokes s) ≡ s.fields.length
+pub stands_long : (segments : List Segment) (number : ℕ) (s : Segment) (at : AddressSetting) (pokes : Pokes) → IsSoundSegment segments number s → length (stands at pokes s) ≡ s.fields.length
 unfolding stands
 stands_long segments number s at pokes sound = length_over pokes (read_bytes at s) ∙ read_long segments number s at sound

@@ -14,8 +14,8 @@ use Rattle.macro_meaning.specs.declared.statements.Kind.TheVariants.{Number, Fla
 use Rattle.macro_meaning.specs.declared.statements.Statement.{Statement}
 use Rattle.macro_meaning.specs.declared.statements.Statement.TheVariants.{Declare, Set, Middle, BranchIf, Branch, Count, Nothing, Leave, Note, Define}
 use Rattle.macro_meaning.specs.Condition.{Answer, IsNumber, Formula, NoFormula, answer_of, comparison, IsConditionBy, IsCondition}
-use Rattle.macro_meaning.specs.Deed.{Deed, Rests, Gives, Fails, Leaves, both, or_bad, declaring, setting, printed_answer, middle_of, going, going_to, counting, noting, resting, IsBranchIf, IsMiddle, IsNote, IsSetting, IsDone, Setting, IsDoneBy, operation_or_anop, cut, IsAfterCut, IsAfterText, begins_definition, IsShort, IsWithTexts, shown, IsWritten, IsDeed}
-use Rattle.macro_meaning.specs.Pieces.{pieces, quoted, joined}
+use Rattle.macro_meaning.specs.Effect.{Effect, NoEffect, Emit, Fail, Exit, pair_or_earlier_fault, or_bad, declaring, setting, printed_answer, middle_of, going, going_to, counting, noting, resting, IsBranchIf, IsMiddle, IsNote, IsSetting, IsDone, SymbolSetting, IsDoneBy, operation_or_anop, without_sequence_symbol, IsAfterCut, IsAfterText, begins_definition, IsShort, IsWithTexts, substituted_line, IsWritten, IsDeed}
+use Rattle.macro_meaning.specs.Pieces.{pieces, unquoted_text, joined_texts}
 use Rattle.macro_meaning.specs.Statements.{symbol_name, target_name}
 use Rattle.macro_meaning.specs.Symbol.{Values}
 use Rattle.macro_meaning.specs.Visit.{Program, Visit, Move, On, Ends, Stops, line_at, setting_of, move_of, given_by, most_visits, IsVisitOf, IsVisitAt, IsVisit, Follow, first_visit}
@@ -36,32 +36,32 @@ a_condition values text go = by_comparison (comparison text) go
 
 -- ---- statements
 
-a_setting : (values : Values) (kind : Kind) (label operand : List ℕ) → ((deed : Deed) → IsSetting values kind label operand deed → ⊥) → ⊥
+a_setting : (values : Values) (kind : Kind) (label operand : List ℕ) → ((deed : Effect) → IsSetting values kind label operand deed → ⊥) → ⊥
 a_setting values Number label operand go = a_condition values operand (λ answer is. go (setting values Number label (printed_answer Number answer)) (answer, is, refl))
 a_setting values Flag label operand go = a_condition values operand (λ answer is. go (setting values Flag label (printed_answer Flag answer)) (answer, is, refl))
-a_setting values Text label operand go = go (setting values Text label (or_bad (joined (pieces ascii.plus operand)))) refl
+a_setting values Text label operand go = go (setting values Text label (or_bad (joined_texts (pieces ascii.plus operand)))) refl
 
-a_branch : (values : Values) (operands : List (List ℕ)) → ((deed : Deed) → IsBranchIf values operands deed → ⊥) → ⊥
-a_branch values [] go = go (Fails BadSetting) refl
-a_branch values (condition ∷ []) go = go (Fails BadSetting) refl
-a_branch values (condition ∷ target ∷ []) go = a_condition values condition (λ answer is. go (going (both answer (or_bad (target_name target)))) (answer, is, refl))
-a_branch values (condition ∷ target ∷ other ∷ more) go = go (Fails BadSetting) refl
+a_branch : (values : Values) (operands : List (List ℕ)) → ((deed : Effect) → IsBranchIf values operands deed → ⊥) → ⊥
+a_branch values [] go = go (Fail BadSetting) refl
+a_branch values (condition ∷ []) go = go (Fail BadSetting) refl
+a_branch values (condition ∷ target ∷ []) go = a_condition values condition (λ answer is. go (going (pair_or_earlier_fault answer (or_bad (target_name target)))) (answer, is, refl))
+a_branch values (condition ∷ target ∷ other ∷ more) go = go (Fail BadSetting) refl
 
-a_middle : (values : Values) (label : List ℕ) (operands : List (List ℕ)) → ((deed : Deed) → IsMiddle values label operands deed → ⊥) → ⊥
+a_middle : (values : Values) (label : List ℕ) (operands : List (List ℕ)) → ((deed : Effect) → IsMiddle values label operands deed → ⊥) → ⊥
 a_middle values label [] go = go (setting values Text label (Err BadSetting)) refl
 a_middle values label (text ∷ []) go = go (setting values Text label (Err BadSetting)) refl
 a_middle values label (text ∷ start ∷ []) go = go (setting values Text label (Err BadSetting)) refl
 a_middle values label (text ∷ start ∷ count ∷ []) go =
-    a_number values start (λ s of_start. a_number values count (λ n of_count. go (setting values Text label (middle_of (both (or_bad (quoted text)) (both s n)))) (s, n, of_start, of_count, refl)))
+    a_number values start (λ s of_start. a_number values count (λ n of_count. go (setting values Text label (middle_of (pair_or_earlier_fault (or_bad (unquoted_text text)) (pair_or_earlier_fault s n)))) (s, n, of_start, of_count, refl)))
 a_middle values label (text ∷ start ∷ count ∷ other ∷ more) go = go (setting values Text label (Err BadSetting)) refl
 
-a_note : (values : Values) (operands : List (List ℕ)) → ((deed : Deed) → IsNote values operands deed → ⊥) → ⊥
-a_note values [] go = go (Fails BadSetting) refl
-a_note values (text ∷ []) go = go (Fails BadSetting) refl
-a_note values (text ∷ severity ∷ []) go = a_number values severity (λ answer is. go (noting (both (or_bad (quoted text)) answer)) (answer, is, refl))
-a_note values (text ∷ severity ∷ other ∷ more) go = go (Fails BadSetting) refl
+a_note : (values : Values) (operands : List (List ℕ)) → ((deed : Effect) → IsNote values operands deed → ⊥) → ⊥
+a_note values [] go = go (Fail BadSetting) refl
+a_note values (text ∷ []) go = go (Fail BadSetting) refl
+a_note values (text ∷ severity ∷ []) go = a_number values severity (λ answer is. go (noting (pair_or_earlier_fault (or_bad (unquoted_text text)) answer)) (answer, is, refl))
+a_note values (text ∷ severity ∷ other ∷ more) go = go (Fail BadSetting) refl
 
-a_statement : (values : Values) (statement : Statement) (text label operand : List ℕ) → ((deed : Deed) → IsDone values statement text label operand deed → ⊥) → ⊥
+a_statement : (values : Values) (statement : Statement) (text label operand : List ℕ) → ((deed : Effect) → IsDone values statement text label operand deed → ⊥) → ⊥
 a_statement values (Declare declaration) text label operand go = go (declaring values declaration (symbol_name operand)) refl
 a_statement values (Set kind) text label operand go = a_setting values kind label operand go
 a_statement values Middle text label operand go = a_middle values label (pieces ascii.comma operand) go
@@ -69,37 +69,37 @@ a_statement values BranchIf text label operand go = a_branch values (pieces asci
 a_statement values Branch text label operand go = go (going_to (target_name operand)) refl
 a_statement values Count text label operand go = a_number values operand (λ answer is. go (counting answer) (answer, is, refl))
 a_statement values Nothing text label operand go = go (resting label text) refl
-a_statement values Leave text label operand go = go Leaves refl
+a_statement values Leave text label operand go = go Exit refl
 a_statement values Note text label operand go = a_note values (pieces ascii.comma operand) go
-a_statement values Define text label operand go = go (Gives text) refl
+a_statement values Define text label operand go = go (Emit text) refl
 
 -- ---- lines
 
-done_by : (s : Setting) (text : List ℕ) (fields : Fields) (o : Option Statement) → ((deed : Deed) → IsDoneBy s text fields o deed → ⊥) → ⊥
+done_by : (s : SymbolSetting) (text : List ℕ) (fields : Fields) (o : Option Statement) → ((deed : Effect) → IsDoneBy s text fields o deed → ⊥) → ⊥
 done_by s text fields (Some statement) go = a_statement s.values statement text (part text fields.label) (part text fields.operand) go
 done_by s text fields None go = go _ refl
 
-after_cut : (s : Setting) (comment : Bool) (text : List ℕ) → ((deed : Deed) → IsAfterCut s comment text deed → ⊥) → ⊥
-after_cut s true text go = go Rests refl
+after_cut : (s : SymbolSetting) (comment : Bool) (text : List ℕ) → ((deed : Effect) → IsAfterCut s comment text deed → ⊥) → ⊥
+after_cut s true text go = go NoEffect refl
 after_cut s false text go = done_by s text (three_fields text) (operation_or_anop (part text (three_fields text).operation)) go
 
-after_text : (s : Setting) (begins : Bool) (text : List ℕ) → ((deed : Deed) → IsAfterText s begins text deed → ⊥) → ⊥
-after_text s true text go = go Rests refl
-after_text s false text go = after_cut s (is_comment (cut text)) (cut text) go
+after_text : (s : SymbolSetting) (begins : Bool) (text : List ℕ) → ((deed : Effect) → IsAfterText s begins text deed → ⊥) → ⊥
+after_text s true text go = go NoEffect refl
+after_text s false text go = after_cut s (is_comment (without_sequence_symbol text)) (without_sequence_symbol text) go
 
-of_length : (s : Setting) (line : Line) (long : Bool) (text : List ℕ) → ((deed : Deed) → IsShort s line long text deed → ⊥) → ⊥
-of_length s line true text go = go (Fails LineTooLong) refl
+of_length : (s : SymbolSetting) (line : Line) (long : Bool) (text : List ℕ) → ((deed : Effect) → IsShort s line long text deed → ⊥) → ⊥
+of_length s line true text go = go (Fail LineTooLong) refl
 of_length s line false text go = after_text s (begins_definition s line) text go
 
-with_texts : (s : Setting) (line : Line) (o : Option (List ℕ)) → ((deed : Deed) → IsWithTexts s line o deed → ⊥) → ⊥
-with_texts s line None go = go (Fails NoSuchSymbol) refl
+with_texts : (s : SymbolSetting) (line : Line) (o : Option (List ℕ)) → ((deed : Effect) → IsWithTexts s line o deed → ⊥) → ⊥
+with_texts s line None go = go (Fail NoSuchSymbol) refl
 with_texts s line (Some text) go = of_length s line (nat_lt 255 (length text)) text go
 
-as_written : (s : Setting) (line : Line) (comment : Bool) → ((deed : Deed) → IsWritten s line comment deed → ⊥) → ⊥
-as_written s line true go = go Rests refl
-as_written s line false go = with_texts s line (shown s.values line) go
+as_written : (s : SymbolSetting) (line : Line) (comment : Bool) → ((deed : Effect) → IsWritten s line comment deed → ⊥) → ⊥
+as_written s line true go = go NoEffect refl
+as_written s line false go = with_texts s line (substituted_line s.values line) go
 
-a_deed : (s : Setting) (line : Line) → ((deed : Deed) → IsDeed s line deed → ⊥) → ⊥
+a_deed : (s : SymbolSetting) (line : Line) → ((deed : Effect) → IsDeed s line deed → ⊥) → ⊥
 a_deed s line go = as_written s line (is_comment line.text) go
 
 -- ---- visits

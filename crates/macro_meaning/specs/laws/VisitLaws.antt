@@ -8,8 +8,8 @@ use Rattle.macro_meaning.specs.declared.statements.Kind.TheVariants.{Number, Fla
 use Rattle.macro_meaning.specs.declared.statements.Statement.{Statement}
 use Rattle.macro_meaning.specs.declared.statements.Statement.TheVariants.{Declare, Set, Middle, BranchIf, Branch, Count, Nothing, Leave, Note, Define}
 use Rattle.macro_meaning.specs.Condition.{Answer, answer_of, IsNumber, Formula, NoFormula, IsCondition, IsConditionBy, comparison}
-use Rattle.macro_meaning.specs.Deed.{Deed, Setting, both, or_bad, going, setting, middle_of, noting, printed_answer, counting, IsBranchIf, IsMiddle, IsNote, IsSetting, IsDone, IsDoneBy, operation_or_anop, IsAfterCut, cut, IsAfterText, begins_definition, IsShort, IsWithTexts, shown, IsWritten, IsDeed}
-use Rattle.macro_meaning.specs.Pieces.{quoted, pieces}
+use Rattle.macro_meaning.specs.Effect.{Effect, SymbolSetting, pair_or_earlier_fault, or_bad, going, setting, middle_of, noting, printed_answer, counting, IsBranchIf, IsMiddle, IsNote, IsSetting, IsDone, IsDoneBy, operation_or_anop, IsAfterCut, without_sequence_symbol, IsAfterText, begins_definition, IsShort, IsWithTexts, substituted_line, IsWritten, IsDeed}
+use Rattle.macro_meaning.specs.Pieces.{unquoted_text, pieces}
 use Rattle.macro_meaning.specs.Statements.{target_name}
 use Rattle.macro_meaning.specs.Symbol.{Values}
 use Rattle.macro_meaning.specs.Visit.{Program, Visit, Move, On, Ends, Stops, IsVisitOf, IsVisitAt, IsVisit, Follow, line_at, setting_of, given_by, move_of, most_visits}
@@ -32,34 +32,34 @@ condition_once values text a b p q = by_comparison (comparison text) p q
 
 -- ---- deeds
 
-branch_if_once : (values : Values) (ps : List (List ℕ)) (d e : Deed) → IsBranchIf values ps d → IsBranchIf values ps e → d ≡ e
+branch_if_once : (values : Values) (ps : List (List ℕ)) (d e : Effect) → IsBranchIf values ps d → IsBranchIf values ps e → d ≡ e
 branch_if_once values [] d e p q = p ∙ sym q
 branch_if_once values (a ∷ []) d e p q = p ∙ sym q
 branch_if_once values (a ∷ b ∷ []) d e p q =
-    p.2 ∙ ap (λ (x : Answer). going (both x (or_bad (target_name b)))) (condition_once values a p.0 q.0 p.1 q.1) ∙ sym q.2
+    p.2 ∙ ap (λ (x : Answer). going (pair_or_earlier_fault x (or_bad (target_name b)))) (condition_once values a p.0 q.0 p.1 q.1) ∙ sym q.2
 branch_if_once values (a ∷ b ∷ c ∷ ps) d e p q = p ∙ sym q
 
-middle_once : (values : Values) (label : List ℕ) (ps : List (List ℕ)) (d e : Deed) → IsMiddle values label ps d → IsMiddle values label ps e → d ≡ e
+middle_once : (values : Values) (label : List ℕ) (ps : List (List ℕ)) (d e : Effect) → IsMiddle values label ps d → IsMiddle values label ps e → d ≡ e
 middle_once values label [] d e p q = p ∙ sym q
 middle_once values label (a ∷ []) d e p q = p ∙ sym q
 middle_once values label (a ∷ b ∷ []) d e p q = p ∙ sym q
 middle_once values label (a ∷ b ∷ c ∷ []) d e p q =
-    p.4 ∙ ap (λ (x : Answer). setting values Text label (middle_of (both (or_bad (quoted a)) (both x p.1)))) (number_once values b p.0 q.0 p.2 q.2)
-    ∙ ap (λ (x : Answer). setting values Text label (middle_of (both (or_bad (quoted a)) (both q.0 x)))) (number_once values c p.1 q.1 p.3 q.3) ∙ sym q.4
+    p.4 ∙ ap (λ (x : Answer). setting values Text label (middle_of (pair_or_earlier_fault (or_bad (unquoted_text a)) (pair_or_earlier_fault x p.1)))) (number_once values b p.0 q.0 p.2 q.2)
+    ∙ ap (λ (x : Answer). setting values Text label (middle_of (pair_or_earlier_fault (or_bad (unquoted_text a)) (pair_or_earlier_fault q.0 x)))) (number_once values c p.1 q.1 p.3 q.3) ∙ sym q.4
 middle_once values label (a ∷ b ∷ c ∷ x ∷ ps) d e p q = p ∙ sym q
 
-note_once : (values : Values) (ps : List (List ℕ)) (d e : Deed) → IsNote values ps d → IsNote values ps e → d ≡ e
+note_once : (values : Values) (ps : List (List ℕ)) (d e : Effect) → IsNote values ps d → IsNote values ps e → d ≡ e
 note_once values [] d e p q = p ∙ sym q
 note_once values (a ∷ []) d e p q = p ∙ sym q
-note_once values (a ∷ b ∷ []) d e p q = p.2 ∙ ap (λ (x : Answer). noting (both (or_bad (quoted a)) x)) (number_once values b p.0 q.0 p.1 q.1) ∙ sym q.2
+note_once values (a ∷ b ∷ []) d e p q = p.2 ∙ ap (λ (x : Answer). noting (pair_or_earlier_fault (or_bad (unquoted_text a)) x)) (number_once values b p.0 q.0 p.1 q.1) ∙ sym q.2
 note_once values (a ∷ b ∷ c ∷ ps) d e p q = p ∙ sym q
 
-setting_once : (values : Values) (kind : Kind) (label operand : List ℕ) (d e : Deed) → IsSetting values kind label operand d → IsSetting values kind label operand e → d ≡ e
+setting_once : (values : Values) (kind : Kind) (label operand : List ℕ) (d e : Effect) → IsSetting values kind label operand d → IsSetting values kind label operand e → d ≡ e
 setting_once values Number label operand d e p q = p.2 ∙ ap (λ (x : Answer). setting values Number label (printed_answer Number x)) (condition_once values operand p.0 q.0 p.1 q.1) ∙ sym q.2
 setting_once values Flag label operand d e p q = p.2 ∙ ap (λ (x : Answer). setting values Flag label (printed_answer Flag x)) (condition_once values operand p.0 q.0 p.1 q.1) ∙ sym q.2
 setting_once values Text label operand d e p q = p ∙ sym q
 
-done_once : (values : Values) (s : Statement) (text label operand : List ℕ) (d e : Deed) → IsDone values s text label operand d → IsDone values s text label operand e → d ≡ e
+done_once : (values : Values) (s : Statement) (text label operand : List ℕ) (d e : Effect) → IsDone values s text label operand d → IsDone values s text label operand e → d ≡ e
 done_once values (Declare declaration) text label operand d e p q = p ∙ sym q
 done_once values (Set kind) text label operand d e p q = setting_once values kind label operand d e p q
 done_once values Middle text label operand d e p q = middle_once values label (pieces 0x2C operand) d e p q
@@ -72,7 +72,7 @@ done_once values Note text label operand d e p q = note_once values (pieces 0x2C
 done_once values Define text label operand d e p q = p ∙ sym q
 
 -- a line does one thing
-pub deed_once : (s : Setting) (line : Line) (d e : Deed) → IsDeed s line d → IsDeed s line e → d ≡ e
+pub deed_once : (s : SymbolSetting) (line : Line) (d e : Effect) → IsDeed s line d → IsDeed s line e → d ≡ e
 deed_once s line d e p q = by_comment (is_comment line.text) p q
   where
     by_statement : (text : List ℕ) (fields : Fields) (o : Option Statement) → IsDoneBy s text fields o d → IsDoneBy s text fields o e → d ≡ e
@@ -85,7 +85,7 @@ deed_once s line d e p q = by_comment (is_comment line.text) p q
 
     by_begins : (b : Bool) (text : List ℕ) → IsAfterText s b text d → IsAfterText s b text e → d ≡ e
     by_begins true text p q = p ∙ sym q
-    by_begins false text p q = by_cut (is_comment (cut text)) (cut text) p q
+    by_begins false text p q = by_cut (is_comment (without_sequence_symbol text)) (without_sequence_symbol text) p q
 
     by_length : (b : Bool) (text : List ℕ) → IsShort s line b text d → IsShort s line b text e → d ≡ e
     by_length true text p q = p ∙ sym q
@@ -97,7 +97,7 @@ deed_once s line d e p q = by_comment (is_comment line.text) p q
 
     by_comment : (b : Bool) → IsWritten s line b d → IsWritten s line b e → d ≡ e
     by_comment true p q = p ∙ sym q
-    by_comment false p q = by_texts (shown s.values line) p q
+    by_comment false p q = by_texts (substituted_line s.values line) p q
 
 -- ---- visits
 

@@ -17,7 +17,7 @@ use Rattle.omf_format.specs.File.{Segment}
 use Rattle.load_meaning.specs.Cells.{Cell, Byte, Patch, cells}
 use Rattle.load_meaning.specs.laws.CellLaws.{length-cells, loadable_at, loadable_has}
 use Rattle.load_meaning.specs.Loadable.{IsLoadable}
-use Rattle.load_meaning.specs.WrittenBody.{data_records, written_data, zeros_behind, body_records, lone, lone_record, supers_from}
+use Rattle.load_meaning.specs.WrittenBody.{data_records, written_data, zeros_behind, body_records, patches_stored_alone, lone_record, supers_from}
 use Rattle.load_meaning.specs.laws.StoredLaws.{zeros_left}
 use Rattle.load_meaning.specs.laws.WrittenBodyLaws.{length-written}
 use Rattle.load_meaning.specs.laws.RunLaws.{text}
@@ -111,7 +111,7 @@ pub text-longer : (own : ℕ) (content : List ℕ) (patches : List Patch) (more 
 unfolding body_records
 text-longer own content patches more =
     let d = written_data own content patches in
-    let rest = map (lone_record own) (lone own patches) ++ supers_from own patches 0 38 in
+    let rest = map (lone_record own) (patches_stored_alone own patches) ++ supers_from own patches 0 38 in
     let f = spelling written_layout in
     omega (
       arith,

@@ -10,8 +10,8 @@ use Rattle.omf_format.specs.Header.{Fields, form_of, is_listed, written_fields, 
 use Rattle.omf_format.specs.Record.{Record, End, Const, LongConst, Align, Org, Space, Reloc, InterSeg, ShortReloc, ShortInterSeg, Super, Using, Strong, Label, Equate, Formula, Entry, content_of, IsRecord}
 use Rattle.omf_format.specs.File.{Segment, IsFile}
 use Rattle.omf_format.specs.Body.{body_bytes}
-use Rattle.load_meaning.specs.Cells.{Cell, Byte, Patch, patched, segment_bytes, patches_in, patches_of, cells}
-use Rattle.load_meaning.specs.WrittenBody.{is_own, is_short, lone, lone_record, super_records, supers_from, of_form, data_records, written_data, body_records}
+use Rattle.load_meaning.specs.Cells.{Cell, Byte, Patch, patched_cells, segment_bytes, patches_in, patches_of, cells}
+use Rattle.load_meaning.specs.WrittenBody.{is_own, is_short, patches_stored_alone, lone_record, super_records, supers_from, of_form, data_records, written_data, body_records}
 use Rattle.load_meaning.specs.laws.StoredLaws.{zeros-le}
 use Rattle.load_meaning.specs.laws.RunLaws.{IsBodyRecord, text, placed, flat-placed}
 use Rattle.omf_compact.specs.Stretches.{first_broken, stretches, byte_in, bytes_in, IsWrittenCell}
@@ -110,8 +110,8 @@ data-no-entries (b ∷ bytes) = (refl, tt)
 pub body-no-entries : (own : ℕ) (content : List ℕ) (patches : List Patch) → NoEntries (body_records own content patches)
 unfolding body_records
 body-no-entries own content patches =
-    none-append (data_records (written_data own content patches)) (map (lone_record own) (lone own patches) ++ supers_from own patches 0 38) (data-no-entries (written_data own content patches))
-    (none-append (map (lone_record own) (lone own patches)) (supers_from own patches 0 38) (lones-no-entries own (lone own patches)) (supers-no-entries own patches 0 38))
+    none-append (data_records (written_data own content patches)) (map (lone_record own) (patches_stored_alone own patches) ++ supers_from own patches 0 38) (data-no-entries (written_data own content patches))
+    (none-append (map (lone_record own) (patches_stored_alone own patches)) (supers_from own patches 0 38) (lones-no-entries own (patches_stored_alone own patches)) (supers-no-entries own patches 0 38))
 
 -- those before the ENTRY records
 abbrev first_records : ℕ → Plain → List Record
@@ -160,7 +160,7 @@ unfolding cells segment_bytes
 bytes_back s bytes body size none =
     let whole : segment_bytes s ≡ bytes =
     ap (λ (l : List ℕ). l ++ replicate (s.fields.length - length l) 0) body ∙ ap (λ (n : ℕ). bytes ++ replicate n 0) left ∙ append-nil bytes in
-    ap (λ (l : List ℕ). patched (map Byte l) (map (λ (p : ℕ × Patch). p.1) (patches_of s))) whole ∙ ap (patched (map Byte bytes)) (patches_given s ∙ none)
+    ap (λ (l : List ℕ). patched_cells (map Byte l) (map (λ (p : ℕ × Patch). p.1) (patches_of s))) whole ∙ ap (patched_cells (map Byte bytes)) (patches_given s ∙ none)
   where
     left : s.fields.length - length bytes ≡ 0
     left = omega (arith, size)

@@ -11,7 +11,7 @@ use Rattle.omf_format.specs.Super.{locations_left}
 use Rattle.omf_format.specs.Record.{Record, End, Const, LongConst, Align, Org, Space, Reloc, InterSeg, ShortReloc, ShortInterSeg, Super, Using, Strong, Label, Equate, Formula, Entry, content_of}
 use Rattle.omf_format.specs.File.{Segment}
 use Rattle.omf_format.specs.Body.{body_bytes}
-use Rattle.load_meaning.specs.Cells.{Cell, Byte, Patch, patched, segment_bytes, super_patch, patches_in, patches_of, cells}
+use Rattle.load_meaning.specs.Cells.{Cell, Byte, Patch, patched_cells, segment_bytes, super_patch, patches_in, patches_of, cells}
 use Rattle.load_meaning.specs.WrittenBody.{AreWritten, written_cells, body_records}
 use Rattle.load_meaning.specs.laws.RunLaws.{placed, flat-placed}
 use Rattle.load_meaning.specs.laws.WrittenBodyLaws.{cells_are}
@@ -107,7 +107,7 @@ unfolding cells
 cells_same s t f e g =
     let b = bytes_same s t f e in
     let p : map (λ (p : ℕ × Patch). p.1) (patches_of s) ≡ map (λ (p : ℕ × Patch). p.1) (patches_of t) = patches_given s ∙ given_same s t s.records f b ∙ g ∙ sym (patches_given t) in
-    ap (λ (l : List ℕ). patched (map Byte l) (map (λ (p : ℕ × Patch). p.1) (patches_of s))) b ∙ ap (λ (l : List Patch). patched (map Byte (segment_bytes t)) l) p
+    ap (λ (l : List ℕ). patched_cells (map Byte l) (map (λ (p : ℕ × Patch). p.1) (patches_of s))) b ∙ ap (λ (l : List Patch). patched_cells (map Byte (segment_bytes t)) l) p
 
 -- ---- records behind the patches
 

@@ -6,12 +6,12 @@ use Rattle.std.specs.List.{list_all, AllByRecursion}
 use Rattle.std.proofs.lemmas.Bool.{cases_Bool, and_parts, and_from, eqb-true}
 use Rattle.std.proofs.lemmas.List.{append-nil, length-map, length-append, length-replicate, length-take, length-drop, map-append, take_at, take-append-le, drop-append-le}
 use Rattle.load_meaning.specs.Cells.{Cell, Byte, Part, Patch}
-use Rattle.load_meaning.specs.WrittenBody.{stored, with_stored, is_zero, zeros_behind, written_cells, written_data, body_records, data_records, lone, lone_record, supers_from}
+use Rattle.load_meaning.specs.WrittenBody.{stored_bytes, with_stored, is_zero, zeros_behind, written_cells, written_data, body_records, data_records, patches_stored_alone, lone_record, supers_from}
 use Rattle.load_meaning.specs.laws.LayingLaws.{laid, Fit}
 use Rattle.load_meaning.specs.laws.StoredLaws.{stored-laid, fit-stored, length-data}
 use Rattle.load_meaning.specs.laws.RunLaws.{IsBodyRecord}
 use Rattle.load_meaning.specs.laws.WrittenBodyLaws.{records_fit}
-use Rattle.omf_compact.specs.Stretches.{same_cell, first_broken, broken_from, run, stretches_from, stretches, byte_in, bytes_in, IsWrittenCell}
+use Rattle.omf_compact.specs.Stretches.{same_cell, first_broken, broken_from, run_length, stretches_from, stretches, byte_in, bytes_in, IsWrittenCell}
 use Rattle.omf_compact.specs.laws.StretchLaws.{unbroken-both, stretches_written, given_back}
 
 -- ---- the cells up to the last that isn't a byte 0
@@ -72,7 +72,7 @@ front-ends (c ∷ cells) = elim (cases_Bool (list_all is_zero (c ∷ cells))) [
 
 -- ---- stretches don't see the zeros
 
-run-more : (f s o : ℕ) (sh : ℤ) (i : ℕ) (cells : List Cell) (n : ℕ) → run f s o sh i (cells ++ zero_cells n) ≡ run f s o sh i cells
+run-more : (f s o : ℕ) (sh : ℤ) (i : ℕ) (cells : List Cell) (n : ℕ) → run_length f s o sh i (cells ++ zero_cells n) ≡ run_length f s o sh i cells
 run-more f s o sh i [] zero = refl
 run-more f s o sh i [] (suc n) = refl
 run-more f s o sh i (c ∷ cells) n = elim (cases_Bool (same_cell c (Part f s o sh i))) [
@@ -90,7 +90,7 @@ stretches-more at (Byte b ∷ cells) n = stretches-more (at + 1) cells n
 stretches-more at (Part f s o sh (suc i) ∷ cells) n = stretches-more (at + 1) cells n
 stretches-more at (Part f s o sh zero ∷ cells) n =
     ap (λ (m : ℕ). begun m ∷ stretches_from (at + 1) (cells ++ zero_cells n)) (run-more f s o sh 1 cells n)
-    ∙ ap (λ (l : List Patch). begun (run f s o sh 1 cells) ∷ l) (stretches-more (at + 1) cells n)
+    ∙ ap (λ (l : List Patch). begun (run_length f s o sh 1 cells) ∷ l) (stretches-more (at + 1) cells n)
   where
     begun : ℕ → Patch
     begun m = record { location = at; count = suc m; file = f; segment = s; offset = o; shift = sh }
@@ -171,7 +171,7 @@ data-front own cells un all =
     let fit = fit-stored own (length few) ps (stretches_written f all_f) in
     let stored' : with_stored own (bytes_in cells) (stretches cells) ≡ with_stored own few ps ++ replicate z 0 =
     ap (with_stored own (bytes_in cells)) (stretches-front cells) ∙ ap (λ (l : List ℕ). with_stored own l ps) (bytes-more cells)
-    ∙ stored-laid own (few ++ replicate z 0) ps ∙ laid-more (stored own) ps few (replicate z 0) fit ∙ ap (λ (l : List ℕ). l ++ replicate z 0) (sym (stored-laid own few ps)) in
+    ∙ stored-laid own (few ++ replicate z 0) ps ∙ laid-more (stored_bytes own) ps few (replicate z 0) fit ∙ ap (λ (l : List ℕ). l ++ replicate z 0) (sym (stored-laid own few ps)) in
     let whole = length-data own ps few (stretches_written f all_f) in
     ap (λ (n : ℕ). take n (with_stored own (bytes_in cells) (stretches cells))) size ∙ ap (take (length few)) stored'
     ∙ take_at (with_stored own few ps) (replicate z 0) (length few) whole
@@ -182,8 +182,8 @@ pub records-front : (own : ℕ) (cells : List Cell) → first_broken cells ≡ N
     → body_records own (bytes_in cells) (stretches cells) ≡ body_records own (bytes_in (front cells)) (stretches (front cells))
 unfolding body_records
 records-front own cells un all =
-    ap (λ (l : List ℕ). data_records l ++ (map (lone_record own) (lone own (stretches cells)) ++ supers_from own (stretches cells) 0 38)) (data-front own cells un all)
-    ∙ ap (λ (l : List Patch). data_records (written_data own (bytes_in (front cells)) (stretches (front cells))) ++ (map (lone_record own) (lone own l) ++ supers_from own l 0 38)) (stretches-front cells)
+    ap (λ (l : List ℕ). data_records l ++ (map (lone_record own) (patches_stored_alone own (stretches cells)) ++ supers_from own (stretches cells) 0 38)) (data-front own cells un all)
+    ∙ ap (λ (l : List Patch). data_records (written_data own (bytes_in (front cells)) (stretches (front cells))) ++ (map (lone_record own) (patches_stored_alone own l) ++ supers_from own l 0 38)) (stretches-front cells)
 
 -- Its records can be written where the front is short enough for a file, however great LENGTH is.
 pub records_fit_front : (own : ℕ) (cells : List Cell) → first_broken cells ≡ None → AllByRecursion IsWrittenCell cells → length (front cells) ≤ 0xFFFFFF

@@ -19,7 +19,7 @@ use Rattle.load_meaning.specs.Table.{entry_start}
 use Rattle.load_meaning.specs.Pathnames.{has_pathnames, most_paths, rows_flaw, is_one_long, paths_of}
 use Rattle.load_meaning.specs.LoadTable.{Check, is_table, is_called, is_place, entry_count, zero_checks, entry_checks, entries_checks, table_checks}
 use Rattle.load_meaning.specs.Loadable.{Fault, is_express, IsLoadSegment, segment_refusal, record_refusal, shape_fault, is_kept, is_dynamic_at, patch_refusal, first_refusal, entry_refusal, target_refusal, first_target_fault, target_fault, pathnames_flaw, pathnames_fault, table_flaw, table_fault, later_fault, IsLoadable, patch_list, IsPatch, IsSoundSegment}
-use Rattle.load_meaning.specs.WrittenBody.{AreWritten, is_own, is_short, lone, lone_record, super_records, supers_from, of_form, data_records, written_data, body_records}
+use Rattle.load_meaning.specs.WrittenBody.{AreWritten, is_own, is_short, patches_stored_alone, lone_record, super_records, supers_from, of_form, data_records, written_data, body_records}
 use Rattle.load_meaning.specs.laws.FormLaws.{lone_content}
 use Rattle.load_meaning.specs.laws.WrittenBodyLaws.{HasRecords, length-written, by_forms, from_records, patches_are, stands}
 use Rattle.load_meaning.specs.WrittenPages.{pages_text}
@@ -165,8 +165,8 @@ data-allowed (b ∷ bytes) = (refl, tt)
 body-allowed : (own : ℕ) (content : List ℕ) (patches : List Patch) → AreAllowed (body_records own content patches)
 unfolding body_records
 body-allowed own content patches =
-    allowed-append (data_records (written_data own content patches)) (map (lone_record own) (lone own patches) ++ supers_from own patches 0 38) (data-allowed (written_data own content patches))
-    (allowed-append (map (lone_record own) (lone own patches)) (supers_from own patches 0 38) (lones-allowed own (lone own patches)) (supers-allowed own patches 0 38))
+    allowed-append (data_records (written_data own content patches)) (map (lone_record own) (patches_stored_alone own patches) ++ supers_from own patches 0 38) (data-allowed (written_data own content patches))
+    (allowed-append (map (lone_record own) (patches_stored_alone own patches)) (supers_from own patches 0 38) (lones-allowed own (patches_stored_alone own patches)) (supers-allowed own patches 0 38))
 
 entry-allowed : (r : Record) → is_entry r ≡ true → record_refusal r ≡ None
 entry-allowed (Entry number offset name) e = refl
@@ -219,10 +219,10 @@ supers_content own patches form (suc n) =
 body_content : (own : ℕ) (content : List ℕ) (patches : List Patch) → flat_map content_of (body_records own content patches) ≡ written_data own content patches
 unfolding body_records
 body_content own content patches =
-    let lones = map (lone_record own) (lone own patches) in
+    let lones = map (lone_record own) (patches_stored_alone own patches) in
     let supers = supers_from own patches 0 38 in
     flat_map-append content_of (data_records (written_data own content patches)) (lones ++ supers)
-    ∙ ap (λ (c : List ℕ). flat_map content_of (data_records (written_data own content patches)) ++ c) (flat_map-append content_of lones supers ∙ ap (λ (c : List ℕ). c ++ flat_map content_of supers) (lone_contents own (lone own patches)) ∙ supers_content own patches 0 38)
+    ∙ ap (λ (c : List ℕ). flat_map content_of (data_records (written_data own content patches)) ++ c) (flat_map-append content_of lones supers ∙ ap (λ (c : List ℕ). c ++ flat_map content_of supers) (lone_contents own (patches_stored_alone own patches)) ∙ supers_content own patches 0 38)
     ∙ append-nil (flat_map content_of (data_records (written_data own content patches)))
     ∙ data_content (written_data own content patches)
 
@@ -502,7 +502,7 @@ module _ (number : ℕ) (s t : Segment) (twin' : IsTwin number s t) where
   has0 : HasRecords number (bytes_in p.cells') ps t0
   has0 = (twin'.of.end, [], tt, ap (placed twin'.of.end) (sym (append-nil rs)))
 
-  gives : flat_map (patches_in t) rs ≡ lone number ps ++ by_forms number ps 0 38
+  gives : flat_map (patches_in t) rs ≡ patches_stored_alone number ps ++ by_forms number ps 0 38
   gives =
       sym (flat-placed (patches_in t) twin'.of.end rs refl) ∙ given_same t t0 (placed twin'.of.end rs) refl bytes0 ∙ sym (patches_given t0)
       ∙ patches_are number (bytes_in p.cells') ps t0 has0 (stands number (bytes_in p.cells') ps t0 number-is length-is are has0)
@@ -542,7 +542,7 @@ module _ (number : ℕ) (s t : Segment) (twin' : IsTwin number s t) where
 
     all_stand : AllByRecursion (λ (q : Patch). patch_refusal others t q ≡ None) (flat_map (patches_in t) rs)
     all_stand = subst (AllByRecursion (λ (q : Patch). patch_refusal others t q ≡ None)) (sym gives)
-        (all-has (λ (q : Patch). patch_refusal others t q ≡ None) (lone number ps ++ by_forms number ps 0 38) (λ q h. stretch_stands q (from_records number ps q h)))
+        (all-has (λ (q : Patch). patch_refusal others t q ≡ None) (patches_stored_alone number ps ++ by_forms number ps 0 38) (λ q h. stretch_stands q (from_records number ps q h)))
 
     -- phase 3
     target : target_fault segments number s ≡ None → target_fault others number t ≡ None
@@ -573,7 +573,7 @@ module _ (number : ℕ) (s t : Segment) (twin' : IsTwin number s t) where
         map-nil (λ (found : ℕ × Patch). found.1) (patches_of t) (
         patches_given t ∙ ap (given t) records_are ∙ flat-placed (patches_in t) twin'.of.end (rs ++ p.entries) refl
         ∙ flat_map-append (patches_in t) rs p.entries ∙ ap (λ (l : List Patch). flat_map (patches_in t) rs ++ l) (none_of (patches_in t) p.entries (entry_patches t) twin'.held.entries')
-        ∙ append-nil (flat_map (patches_in t) rs) ∙ gives ∙ ap (λ (l : List Patch). lone number l ++ by_forms number l 0 38) no_ps ∙ no-forms number 0 38)
+        ∙ append-nil (flat_map (patches_in t) rs) ∙ gives ∙ ap (λ (l : List Patch). patches_stored_alone number l ++ by_forms number l 0 38) no_ps ∙ no-forms number 0 38)
 
     bytes-same : patches_of s ≡ [] → segment_bytes s ≡ segment_bytes t
     bytes-same none =
@@ -599,7 +599,7 @@ record IsPathTwin (number : ℕ) (s t : Segment) : Type 0 where
   held : IsHeld number (plain_of s)
   of : IsSheetOf (sheet_of number (plain_of s)) t
   path : is_pathname (plain_of s) ≡ true
-  lone : IsLone s
+  patches_stored_alone : IsLone s
 
 module _ (number : ℕ) (s t : Segment) (twin' : IsPathTwin number s t) where
   abbrev held_bytes : List ℕ
@@ -712,7 +712,7 @@ module _ (file other : List ℕ) (segments others : List Segment) (loadable : Is
         w.1,
         w.2,
         elim (cases_Bool (is_pathname (plain_of s))) [
-          | inl is ↦ inr (record { same = w.2; held = held'; of = of'; path = is; lone = lone_of file segments k s loadable w.1 (sym (path-is s) ∙ is) })
+          | inl is ↦ inr (record { same = w.2; held = held'; of = of'; path = is; patches_stored_alone = lone_of file segments k s loadable w.1 (sym (path-is s) ∙ is) })
           | inr other ↦ inl (record { same = w.2; held = held'; of = of'; plain' = other })
         ],
       )

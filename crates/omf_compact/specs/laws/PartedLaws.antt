@@ -9,7 +9,7 @@ use Rattle.load_meaning.specs.Cells.{Cell, Byte, Part, Patch}
 use Rattle.load_meaning.specs.WrittenBody.{IsWrittenPatch, AreWritten, written_cells}
 use Rattle.load_meaning.specs.laws.LayingLaws.{get-drop, Covers, Has, Missed, look, Fit, laid, get-missed, get-found, Apart}
 use Rattle.load_meaning.specs.laws.StoredLaws.{written_is, written_apart, parts, get-parts, patched-laid, fit-cells, cells_size}
-use Rattle.omf_compact.specs.Stretches.{same_cell, broken_from, first_broken, run, stretches_from, stretches, byte_in, bytes_in, IsWrittenCell}
+use Rattle.omf_compact.specs.Stretches.{same_cell, broken_from, first_broken, run_length, stretches_from, stretches, byte_in, bytes_in, IsWrittenCell}
 use Rattle.omf_compact.specs.laws.StretchLaws.{some_cell, cell_is, is_same, get-run, run-reaches, begun, get-stretch, has-stretch, stretches_written}
 
 -- ---- rising lists with the same members
@@ -149,7 +149,7 @@ module _ (content : List ℕ) (ps : List Patch) (are : AreWritten (length conten
   all_written : AllByRecursion IsWrittenCell shown
   all_written = all-from IsWrittenCell shown written_cell
 
-  count_is : (p : Patch) → Has ps p → suc (run p.file p.segment p.offset p.shift 1 (drop (suc p.location) shown)) ≡ p.count
+  count_is : (p : Patch) → Has ps p → suc (run_length p.file p.segment p.offset p.shift 1 (drop (suc p.location) shown)) ≡ p.count
   count_is p has = omega (arith, some.0, at_least, at_most)
     where
       some : (1 ≤ p.count) × (p.count ≤ 4)
@@ -158,12 +158,12 @@ module _ (content : List ℕ) (ps : List Patch) (are : AreWritten (length conten
       rest : List Cell
       rest = drop (suc p.location) shown
 
-      at_least : p.count - 1 ≤ run p.file p.segment p.offset p.shift 1 rest
+      at_least : p.count - 1 ≤ run_length p.file p.segment p.offset p.shift 1 rest
       at_least = run-reaches p.file p.segment p.offset p.shift 1 rest (p.count - 1) (λ k lt.
           let index : suc p.location + k - p.location ≡ 1 + k = omega arith in
           get-drop (suc p.location) shown k ∙ inside p (suc p.location + k) has (omega arith, omega (arith, lt)) ∙ ap (λ (n : ℕ). some_cell (Part p.file p.segment p.offset p.shift n)) index)
 
-      no_more : p.count - 1 < run p.file p.segment p.offset p.shift 1 rest → ⊥
+      no_more : p.count - 1 < run_length p.file p.segment p.offset p.shift 1 rest → ⊥
       no_more more =
           let k = p.location + p.count in
           let place : suc p.location + (p.count - 1) ≡ k = omega (arith, some.0) in
@@ -176,8 +176,8 @@ module _ (content : List ℕ) (ps : List Patch) (are : AreWritten (length conten
           let c : Covers p k = subst (λ (x : Patch). Covers x k) same of.2 in
           omega (arith, c)
 
-      at_most : run p.file p.segment p.offset p.shift 1 rest ≤ p.count - 1
-      at_most = elim (cases_lt (p.count - 1) (run p.file p.segment p.offset p.shift 1 rest)) [
+      at_most : run_length p.file p.segment p.offset p.shift 1 rest ≤ p.count - 1
+      at_most = elim (cases_lt (p.count - 1) (run_length p.file p.segment p.offset p.shift 1 rest)) [
         | inl more ↦ absurd (no_more more)
         | inr few ↦ few
       ]

@@ -9,7 +9,7 @@ use Rattle.omf_format.specs.declared.fault.Flaw.{Flaw}
 use Rattle.omf_format.specs.declared.fault.RecordFault.{RecordFault}
 use Rattle.omf_format.specs.Header.{first_of, is_dynamic, is_skipped}
 use Rattle.omf_format.specs.Record.{Record, End, Const, LongConst, Align, Org, Space, Reloc, InterSeg, ShortReloc, ShortInterSeg, Super, Using, Strong, Label, Equate, Formula, Entry}
-use Rattle.omf_format.specs.Reading.{Reader, front, is_end, told, next_answer, after_next, HandsOut}
+use Rattle.omf_format.specs.Reading.{Reader, first_record, is_end, answer_of_reader, next_answer, after_next, HandsOut}
 use Rattle.omf_format.specs.File.{Segment, IsSegment, body_reader}
 use Rattle.load_meaning.specs.declared.load.LoadCause.TheVariants.{BadTable}
 use Rattle.load_meaning.specs.Cells.{Byte, Patch, segment_bytes, patches_in, patches_of, cells}
@@ -43,15 +43,15 @@ ended_by : (r : Reader) (found : ℕ × Record) → next_answer r ≡ Ok (Some f
 unfolding next_answer after_next
 ended_by r found e = by_end r.ended refl e
   where
-    by_answer : (answer : Result (Record × List ℕ) Flaw) → front r.layout r.left ≡ answer → r.ended ≡ false → told r answer ≡ Ok (Some found) → (after_next r).ended ≡ is_end found.1
+    by_answer : (answer : Result (Record × List ℕ) Flaw) → first_record r.layout r.left ≡ answer → r.ended ≡ false → answer_of_reader r answer ≡ Ok (Some found) → (after_next r).ended ≡ is_end found.1
     by_answer (Ok f) is open' e' =
         let same : f.0 ≡ found.1 = cc in
         rw (open', is) (ap is_end same)
     by_answer (Err flaw) is open' e' = absurd cc
 
-    by_end : (b : Bool) → r.ended ≡ b → cond b nothing (told r (front r.layout r.left)) ≡ Ok (Some found) → (after_next r).ended ≡ is_end found.1
+    by_end : (b : Bool) → r.ended ≡ b → cond b nothing (answer_of_reader r (first_record r.layout r.left)) ≡ Ok (Some found) → (after_next r).ended ≡ is_end found.1
     by_end true is e' = absurd cc
-    by_end false is e' = by_answer (front r.layout r.left) refl is e'
+    by_end false is e' = by_answer (first_record r.layout r.left) refl is e'
 
 end_is : (r : Record) → is_end r ≡ true → r ≡ End
 end_is End e = refl

@@ -23,7 +23,7 @@ use Rattle.loader_machine.specs.declared.faults.LoaderFault.TheVariants.{BadFile
 use Rattle.loader_machine.specs.Commands.{Refused}
 use Rattle.loader_machine.specs.Found.{HoldsFile, HoldsLoad, HoldsRuntime, HoldsRuntimeFault}
 use Rattle.loader_machine.specs.Heads.{head_of, is_table}
-use Rattle.loader_machine.specs.declared.seen.Head.{Head}
+use Rattle.loader_machine.specs.declared.seen.SegmentHead.{SegmentHead}
 use Rattle.omf_compact.specs.Stretches.{bytes_in}
 use Rattle.omf_compact.specs.Canonical.{Plain, plain_of, plain, canon}
 use Rattle.omf_compact.specs.Answer.{IsAnswer}
@@ -41,7 +41,7 @@ bytes-in (b ∷ bytes) = ap (λ (l : List ℕ). b ∷ l) (bytes-in bytes)
 
 plain_sight : Plain → Sight
 plain_sight p =
-    let head : Head = record { length = p.length; kind = p.kind; bank_size = p.bank_size; align = p.align; org = p.org; entry = p.entry } in
+    let head : SegmentHead = record { length = p.length; kind = p.kind; bank_size = p.bank_size; align = p.align; org = p.org; entry = p.entry } in
     record { head = head; cells' = p.cells'; targets = cond (is_table head) (targets_from (bytes_in p.cells') 0 (entry_count p.length)) [] }
 
 -- a table has no patches, so its entries are read from its cells

@@ -18,16 +18,16 @@ use Rattle.iigs_meaning.specs.Fits.{Slots}
 use Rattle.iigs_meaning.specs.Puts.{MakesRoom, without_user}
 use Rattle.loader_machine.specs.Rule.{RoomRule}
 use Rattle.loader_machine.specs.Heads.{head_of, is_table, want_of, wants_of}
-use Rattle.loader_machine.specs.declared.seen.Head.{Head}
+use Rattle.loader_machine.specs.declared.seen.SegmentHead.{SegmentHead}
 use Rattle.loader_machine.specs.declared.faults.LoaderFault.{LoaderFault}
 use Rattle.loader_machine.specs.declared.faults.LoaderFault.TheVariants.{CannotRead, BadFile}
-use Rattle.loader_machine.specs.State.{User, Machine, Seen, Pokes, first_id, handles_of, held_at, outlines, is_attached, ids_from}
+use Rattle.loader_machine.specs.State.{User, Machine, UserSeen, Pokes, first_id, handles_of, held_at, outlines, is_attached, ids_from}
 use Rattle.loader_machine.specs.Presences.{presence_at}
-use Rattle.loader_machine.specs.Stands.{Setting, entries_bytes, read_bytes, over, stands}
-use Rattle.loader_machine.specs.Found.{Found, Unread, Bad, Good, IsFound, IsRowFound, Joined, Stops, Joins, JoinsFound, AreJoined, joined_behind, reads_of}
+use Rattle.loader_machine.specs.Stands.{AddressSetting, entries_bytes, read_bytes, with_pokes, stands}
+use Rattle.loader_machine.specs.Found.{FileFound, Unread, Bad, Good, IsFound, IsRowFound, Joined, Stops, Joins, JoinsFound, AreJoined, joined_behind, reads_of}
 use Rattle.loader_machine.specs.Commands.{Command, Banks, Load, LoadSegment, UnloadSegment, Jsl, ShutDown, Restart, Purge, Poke, Bytes, Where, Info, Alloc, Free, Lock, Unlock, Level, StateOf, Room, Compact, Reply, Entered, SegmentIs, Refused}
 use Rattle.loader_machine.specs.Refusals.{Refuse, load_refusal, rows_refusal, load_segment_refusal, restart_refusal}
-use Rattle.loader_machine.specs.Steps.{Sees, IsSeen, Decides, Does, Either, Begins, IsPut, Lands, joined_user, joined_users, lost_from, lost_in, lost_refusal, begun_users, LoadsJoined, LoadsFound, StepsLoad, Activates, MakesActive, setting_in, StandsIn, IsAt, Place, Nowhere, In, IsLocated, EntersEntry, EntersSegment, Enters, target_at_code, address_of, no_jsl, StepsJsl, are_there, RestartsInPlace, again_users, StepsRestart, Steps}
+use Rattle.loader_machine.specs.Steps.{Sees, IsSeen, Decides, Does, Either, Begins, IsPut, Lands, joined_user, joined_users, lost_from, lost_in, lost_refusal, begun_users, LoadsJoined, LoadsFound, StepsLoad, Activates, MakesActive, setting_in, StandsIn, IsAt, AddressPlace, Nowhere, In, IsLocated, EntersEntry, EntersSegment, Enters, target_at_code, address_of, no_jsl, StepsJsl, are_there, RestartsInPlace, again_users, StepsRestart, Steps}
 use Rattle.loader_machine.specs.Needs.{is_read, path_if, NeedsOf, Reaches, restart_reads, Needs, rows_if, rows_of, NeedsBehind, IsReadFor}
 use Rattle.loader_machine.specs.Transcript.{IsAnswered}
 use Rattle.omf_compact.specs.Replaced.{IsLikeReply, SameReply, AnswersAlike}
@@ -37,7 +37,7 @@ use Rattle.omf_compact.specs.laws.Sights.{Sight, sight_of, AreAlike, Shows}
 
 heads_seen : (segments : List Segment) → map (λ (v : Sight). v.head) (map sight_of segments) ≡ map head_of segments
 heads_seen [] = refl
-heads_seen (s ∷ segments) = ap (λ (l : List Head). head_of s ∷ l) (heads_seen segments)
+heads_seen (s ∷ segments) = ap (λ (l : List SegmentHead). head_of s ∷ l) (heads_seen segments)
 
 heads_alike : (segments others : List Segment) → AreAlike segments others → map head_of segments ≡ map head_of others
 heads_alike segments others alike = sym (heads_seen segments) ∙ ap (map (λ (v : Sight). v.head)) alike.sights ∙ heads_seen others
@@ -60,19 +60,19 @@ head_alike : (s t : Segment) → sight_of s ≡ sight_of t → head_of s ≡ hea
 head_alike s t e = ap (λ (v : Sight). v.head) e
 
 -- what stands in a segment, by its sight
-read_sight : Setting → Sight → List ℕ
+read_sight : AddressSetting → Sight → List ℕ
 read_sight at v = cond (is_table v.head) (entries_bytes at v.targets) (map (byte_of at.place) v.cells')
 
-read_is : (at : Setting) (s : Segment) → read_bytes at s ≡ read_sight at (sight_of s)
+read_is : (at : AddressSetting) (s : Segment) → read_bytes at s ≡ read_sight at (sight_of s)
 unfolding read_bytes read_sight
 read_is at s = elim (cases_Bool (is_table (head_of s))) [
   | inl is ↦ rw is refl
   | inr other ↦ rw other refl
 ]
 
-stands_alike : (at : Setting) (pokes : Pokes) (s t : Segment) → sight_of s ≡ sight_of t → stands at pokes s ≡ stands at pokes t
+stands_alike : (at : AddressSetting) (pokes : Pokes) (s t : Segment) → sight_of s ≡ sight_of t → stands at pokes s ≡ stands at pokes t
 unfolding stands
-stands_alike at pokes s t e = ap (over pokes) (read_is at s ∙ ap (read_sight at) e ∙ sym (read_is at t))
+stands_alike at pokes s t e = ap (with_pokes pokes) (read_is at s ∙ ap (read_sight at) e ∙ sym (read_is at t))
 
 -- ---- users
 
@@ -89,12 +89,12 @@ module _ (held other : FileMap) (there : Shows held other) (back : Shows other h
   too_heads : (state : Machine) (id : ℕ) (sees : Sees held state id) → map head_of sees.segments ≡ map head_of (too sees).segments
   too_heads state id sees = heads_alike sees.segments (too sees).segments (too_alike state id sees)
 
-  is_seen : (state : Machine) (id : ℕ) (seen : Option Seen) → IsSeen held state id seen → IsSeen other state id seen
+  is_seen : (state : Machine) (id : ℕ) (seen : Option UserSeen) → IsSeen held state id seen → IsSeen other state id seen
   is_seen state id None is = is
   is_seen state id (Some seen) is =
-      (too is.0, is.1 ∙ ap (λ (heads : List Head). seen_with is.0.user heads) (too_heads state id is.0))
+      (too is.0, is.1 ∙ ap (λ (heads : List SegmentHead). seen_with is.0.user heads) (too_heads state id is.0))
     where
-      seen_with : User → List Head → Seen
+      seen_with : User → List SegmentHead → UserSeen
       seen_with user heads = record { life = user.life; handles = handles_of user; heads = heads }
 
   decides : (refusal : Refuse) (state : Machine) (reply : Reply) (next : Machine) (P Q : Type 0) → (P → Q) → Decides refusal state reply next P → Decides refusal state reply next Q
@@ -102,7 +102,7 @@ module _ (held other : FileMap) (there : Shows held other) (back : Shows other h
   decides (Some fault) state reply next P Q f is = is
 
   -- a command on a user
-  does : (state : Machine) (id : ℕ) (refusal : Option Seen → Refuse) (reply : Reply) (next : Machine) (P Q : User → Type 0) → ((user : User) → P user → Q user)
+  does : (state : Machine) (id : ℕ) (refusal : Option UserSeen → Refuse) (reply : Reply) (next : Machine) (P Q : User → Type 0) → ((user : User) → P user → Q user)
       → Does held state id refusal reply next P → Does other state id refusal reply next Q
   does state id refusal reply next P Q f is = record {
     seen = is.seen;
@@ -120,8 +120,8 @@ module _ (held other : FileMap) (there : Shows held other) (back : Shows other h
       → map head_of segments ≡ map head_of others → Begins Makes state slots path id segments users reply next → Begins Makes state slots path id others users reply next
   begins Makes state slots path id segments others users reply next heads is = record {
     put = is.put;
-    is_put = subst (λ (l : List Head). IsPut Makes state.banks id slots (wants_of l) is.put) heads is.is_put;
-    lands = subst (λ (l : List Head). Lands state path id l users is.put reply next) heads is.lands;
+    is_put = subst (λ (l : List SegmentHead). IsPut Makes state.banks id slots (wants_of l) is.put) heads is.is_put;
+    lands = subst (λ (l : List SegmentHead). Lands state path id l users is.put reply next) heads is.lands;
   }
 
   makes_active : (Makes : MakesRoom) (state : Machine) (id number : ℕ) (of : ℕ → Reply) (reply : Reply) (next : Machine)
@@ -133,7 +133,7 @@ module _ (held other : FileMap) (there : Shows held other) (back : Shows other h
         s = t.0;
         is = t.1;
         outcome = is.outcome;
-        activates = subst (λ (head : Head). Activates Makes state id is.sees.user number (want_of head) (presence_at state.slots (handles_of is.sees.user) number) is.outcome) (head_alike is.s t.0 t.2) is.activates;
+        activates = subst (λ (head : SegmentHead). Activates Makes state id is.sees.user number (want_of head) (presence_at state.slots (handles_of is.sees.user) number) is.outcome) (head_alike is.s t.0 t.2) is.activates;
         answers = is.answers;
       }
 
@@ -159,7 +159,7 @@ module _ (held other : FileMap) (there : Shows held other) (back : Shows other h
         first = is.first;
         active = is.active;
         sum = is.sum;
-        inside = subst (λ (head : Head). offset < head.length) (head_alike is.s t.0 t.2) is.inside;
+        inside = subst (λ (head : SegmentHead). offset < head.length) (head_alike is.s t.0 t.2) is.inside;
       }
 
 -- ---- places and entries
@@ -187,7 +187,7 @@ pub data IsLikeJoined (joined joined' : Joined) : Type 0 where
 behind_alike : (segments others : List Segment) → AreAlike segments others → (rest rest' : Joined) → IsLikeJoined rest rest' → IsLikeJoined (joined_behind segments rest) (joined_behind others rest')
 behind_alike segments others alike rest rest' (Stopped reads why why' is is' like) = Stopped (reads + 1) why why' (ap (joined_behind segments) is) (ap (joined_behind others) is') like
 behind_alike segments others alike rest rest' (AllJoin all all' is is' heads) = AllJoin (segments ∷ all) (others ∷ all') (ap (joined_behind segments) is) (ap (joined_behind others) is')
-    (ap (λ (hs : List Head). hs ∷ map (map head_of) all) (heads_alike segments others alike) ∙ ap (λ (l : List (List Head)). map head_of others ∷ l) heads)
+    (ap (λ (hs : List SegmentHead). hs ∷ map (map head_of) all) (heads_alike segments others alike) ∙ ap (λ (l : List (List SegmentHead)). map head_of others ∷ l) heads)
 
 -- where headers are the same, so are the users of rows
 joined_users_same : (paths : List (List ℕ)) (all others : List (List Segment)) → map (map head_of) all ≡ map (map head_of) others → joined_users paths all ≡ joined_users paths others
@@ -198,10 +198,10 @@ joined_users_same (path ∷ paths) (s ∷ all) [] heads = absurd cc
 joined_users_same (path ∷ paths) (s ∷ all) (t ∷ others) heads =
     let first : map head_of s ≡ map head_of t = cc in
     let rest : map (map head_of) all ≡ map (map head_of) others = cc in
-    ap (λ (hs : List Head). Some (joined_user path hs) ∷ joined_users paths all) first ∙ ap (λ (us : List (Option User)). Some (joined_user path (map head_of t)) ∷ us) (joined_users_same paths all others rest)
+    ap (λ (hs : List SegmentHead). Some (joined_user path hs) ∷ joined_users paths all) first ∙ ap (λ (us : List (Option User)). Some (joined_user path (map head_of t)) ∷ us) (joined_users_same paths all others rest)
 
 -- the table of a file, by its headers
-table_in : ℕ → List Head → Option ℕ
+table_in : ℕ → List SegmentHead → Option ℕ
 table_in number [] = None
 table_in number (head ∷ heads) = cond (is_table head) (Some number) (table_in (number + 1) heads)
 
@@ -219,7 +219,7 @@ table_there number (s ∷ segments) found is = elim (cases_Bool (is_table (head_
 ]
 
 -- an entry that leads nowhere is lost in both
-lost_alike : (all : List (List Head)) (segments others : List Segment) → AreAlike segments others → lost_refusal all segments ≡ lost_refusal all others
+lost_alike : (all : List (List SegmentHead)) (segments others : List Segment) → AreAlike segments others → lost_refusal all segments ≡ lost_refusal all others
 unfolding lost_refusal
 lost_alike all segments others alike = go (table_of segments) (table_of others) refl (table_heads 1 segments ∙ ap (table_in 1) (heads_alike segments others alike) ∙ sym (table_heads 1 others))
   where
@@ -246,7 +246,7 @@ module _ (held other : FileMap) (there : Shows held other) (back : Shows other h
   abbrev JoinedAlike : List (List ℕ) → Joined → Type 0
   JoinedAlike paths joined = (joined' : Joined) × AreJoined other paths joined' × IsLikeJoined joined joined'
 
-  found_alike : (path : List ℕ) (paths : List (List ℕ)) (joined : Joined) (found : Found) → IsRowFound held path found → JoinsFound found (AreJoined held paths) joined
+  found_alike : (path : List ℕ) (paths : List (List ℕ)) (joined : Joined) (found : FileFound) → IsRowFound held path found → JoinsFound found (AreJoined held paths) joined
       → ((rest : Joined) → AreJoined held paths rest → JoinedAlike paths rest) → JoinedAlike (path ∷ paths) joined
   found_alike path paths joined Unread is joins rest =
       (Stops 1 CannotRead, (Unread, (λ file has. let here = back.readable path file has in is here.0 here.1), refl), Stopped 1 CannotRead CannotRead joins refl (SameReply refl))
@@ -277,7 +277,7 @@ module _ (held other : FileMap) (there : Shows held other) (back : Shows other h
     loads_alike joined joined' (AllJoin all all' is is' heads) reply next loads =
         let was = subst (λ (j : Joined). LoadsJoined Makes state path segments j reply next) is loads in
         let lost : lost_refusal (map (map head_of) all) segments ≡ lost_refusal (map (map head_of) all') others =
-        ap (λ (l : List (List Head)). lost_refusal l segments) heads ∙ lost_alike (map (map head_of) all') segments others alike in
+        ap (λ (l : List (List SegmentHead)). lost_refusal l segments) heads ∙ lost_alike (map (map head_of) all') segments others alike in
         let now : LoadsJoined Makes state path others (Joins all') reply next =
         subst (λ (refusal : Refuse). Decides refusal state reply next (Begins Makes state state.slots path (first_id + length state.users) others (begun_users state (paths_of others) all') reply next)) lost
         (decides held other there back (lost_refusal (map (map head_of) all) segments) state reply next _ _ (λ begun.
@@ -301,7 +301,7 @@ module _ (held other : FileMap) (there : Shows held other) (back : Shows other h
             ((joined : Joined) × AreJoined other paths joined × LoadsJoined Makes state path others joined reply' next)
 
 module _ (Makes : MakesRoom) (held other : FileMap) (there : Shows held other) (back : Shows other held) where
-  located : (state : Machine) (address : ℕ) (place : Place) → IsLocated held state address place → IsLocated other state address place
+  located : (state : Machine) (address : ℕ) (place : AddressPlace) → IsLocated held state address place → IsLocated other state address place
   located state address Nowhere is = λ id number offset at. is id number offset (is_at other held back there state address id number offset at)
   located state address (In id number offset) is = is_at held other there back state address id number offset is
 
@@ -309,7 +309,7 @@ module _ (Makes : MakesRoom) (held other : FileMap) (there : Shows held other) (
   enters_entry state id None reply next is = is
   enters_entry state id (Some t) reply next is = (is.0, is.1, makes_active held other there back Makes state is.0 t.segment _ reply next is.2)
 
-  enters : (state : Machine) (address : ℕ) (place : Place) (reply : Reply) (next : Machine) → Enters Makes held state address place reply next → Enters Makes other state address place reply next
+  enters : (state : Machine) (address : ℕ) (place : AddressPlace) (reply : Reply) (next : Machine) → Enters Makes held state address place reply next → Enters Makes other state address place reply next
   enters state address Nowhere reply next is = is
   enters state address (In id number offset) reply next is =
       let sees = is.0 in
@@ -344,7 +344,7 @@ module _ (Makes : MakesRoom) (held other : FileMap) (there : Shows held other) (
       let heads = too_heads held other there back state id sees in
       record {
         sees = sees';
-        is = subst (λ (l : List Head). Either (are_there state.slots l (handles_of sees.user) 1) (RestartsInPlace state id sees.user l reply next)
+        is = subst (λ (l : List SegmentHead). Either (are_there state.slots l (handles_of sees.user) 1) (RestartsInPlace state id sees.user l reply next)
             (Begins Makes state (without_user state.slots id) sees.user.path id sees'.segments (again_users state id sees.user) reply next)) heads
             (either held other there back (are_there state.slots (map head_of sees.segments) (handles_of sees.user) 1) _ _ _ _ (λ x. x)
             (begins held other there back Makes state (without_user state.slots id) sees.user.path id sees.segments sees'.segments (again_users state id sees.user) reply next heads) is.is);
@@ -352,8 +352,8 @@ module _ (Makes : MakesRoom) (held other : FileMap) (there : Shows held other) (
 
   -- ---- load
 
-  finds : (state : Machine) (path : List ℕ) (found : Found) (reply : Reply) (next : Machine) → IsFound held path found → LoadsFound Makes held state path found reply next
-      → (found' : Found) × IsFound other path found' × Alike (λ reply'. LoadsFound Makes other state path found' reply' next) reply
+  finds : (state : Machine) (path : List ℕ) (found : FileFound) (reply : Reply) (next : Machine) → IsFound held path found → LoadsFound Makes held state path found reply next
+      → (found' : FileFound) × IsFound other path found' × Alike (λ reply'. LoadsFound Makes other state path found' reply' next) reply
   finds state path Unread reply next is loads = (Unread, (λ file has. let here = back.readable path file has in is here.0 here.1), (reply, loads, SameReply refl))
   finds state path (Bad fault) reply next is loads = (Bad fault, there.bad path fault is, (reply, loads, SameReply refl))
   finds state path (Good segments) reply next is loads =
@@ -363,7 +363,7 @@ module _ (Makes : MakesRoom) (held other : FileMap) (there : Shows held other) (
   steps_load : (state : Machine) (path : List ℕ) (reply : Reply) (next : Machine) → StepsLoad Makes held state path reply next
       → Alike (λ reply'. StepsLoad Makes other state path reply' next) reply
   steps_load state path reply next is = decides_alike (load_refusal (length state.users)) state reply next _
-      (λ reply'. (found : Found) × IsFound other path found × LoadsFound Makes other state path found reply' next)
+      (λ reply'. (found : FileFound) × IsFound other path found × LoadsFound Makes other state path found reply' next)
       (λ done. let one = finds state path done.0 reply next done.1 done.2 in (one.2.0, (one.0, one.1, one.2.1), one.2.2)) is
 
   tells : (state : Machine) (id number : ℕ) (user : User) (reply : Reply) (next : Machine)
@@ -374,7 +374,7 @@ module _ (Makes : MakesRoom) (held other : FileMap) (there : Shows held other) (
         too held other there back is.0,
         t.0,
         t.1,
-        is.3 ∙ ap (λ (head : Head). SegmentIs (presence_at state.slots (handles_of user) number) head.length head.kind) (head_alike is.1 t.0 t.2),
+        is.3 ∙ ap (λ (head : SegmentHead). SegmentIs (presence_at state.slots (handles_of user) number) head.length head.kind) (head_alike is.1 t.0 t.2),
         is.4,
       )
 
@@ -408,11 +408,11 @@ module _ (Makes : MakesRoom) (held other : FileMap) (there : Shows held other) (
 -- ---- the files that a command reads
 
 module _ (held other : FileMap) (there : Shows held other) (back : Shows other held) where
-  needs_of : (state : Machine) (id : ℕ) (of : Seen → User → List (List ℕ)) (paths : List (List ℕ)) → NeedsOf held state id of paths → NeedsOf other state id of paths
+  needs_of : (state : Machine) (id : ℕ) (of : UserSeen → User → List (List ℕ)) (paths : List (List ℕ)) → NeedsOf held state id of paths → NeedsOf other state id of paths
   needs_of state id of paths (inl none) = inl none
   needs_of state id of paths (inr is) = inr (
     too held other there back is.0,
-    is.1 ∙ ap (λ (heads : List Head). of (record { life = is.0.user.life; handles = handles_of is.0.user; heads = heads }) is.0.user) (too_heads held other there back state id is.0),
+    is.1 ∙ ap (λ (heads : List SegmentHead). of (record { life = is.0.user.life; handles = handles_of is.0.user; heads = heads }) is.0.user) (too_heads held other there back state id is.0),
   )
 
   reaches : (state : Machine) (id number at user : ℕ) (t : Target) → Reaches held state id number at user t → Reaches other state id number at user t
@@ -438,7 +438,7 @@ module _ (held other : FileMap) (there : Shows held other) (back : Shows other h
           first = is.is_at.first;
           active = is.is_at.active;
           sum = is.is_at.sum;
-          inside = subst (λ (head : Head). is.offset < head.length) (head_alike is.is_at.s u.0 u.2) is.is_at.inside;
+          inside = subst (λ (head : SegmentHead). is.offset < head.length) (head_alike is.is_at.s u.0 u.2) is.is_at.inside;
         };
         is_table = sym (ap is_table (head_alike is.is_at.s u.0 u.2)) ∙ is.is_table;
         target = ap (λ (l : List Target). target_at_code l 0 is.offset) (sym (targets_alike is.is_at.s u.0 u.2 is.is_table)) ∙ is.target;
@@ -477,7 +477,7 @@ module _ (held other : FileMap) (there : Shows held other) (back : Shows other h
   answered state command reply others next (inr is) = (reply, inr (is.0, is.1, needs state command is.1 is.2, is.3, is.4, is.5), SameReply refl)
 
   -- the rows of a file, by what a read finds
-  rows_found : (state : Machine) (path : List ℕ) (found : Found) → IsFound held path found → (found' : Found) × IsFound other path found' × (rows_of state found ≡ rows_of state found')
+  rows_found : (state : Machine) (path : List ℕ) (found : FileFound) → IsFound held path found → (found' : FileFound) × IsFound other path found' × (rows_of state found ≡ rows_of state found')
   rows_found state path Unread is = (Unread, (λ file has. let here = back.readable path file has in is here.0 here.1), refl)
   rows_found state path (Bad fault) is = (Bad fault, there.bad path fault is, refl)
   rows_found state path (Good segments) is =

@@ -8,7 +8,7 @@ use Rattle.load_meaning.specs.declared.table.Target.{Target}
 use Rattle.load_meaning.specs.Pathnames.{paths_of}
 use Rattle.load_meaning.specs.LoadTable.{targets_of}
 use Rattle.loader_machine.specs.Heads.{head_of, is_table}
-use Rattle.loader_machine.specs.declared.seen.Head.{Head}
+use Rattle.loader_machine.specs.declared.seen.SegmentHead.{SegmentHead}
 use Rattle.loader_machine.specs.declared.faults.LoaderFault.TheVariants.{BadFile}
 use Rattle.loader_machine.specs.Commands.{Refused}
 use Rattle.loader_machine.specs.Found.{HoldsFile, HoldsLoad, HoldsFault, HoldsRuntime, HoldsRuntimeFault}
@@ -16,7 +16,7 @@ use Rattle.omf_compact.specs.Replaced.{IsLikeReply}
 
 -- what is seen of a segment: what is kept of its header, its cells, and of a table where its entries lead
 pub record Sight : Type 0 where
-  pub head : Head
+  pub head : SegmentHead
   pub cells' : List Cell
   pub targets : List Target
 

@@ -12,7 +12,7 @@ use Rattle.load_meaning.specs.Cells.{Cell, Byte, Part, Patch}
 use Rattle.load_meaning.specs.WrittenBody.{AreWritten, written_cells}
 use Rattle.load_meaning.specs.laws.LayingLaws.{get-drop, Covers, Has, Missed, Fit, same_list, laid, get-missed, get-found, Apart}
 use Rattle.load_meaning.specs.laws.StoredLaws.{written_apart, parts, get-parts, patched-laid, fit-cells}
-use Rattle.omf_compact.specs.Stretches.{same_cell, is_broken, broken_from, first_broken, run, stretches_from, stretches, byte_in, bytes_in, IsWrittenCell}
+use Rattle.omf_compact.specs.Stretches.{same_cell, is_broken, broken_from, first_broken, run_length, stretches_from, stretches, byte_in, bytes_in, IsWrittenCell}
 
 -- ---- cells
 
@@ -55,7 +55,7 @@ is_same (Part f s o sh i) =
 -- ---- runs
 
 -- a cell of a run is the next byte of its number
-pub get-run : (f s o : ℕ) (sh : ℤ) (i : ℕ) (cells : List Cell) (k : ℕ) → k < run f s o sh i cells → slice_get cells k ≡ Some (Part f s o sh (i + k))
+pub get-run : (f s o : ℕ) (sh : ℤ) (i : ℕ) (cells : List Cell) (k : ℕ) → k < run_length f s o sh i cells → slice_get cells k ≡ Some (Part f s o sh (i + k))
 get-run f s o sh i [] k lt = absurd (omega arith)
 get-run f s o sh i (c ∷ cells) k lt = elim (cases_Bool (same_cell c (Part f s o sh i))) [
   | inl same ↦ go k (rw same at lt) (get-run f s o sh (suc i) cells) (same_is c (Part f s o sh i) same)
@@ -65,13 +65,13 @@ get-run f s o sh i (c ∷ cells) k lt = elim (cases_Bool (same_cell c (Part f s 
     none : k < 0 → ⊥
     none lt' = omega arith
 
-    go : (n : ℕ) → n < suc (run f s o sh (suc i) cells) → ((m : ℕ) → m < run f s o sh (suc i) cells → slice_get cells m ≡ Some (Part f s o sh (suc i + m)))
+    go : (n : ℕ) → n < suc (run_length f s o sh (suc i) cells) → ((m : ℕ) → m < run_length f s o sh (suc i) cells → slice_get cells m ≡ Some (Part f s o sh (suc i + m)))
         → c ≡ Part f s o sh i → slice_get (c ∷ cells) n ≡ Some (Part f s o sh (i + n))
     go zero lt' again is = let same : i ≡ i + 0 = omega arith in ap (λ (d : Cell). some_cell d) is ∙ ap (λ (n : ℕ). some_cell (Part f s o sh n)) same
     go (suc n) lt' again is = let same : suc i + n ≡ i + suc n = omega arith in again n (omega (arith, lt')) ∙ ap (λ (n : ℕ). some_cell (Part f s o sh n)) same
 
 -- a run has at least as many cells as go on
-pub run-reaches : (f s o : ℕ) (sh : ℤ) (i : ℕ) (cells : List Cell) (n : ℕ) → ((k : ℕ) → k < n → slice_get cells k ≡ Some (Part f s o sh (i + k))) → n ≤ run f s o sh i cells
+pub run-reaches : (f s o : ℕ) (sh : ℤ) (i : ℕ) (cells : List Cell) (n : ℕ) → ((k : ℕ) → k < n → slice_get cells k ≡ Some (Part f s o sh (i + k))) → n ≤ run_length f s o sh i cells
 run-reaches f s o sh i cells zero each = omega arith
 run-reaches f s o sh i [] (suc n) each = let there = each 0 (omega arith) in absurd cc
 run-reaches f s o sh i (c ∷ cells) (suc n) each =
@@ -84,7 +84,7 @@ run-reaches f s o sh i (c ∷ cells) (suc n) each =
     shift : (k : ℕ) → i + suc k ≡ suc i + k
     shift k = omega arith
 
-length-run : (f s o : ℕ) (sh : ℤ) (i : ℕ) (cells : List Cell) → run f s o sh i cells ≤ length cells
+length-run : (f s o : ℕ) (sh : ℤ) (i : ℕ) (cells : List Cell) → run_length f s o sh i cells ≤ length cells
 length-run f s o sh i [] = omega arith
 length-run f s o sh i (c ∷ cells) = elim (cases_Bool (same_cell c (Part f s o sh i))) [
   | inl same ↦ let rest = length-run f s o sh (suc i) cells in rw same (omega (arith, rest))
@@ -158,7 +158,7 @@ unbroken-all cells f s o sh (suc i) (suc k) un is =
 
 -- the patch has this many bytes of the number that begins at a place
 abbrev pub begun : ℕ → ℕ → ℕ → ℕ → ℤ → List Cell → Patch
-begun at f s o sh cells = record { location = at; count = suc (run f s o sh 1 cells); file = f; segment = s; offset = o; shift = sh }
+begun at f s o sh cells = record { location = at; count = suc (run_length f s o sh 1 cells); file = f; segment = s; offset = o; shift = sh }
 
 later : (at : ℕ) (c : Cell) (cells : List Cell) (p : Patch)
     → (at + 1 ≤ p.location) × (p.location + p.count ≤ at + 1 + length cells) × ((k : ℕ) → k < p.count → slice_get cells (p.location - (at + 1) + k) ≡ Some (Part p.file p.segment p.offset p.shift k))
@@ -177,7 +177,7 @@ get-stretch at (Part f s o sh zero ∷ cells) p has = elim has [
   | inr more ↦ later at (Part f s o sh zero) cells p (get-stretch (at + 1) cells p more)
 ]
   where
-    here : (k : ℕ) → k < suc (run f s o sh 1 cells) → slice_get (Part f s o sh zero ∷ cells) k ≡ Some (Part f s o sh k)
+    here : (k : ℕ) → k < suc (run_length f s o sh 1 cells) → slice_get (Part f s o sh zero ∷ cells) k ≡ Some (Part f s o sh k)
     here zero lt = refl
     here (suc k) lt = let index : 1 + k ≡ suc k = omega arith in get-run f s o sh 1 cells k (omega (arith, lt)) ∙ ap (λ (n : ℕ). some_cell (Part f s o sh n)) index
 
@@ -206,8 +206,8 @@ all-at (d ∷ cells) zero c all is = subst IsWrittenCell (cell_is d c is) all.0
 all-at (d ∷ cells) (suc k) c all is = all-at cells k c all.1 is
 
 -- a run from byte 1 on ends at byte 3
-run-short : (f s o : ℕ) (sh : ℤ) (cells : List Cell) → AllByRecursion IsWrittenCell cells → run f s o sh 1 cells ≤ 3
-run-short f s o sh cells all = elim (cases_lt 3 (run f s o sh 1 cells)) [
+run-short : (f s o : ℕ) (sh : ℤ) (cells : List Cell) → AllByRecursion IsWrittenCell cells → run_length f s o sh 1 cells ≤ 3
+run-short f s o sh cells all = elim (cases_lt 3 (run_length f s o sh 1 cells)) [
   | inl more ↦ let last = all-at cells 3 (Part f s o sh (1 + 3)) all (get-run f s o sh 1 cells 3 more) in absurd (omega (arith, last.4))
   | inr few ↦ few
 ]
@@ -220,7 +220,7 @@ lower size low less (p ∷ patches) le are = (are.0, omega (arith, le, are.1), a
 abbrev Quiet : ℕ → List Cell → Type 0
 Quiet n cells = (k f s o : ℕ) (sh : ℤ) → k < n → slice_get cells k ≡ Some (Part f s o sh 0) → ⊥
 
-quiet-run : (f s o : ℕ) (sh : ℤ) (cells : List Cell) → Quiet (run f s o sh 1 cells) cells
+quiet-run : (f s o : ℕ) (sh : ℤ) (cells : List Cell) → Quiet (run_length f s o sh 1 cells) cells
 quiet-run f s o sh cells k g t p th lt is =
     let there : some_cell (Part f s o sh (1 + k)) ≡ Some (Part g t p th 0) = sym (get-run f s o sh 1 cells k lt) ∙ is in
     let index : 1 + k ≡ 0 = ap index_in (cell_is (Part f s o sh (1 + k)) (Part g t p th 0) there) in
@@ -252,9 +252,9 @@ stretches-written size at n (Part f s o sh (suc i) ∷ cells) fits all quiet =
 stretches-written size at (suc n) (Part f s o sh zero ∷ cells) fits all quiet = absurd (quiet 0 f s o sh (omega arith) refl)
 stretches-written size at zero (Part f s o sh zero ∷ cells) fits all quiet =
     let short = run-short f s o sh cells all.1 in
-    let place : at + 1 + run f s o sh 1 cells ≡ at + suc (run f s o sh 1 cells) = omega arith in (
+    let place : at + 1 + run_length f s o sh 1 cells ≡ at + suc (run_length f s o sh 1 cells) = omega arith in (
       record {
-        count' = few (run f s o sh 1 cells) short;
+        count' = few (run_length f s o sh 1 cells) short;
         shift' = all.0.3;
         file' = all.0.0;
         segment' = all.0.1;
@@ -263,7 +263,7 @@ stretches-written size at zero (Part f s o sh zero ∷ cells) fits all quiet =
       },
       omega arith,
       subst (λ (m : ℕ). AreWritten size m (stretches_from (at + 1) cells)) place
-          (stretches-written size (at + 1) (run f s o sh 1 cells) cells (omega (arith, fits)) all.1 (quiet-run f s o sh cells)),
+          (stretches-written size (at + 1) (run_length f s o sh 1 cells) cells (omega (arith, fits)) all.1 (quiet-run f s o sh cells)),
     )
   where
     few : (n : ℕ) → n ≤ 3 → IsTrue (is_count (suc n))
@@ -284,7 +284,7 @@ covers cells f s o sh i k un is =
     let first : slice_get cells (k - i) ≡ Some (Part f s o sh 0) = let place : k - i + 0 ≡ k - i = omega arith in ap (slice_get cells) (sym place) ∙ below.1 0 (omega arith) in
     let rest = drop (suc (k - i)) cells in
     let p = begun (0 + (k - i)) f s o sh rest in
-    let reaches : i ≤ run f s o sh 1 rest = run-reaches f s o sh 1 rest i (λ m lt.
+    let reaches : i ≤ run_length f s o sh 1 rest = run-reaches f s o sh 1 rest i (λ m lt.
     let place : suc (k - i) + m ≡ k - i + (1 + m) = omega arith in
     get-drop (suc (k - i)) cells m ∙ ap (slice_get cells) place ∙ below.1 (1 + m) (omega (arith, lt))) in
     let index : k - (0 + (k - i)) ≡ i = omega (arith, below.0) in
@@ -292,7 +292,7 @@ covers cells f s o sh i k un is =
       p,
       has-stretch 0 cells (k - i) f s o sh first,
       (omega arith, omega (arith, reaches, below.0)),
-      ap (slice_get (parts p)) index ∙ get-parts p 0 (suc (run f s o sh 1 rest)) i (omega (arith, reaches)) ∙ ap (λ (n : ℕ). some_cell (Part f s o sh n)) zero_more,
+      ap (slice_get (parts p)) index ∙ get-parts p 0 (suc (run_length f s o sh 1 rest)) i (omega (arith, reaches)) ∙ ap (λ (n : ℕ). some_cell (Part f s o sh n)) zero_more,
     )
 
 -- a patch covers no byte

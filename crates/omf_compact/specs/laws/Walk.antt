@@ -4,7 +4,7 @@ use Rattle.std.specs.Ordering.{int_eq}
 use Rattle.load_meaning.specs.Cells.{Cell, Byte, Part}
 use Rattle.load_meaning.specs.Cells as format
 use Rattle.omf_compact.specs.Stretches.{first_broken, stretches}
-use Rattle.written_bodies.specs.WrittenParts.{seen}
+use Rattle.load_writer.specs.WrittenParts.{seen}
 use Rattle.omf_compact.specs.declared.parting.Single.{Single}
 use Rattle.omf_compact.specs.declared.parting.Parted.{Parted}
 use Rattle.omf_compact.specs.declared.parting.Parted.TheVariants.{Patches, Broken}

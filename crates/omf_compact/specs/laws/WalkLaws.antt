@@ -7,10 +7,10 @@ use Rattle.std.proofs.lemmas.Bool.Decides.{Decides-int_eq}
 use Rattle.std.proofs.lemmas.List.{map-append}
 use Rattle.load_meaning.specs.Cells.{Cell, Byte, Part}
 use Rattle.load_meaning.specs.Cells as format
-use Rattle.omf_compact.specs.Stretches.{same_cell, broken_from, first_broken, run, stretches_from, stretches}
+use Rattle.omf_compact.specs.Stretches.{same_cell, broken_from, first_broken, run_length, stretches_from, stretches}
 use Rattle.omf_compact.specs.laws.StretchLaws.{is_same, same_is}
-use Rattle.written_bodies.specs.declared.written.Patch.{Patch}
-use Rattle.written_bodies.specs.WrittenParts.{seen}
+use Rattle.load_writer.specs.declared.written.Patch.{Patch}
+use Rattle.load_writer.specs.WrittenParts.{seen}
 use Rattle.omf_compact.specs.laws.Walk.{Found, parts_at, goes_on, longer, extended, with_part, or_broken, walk}
 
 -- ---- the last patch
@@ -76,7 +76,7 @@ last_cell p at = cond (eqb (p.location + p.count) at) (Part p.file p.segment p.o
 
 -- the last patch, with the cells that go on behind it where it ends there
 abbrev grown : format.Patch → ℕ → List Cell → format.Patch
-grown p at of = cond (eqb (p.location + p.count) at) (record p { count = p.count + run p.file p.segment p.offset p.shift p.count of }) p
+grown p at of = cond (eqb (p.location + p.count) at) (record p { count = p.count + run_length p.file p.segment p.offset p.shift p.count of }) p
 
 -- whatever byte stands before, no part goes on from it
 broken-byte : (at b : ℕ) (of : List Cell) → broken_from at (Some (Byte b)) of ≡ broken_from at (Some (Byte 0)) of
@@ -94,9 +94,9 @@ broken-none at (Part f s o sh (suc i) ∷ of) = refl
 ends-before : (p : format.Patch) (at : ℕ) → p.location + p.count ≤ at → eqb (p.location + p.count) (at + 1) ≡ false
 ends-before p at le = ne_eqb (p.location + p.count) (at + 1) (λ e. absurd (omega (arith, le, e)))
 
-no-more : (p : format.Patch) (at : ℕ) (of : List Cell) → run p.file p.segment p.offset p.shift p.count of ≡ 0 → grown p at of ≡ p
+no-more : (p : format.Patch) (at : ℕ) (of : List Cell) → run_length p.file p.segment p.offset p.shift p.count of ≡ 0 → grown p at of ≡ p
 no-more p at of none = elim (cases_Bool (eqb (p.location + p.count) at)) [
-  | inl ends ↦ let same : p.count + run p.file p.segment p.offset p.shift p.count of ≡ p.count = omega (arith, none) in rw ends (ap (λ (n : ℕ). counted n) same)
+  | inl ends ↦ let same : p.count + run_length p.file p.segment p.offset p.shift p.count of ≡ p.count = omega (arith, none) in rw ends (ap (λ (n : ℕ). counted n) same)
   | inr apart ↦ rw apart refl
 ]
   where
@@ -109,7 +109,7 @@ one at f s o sh = record { location = at; count = 1; file = f; segment = s; offs
 part_index : {f s o i g t p j : ℕ} {sh th : ℤ} → Part f s o sh i ≡ Part g t p th j → i ≡ j
 part_index e = cc
 
-run-zero : (f s o : ℕ) (sh : ℤ) (i g t p : ℕ) (th : ℤ) (of : List Cell) → 1 ≤ i → run f s o sh i (Part g t p th 0 ∷ of) ≡ 0
+run-zero : (f s o : ℕ) (sh : ℤ) (i g t p : ℕ) (th : ℤ) (of : List Cell) → 1 ≤ i → run_length f s o sh i (Part g t p th 0 ∷ of) ≡ 0
 run-zero f s o sh i g t p th of some = elim (cases_Bool (same_cell (Part g t p th 0) (Part f s o sh i))) [
   | inl same ↦ absurd (let e = part_index (same_is (Part g t p th 0) (Part f s o sh i) same) in omega (arith, e, some))
   | inr other ↦ rw other refl
@@ -143,8 +143,8 @@ claim-first done p at f s o sh of some again =
     let ends : eqb (at + 1) (at + 1) ≡ true = eq-eqb (at + 1) (at + 1) refl in
     let q = one at f s o sh in
     let cell : last_cell q (at + 1) ≡ Part f s o sh 0 = rw ends refl in
-    let full : grown q (at + 1) of ≡ record { location = at; count = suc (run f s o sh 1 of); file = f; segment = s; offset = o; shift = sh } =
-    let more : 1 + run f s o sh 1 of ≡ suc (run f s o sh 1 of) = omega arith in
+    let full : grown q (at + 1) of ≡ record { location = at; count = suc (run_length f s o sh 1 of); file = f; segment = s; offset = o; shift = sh } =
+    let more : 1 + run_length f s o sh 1 of ≡ suc (run_length f s o sh 1 of) = omega arith in
     rw ends (ap (λ (n : ℕ). counted n) more) in
     again
     ∙ ap (λ (c : Cell). answer (broken_from (at + 1) (Some c) of) ((done ++ p ∷ []) ++ grown q (at + 1) of ∷ stretches_from (at + 1) of)) cell
@@ -262,8 +262,8 @@ claim-more done p at f s o sh i of some goes again =
     grown-same : eqb (p.location + p.count) at ≡ true → eqb (p.location + (p.count + 1)) (at + 1) ≡ true → same_cell (Part f s o sh (suc i)) (Part p.file p.segment p.offset p.shift p.count) ≡ true
         → grown (longer p) (at + 1) of ≡ grown p at (Part f s o sh (suc i) ∷ of)
     grown-same ends ends' first =
-        let more : p.count + 1 + run p.file p.segment p.offset p.shift (p.count + 1) of ≡ p.count + suc (run p.file p.segment p.offset p.shift (suc p.count) of) =
-        let next : p.count + 1 ≡ suc p.count = omega arith in let same = ap (λ (n : ℕ). run p.file p.segment p.offset p.shift n of) next in omega (arith, same) in
+        let more : p.count + 1 + run_length p.file p.segment p.offset p.shift (p.count + 1) of ≡ p.count + suc (run_length p.file p.segment p.offset p.shift (suc p.count) of) =
+        let next : p.count + 1 ≡ suc p.count = omega arith in let same = ap (λ (n : ℕ). run_length p.file p.segment p.offset p.shift n of) next in omega (arith, same) in
         rw (ends, ends', first) (ap (λ (n : ℕ). counted n) more)
 
 -- behind patches, whatever cells come
@@ -285,8 +285,8 @@ claim-empty at (Part f s o sh zero ∷ of) =
     let ends : eqb (at + 1) (at + 1) ≡ true = eq-eqb (at + 1) (at + 1) refl in
     let q = one at f s o sh in
     let cell : last_cell q (at + 1) ≡ Part f s o sh 0 = rw ends refl in
-    let full : grown q (at + 1) of ≡ record { location = at; count = suc (run f s o sh 1 of); file = f; segment = s; offset = o; shift = sh } =
-    let more : 1 + run f s o sh 1 of ≡ suc (run f s o sh 1 of) = omega arith in
+    let full : grown q (at + 1) of ≡ record { location = at; count = suc (run_length f s o sh 1 of); file = f; segment = s; offset = o; shift = sh } =
+    let more : 1 + run_length f s o sh 1 of ≡ suc (run_length f s o sh 1 of) = omega arith in
     rw ends (ap (λ (n : ℕ). counted n) more) in
     claim [] q (at + 1) of (omega arith) (omega arith)
     ∙ ap (λ (c : Cell). answer (broken_from (at + 1) (Some c) of) (grown q (at + 1) of ∷ stretches_from (at + 1) of)) cell

@@ -12,8 +12,8 @@ use Rattle.load_meaning.specs.Cells.{Patch, cells}
 use Rattle.load_meaning.specs.Exports.{Export, exports_of, exports_from}
 use Rattle.load_meaning.specs.Loadable.{IsLoadable}
 use Rattle.load_meaning.specs.WrittenBody.{body_records}
-use Rattle.written_bodies.specs.declared.written.Patch as code
-use Rattle.written_bodies.specs.WrittenParts.{seen}
+use Rattle.load_writer.specs.declared.written.Patch as code
+use Rattle.load_writer.specs.WrittenParts.{seen}
 use Rattle.omf_compact.specs.declared.fault.CompactCause.{CompactCause}
 use Rattle.omf_compact.specs.declared.fault.CompactCause.TheVariants.{BrokenPart, Memory}
 use Rattle.omf_compact.specs.declared.fault.CompactFault.{CompactFault}

@@ -11,7 +11,7 @@ use Rattle.omf_format.specs.Field.{Layout}
 use Rattle.omf_format.specs.laws.FieldLaws.{IsBytes-drop, IsBytes-take}
 use Rattle.omf_format.specs.Record.{Record, End, Const, LongConst, Align, Org, Space, Reloc, InterSeg, ShortReloc, ShortInterSeg, Super, Using, Strong, Label, Equate, Formula, Entry, spelling, IsRecord}
 use Rattle.omf_format.specs.laws.RecordLaws.{front-takes}
-use Rattle.omf_format.specs.Reading.{Reader, front, told, next_answer, after_next, HandsOut, answer_then, first_records, records_of}
+use Rattle.omf_format.specs.Reading.{Reader, first_record, answer_of_reader, next_answer, after_next, HandsOut, answer_then, first_records, records_of}
 use Rattle.omf_format.specs.File.{Segment, body_reader, IsSegment, segment_of}
 
 -- after END nothing comes
@@ -39,7 +39,7 @@ records_of-run r founds last run ended few = first_records-run (length r.left) r
 -- what a step that found a record says
 pub record Found (r : Reader) (found : ℕ × Record) : Type 0 where
   pub rest : List ℕ
-  pub front' : front r.layout r.left ≡ Ok (found.1, rest)
+  pub front' : first_record r.layout r.left ≡ Ok (found.1, rest)
   pub left : (after_next r).left ≡ rest
   pub layout : (after_next r).layout ≡ r.layout
 
@@ -53,7 +53,7 @@ pub found_by : (r : Reader) (found : ℕ × Record) → next_answer r ≡ Ok (So
 unfolding next_answer after_next
 found_by r found e = by_end r.ended refl e
   where
-    by_answer : (answer : Result (Record × List ℕ) Flaw) → front r.layout r.left ≡ answer → r.ended ≡ false → told r answer ≡ Ok (Some found) → Found r found
+    by_answer : (answer : Result (Record × List ℕ) Flaw) → first_record r.layout r.left ≡ answer → r.ended ≡ false → answer_of_reader r answer ≡ Ok (Some found) → Found r found
     by_answer (Ok f) is open' e =
         let same : f.0 ≡ found.1 = cc in
         record {
@@ -64,9 +64,9 @@ found_by r found e = by_end r.ended refl e
         }
     by_answer (Err flaw) is open' e = absurd cc
 
-    by_end : (b : Bool) → r.ended ≡ b → cond b nothing (told r (front r.layout r.left)) ≡ Ok (Some found) → Found r found
+    by_end : (b : Bool) → r.ended ≡ b → cond b nothing (answer_of_reader r (first_record r.layout r.left)) ≡ Ok (Some found) → Found r found
     by_end true is e = absurd cc
-    by_end false is e = by_answer (front r.layout r.left) refl is e
+    by_end false is e = by_answer (first_record r.layout r.left) refl is e
 
 -- the records that a reader hands out are the body as it stands: their spellings, in order, and what is left
 pub handed_out : (reader last : Reader) (founds : List (ℕ × Record)) → IsBytes reader.left → HandsOut reader founds last

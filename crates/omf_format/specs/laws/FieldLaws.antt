@@ -16,7 +16,7 @@ use Rattle.omf_format.specs.Number.{number_at}
 use Rattle.omf_format.specs.Name.{without_trailing, name_at, name_size}
 use Rattle.omf_format.specs.Header.{version_of, kind_of, kind_of_byte}
 use Rattle.omf_format.specs.Number.{IsBytes}
-use Rattle.omf_format.specs.Field.{◌>>=◌, Reads, ◌⊗◌, checked, byte_field, bytes_field, number_field, name_field, name_text, IsName, is_count, count_field, is_shift, shift_byte, shift_field}
+use Rattle.omf_format.specs.Field.{◌>>=◌, Reads, ◌⊗◌, field_that_passes, byte_field, bytes_field, number_field, name_field, name_text, IsName, is_count, count_field, is_shift, shift_byte, shift_field}
 
 -- ---- bytes and steps
 
@@ -350,7 +350,7 @@ passed : {A : Type 0} (b : Bool) (d : Flaw) (x y : A) → cond b (done x) (Err d
 passed true d x y e = (refl, ok_is x y e)
 passed false d x y e = absurd cc
 
-pub checked_is_field : {A : Type 0} (Is : A → Type 0) (text : A → List ℕ) (read : Reads A) (test : A → Bool) (flaw : Flaw) → IsField Is text read → IsField (λ x. Is x × (test x ≡ true)) text (checked test flaw read)
+pub checked_is_field : {A : Type 0} (Is : A → Type 0) (text : A → List ℕ) (read : Reads A) (test : A → Bool) (flaw : Flaw) → IsField Is text read → IsField (λ x. Is x × (test x ≡ true)) text (field_that_passes test flaw read)
 checked_is_field {A} Is text read test flaw field = record {
   takes = λ bytes found fits e.
       let x = bind_ok (read bytes) (λ x. cond (test x.0) (Ok x) (Err flaw)) found e in
@@ -378,7 +378,7 @@ both_are_field {A} {B} IsA IsB textA textB readA readB fieldA fieldB = record {
 
 pub count_is_field : IsField (λ n. is_count n ≡ true) (λ n. n ∷ []) count_field
 unfolding count_field
-count_is_field = field_of (λ n. (n < 256) × (is_count n ≡ true)) (λ n. is_count n ≡ true) (λ n. n ∷ []) (checked is_count Broken byte_field)
+count_is_field = field_of (λ n. (n < 256) × (is_count n ≡ true)) (λ n. is_count n ≡ true) (λ n. n ∷ []) (field_that_passes is_count Broken byte_field)
     (λ n is. is.1) (λ n is. (small n is, is)) (checked_is_field (λ n. n < 256) (λ n. n ∷ []) byte_field is_count Broken byte_is_field)
   where
     small : (n : ℕ) → is_count n ≡ true → n < 256

@@ -8,8 +8,8 @@ use Rattle.omf_format.specs.declared.fault.FileFault.{FileFault}
 use Rattle.omf_format.specs.Header.{Fields, fields_of, version_of, names_end, header_fault}
 use Rattle.omf_format.specs.laws.HeaderLaws.{IsSound, sound_from_none}
 use Rattle.omf_format.specs.Record.{Record}
-use Rattle.omf_format.specs.Reading.{Reader, front, told, next_answer, after_next, HandsOut}
-use Rattle.omf_format.specs.File.{Segment, body_reader, IsHeader, IsSegment, AreSegments, IsFile, Told, told_header, told_record, HasFault, InHeader, InRecord, IsFirstFault}
+use Rattle.omf_format.specs.Reading.{Reader, first_record, answer_of_reader, next_answer, after_next, HandsOut}
+use Rattle.omf_format.specs.File.{Segment, body_reader, IsHeader, IsSegment, AreSegments, IsFile, FaultAt, to_file_header_fault, to_file_record_fault, HasFault, InHeader, InRecord, IsFirstFault}
 
 abbrev pub Answer : Type 0
 Answer = Result (Option (ℕ × Record)) RecordFault
@@ -39,13 +39,13 @@ pub ended_at_none : (r : Reader) → next_answer r ≡ Ok None → r.ended ≡ t
 unfolding next_answer
 ended_at_none r e = cases r.ended refl e
   where
-    told_some : (answer : Result (Record × List ℕ) Flaw) → told r answer ≡ Ok None → ⊥
+    told_some : (answer : Result (Record × List ℕ) Flaw) → answer_of_reader r answer ≡ Ok None → ⊥
     told_some (Ok found) e = cc
     told_some (Err flaw) e = cc
 
-    cases : (b : Bool) → b ≡ r.ended → cond b nothing (told r (front r.layout r.left)) ≡ Ok None → r.ended ≡ true
+    cases : (b : Bool) → b ≡ r.ended → cond b nothing (answer_of_reader r (first_record r.layout r.left)) ≡ Ok None → r.ended ≡ true
     cases true is e = sym is
-    cases false is e = absurd (told_some (front r.layout r.left) e)
+    cases false is e = absurd (told_some (first_record r.layout r.left) e)
 
 -- a reader that hands out a record has not ended
 pub open_at_some : (r : Reader) (found : ℕ × Record) → next_answer r ≡ Ok (Some found) → r.ended ≡ true → ⊥
@@ -149,12 +149,12 @@ some_same : (a b : HeaderFault) → some a ≡ some b → a ≡ b
 some_same a b e = cc
 
 -- no segment stands where a fault is
-no_segment : (at : ℕ) (file : List ℕ) (told : Told) (s : Segment) → HasFault at file told → s.start ≡ at → IsSegment s file → ⊥
-no_segment at file told s (InHeader of is says) start segment =
+no_segment : (at : ℕ) (file : List ℕ) (answer_of_reader : FaultAt) (s : Segment) → HasFault at file answer_of_reader → s.start ≡ at → IsSegment s file → ⊥
+no_segment at file answer_of_reader s (InHeader of is says) start segment =
     let none : header_fault (drop at file) ≡ None = ap (λ (n : ℕ). header_fault (drop n file)) (sym start) ∙ segment.header.passes in
     let clash : some of ≡ None = sym is ∙ none in
     cc
-no_segment at file told s (InRecord f before reader of header run is says) start segment =
+no_segment at file answer_of_reader s (InRecord f before reader of header run is says) start segment =
     let fields : s.fields ≡ f = segment.header.fields ∙ ap (λ (n : ℕ). fields_of (drop n file)) start ∙ sym header.fields in
     let whole : body_reader s.start s.fields file ≡ body_reader at f file =
     ap (λ (n : ℕ). body_reader n s.fields file) start ∙ ap (λ (g : Fields). body_reader at g file) fields in
@@ -184,9 +184,9 @@ stops_same r (found ∷ xs) [] x y a b p q e f = let clash : gave found ≡ fail
 stops_same r (found ∷ xs) (other ∷ ys) x y a b p q e f = stops_same (after_next r) xs ys x y a b p.1 q.1 e f
 
 -- a segment has one first fault
-told_same : (at : ℕ) (file : List ℕ) (a b : Told) → HasFault at file a → HasFault at file b → a ≡ b
+told_same : (at : ℕ) (file : List ℕ) (a b : FaultAt) → HasFault at file a → HasFault at file b → a ≡ b
 told_same at file a b (InHeader x is says) (InHeader y is' says') =
-    says ∙ ap (told_header at (version_of (drop at file))) (some_same x y (sym is ∙ is')) ∙ sym says'
+    says ∙ ap (to_file_header_fault at (version_of (drop at file))) (some_same x y (sym is ∙ is')) ∙ sym says'
 told_same at file a b (InHeader x is says) (InRecord f before reader of header run is' says') =
     let clash : some x ≡ None = sym is ∙ header.passes in
     cc
@@ -196,10 +196,10 @@ told_same at file a b (InRecord f before reader of header run is says) (InHeader
 told_same at file a b (InRecord f xs x of header run is says) (InRecord g ys y of' header' run' is' says') =
     let fields : g ≡ f = header'.fields ∙ sym header.fields in
     let same = stops_same (body_reader at f file) xs ys x y of of' run (subst (λ (h : Fields). HandsOut (body_reader at h file) ys y) fields run') is is' in
-    says ∙ ap told_record same ∙ sym says'
+    says ∙ ap to_file_record_fault same ∙ sym says'
 
 -- two segments at fault, behind sound segments of one file, are one
-faults_same : (xs ys : List Segment) (at x y : ℕ) (file : List ℕ) (a b : Told) → AreSegments xs at file x → AreSegments ys at file y
+faults_same : (xs ys : List Segment) (at x y : ℕ) (file : List ℕ) (a b : FaultAt) → AreSegments xs at file x → AreSegments ys at file y
     → HasFault x file a → HasFault y file b → (a ≡ b) × (length xs ≡ length ys)
 faults_same [] [] at x y file a b p q h k = (told_same y file a b (subst (λ (n : ℕ). HasFault n file a) (sym p ∙ q) h) k, refl)
 faults_same [] (s ∷ ys) at x y file a b p q h k = absurd (no_segment x file a s h (q.0 ∙ p) q.2)
@@ -217,8 +217,8 @@ one_first_fault file a b p q =
     let numbers : a.segment ≡ b.segment = p.number ∙ ap (λ (n : ℕ). n + 1) both.1 ∙ sym q.number in
     ap (λ (n : ℕ). made n (a.cause, a.at)) numbers ∙ ap (made b.segment) both.0
   where
-    made : ℕ → Told → FileFault
-    made number told = record { cause = told.0; segment = number; at = told.1 }
+    made : ℕ → FaultAt → FileFault
+    made number answer_of_reader = record { cause = answer_of_reader.0; segment = number; at = answer_of_reader.1 }
 
 -- ---- a segment lies in its file
 

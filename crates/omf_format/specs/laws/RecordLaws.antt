@@ -5,14 +5,14 @@ use Rattle.std.proofs.lemmas.Bool.{lt-ltb, ltb-true, leb-true, eqb-true, ne_eqb,
 use Rattle.byteorder.specs.Endian.{little_bytes}
 use Rattle.omf_format.specs.declared.fault.Flaw.TheVariants.{Unread, Broken}
 use Rattle.omf_format.specs.Number.{IsBytes}
-use Rattle.omf_format.specs.Field.{Layout, ◌>>=◌, Reads, ◌⊗◌, checked, taken_as, byte_field, bytes_field, number_field, name_field, name_text, IsName, is_count, count_field, is_shift, shift_byte, shift_field}
+use Rattle.omf_format.specs.Field.{Layout, ◌>>=◌, Reads, ◌⊗◌, field_that_passes, taken_as, byte_field, bytes_field, number_field, name_field, name_text, IsName, is_count, count_field, is_shift, shift_byte, shift_field}
 use Rattle.omf_format.specs.laws.FieldLaws.{IsBytes-front, IsBytes-rest, either, bind_ok, done, ok_is, chosen, Takes, Takes-then, Takes-code, bytes_again, IsField, byte_is_field, bytes_is_field, number_is_field, name_is_field, checked_is_field, both_are_field, count_is_field, shift_is_field}
 use Rattle.omf_format.specs.Expression.{IsExpression, expression_field}
 use Rattle.omf_format.specs.laws.ExpressionLaws.{expression-takes, expression-again}
 use Rattle.omf_format.specs.Super.{is_super, are_pages, HavePages}
 use Rattle.omf_format.specs.laws.SuperLaws.{pages-read, pages-again}
 use Rattle.omf_format.specs.Record.{Record, End, Const, LongConst, Align, Org, Space, Reloc, InterSeg, ShortReloc, ShortInterSeg, Super, Using, Strong, Label, Equate, Formula, Entry, is_formula, spelling, IsDistance, IsRecord}
-use Rattle.omf_format.specs.Reading.{constant_field, long_constant_field, align_field, org_field, space_field, patch_field, reloc_field, interseg_field, short_reloc_field, short_interseg_field, super_field, using_field, strong_field, attributes_field, label_field, equate_field, formula_field, distance_field, entry_field, rows, by_code, front}
+use Rattle.omf_format.specs.Reading.{constant_field, long_constant_field, align_field, org_field, space_field, patch_field, reloc_field, interseg_field, short_reloc_field, short_interseg_field, super_field, using_field, strong_field, attributes_field, label_field, equate_field, formula_field, distance_field, entry_field, rows, by_code, first_record}
 
 -- ---- the fields of each record
 
@@ -146,16 +146,16 @@ distance : (l : ℕ) → IsField (Both (Passes is_count) (Both Is4 (IsExpression
 distance l = both (Passes is_count) (Both Is4 (IsExpression l)) one (texts (little_bytes 4) as_it_is) count_field (number_field 4 ⊗ expression_field l) count_is_field
     (both Is4 (IsExpression l) (little_bytes 4) as_it_is (number_field 4) (expression_field l) n4 (expression l))
 
-org : IsField (λ n. Is4 n × Passes (λ n. ltb n (2 ^ 31)) n) (little_bytes 4) (checked (λ n. ltb n (2 ^ 31)) Unread (number_field 4))
+org : IsField (λ n. Is4 n × Passes (λ n. ltb n (2 ^ 31)) n) (little_bytes 4) (field_that_passes (λ n. ltb n (2 ^ 31)) Unread (number_field 4))
 org = checked_is_field Is4 (little_bytes 4) (number_field 4) (λ n. ltb n (2 ^ 31)) Unread n4
 
-super_size : IsField (λ n. Is4 n × Passes (ltb 0) n) (little_bytes 4) (checked (ltb 0) Broken (number_field 4))
+super_size : IsField (λ n. Is4 n × Passes (ltb 0) n) (little_bytes 4) (field_that_passes (ltb 0) Broken (number_field 4))
 super_size = checked_is_field Is4 (little_bytes 4) (number_field 4) (ltb 0) Broken n4
 
-super_form : IsField (λ n. Is1 n × Passes is_super n) one (checked is_super Unread byte_field)
+super_form : IsField (λ n. Is1 n × Passes is_super n) one (field_that_passes is_super Unread byte_field)
 super_form = checked_is_field Is1 one byte_field is_super Unread n1
 
-super_bytes : (n : ℕ) → IsField (λ bytes. (length bytes ≡ n) × Passes are_pages bytes) as_it_is (checked are_pages Broken (bytes_field n))
+super_bytes : (n : ℕ) → IsField (λ bytes. (length bytes ≡ n) × Passes are_pages bytes) as_it_is (field_that_passes are_pages Broken (bytes_field n))
 super_bytes n = checked_is_field (λ bytes. length bytes ≡ n) as_it_is (bytes_field n) are_pages Broken (bytes_is_field n)
 
 -- ---- what was read is spelled so
@@ -205,9 +205,9 @@ long_constant_takes l rest found fits e =
 super_takes : (l : Layout) → TakesRow l (0xF7, super_field)
 unfolding super_field spelling
 super_takes l rest found fits e =
-    let a = bind_ok (checked (ltb 0) Broken (number_field 4) rest) (λ size. checked is_super Unread byte_field size.1 >>= λ form. checked are_pages Broken (bytes_field (size.0 - 1)) form.1 >>= λ bytes. Ok (Super form.0 bytes.0, bytes.1)) found e in
-    let b = bind_ok (checked is_super Unread byte_field a.0.1) (λ form. checked are_pages Broken (bytes_field (a.0.0 - 1)) form.1 >>= λ bytes. Ok (Super form.0 bytes.0, bytes.1)) found a.2 in
-    let c = bind_ok (checked are_pages Broken (bytes_field (a.0.0 - 1)) b.0.1) (λ bytes. Ok (Super b.0.0 bytes.0, bytes.1)) found b.2 in
+    let a = bind_ok (field_that_passes (ltb 0) Broken (number_field 4) rest) (λ size. field_that_passes is_super Unread byte_field size.1 >>= λ form. field_that_passes are_pages Broken (bytes_field (size.0 - 1)) form.1 >>= λ bytes. Ok (Super form.0 bytes.0, bytes.1)) found e in
+    let b = bind_ok (field_that_passes is_super Unread byte_field a.0.1) (λ form. field_that_passes are_pages Broken (bytes_field (a.0.0 - 1)) form.1 >>= λ bytes. Ok (Super form.0 bytes.0, bytes.1)) found a.2 in
+    let c = bind_ok (field_that_passes are_pages Broken (bytes_field (a.0.0 - 1)) b.0.1) (λ bytes. Ok (Super b.0.0 bytes.0, bytes.1)) found b.2 in
     let t = super_size.takes rest a.0 fits a.1 in
     let u = super_form.takes a.0.1 b.0 t.1.rest_fits b.1 in
     let v = (super_bytes (a.0.0 - 1)).takes b.0.1 c.0 u.1.rest_fits c.1 in
@@ -228,7 +228,7 @@ align_takes l = row_takes Is4 (little_bytes 4) (number_field 4) n4 l 0xE0 Align 
 
 org_takes : (l : Layout) → TakesRow l (0xE1, org_field)
 unfolding org_field spelling
-org_takes l = row_takes (λ n. Is4 n × Passes (λ n. ltb n (2 ^ 31)) n) (little_bytes 4) (checked (λ n. ltb n (2 ^ 31)) Unread (number_field 4)) org l 0xE1 Org (λ n is. (ltb-true n (2 ^ 31) is.1, refl))
+org_takes l = row_takes (λ n. Is4 n × Passes (λ n. ltb n (2 ^ 31)) n) (little_bytes 4) (field_that_passes (λ n. ltb n (2 ^ 31)) Unread (number_field 4)) org l 0xE1 Org (λ n is. (ltb-true n (2 ^ 31) is.1, refl))
 
 space_takes : (l : Layout) → TakesRow l (0xF1, space_field)
 unfolding space_field spelling
@@ -355,8 +355,8 @@ end_takes l code rest found fits zero-is e =
     subst (λ (c : ℕ). TakesRecord l (c ∷ rest) found) (sym zero-is) at_found
 
 -- what is read is spelled so
-pub front-takes : (l : Layout) (bytes : List ℕ) (found : Record × List ℕ) → IsBytes bytes → front l bytes ≡ Ok found → TakesRecord l bytes found
-unfolding front
+pub front-takes : (l : Layout) (bytes : List ℕ) (found : Record × List ℕ) → IsBytes bytes → first_record l bytes ≡ Ok found → TakesRecord l bytes found
+unfolding first_record
 front-takes l [] found fits e = absurd cc
 front-takes l (code ∷ rest) found fits e =
     let rest_fits = IsBytes-rest code rest fits in
@@ -414,19 +414,19 @@ formula_code P code is a b c d e = elim (either _ _ is) [
 
 -- what is spelled under this code is read
 abbrev IsAgain : Layout → ℕ → List ℕ → List ℕ → ℕ → Type 0
-IsAgain l count expr rest code = (n : ℕ) → IsDistance (eqb code 0xEE) n → front l (spelling l (Formula code count n expr) ++ rest) ≡ Ok (Formula code count n expr, rest)
+IsAgain l count expr rest code = (n : ℕ) → IsDistance (eqb code 0xEE) n → first_record l (spelling l (Formula code count n expr) ++ rest) ≡ Ok (Formula code count n expr, rest)
 
 plain_again : (l : Layout) (code count : ℕ) (expr rest : List ℕ) → is_count count ≡ true → IsExpression l.lab_len expr → formula_field l.lab_len code ((count ∷ expr) ++ rest) ≡ Ok (Formula code count 0 expr, rest)
 unfolding formula_field
 plain_again l code count expr rest is is_expr = row_again (Both (Passes is_count) (IsExpression l.lab_len)) (texts one as_it_is) (count_field ⊗ expression_field l.lab_len) (formula l.lab_len) (λ x. Formula code x.0 0 x.1) (count, expr) rest (is, is_expr)
 
 -- without an n
-without_n : (l : Layout) (code count n : ℕ) (expr rest : List ℕ) → n ≡ 0 → front l ((code ∷ count ∷ expr) ++ rest) ≡ Ok (Formula code count 0 expr, rest) → front l ((code ∷ count ∷ expr) ++ rest) ≡ Ok (Formula code count n expr, rest)
+without_n : (l : Layout) (code count n : ℕ) (expr rest : List ℕ) → n ≡ 0 → first_record l ((code ∷ count ∷ expr) ++ rest) ≡ Ok (Formula code count 0 expr, rest) → first_record l ((code ∷ count ∷ expr) ++ rest) ≡ Ok (Formula code count n expr, rest)
 without_n l code count n expr rest none e = e ∙ ap (λ (m : ℕ). done (Formula code count m expr, rest)) (sym none)
 
 formula_again : (l : Layout) (code count n : ℕ) (expr rest : List ℕ) → is_formula code ≡ true → is_count count ≡ true → IsDistance (eqb code 0xEE) n → IsExpression l.lab_len expr
-    → front l (spelling l (Formula code count n expr) ++ rest) ≡ Ok (Formula code count n expr, rest)
-unfolding front spelling rows distance_field
+    → first_record l (spelling l (Formula code count n expr) ++ rest) ≡ Ok (Formula code count n expr, rest)
+unfolding first_record spelling rows distance_field
 formula_again l code count n expr rest is is_count' far is_expr = formula_code (IsAgain l count expr rest) code is
     (λ n far. without_n l 0xEB count n expr rest far (plain_again l 0xEB count expr rest is_count' is_expr))
     (λ n far. without_n l 0xEC count n expr rest far (plain_again l 0xEC count expr rest is_count' is_expr))
@@ -437,8 +437,8 @@ formula_again l code count n expr rest is is_count' far is_expr = formula_code (
     n far
 
 -- what is spelled so is read, whatever follows
-pub front-again : (l : Layout) (r : Record) (rest : List ℕ) → IsRecord l r → front l (spelling l r ++ rest) ≡ Ok (r, rest)
-unfolding front spelling rows constant_field long_constant_field align_field org_field space_field reloc_field interseg_field short_reloc_field short_interseg_field using_field strong_field label_field equate_field entry_field
+pub front-again : (l : Layout) (r : Record) (rest : List ℕ) → IsRecord l r → first_record l (spelling l r ++ rest) ≡ Ok (r, rest)
+unfolding first_record spelling rows constant_field long_constant_field align_field org_field space_field reloc_field interseg_field short_reloc_field short_interseg_field using_field strong_field label_field equate_field entry_field
 front-again l End rest fits = refl
 front-again l (Const []) rest fits = absurd (omega arith)
 front-again l (Const (x ∷ bytes)) rest fits =
@@ -449,7 +449,7 @@ front-again l (Const (x ∷ bytes)) rest fits =
 front-again l (LongConst bytes) rest fits =
     rw (append_assoc (little_bytes 4 (length bytes)) bytes rest, n4.again (length bytes) (bytes ++ rest) fits, bytes_again (length bytes) bytes rest refl) refl
 front-again l (Align n) rest fits = row_again Is4 (little_bytes 4) (number_field 4) n4 Align n rest fits
-front-again l (Org n) rest fits = row_again (λ n. Is4 n × Passes (λ n. ltb n (2 ^ 31)) n) (little_bytes 4) (checked (λ n. ltb n (2 ^ 31)) Unread (number_field 4)) org Org n rest (omega arith, lt-ltb n (2 ^ 31) fits)
+front-again l (Org n) rest fits = row_again (λ n. Is4 n × Passes (λ n. ltb n (2 ^ 31)) n) (little_bytes 4) (field_that_passes (λ n. ltb n (2 ^ 31)) Unread (number_field 4)) org Org n rest (omega arith, lt-ltb n (2 ^ 31) fits)
 front-again l (Space n) rest fits = row_again Is4 (little_bytes 4) (number_field 4) n4 Space n rest fits
 front-again l (Reloc count shift location offset) rest fits =
     row_again (Both Patch (Both Is4 Is4)) (texts patch_text (texts (little_bytes 4) (little_bytes 4))) (patch_field ⊗ number_field 4 ⊗ number_field 4) reloc

@@ -12,7 +12,7 @@ use Rattle.orca_meaning.specs.declared.operators.Operator.TheVariants.{Multiply,
 use Rattle.orca_meaning.specs.declared.operators.Sign as signs
 use Rattle.orca_meaning.specs.declared.operators.Sign.TheVariants.{Negate, Not}
 use Rattle.orca_meaning.specs.Token.{Operand, Here, Number, Label, LengthOf, CountOf, Token, Value, Before, Between, Opens, Closes}
-use Rattle.orca_meaning.specs.Formula.{Formula, Single, Group, Signed, Joined, sign_code, operator_code, term_of, tree_of, tokens_of, StandsAt, MeansAt, pending, placed, is_large, has_large}
+use Rattle.orca_meaning.specs.Formula.{Formula, Single, Group, Signed, Joined, sign_code, operator_code, term_of, tree_of, tokens_of, StandsAt, MeansAt, pending, with_location_less, is_large, has_large}
 use Rattle.orca_meaning.specs.laws.Complete.{complete, one_form}
 use Rattle.orca_meaning.specs.laws.Front.{Compared, Longer, Shorter, compared, taken, formula_ends}
 use Rattle.orca_meaning.specs.laws.TokenLaws.{HasFineName, HaveFineNames, fine_names}
@@ -192,7 +192,7 @@ pending-one (Leaf (expression.Offset n)) = refl
 pending-one (Unary code operand) = pending-one operand
 pending-one (Binary code left right) = rw (pending-one left, pending-one right) refl
 
-pub pending-two : (back : ℕ) (tree : Tree) → pending 2 tree ≡ depth (placed back tree)
+pub pending-two : (back : ℕ) (tree : Tree) → pending 2 tree ≡ depth (with_location_less back tree)
 pending-two back (Leaf (expression.Operator code)) = refl
 pending-two back (Leaf expression.Location) = refl
 pending-two back (Leaf (expression.Constant n)) = refl

@@ -11,7 +11,7 @@ use Rattle.omf_format.specs.declared.value.Value.TheVariants.{At}
 use Rattle.omf_format.specs.declared.value.ValueFault.{ValueFault}
 use Rattle.omf_format.specs.Header.{Fields}
 use Rattle.omf_format.specs.Expression.{Named, Leaf}
-use Rattle.omf_format.specs.Value.{operand_value, known}
+use Rattle.omf_format.specs.Value.{operand_value, known_or_fault}
 use Rattle.omf_format.specs.Record.{Record, End, Const, LongConst, Formula}
 use Rattle.omf_format.specs.File.{Segment}
 use Rattle.load_meaning.specs.Cells.{Cell, Byte}
@@ -20,18 +20,18 @@ use Rattle.load_meaning.specs.Table.{is_same, with_target}
 use Rattle.link_meaning.specs.declared.fault.LinkCause.{LinkCause}
 use Rattle.link_meaning.specs.declared.fault.LinkCause.TheVariants as fault
 use Rattle.link_meaning.specs.First.{IsIn}
-use Rattle.link_meaning.specs.Sizes.{Located, size_at, located_from, located}
+use Rattle.link_meaning.specs.Sizes.{Located, size_at, located_from, records_with_offsets}
 use Rattle.link_meaning.specs.declared.form.LinkForm.{LinkForm}
-use Rattle.link_meaning.specs.Member.{Setting, alone, Member, members_from}
-use Rattle.link_meaning.specs.Search.{Found}
+use Rattle.link_meaning.specs.Member.{LinkSetting, without_runtimes, Member, members_from}
+use Rattle.link_meaning.specs.Search.{FoundDefinition}
 use Rattle.link_meaning.specs.Layout.{load_length, load_names, number_in, load_of, offset_of, load_fields, headers_from, load_headers}
 use Rattle.link_meaning.specs.laws.TreeInLaws.{tree_in-again}
 use Rattle.link_meaning.specs.Terms.{tree_in}
 use Rattle.link_meaning.specs.laws.PlaceFits.{name_there, offset-le, in_parts}
-use Rattle.link_meaning.specs.LinkValues.{Told, place_value, outside_value, label_value, environment, settled, tree_value, value_in}
-use Rattle.link_meaning.specs.Fitting.{Frame, Fit, Place, place_fit, is_dynamic_load, length_of, ends_in_jsl, is_call, target_of, has_room_for, may_call, call_fit, or_does_not_fit, fitted, fit_cells, targets_behind}
+use Rattle.link_meaning.specs.LinkValues.{Told, place_value, outside_value, label_value, member_environment, value_or_equate_fault, tree_value, value_in}
+use Rattle.link_meaning.specs.Fitting.{PatchPlace, Fit, Place, place_fit, is_dynamic_load, length_of, ends_in_jsl, is_call, target_of, has_room_for, may_call, call_fit, or_does_not_fit, fit_value, fit_cells, targets_behind}
 use Rattle.link_meaning.specs.Fitting as fitting
-use Rattle.link_meaning.specs.LinkedCells.{Item, State, Made, items_from, items, frame_of, table_number, cells_before, made_by, made, gained}
+use Rattle.link_meaning.specs.LinkedCells.{Item, LinkState, Made, items_from, items, frame_of, table_number, cells_before, made_by, made, state_after_item}
 use Rattle.link_meaning.specs.LinkWritten.{AreMade, start}
 use Rattle.link_meaning.specs.laws.LinkedRuns.{item}
 use Rattle.workload_meaning.specs.Object.{name_of, padded, value_of, calls, dynamic_segment}
@@ -107,7 +107,7 @@ abbrev room_fit : List Fields → List Target → ℕ → ℕ → Result Fit Lin
 room_fit headers targets segment offset = cond (leb (length_of headers segment) offset) (Err fault.OutOfSegment)
     (cond (not (has_room_for targets (target_of 1 segment offset))) (Err fault.TooManyEntries) (Ok (fitting.Entry (target_of 1 segment offset))))
 
-call_fits : (headers : List Fields) (setting : Setting) (targets : List Target) (segment offset : ℕ) → setting ≡ alone → offset < length_of headers segment → length targets < 4680
+call_fits : (headers : List Fields) (setting : LinkSetting) (targets : List Target) (segment offset : ℕ) → setting ≡ without_runtimes → offset < length_of headers segment → length targets < 4680
     → HasFit targets (call_fit headers setting targets true (target_of 1 segment offset))
 call_fits headers setting targets segment offset own within few =
     let inner : leb (length_of headers segment) offset ≡ false = lt-leb (length_of headers segment) offset within in
@@ -117,17 +117,17 @@ call_fits headers setting targets segment offset own within few =
       is = rw (inner, room) refl;
       few = with_target-le targets (target_of 1 segment offset);
     } in
-    subst (λ (form : LinkForm). HasFit targets (cond (not (may_call form && true)) (Err fault.DynamicReference) (room_fit headers targets segment offset))) (ap (λ (s : Setting). s.form) (sym own)) fits
+    subst (λ (form : LinkForm). HasFit targets (cond (not (may_call form && true)) (Err fault.DynamicReference) (room_fit headers targets segment offset))) (ap (λ (s : LinkSetting). s.form) (sym own)) fits
 
-jsl_fits : (headers : List Fields) (f : Frame) (targets : List Target) (before : List Cell) (segment offset : ℕ) → f.setting ≡ alone → ends_in_jsl before ≡ true → offset < length_of headers segment → length targets < 4680
-    → HasFit targets (fitted headers f targets before 0xF3 3 0 (At 1 segment offset (pos 0)))
+jsl_fits : (headers : List Fields) (f : PatchPlace) (targets : List Target) (before : List Cell) (segment offset : ℕ) → f.setting ≡ without_runtimes → ends_in_jsl before ≡ true → offset < length_of headers segment → length targets < 4680
+    → HasFit targets (fit_value headers f targets before 0xF3 3 0 (At 1 segment offset (pos 0)))
 jsl_fits headers f targets before segment offset own jsl within few = by_test (not (eqb segment f.own) && is_dynamic_load headers segment)
   where
     by_test : (b : Bool) → HasFit targets (cond b (call_fit headers f.setting targets (is_call 0xF3 3 (pos 0) before) (target_of 1 segment offset)) (or_does_not_fit (place_fit f 0xF3 3 0 segment offset (pos 0))))
     by_test true = subst (λ (call : Bool). HasFit targets (call_fit headers f.setting targets call (target_of 1 segment offset))) (sym jsl) (call_fits headers f.setting targets segment offset own within few)
     by_test false = record { fit = Place segment offset (pos 0); is = refl; few = omega arith }
 
-own_fits : (headers : List Fields) (f : Frame) (targets : List Target) (before : List Cell) (segment offset : ℕ) → segment ≡ f.own → fitted headers f targets before 0xEB 3 0 (At 1 segment offset (pos 0)) ≡ Ok (Place segment offset (pos 0))
+own_fits : (headers : List Fields) (f : PatchPlace) (targets : List Target) (before : List Cell) (segment offset : ℕ) → segment ≡ f.own → fit_value headers f targets before 0xEB 3 0 (At 1 segment offset (pos 0)) ≡ Ok (Place segment offset (pos 0))
 own_fits headers f targets before segment offset own = rw (eq-eqb segment f.own own) refl
 
 -- ---- records
@@ -136,15 +136,15 @@ abbrev okay : Made → Result Made LinkCause
 okay x = Ok x
 
 -- behind a record that gave these cells
-step : (list : List Member) (table : List Told) (state : State) (i : Item) (more : List Item) (x : Made) → made list table state i ≡ okay x → AreMade list table (gained state i (okay x)) more → AreMade list table state (i ∷ more)
-step list table state i more x e rest = (x, e, subst (λ (g : Result Made LinkCause). AreMade list table (gained state i g) more) (sym e) rest)
+step : (list : List Member) (table : List Told) (state : LinkState) (i : Item) (more : List Item) (x : Made) → made list table state i ≡ okay x → AreMade list table (state_after_item state i (okay x)) more → AreMade list table state (i ∷ more)
+step list table state i more x e rest = (x, e, subst (λ (g : Result Made LinkCause). AreMade list table (state_after_item state i g) more) (sym e) rest)
 
-made_as : (list : List Member) (table : List Told) (state : State) (i : Item) (r : Record) (x : Made) → i.here.content ≡ r → made_by list table state i r ≡ okay x → made list table state i ≡ okay x
+made_as : (list : List Member) (table : List Told) (state : LinkState) (i : Item) (r : Record) (x : Made) → i.here.content ≡ r → made_by list table state i r ≡ okay x → made list table state i ≡ okay x
 unfolding made
 made_as list table state i r x is e = ap (made_by list table state i) is ∙ e
 
-formula_made : (list : List Member) (table : List Told) (state : State) (i : Item) (code : ℕ) (expr : List ℕ) (v : Value) (fit : Fit) → value_in list table i.place i.member i.here.location expr ≡ Ok v
-    → fitted (load_headers list) (frame_of list i) state.targets (cells_before state i) code 3 0 v ≡ Ok fit
+formula_made : (list : List Member) (table : List Told) (state : LinkState) (i : Item) (code : ℕ) (expr : List ℕ) (v : Value) (fit : Fit) → value_in list table i.place i.member i.here.location expr ≡ Ok v
+    → fit_value (load_headers list) (frame_of list i) state.targets (cells_before state i) code 3 0 v ≡ Ok fit
     → made_by list table state i (Formula code 3 0 expr) ≡ okay (fit_cells (table_number list) 3 (targets_behind state.targets fit) fit, targets_behind state.targets fit)
 formula_made list table state i code expr v fit is fits = rw (is, fits) refl
 
@@ -175,23 +175,23 @@ module _ (n : ℕ) (list : List Member) (table : List Told) (few : n ≤ 64) (is
   start_of i at = place_value list (1 + length at.front) at.member 0
 
   value_is : (i place location : ℕ) (m : Member) → IsOwn n m.segment → 1 ≤ i → i ≤ n → (at : IsNamedAt i 1 list) → value_in list table place m location (value_of (name_of i)) ≡ Ok (start_of i at)
-  unfolding value_in operand_value environment
+  unfolding value_in operand_value member_environment
   value_is i place location m own some less at =
       let tree = Leaf (Named 0x83 (name_of i)) in
       let spelled : tree_in 0 (value_of (name_of i)) ≡ Some tree = tree_in-again 0 (value_of (name_of i)) tree (value_spells (name_of i) (is_name i (omega (arith, less, few)))) in
       ap (λ (l : ℕ). tree_value list table place m location (tree_in l (value_of (name_of i)))) own.lab_len
       ∙ ap (tree_value list table place m location) spelled
-      ∙ ap (λ (found : List Found). settled list table place m tree (known 0 (label_value list table false found))) (finds_one n i place list m few is.all own at)
+      ∙ ap (λ (found : List FoundDefinition). value_or_equate_fault list table place m tree (known_or_fault 0 (label_value list table false found))) (finds_one n i place list m few is.all own at)
       ∙ ap (λ (outside : Bool). fine (cond outside (outside_value (title_at (1 + length at.front) at.member)) (start_of i at))) (not_zero (length at.front))
 
   -- cells, and not many more targets
-  record HasMade (state : State) (i : Item) : Type 0 where
+  record HasMade (state : LinkState) (i : Item) : Type 0 where
     x : Made
     is' : made list table state i ≡ okay x
     small : length x.1 ≤ length state.targets + 1
 
   -- behind the byte $22 a dynamic segment is called
-  jsl_made : (i : ℕ) (state : State) (it : Item) → IsOwn n it.member.segment → 1 ≤ i → i ≤ n → it.here.content ≡ Formula 0xF3 3 0 (value_of (name_of i)) → ends_in_jsl (cells_before state it) ≡ true
+  jsl_made : (i : ℕ) (state : LinkState) (it : Item) → IsOwn n it.member.segment → 1 ≤ i → i ≤ n → it.here.content ≡ Formula 0xF3 3 0 (value_of (name_of i)) → ends_in_jsl (cells_before state it) ≡ true
       → length state.targets < 4680 → HasMade state it
   unfolding place_value
   jsl_made i state it own some less content jsl small =
@@ -208,7 +208,7 @@ module _ (n : ℕ) (list : List Member) (table : List Told) (few : n ≤ 64) (is
       }
 
   -- a segment's own place fits
-  own_made : (i : ℕ) (state : State) (it : Item) → IsOwn n it.member.segment → 1 ≤ i → i ≤ n → it.here.content ≡ Formula 0xEB 3 0 (value_of (name_of i)) → it.member.segment.fields.load_name ≡ padded (name_of i)
+  own_made : (i : ℕ) (state : LinkState) (it : Item) → IsOwn n it.member.segment → 1 ≤ i → i ≤ n → it.here.content ≡ Formula 0xEB 3 0 (value_of (name_of i)) → it.member.segment.fields.load_name ≡ padded (name_of i)
       → (x : Made) × (made list table state it ≡ okay x)
   unfolding place_value load_of
   own_made i state it own some less content load_name =
@@ -222,8 +222,8 @@ module _ (n : ℕ) (list : List Member) (table : List Told) (few : n ≤ 64) (is
 
   -- ---- the segment MAIN
 
-  calls_made : (main : Member) (more i loc : ℕ) (founds : List (ℕ × Record)) (state : State) (rest : List Item) → IsOwn n main.segment → map (λ found. found.1) founds ≡ calls more i → 1 ≤ i → i + more ≤ n + 1
-      → length state.targets + more ≤ 64 → ((s : State) → AreMade list table s rest) → AreMade list table state (map (item 1 main) (located_from loc founds) ++ rest)
+  calls_made : (main : Member) (more i loc : ℕ) (founds : List (ℕ × Record)) (state : LinkState) (rest : List Item) → IsOwn n main.segment → map (λ found. found.1) founds ≡ calls more i → 1 ≤ i → i + more ≤ n + 1
+      → length state.targets + more ≤ 64 → ((s : LinkState) → AreMade list table s rest) → AreMade list table state (map (item 1 main) (located_from loc founds) ++ rest)
   calls_made main zero i loc [] state rest own are some less small behind = absurd (omega (arith, ap length are))
   calls_made main zero i loc (a ∷ []) state rest own are some less small behind =
       let r : Located = record { at = a.0; location = loc; content = a.1 } in
@@ -243,16 +243,16 @@ module _ (n : ℕ) (list : List Member) (table : List Told) (few : n ≤ 64) (is
       let b_is : b.1 ≡ formula = head_is b.1 formula (map (λ found. found.1) founds) (calls more (i + 1)) tail in
       let rest_are = tail_is b.1 formula (map (λ found. found.1) founds) (calls more (i + 1)) tail in
       let x : Made = (Byte 0x22 ∷ [], state.targets) in
-      let next : State = gained state first (okay x) in
+      let next : LinkState = state_after_item state first (okay x) in
       let call = jsl_made i next second own some (omega (arith, less)) b_is (ends (cells_before state first)) (omega (arith, small)) in
       step list table state first (second ∷ later) x (made_as list table state first const x (head_is a.1 const (b.1 ∷ map (λ found. found.1) founds) (formula ∷ calls more (i + 1)) are) refl)
       (step list table next second later call.x call.is'
-      (calls_made main more (i + 1) loc3 founds (gained next second (okay call.x)) rest own rest_are (omega (arith, some)) (omega (arith, less)) (omega (arith, small, call.small)) behind))
+      (calls_made main more (i + 1) loc3 founds (state_after_item next second (okay call.x)) rest own rest_are (omega (arith, some)) (omega (arith, less)) (omega (arith, small, call.small)) behind))
 
   -- ---- the dynamic segments
 
-  bytes_made : (m : Member) (place loc size i : ℕ) (founds : List (ℕ × Record)) (state : State) (rest : List Item) → map (λ found. found.1) founds ≡ LongConst (replicate size i) ∷ End ∷ []
-      → ((s : State) → AreMade list table s rest) → AreMade list table state (map (item place m) (located_from loc founds) ++ rest)
+  bytes_made : (m : Member) (place loc size i : ℕ) (founds : List (ℕ × Record)) (state : LinkState) (rest : List Item) → map (λ found. found.1) founds ≡ LongConst (replicate size i) ∷ End ∷ []
+      → ((s : LinkState) → AreMade list table s rest) → AreMade list table state (map (item place m) (located_from loc founds) ++ rest)
   bytes_made m place loc size i [] state rest are behind = absurd (omega (arith, ap length are))
   bytes_made m place loc size i (a ∷ []) state rest are behind = absurd (omega (arith, ap length are))
   bytes_made m place loc size i (a ∷ b ∷ c ∷ founds) state rest are behind = absurd (omega (arith, ap length are))
@@ -262,13 +262,13 @@ module _ (n : ℕ) (list : List Member) (table : List Told) (few : n ≤ 64) (is
       let loc2 = loc + size_at loc a.1 in
       let second = item place m (record { at = b.0; location = loc2; content = b.1 }) in
       let x : Made = (map Byte (replicate size i), state.targets) in
-      let next : State = gained state first (okay x) in
+      let next : LinkState = state_after_item state first (okay x) in
       let y : Made = ([], next.targets) in
       step list table state first (second ∷ rest) x (made_as list table state first const x (head_is a.1 const (b.1 ∷ []) (End ∷ []) are) refl)
       (step list table next second rest y (made_as list table next second End y (head_is b.1 End [] [] (tail_is a.1 const (b.1 ∷ []) (End ∷ []) are)) refl) (behind _))
 
-  body_made : (m : Member) (place i size : ℕ) (founds : List (ℕ × Record)) (state : State) (rest : List Item) → IsOwn n m.segment → m.segment.fields.load_name ≡ padded (name_of i) → 1 ≤ i → i ≤ n
-      → map (λ found. found.1) founds ≡ (dynamic_segment i size).body → ((s : State) → AreMade list table s rest) → AreMade list table state (map (item place m) (located_from 0 founds) ++ rest)
+  body_made : (m : Member) (place i size : ℕ) (founds : List (ℕ × Record)) (state : LinkState) (rest : List Item) → IsOwn n m.segment → m.segment.fields.load_name ≡ padded (name_of i) → 1 ≤ i → i ≤ n
+      → map (λ found. found.1) founds ≡ (dynamic_segment i size).body → ((s : LinkState) → AreMade list table s rest) → AreMade list table state (map (item place m) (located_from 0 founds) ++ rest)
   body_made m place i size [] state rest own load_name some less are behind = absurd (omega (arith, ap length are))
   body_made m place i size (a ∷ founds) state rest own load_name some less are behind =
       let formula : Record = Formula 0xEB 3 0 (value_of (name_of i)) in
@@ -276,26 +276,26 @@ module _ (n : ℕ) (list : List Member) (table : List Told) (few : n ≤ 64) (is
       let first = item place m (record { at = a.0; location = 0; content = a.1 }) in
       let x = own_made i state first own some less (head_is a.1 formula (map (λ found. found.1) founds) more are) load_name in
       step list table state first (map (item place m) (located_from (0 + size_at 0 a.1) founds) ++ rest) x.0 x.1
-      (bytes_made m place (0 + size_at 0 a.1) size i founds (gained state first (okay x.0)) rest (tail_is a.1 formula (map (λ found. found.1) founds) more are) behind)
+      (bytes_made m place (0 + size_at 0 a.1) size i founds (state_after_item state first (okay x.0)) rest (tail_is a.1 formula (map (λ found. found.1) founds) more are) behind)
 
-  dynamics_made : (i place number : ℕ) (all : List ℕ) (segments : List Segment) (state : State) → 1 ≤ i → i + length all ≤ n + 1 → AreDynamic n i all segments → AreMade list table state (items_from place (members_from alone 1 number segments))
-  unfolding located
+  dynamics_made : (i place number : ℕ) (all : List ℕ) (segments : List Segment) (state : LinkState) → 1 ≤ i → i + length all ≤ n + 1 → AreDynamic n i all segments → AreMade list table state (items_from place (members_from without_runtimes 1 number segments))
+  unfolding records_with_offsets
   dynamics_made i place number [] [] state some less are = tt
   dynamics_made i place number [] (s ∷ segments) state some less are = absurd are
   dynamics_made i place number (draw ∷ all) [] state some less are = absurd are
   dynamics_made i place number (draw ∷ all) (s ∷ segments) state some less are =
-      let m : Member = record { file = 1; number = number; from = 0; segment = s; setting = alone } in
-      body_made m place i (16 + draw % 4096) s.records state (items_from (place + 1) (members_from alone 1 (number + 1) segments)) are.0 are.1.load_name some (omega (arith, less)) are.1.records
+      let m : Member = record { file = 1; number = number; from = 0; segment = s; setting = without_runtimes } in
+      body_made m place i (16 + draw % 4096) s.records state (items_from (place + 1) (members_from without_runtimes 1 (number + 1) segments)) are.0 are.1.load_name some (omega (arith, less)) are.1.records
       (λ later. dynamics_made (i + 1) (place + 1) (number + 1) all segments later (omega (arith, some)) (omega (arith, less)) are.2)
 
 -- each record gives its cells, whatever values equates are told
-pub all_made : (n : ℕ) (sizes : List ℕ) (segments : List Segment) (table : List Told) → n ≤ 64 → length sizes ≡ n → IsWorkload n sizes segments → AreMade (members_from alone 1 1 segments) table start (items (members_from alone 1 1 segments))
-unfolding items located
+pub all_made : (n : ℕ) (sizes : List ℕ) (segments : List Segment) (table : List Told) → n ≤ 64 → length sizes ≡ n → IsWorkload n sizes segments → AreMade (members_from without_runtimes 1 1 segments) table start (items (members_from without_runtimes 1 1 segments))
+unfolding items records_with_offsets
 all_made n sizes segments table few size w =
-    let list = members_from alone 1 1 segments in
+    let list = members_from without_runtimes 1 1 segments in
     let is = is_list n sizes segments size w in
-    let main : Member = record { file = 1; number = 1; from = 0; segment = w.main; setting = alone } in
-    let others = items_from 2 (members_from alone 1 2 w.others) in
-    subst (λ (l : List Segment). AreMade list table start (items_from 1 (members_from alone 1 1 l))) (sym w.parts)
+    let main : Member = record { file = 1; number = 1; from = 0; segment = w.main; setting = without_runtimes } in
+    let others = items_from 2 (members_from without_runtimes 1 2 w.others) in
+    subst (λ (l : List Segment). AreMade list table start (items_from 1 (members_from without_runtimes 1 1 l))) (sym w.parts)
     (calls_made n list table few is main n 1 0 w.main.records start others w.own w.calls'.records (omega arith) (omega arith) (omega (arith, few))
     (λ later. dynamics_made n list table few is 1 2 2 sizes w.others later (omega arith) (omega (arith, size)) w.dynamic))

@@ -6,11 +6,11 @@ use Rattle.omf_format.specs.Number.{IsBytes}
 use Rattle.omf_format.specs.File.{Segment, IsFile}
 use Rattle.link_meaning.specs.declared.fault.LinkFault.{LinkFault}
 use Rattle.link_meaning.specs.First.{IsIn}
-use Rattle.link_meaning.specs.Member.{Member, alone, members_from}
-use Rattle.link_meaning.specs.Search.{Found}
+use Rattle.link_meaning.specs.Member.{Member, without_runtimes, members_from}
+use Rattle.link_meaning.specs.Search.{FoundDefinition}
 use Rattle.link_meaning.specs.Rings.{is_equate, equates}
 use Rattle.link_meaning.specs.Layout.{in_load, load_names, load_members}
-use Rattle.link_meaning.specs.LinkFaults.{Given, HasBytes, plain, IsResolved}
+use Rattle.link_meaning.specs.LinkFaults.{LinkInput, HasBytes, plain, IsResolved}
 use Rattle.link_meaning.specs.LinkValues.{Told, IsTable, AreTold}
 use Rattle.link_meaning.specs.LinkedCells.{table_number, items, targets, state_behind}
 use Rattle.link_meaning.specs.LinkWritten.{AreMade, start, written_file}
@@ -44,8 +44,8 @@ no_equates n list own = ap (filter is_equate) (entries_are n list own) ∙ no_ti
 
 empty_table : (n : ℕ) (list : List Member) → AreOwn n list → IsTable list []
 empty_table n list own = record {
-  straight = λ e among circle. absurd (subst (λ (l : List Found). IsIn l e) (no_equates n list own) among);
-  rows = subst (λ (l : List Found). AreTold list [] l []) (sym (no_equates n list own)) tt;
+  straight = λ e among circle. absurd (subst (λ (l : List FoundDefinition). IsIn l e) (no_equates n list own) among);
+  rows = subst (λ (l : List FoundDefinition). AreTold list [] l []) (sym (no_equates n list own)) tt;
 }
 
 -- what passes a filter has the load name
@@ -68,9 +68,9 @@ not_both fault output e = cc
 
 module _ (n : ℕ) (sizes object' : List ℕ) (segments : List Segment) (few : n ≤ 64) (size : length sizes ≡ n) (is_file : IsFile segments object') (w : IsWorkload n sizes segments) (bytes : IsBytes object') where
   abbrev list : List Member
-  list = members_from alone 1 1 segments
+  list = members_from without_runtimes 1 1 segments
 
-  abbrev given : Given
+  abbrev given : LinkInput
   given = plain (object' ∷ [])
 
   all_bytes : HasBytes given
@@ -107,7 +107,7 @@ module _ (n : ℕ) (sizes object' : List ℕ) (segments : List Segment) (few : n
 
   no_emit_fault : (before : List EmitPhase) (phase : EmitPhase) (fault : LinkFault) → HasEmitFault list before phase fault → ⊥
   no_emit_fault before Rings fault has =
-      never_in (HasRingFault list) (equates list) (λ front e told among ring. subst (λ (l : List Found). IsIn l e) (no_equates n list listed.all) among) fault has
+      never_in (HasRingFault list) (equates list) (λ front e told among ring. subst (λ (l : List FoundDefinition). IsIn l e) (no_equates n list listed.all) among) fault has
   no_emit_fault before Values fault (table, is_table, first) =
       made_sound list table (made table) first.before first.item first.after fault first.parts first.here
   no_emit_fault before Size fault (table, is_table, has) = omega (arith, short table is_table, has.long)

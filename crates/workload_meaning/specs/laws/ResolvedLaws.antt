@@ -19,10 +19,10 @@ use Rattle.link_meaning.specs.First.{IsIn, HasNone, IsFirst, first_some}
 use Rattle.link_meaning.specs.Sizes.{body_size}
 use Rattle.link_meaning.specs.declared.form.LinkForm.{LinkForm}
 use Rattle.link_meaning.specs.declared.form.LinkForm.TheVariants.{Program}
-use Rattle.link_meaning.specs.Member.{Row, Input, RuntimeFile, Setting, alone, Member, is_library, members_from, objects, setting_in, Offer, offers}
+use Rattle.link_meaning.specs.Member.{Row, Input, RuntimeFile, LinkSetting, without_runtimes, Member, is_library, members_from, objects, setting_in, Offer, library_offers}
 use Rattle.link_meaning.specs.Uses.{Use, uses_of}
-use Rattle.link_meaning.specs.Search.{Found, finds}
-use Rattle.link_meaning.specs.LinkedList.{Asked, asked_from, asked, found_for, unless_found, row_for, wanted_by, wanted, Follow, IsLinked}
+use Rattle.link_meaning.specs.Search.{FoundDefinition, finds}
+use Rattle.link_meaning.specs.LinkedList.{PlacedUse, asked_from, all_uses, found_for, unless_found, row_for, wanted_by, wanted, Follow, IsLinked}
 use Rattle.link_meaning.specs.Layout.{in_load, aligned_from, end_from, load_length, distinct, load_names, load_members, lesser_bank, least_bank, load_fields, headers_from, load_headers}
 use Rattle.link_meaning.specs.laws.LayoutLaws.{aligned_from-least}
 use Rattle.link_meaning.specs.LinkFaults.{plain, Part, OfInput, AreRuntimes, IsSetting, HasPartFault, with_place, type_fault, record_fault, records_fault, length_fault, segment_fault, segments_fault, rows_in_file, HasFileFault, OfFile, OfSegment, OfDictionary, IsInput, AreInputs, IsProgram, use_cause, HasUseFault, HasOrgFault, is_too_long, HasLengthFault, may_not_stand, HasKindFault, LayoutCheck, Orgs, Count, Lengths, Kinds, HasLayoutFault, Phase, Reading, Objects, Names, Layout, phases, HasPhaseFault, IsResolved}
@@ -81,7 +81,7 @@ dynamic_own n i [] (s ∷ segments) are = absurd are
 dynamic_own n i (draw ∷ all) [] are = absurd are
 dynamic_own n i (draw ∷ all) (s ∷ segments) are = let rest = dynamic_own n (i + 1) all segments are.2 in ((are.0, rest.0), ap suc rest.1)
 
-dynamic_named : (n i number : ℕ) (all : List ℕ) (segments : List Segment) → AreDynamic n i all segments → AreNamed i (members_from alone 1 number segments)
+dynamic_named : (n i number : ℕ) (all : List ℕ) (segments : List Segment) → AreDynamic n i all segments → AreNamed i (members_from without_runtimes 1 number segments)
 dynamic_named n i number [] [] are = tt
 dynamic_named n i number [] (s ∷ segments) are = absurd are
 dynamic_named n i number (draw ∷ all) [] are = absurd are
@@ -89,7 +89,7 @@ dynamic_named n i number (draw ∷ all) (s ∷ segments) are = (are.1.name', are
 
 -- ---- the linked list
 
-length-members : (file number : ℕ) (segments : List Segment) → length (members_from alone file number segments) ≡ length segments
+length-members : (file number : ℕ) (segments : List Segment) → length (members_from without_runtimes file number segments) ≡ length segments
 length-members file number [] = refl
 length-members file number (s ∷ segments) = ap suc (length-members file (number + 1) segments)
 
@@ -104,9 +104,9 @@ none_first f (x ∷ xs) none = ap (λ o. option_or o (first_some f xs)) (none x)
 -- without rows nothing is wanted
 none_wanted : (list : List Member) → wanted [] list ≡ None
 unfolding wanted row_for
-none_wanted list = none_first (λ (a : Asked). wanted_by [] list a.place a.member a.use') (asked list) (λ a. none (found_for list a.place a.member a.use'))
+none_wanted list = none_first (λ (a : PlacedUse). wanted_by [] list a.place a.member a.use') (all_uses list) (λ a. none (found_for list a.place a.member a.use'))
   where
-    none : (found : List Found) → unless_found found None ≡ None
+    none : (found : List FoundDefinition) → unless_found found None ≡ None
     none [] = refl
     none (f ∷ found) = refl
 
@@ -148,14 +148,14 @@ pub record IsList (n : ℕ) (list : List Member) : Type 0 where
   pub load_name : main.segment.fields.load_name ≡ padded (codes "MAIN")
   pub named' : AreNamed 1 others
   pub count : length others ≡ n
-  pub setting' : main.setting ≡ alone
+  pub setting' : main.setting ≡ without_runtimes
 
-pub is_list : (n : ℕ) (sizes : List ℕ) (segments : List Segment) → length sizes ≡ n → IsWorkload n sizes segments → IsList n (members_from alone 1 1 segments)
+pub is_list : (n : ℕ) (sizes : List ℕ) (segments : List Segment) → length sizes ≡ n → IsWorkload n sizes segments → IsList n (members_from without_runtimes 1 1 segments)
 is_list n sizes segments size w =
     let dynamic = dynamic_own n 1 sizes w.others w.dynamic in
-    subst (λ (l : List Segment). IsList n (members_from alone 1 1 l)) (sym w.parts) (record {
-      main = record { file = 1; number = 1; from = 0; segment = w.main; setting = alone };
-      others = members_from alone 1 2 w.others;
+    subst (λ (l : List Segment). IsList n (members_from without_runtimes 1 1 l)) (sym w.parts) (record {
+      main = record { file = 1; number = 1; from = 0; segment = w.main; setting = without_runtimes };
+      others = members_from without_runtimes 1 2 w.others;
       parts = refl;
       all = (w.own, members_own n 1 2 w.others dynamic.0);
       title = w.calls'.name';
@@ -166,7 +166,7 @@ is_list n sizes segments size w =
     })
 
 -- nothing else is linked with it, and it is a program
-pub is_alone : (n : ℕ) (list : List Member) → IsList n list → setting_in list ≡ alone
+pub is_alone : (n : ℕ) (list : List Member) → IsList n list → setting_in list ≡ without_runtimes
 is_alone n list is = ap setting_in is.parts ∙ is.setting'
 
 -- each dynamic segment's name has its one member
@@ -177,7 +177,7 @@ has_named n i list is few some less =
 -- ---- names
 
 -- a member asks for a dynamic segment's name
-abbrev IsOwnAsked : ℕ → Asked → Type 0
+abbrev IsOwnAsked : ℕ → PlacedUse → Type 0
 IsOwnAsked n a = IsOwn n a.member.segment × IsOwnUse n a.use'
 
 uses_placed : (n place : ℕ) (ms : List Member) → n ≤ 64 → AreOwn n ms → AllByRecursion (IsOwnAsked n) (asked_from place ms)
@@ -185,7 +185,7 @@ uses_placed n place [] few own = tt
 uses_placed n place (m ∷ ms) few own =
     both (map (λ (u : Use). record { place = place; member = m; use' = u }) (uses_of m.segment)) (asked_from (place + 1) ms) (each (uses_of m.segment) (uses_are n m.segment few own.0)) (uses_placed n (place + 1) ms few own.1)
   where
-    both : (xs ys : List Asked) → AllByRecursion (IsOwnAsked n) xs → AllByRecursion (IsOwnAsked n) ys → AllByRecursion (IsOwnAsked n) (xs ++ ys)
+    both : (xs ys : List PlacedUse) → AllByRecursion (IsOwnAsked n) xs → AllByRecursion (IsOwnAsked n) ys → AllByRecursion (IsOwnAsked n) (xs ++ ys)
     both [] ys p q = q
     both (x ∷ xs) ys p q = (p.0, both xs ys p.1 q)
 
@@ -199,11 +199,11 @@ some_cause c = Some c
 abbrev no_link_cause : Option LinkCause
 no_link_cause = None
 
-no_use_fault : (n : ℕ) (list : List Member) → n ≤ 64 → IsList n list → (fault : LinkFault) → IsFirst (HasUseFault list) (asked list) fault → ⊥
-unfolding asked
+no_use_fault : (n : ℕ) (list : List Member) → n ≤ 64 → IsList n list → (fault : LinkFault) → IsFirst (HasUseFault list) (all_uses list) fault → ⊥
+unfolding all_uses
 no_use_fault n list few is fault first = never_in (HasUseFault list) (asked_from 1 list) clear fault first
   where
-    clear : (front : List Asked) (a : Asked) (fault : LinkFault) → IsIn (asked_from 1 list) a → HasUseFault list front a fault → ⊥
+    clear : (front : List PlacedUse) (a : PlacedUse) (fault : LinkFault) → IsIn (asked_from 1 list) a → HasUseFault list front a fault → ⊥
     clear front a fault among has =
         let own = all_in (IsOwnAsked n) (asked_from 1 list) a (uses_placed n 1 list few is.all) among in
         let i = own.1.1.0 in
@@ -322,7 +322,7 @@ true_false e = cc
 no_layout_fault : (n : ℕ) (list : List Member) → n ≤ 64 → IsList n list → (before : List LayoutCheck) (check : LayoutCheck) (fault : LinkFault) → HasLayoutFault list before check fault → ⊥
 unfolding load_headers
 no_layout_fault n list few is before Orgs fault has =
-    never_in HasOrgFault list (λ front m told among asked. asked.asks (all_in (λ (o : Member). IsOwn n o.segment) list m is.all among).org) fault has
+    never_in HasOrgFault list (λ front m told among all_uses. all_uses.asks (all_in (λ (o : Member). IsOwn n o.segment) list m is.all among).org) fault has
 no_layout_fault n list few is before Count fault has =
     omega (arith, in_range (load_names list) 254 has.load_name has.there, few_names n list is, few)
 no_layout_fault n list few is before Lengths fault has =
@@ -330,7 +330,7 @@ no_layout_fault n list few is before Lengths fault has =
     true_false (sym long.long ∙ ap is_too_long of.2 ∙ not_too_long n of.0 of.1 list few is)) fault has
 no_layout_fault n list few is before Kinds fault has =
     never_in (HasKindFault list) (headers_from list 1 (load_names list)) (λ front f told among other.
-    true_false (sym other.other ∙ ap (λ (s : Setting). may_not_stand s.form f) (is_alone n list is))) fault has
+    true_false (sym other.other ∙ ap (λ (s : LinkSetting). may_not_stand s.form f) (is_alone n list is))) fault has
 
 -- ---- all of it
 
@@ -348,7 +348,7 @@ same_rows a b e = cc
 
 module _ (n : ℕ) (sizes object : List ℕ) (segments : List Segment) (few : n ≤ 64) (size : length sizes ≡ n) (is_file : IsFile segments object) (w : IsWorkload n sizes segments) where
   abbrev list : List Member
-  list = members_from alone 1 1 segments
+  list = members_from without_runtimes 1 1 segments
 
   all_own : AllByRecursion (IsOwn n) segments
   all_own = subst (AllByRecursion (IsOwn n)) (sym w.parts) (w.own, (dynamic_own n 1 sizes w.others w.dynamic).0)
@@ -386,16 +386,16 @@ module _ (n : ℕ) (sizes object : List ℕ) (segments : List Segment) (few : n 
       ap (λ (s : List Segment). record { segments = s; rows = i.rows } ∷ []) same ∙ ap (λ (r : List Row). record { segments = segments; rows = r } ∷ []) rows
   inputs_are (i ∷ j ∷ inputs) are = absurd are.1
 
-  objects_are : objects alone (input ∷ []) ≡ list
+  objects_are : objects without_runtimes (input ∷ []) ≡ list
   unfolding objects input
-  objects_are = rw no_library (append-nil (members_from alone 1 1 segments))
+  objects_are = rw no_library (append-nil (members_from without_runtimes 1 1 segments))
 
-  offers_are : offers alone (input ∷ []) ≡ []
-  unfolding offers input
+  offers_are : library_offers without_runtimes (input ∷ []) ≡ []
+  unfolding library_offers input
   offers_are = refl
 
   -- it is linked to a program, with no run-time library file
-  alone_is : (setting : Setting) → IsSetting (plain (object ∷ [])) setting → setting ≡ alone
+  alone_is : (setting : LinkSetting) → IsSetting (plain (object ∷ [])) setting → setting ≡ without_runtimes
   alone_is setting is =
       ap (λ (form : LinkForm). record { form = form; runtimes = setting.runtimes }) is.form'
       ∙ ap (λ (runtimes : List RuntimeFile). record { form = Program; runtimes = runtimes }) (none setting.runtimes is.runtimes')
@@ -406,23 +406,23 @@ module _ (n : ℕ) (sizes object : List ℕ) (segments : List Segment) (few : n 
 
   is_program : IsProgram (plain (object ∷ [])) list
   is_program = record {
-    setting = alone;
+    setting = without_runtimes;
     is_setting = record { form' = refl; runtimes' = tt };
     inputs = input ∷ [];
     are_inputs = (is_input, tt);
     linked = record {
       added = [];
-      parts = sym objects_are ∙ sym (append-nil (objects alone (input ∷ [])));
-      follow = ap (λ (o : List Offer). wanted o (objects alone (input ∷ []))) offers_are ∙ none_wanted (objects alone (input ∷ []));
+      parts = sym objects_are ∙ sym (append-nil (objects without_runtimes (input ∷ [])));
+      follow = ap (λ (o : List Offer). wanted o (objects without_runtimes (input ∷ []))) offers_are ∙ none_wanted (objects without_runtimes (input ∷ []));
     };
   }
 
   program_is : (other : List Member) → IsProgram (plain (object ∷ [])) other → other ≡ list
   program_is other p =
-      let with_setting : IsLinked alone p.inputs other = subst (λ (setting : Setting). IsLinked setting p.inputs other) (alone_is p.setting p.is_setting) p.linked in
-      let linked : IsLinked alone (input ∷ []) other = subst (λ (is : List Input). IsLinked alone is other) (inputs_are p.inputs p.are_inputs) with_setting in
-      let none : linked.added ≡ [] = none_follow (objects alone (input ∷ [])) linked.added (subst (λ (o : List Offer). Follow o (objects alone (input ∷ [])) linked.added) offers_are linked.follow) in
-      linked.parts ∙ ap (λ (l : List Member). objects alone (input ∷ []) ++ l) none ∙ append-nil (objects alone (input ∷ [])) ∙ objects_are
+      let with_setting : IsLinked without_runtimes p.inputs other = subst (λ (setting : LinkSetting). IsLinked setting p.inputs other) (alone_is p.setting p.is_setting) p.linked in
+      let linked : IsLinked without_runtimes (input ∷ []) other = subst (λ (is : List Input). IsLinked without_runtimes is other) (inputs_are p.inputs p.are_inputs) with_setting in
+      let none : linked.added ≡ [] = none_follow (objects without_runtimes (input ∷ [])) linked.added (subst (λ (o : List Offer). Follow o (objects without_runtimes (input ∷ [])) linked.added) offers_are linked.follow) in
+      linked.parts ∙ ap (λ (l : List Member). objects without_runtimes (input ∷ []) ++ l) none ∙ append-nil (objects without_runtimes (input ∷ [])) ∙ objects_are
 
   listed : IsList n list
   listed = is_list n sizes segments size w
@@ -433,10 +433,10 @@ module _ (n : ℕ) (sizes object : List ℕ) (segments : List Segment) (few : n 
       no_file_fault (length has.before + 1) fault (subst (λ (part : Part). HasPartFault has.before part fault) same has.here)
   no_phase_fault before Objects fault has =
       let none : list ≡ [] =
-      sym objects_are ∙ ap (objects alone) (sym (inputs_are has.1 has.3)) ∙ ap (λ (setting : Setting). objects setting has.1) (sym (alone_is has.0 has.2)) ∙ has.4 in
+      sym objects_are ∙ ap (objects without_runtimes) (sym (inputs_are has.1 has.3)) ∙ ap (λ (setting : LinkSetting). objects setting has.1) (sym (alone_is has.0 has.2)) ∙ has.4 in
       omega (arith, ap length none, ap length listed.parts)
   no_phase_fault before Names fault has =
-      no_use_fault n list few listed fault (subst (λ (l : List Member). IsFirst (HasUseFault l) (asked l) fault) (program_is has.0 has.1) has.2)
+      no_use_fault n list few listed fault (subst (λ (l : List Member). IsFirst (HasUseFault l) (all_uses l) fault) (program_is has.0 has.1) has.2)
   no_phase_fault before Layout fault has =
       let first = subst (λ (l : List Member). IsFirst (HasLayoutFault l) (Orgs ∷ Count ∷ Lengths ∷ Kinds ∷ []) fault) (program_is has.0 has.1) has.2 in
       no_layout_fault n list few listed first.before first.item fault first.here

@@ -13,11 +13,11 @@ use Rattle.omf_format.specs.Record.{Record, End, Const, LongConst, Align, Org, S
 use Rattle.omf_format.specs.File.{Segment}
 use Rattle.link_meaning.specs.declared.search.Want.TheVariants.{One}
 use Rattle.link_meaning.specs.declared.search.Step.{Step}
-use Rattle.link_meaning.specs.Sizes.{Located, size_at, located_from, located}
-use Rattle.link_meaning.specs.Member.{Member, alone, members_from, setting_in}
+use Rattle.link_meaning.specs.Sizes.{Located, size_at, located_from, records_with_offsets}
+use Rattle.link_meaning.specs.Member.{Member, without_runtimes, members_from, setting_in}
 use Rattle.link_meaning.specs.Defines.{Definition, ForAll, outer_scope, title_of, defined_by, defined_in}
 use Rattle.link_meaning.specs.Uses.{Use, used_by, used_in_text, used_by_term, uses_of, data_name, usings_of}
-use Rattle.link_meaning.specs.Search.{Found, entries_from, entries, named, decided, steps_of, outer_steps, or_else, only_place, finds_data, used_data, finds_inside, outside, finds}
+use Rattle.link_meaning.specs.Search.{FoundDefinition, entries_from, entries, with_this_name, first_step_found, steps_of, outer_steps, or_else, only_place, finds_data, used_data, finds_inside, outside, finds}
 use Rattle.workload_meaning.specs.Object.{name_of, padded, value_of}
 use Rattle.workload_meaning.specs.laws.NameLaws.{is_name, value_spells, name_differs, name_not_main}
 use Rattle.workload_meaning.specs.laws.ObjectLaws.{IsOwnRecord, IsOwn}
@@ -27,7 +27,7 @@ use Rattle.workload_meaning.specs.laws.ObjectLaws.{IsOwnRecord, IsOwn}
 abbrev pub AreOwn : ℕ → List Member → Type 0
 AreOwn n ms = AllByRecursion (λ (m : Member). IsOwn n m.segment) ms
 
-pub members_own : (n file number : ℕ) (segments : List Segment) → AllByRecursion (IsOwn n) segments → AreOwn n (members_from alone file number segments)
+pub members_own : (n file number : ℕ) (segments : List Segment) → AllByRecursion (IsOwn n) segments → AreOwn n (members_from without_runtimes file number segments)
 members_own n file number [] own = tt
 members_own n file number (s ∷ segments) own = (own.0, members_own n file (number + 1) segments own.1)
 
@@ -81,16 +81,16 @@ title_own n s own = by_name s.fields.name own.some
         ap (λ (private : Bool). record { name = b ∷ bs; scope = outer_scope private; place = 0; at = s.start; expr = None; size = 0; form = 0x4E } ∷ []) own.public
 
 defined_own : (n : ℕ) (s : Segment) → IsOwn n s → defined_in s ≡ title s ∷ []
-unfolding defined_in located
+unfolding defined_in records_with_offsets
 defined_own n s own =
     ap (λ (l : List Definition). l ++ flat_map (λ (r : Located). defined_by r.at r.location r.content) (located_from 0 s.records)) (title_own n s own)
     ∙ ap (λ (l : List Definition). title s ∷ l) (none_defined n 0 s.records own.body)
 
 -- the title of a member
-abbrev pub title_at : ℕ → Member → Found
+abbrev pub title_at : ℕ → Member → FoundDefinition
 title_at place m = record { place = place; member = m; definition = title m.segment }
 
-abbrev pub titles_from : ℕ → List Member → List Found
+abbrev pub titles_from : ℕ → List Member → List FoundDefinition
 titles_from place [] = []
 titles_from place (m ∷ ms) = title_at place m ∷ titles_from (place + 1) ms
 
@@ -98,7 +98,7 @@ entries_own : (n place : ℕ) (ms : List Member) → AreOwn n ms → entries_fro
 entries_own n place [] own = refl
 entries_own n place (m ∷ ms) own =
     ap (λ (l : List Definition). map (λ (d : Definition). record { place = place; member = m; definition = d }) l ++ entries_from defined_in (place + 1) ms) (defined_own n m.segment own.0)
-    ∙ ap (λ (l : List Found). title_at place m ∷ l) (entries_own n (place + 1) ms own.1)
+    ∙ ap (λ (l : List FoundDefinition). title_at place m ∷ l) (entries_own n (place + 1) ms own.1)
 
 -- the members define their names and nothing else
 pub entries_are : (n : ℕ) (list : List Member) → AreOwn n list → entries list ≡ titles_from 1 list
@@ -179,17 +179,17 @@ pub record IsNamedAt (i place : ℕ) (ms : List Member) : Type 0 where
   pub back : List Member
   pub parts : ms ≡ front ++ member ∷ back
   pub load_name : member.segment.fields.load_name ≡ padded (name_of i)
-  pub found : named (name_of i) (titles_from place ms) ≡ title_at (place + length front) member ∷ []
+  pub found : with_this_name (name_of i) (titles_from place ms) ≡ title_at (place + length front) member ∷ []
 
-none_named : (i j place : ℕ) (ms : List Member) → AreNamed j ms → i < j → j + length ms ≤ 65 → named (name_of i) (titles_from place ms) ≡ []
-unfolding named
+none_named : (i j place : ℕ) (ms : List Member) → AreNamed j ms → i < j → j + length ms ≤ 65 → with_this_name (name_of i) (titles_from place ms) ≡ []
+unfolding with_this_name
 none_named i j place [] are less few = refl
 none_named i j place (m ∷ ms) are less few =
     let other : bytes_eq (name_of i) m.segment.fields.name ≡ false = ap (bytes_eq (name_of i)) are.0 ∙ name_differs i j (omega (arith, less, few)) (omega (arith, few)) (λ e. omega (arith, e, less)) in
     rw other (none_named i (j + 1) (place + 1) ms are.2 (omega (arith, less)) (omega (arith, few)))
 
 pub named_at : (i j place : ℕ) (ms : List Member) → AreNamed j ms → j ≤ i → i < j + length ms → j + length ms ≤ 65 → IsNamedAt i place ms
-unfolding named
+unfolding with_this_name
 named_at i j place [] are le less few = absurd (omega (arith, le, less))
 named_at i j place (m ∷ ms) are le less few = elim (cases_lt j i) [
   | inl lt ↦
@@ -214,13 +214,13 @@ named_at i j place (m ∷ ms) are le less few = elim (cases_lt j i) [
         back = ms;
         parts = refl;
         load_name = are.1 ∙ ap (λ (k : ℕ). padded (name_of k)) same;
-        found = rw here (ap (λ (l : List Found). title_at place m ∷ l) (none_named i (j + 1) (place + 1) ms are.2 (omega (arith, ge)) (omega (arith, few))) ∙ ap (λ (p : ℕ). title_at p m ∷ []) at_place);
+        found = rw here (ap (λ (l : List FoundDefinition). title_at place m ∷ l) (none_named i (j + 1) (place + 1) ms are.2 (omega (arith, ge)) (omega (arith, few))) ∙ ap (λ (p : ℕ). title_at p m ∷ []) at_place);
       }
 ]
 
 -- behind the segment MAIN too
 pub named_behind : (i : ℕ) (main : Member) (ms : List Member) → main.segment.fields.name ≡ codes "MAIN" → AreNamed 1 ms → 1 ≤ i → i ≤ length ms → length ms ≤ 64 → IsNamedAt i 1 (main ∷ ms)
-unfolding named
+unfolding with_this_name
 named_behind i main ms title_is are some less few =
     let other : bytes_eq (name_of i) main.segment.fields.name ≡ false = ap (bytes_eq (name_of i)) title_is ∙ name_not_main i in
     let rest = named_at i 1 2 ms are some (omega (arith, less)) (omega (arith, few)) in
@@ -237,12 +237,12 @@ named_behind i main ms title_is are some less few =
 inside_one : (n i place : ℕ) (list : List Member) (m : Member) → n ≤ 64 → AreOwn n list → IsOwn n m.segment → (at : IsNamedAt i 1 list) → finds_inside list place m (name_of i) ≡ title_at (1 + length at.front) at.member ∷ []
 unfolding finds_inside
 inside_one n i place list m small all own at =
-    ap (λ (l : List Found). decided (steps_of list place m) (named (name_of i) l)) (entries_are n list all)
-    ∙ ap (λ (l : List Found). decided (steps_of list place m) l) at.found
-    ∙ ap (λ (used : List ℕ). decided (Rattle.link_meaning.specs.declared.search.Step.TheVariants.Within place ∷ (map (λ (p : ℕ). Rattle.link_meaning.specs.declared.search.Step.TheVariants.Within p) used ++ outer_steps m)) (title_at (1 + length at.front) at.member ∷ [])) (used_none n list m small own)
+    ap (λ (l : List FoundDefinition). first_step_found (steps_of list place m) (with_this_name (name_of i) l)) (entries_are n list all)
+    ∙ ap (λ (l : List FoundDefinition). first_step_found (steps_of list place m) l) at.found
+    ∙ ap (λ (used : List ℕ). first_step_found (Rattle.link_meaning.specs.declared.search.Step.TheVariants.Within place ∷ (map (λ (p : ℕ). Rattle.link_meaning.specs.declared.search.Step.TheVariants.Within p) used ++ outer_steps m)) (title_at (1 + length at.front) at.member ∷ [])) (used_none n list m small own)
 
 -- a name that one member has finds it
 pub finds_one : (n i place : ℕ) (list : List Member) (m : Member) → n ≤ 64 → AreOwn n list → IsOwn n m.segment → (at : IsNamedAt i 1 list) → finds list place m (name_of i) ≡ title_at (1 + length at.front) at.member ∷ []
 unfolding finds
 finds_one n i place list m small all own at =
-    ap (λ (l : List Found). or_else l (named (name_of i) (outside (setting_in list)))) (inside_one n i place list m small all own at)
+    ap (λ (l : List FoundDefinition). or_else l (with_this_name (name_of i) (outside (setting_in list)))) (inside_one n i place list m small all own at)

@@ -21,11 +21,11 @@ use Rattle.load_meaning.specs.laws.WrittenTableLaws.{length-table_bytes, length-
 use Rattle.load_meaning.specs.WrittenPages.{passing, Group, in_front, by_page, pages_from, pages_of, pages_text, Rise}
 use Rattle.load_meaning.specs.laws.PageLaws.{held, all_held, all_held_again, Climb, climb_lower, climb_all}
 use Rattle.load_meaning.specs.laws.PageSizeLaws.{Under}
-use Rattle.load_meaning.specs.WrittenBody.{AreWritten, is_own, is_short, lone_record, data_records, written_data, has_none, super_form, of_form, lone, super_records, supers_from, body_records, body_text}
+use Rattle.load_meaning.specs.WrittenBody.{AreWritten, is_own, is_short, lone_record, data_records, written_data, has_none, super_form, of_form, patches_stored_alone, super_records, supers_from, body_records, body_text}
 use Rattle.load_meaning.specs.laws.WrittenBodyLaws.{places, rise_form, under_form, length-written}
 use Rattle.load_meaning.specs.WrittenFile.{Image, image_records, image_body, image_fields, image_text, file_text, table_fields, table_image}
 use Rattle.link_meaning.specs.First.{IsIn}
-use Rattle.link_meaning.specs.Member.{Setting, alone, Member, setting_in, form_in}
+use Rattle.link_meaning.specs.Member.{LinkSetting, without_runtimes, Member, setting_in, form_in}
 use Rattle.link_meaning.specs.Layout.{load_length, load_names, load_fields}
 use Rattle.link_meaning.specs.LinkValues.{Told}
 use Rattle.link_meaning.specs.LinkedCells.{table_number, targets, linked}
@@ -161,7 +161,7 @@ body_short : (own : ℕ) (content : List ℕ) (patches : List Patch) → length 
 unfolding body_text body_records
 body_short own content patches small are =
     let data' = data_records (written_data own content patches) in
-    let lones = map (lone_record own) (lone own patches) in
+    let lones = map (lone_record own) (patches_stored_alone own patches) in
     let supers = supers_from own patches 0 38 in
     omega (
       arith,
@@ -169,7 +169,7 @@ body_short own content patches small are =
       text_parts lones supers,
       data_short (written_data own content patches),
       length-written own content patches,
-      lones_short own (lone own patches),
+      lones_short own (patches_stored_alone own patches),
       filter-le (λ p. has_none (super_form own p)) patches,
       few_patches (length content) 0 patches (omega arith) are,
       supers_short own (length content) 0 38 patches small are,
@@ -217,10 +217,10 @@ file_both : (xs ys : List Image) → length (file_text (xs ++ ys)) ≡ length (f
 unfolding file_text
 file_both xs ys = ap length (flat_map-append image_text xs ys) ∙ length-append (flat_map image_text xs) (flat_map image_text ys)
 
-module _ (list : List Member) (table : List Told) (have : MembersHave list table) (short : (x : List ℕ) → load_length x list ≤ 4114) (own : setting_in list ≡ alone) where
+module _ (list : List Member) (table : List Told) (have : MembersHave list table) (short : (x : List ℕ) → load_length x list ≤ 4114) (own : setting_in list ≡ without_runtimes) where
   -- a program exports nothing
   none_exported : (number : ℕ) → exports_for (form_in list) number (exports list table) ≡ []
-  none_exported number = ap (λ (s : Setting). exports_for s.form number (exports list table)) own
+  none_exported number = ap (λ (s : LinkSetting). exports_for s.form number (exports list table)) own
 
   load_short : (number : ℕ) (x : List ℕ) → length x ≡ 10 → length (image_text (image_of (load_fields list number x) (linked list table x) (exports_for (form_in list) number (exports list table)))) ≤ 223101
   unfolding image_of load_fields
@@ -261,7 +261,7 @@ module _ (list : List Member) (table : List Told) (have : MembersHave list table
 
   no_paths : (number : ℕ) → length (file_text (path_images number (setting_in list).runtimes)) ≡ 0
   unfolding file_text
-  no_paths number = ap (λ (s : Setting). length (file_text (path_images number s.runtimes))) own
+  no_paths number = ap (λ (s : LinkSetting). length (file_text (path_images number s.runtimes))) own
 
   pub file_short : length (load_names list) ≤ 65 → length (targets list table) ≤ 4680 → ((x : List ℕ) → IsIn (load_names list) x → length x ≡ 10) → length (written_file list table) ≤ 0x1000000
   unfolding written_file images

@@ -1,11 +1,11 @@
 use Rattle.std.proofs.Common.{rules, arith}
 use Rattle.std.proofs.lemmas.List.Sorted.{IsNonDecreasingBy-from_sort_by_key, length_permutation}
-use Rattle.iigs_places.specs.declared.marks.Mark.{Mark}
+use Rattle.iigs_places.specs.declared.marks.BlockMark.{BlockMark}
 use Rattle.iigs_places.proofs.Marked.{sorted_marks, gathered_all}
 use Rattle.iigs_places.proofs.marks.mark_all.Goals as goal
 
 pub returns-clause-order : goal.returns-clause-order
-returns-clause-order c = IsNonDecreasingBy-from_sort_by_key (λ (m : Mark). m.at) _ c.sort_unstable_by_key.ensures.sorted (λ a r q k. search rules)
+returns-clause-order c = IsNonDecreasingBy-from_sort_by_key (λ (m : BlockMark). m.at) _ c.sort_unstable_by_key.ensures.sorted (λ a r q k. search rules)
 
 pub returns-clause-marked : goal.returns-clause-marked
 returns-clause-marked c = sorted_marks c.args.table.now c.gather_marks.new.marks.items c.sort_unstable_by_key.new.self.items

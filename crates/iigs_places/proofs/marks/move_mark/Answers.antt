@@ -1,12 +1,12 @@
 use Rattle.std.proofs.Common.{◌<◌, arith, not, ◌==◌, length}
 use Rattle.std.proofs.lemmas.List.Kept.{IsNonDecreasingBy-filter}
-use Rattle.iigs_places.specs.declared.marks.Mark.{Mark}
+use Rattle.iigs_places.specs.declared.marks.BlockMark.{BlockMark}
 use Rattle.iigs_places.proofs.Once.{dropped_less}
 use Rattle.iigs_places.proofs.Replaced.{replaced_moved, replaced_order}
 use Rattle.iigs_places.proofs.marks.move_mark.Goals as goal
 
 pub add_mark-requires-clause-order : goal.add_mark-requires-clause-order
-add_mark-requires-clause-order c = rw c.drop_mark.ensures.items (IsNonDecreasingBy-filter (λ (m : Mark). m.at) (λ m. not (m.slot == c.args.mark.slot)) c.args.marks.now.items c.requires.order)
+add_mark-requires-clause-order c = rw c.drop_mark.ensures.items (IsNonDecreasingBy-filter (λ (m : BlockMark). m.at) (λ m. not (m.slot == c.args.mark.slot)) c.args.marks.now.items c.requires.order)
 
 pub add_mark-requires-clause-room : goal.add_mark-requires-clause-room
 add_mark-requires-clause-room c =

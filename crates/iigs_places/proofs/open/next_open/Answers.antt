@@ -8,8 +8,8 @@ returns-then-from c = none_open_past c.args.map.now c.args.want.now c.args.from 
 
 pub loop-place-preserved : goal.loop-place-preserved
 loop-place-preserved c = (
-  omega (arith, c.in-Some.ensures.after, c.in-Some-barred.ensures.after),
-  c.in-Some-barred.ensures.limit,
-  none_open_to c.args.map.now c.args.want.now c.args.from c.loop-place.at c.in-Some.place c.in-Some-barred.later
-      c.loop-place.invariant.2 c.in-Some.ensures c.in-Some-barred.ensures,
+  omega (arith, c.in-Some.ensures.after, c.in-Some-next_clear_address.ensures.after),
+  c.in-Some-next_clear_address.ensures.limit,
+  none_open_to c.args.map.now c.args.want.now c.args.from c.loop-place.at c.in-Some.place c.in-Some-next_clear_address.later
+      c.loop-place.invariant.2 c.in-Some.ensures c.in-Some-next_clear_address.ensures,
 )

@@ -1,9 +1,9 @@
 use Rattle.std.proofs.Common.{arith, ◌<◌, ◌-◌, length}
-use Rattle.iigs_places.specs.declared.spots.Spot.{Spot}
+use Rattle.iigs_places.specs.declared.spots.BlockSpot.{BlockSpot}
 use Rattle.iigs_places.proofs.Covered.{longer_adds, longer_runs, fresh_adds, fresh_runs}
 use Rattle.iigs_places.proofs.runs.add_at.Goals as goal
 
-any : Spot
+any : BlockSpot
 any = record { at = 0; end = 0; turn = 0 }
 
 pub returns-then-ends_at-clause-runs : goal.returns-then-ends_at-clause-runs

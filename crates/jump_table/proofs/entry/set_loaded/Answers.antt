@@ -5,5 +5,5 @@ use Rattle.jump_table.proofs.entry.set_loaded.Goals as goal
 
 pub returns-clause-entry : goal.returns-clause-entry
 returns-clause-entry c entry there =
-    let is : c.put.new.bytes ≡ written_at (c.args.at + 10) (code_bytes (Some c.args.address)) c.args.bytes.now = search rules in
+    let is : c.overwrite_bytes.new.bytes ≡ written_at (c.args.at + 10) (code_bytes (Some c.args.address)) c.args.bytes.now = search rules in
     rw is (entry_of_code entry c.args.at c.args.bytes.now there (Some c.args.address) c.requires.address)

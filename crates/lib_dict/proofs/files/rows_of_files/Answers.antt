@@ -1,5 +1,5 @@
 use Rattle.std.proofs.Common.{◌≡◌, ◌<◌, ◌+◌, ℕ, List, length, get_or, sym, ap, subst, ◌∙◌, arith}
-use Rattle.lib_dict.specs.declared.members.Read.{Read}
+use Rattle.lib_dict.specs.declared.members.MemberRead.{MemberRead}
 use Rattle.lib_dict.proofs.MemberLaws.{few_in}
 use Rattle.lib_dict.proofs.FileLaws.{PassedFiles, files_none, file_is, files_next, files_all}
 use Rattle.lib_dict.proofs.files.rows_of_files.Goals as goal
@@ -12,7 +12,7 @@ put_file-requires-clause-few c =
     let i = c.files.read-index in
     let r = c.read-item.result in
     let lt : i < length c.args.reads.now.items = omega (arith, c.files-test.true, ap length c.deref-read-items.ensures.value) in
-    let is : r ≡ get_or c.args.reads.now.items i r = c.read-item.is ∙ ap (λ (l : List Read). get_or l i r) c.deref-read-items.ensures.value in
+    let is : r ≡ get_or c.args.reads.now.items i r = c.read-item.is ∙ ap (λ (l : List MemberRead). get_or l i r) c.deref-read-items.ensures.value in
     let one = file_is c.args.reads.now.items i r c.requires.files lt is in
     few_in r.list r.member.now.bytes.items one.segments one.short
 
@@ -26,7 +26,7 @@ overflow_add-front c =
     let i = c.files.read-index in
     let r = c.read-item.result in
     let lt : i < length c.args.reads.now.items = omega (arith, c.files-test.true, ap length c.deref-read-items.ensures.value) in
-    let is : r ≡ get_or c.args.reads.now.items i r = c.read-item.is ∙ ap (λ (l : List Read). get_or l i r) c.deref-read-items.ensures.value in
+    let is : r ≡ get_or c.args.reads.now.items i r = c.read-item.is ∙ ap (λ (l : List MemberRead). get_or l i r) c.deref-read-items.ensures.value in
     let one = file_is c.args.reads.now.items i r c.requires.files lt is in
     omega (arith, lt, c.requires.few, c.files.invariant.front', one.short, c.len.ensures, r.member.now.bytes.ok.0)
 
@@ -35,7 +35,7 @@ files-preserved c =
     let i = c.files.read-index in
     let r = c.read-item.result in
     let lt : i < length c.args.reads.now.items = omega (arith, c.files-test.true, ap length c.deref-read-items.ensures.value) in
-    let is : r ≡ get_or c.args.reads.now.items i r = c.read-item.is ∙ ap (λ (l : List Read). get_or l i r) c.deref-read-items.ensures.value in
+    let is : r ≡ get_or c.args.reads.now.items i r = c.read-item.is ∙ ap (λ (l : List MemberRead). get_or l i r) c.deref-read-items.ensures.value in
     let size : c.len.result ≡ length r.member.now.bytes.items = omega (arith, c.len.ensures, r.member.now.bytes.ok.0) in
     subst (λ (n : ℕ). PassedFiles c.args.reads.now.items (i + 1) (c.files.file + 1) (c.files.front + n) c.put_file.new.rows.items) (sym size)
     (files_next c.args.reads.now.items i c.files.file c.files.front c.files.rows.items c.put_file.new.rows.items r c.files.invariant c.requires.files lt is c.in_ok-put_file.ensures)

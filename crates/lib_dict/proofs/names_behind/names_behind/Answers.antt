@@ -1,6 +1,6 @@
 use Rattle.std.proofs.Common.{◌≡◌, ◌+◌, Some, None, arith}
 use Rattle.omf_format.specs.File.{segment_at}
-use Rattle.omf_records.specs.Segments.{shown}
+use Rattle.omf_records.specs.Segments.{segment_of_view}
 use Rattle.lib_dict.proofs.Behind.{passed_first, passed_next, passed_within, passed_all}
 use Rattle.lib_dict.proofs.names_behind.names_behind.Goals as goal
 
@@ -20,11 +20,11 @@ overflow_add-passed-in-segments c = omega (arith, c.segments.invariant.within, c
 
 pub segments-smaller : goal.segments-smaller
 segments-smaller c =
-    let some : Some (shown c.in-Some.view.now) ≡ segment_at c.args.list.now (c.segments.passed + 1) = rw c.in-Some.is at c.get.ensures.value in
+    let some : Some (segment_of_view c.in-Some.view.now) ≡ segment_at c.args.list.now (c.segments.passed + 1) = rw c.in-Some.is at c.get.ensures.value in
     let within = passed_within c.args.list.now c.segments.passed c.in-Some.view.now some in
     omega (arith, within)
 
 pub segments-preserved : goal.segments-preserved
 segments-preserved c =
-    let some : Some (shown c.in-Some.view.now) ≡ segment_at c.args.list.now (c.segments.passed + 1) = rw c.in-Some.is at c.get.ensures.value in
+    let some : Some (segment_of_view c.in-Some.view.now) ≡ segment_at c.args.list.now (c.segments.passed + 1) = rw c.in-Some.is at c.get.ensures.value in
     passed_next c.args.list.now c.segments.passed c.segments.rows.items c.put_other.new.rows.items c.in-Some.view.now c.segments.invariant some c.in_ok-put_other-in-Some.ensures

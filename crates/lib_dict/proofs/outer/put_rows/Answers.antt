@@ -3,7 +3,7 @@ use Rattle.std.proofs.lemmas.Bool.{eqb-true}
 use Rattle.std.proofs.lemmas.List.{map-append}
 use Rattle.omf_format.specs.Reading.{Reader, records_of}
 use Rattle.omf_header.specs.View.{fields}
-use Rattle.omf_records.specs.Segments.{shown}
+use Rattle.omf_records.specs.Segments.{segment_of_view}
 use Rattle.lib_dict.specs.declared.listed.Outer.{Outer}
 use Rattle.lib_dict.specs.Library.{LibraryRow}
 use Rattle.lib_dict.specs.View.{outer_row, row_of_name, record_rows}
@@ -18,7 +18,7 @@ put_records-requires-clause-narrow c =
 
 pub returns : goal.returns
 returns c =
-    let s = shown c.args.view.now in
+    let s = segment_of_view c.args.view.now in
     let old = map outer_row c.args.rows.now.items in
     let founds = records_of c.records.result in
     let body : founds ≡ s.records = ap records_of c.records.ensures in

@@ -3,7 +3,7 @@ use Rattle.std.proofs.lemmas.Result.{err_from_is_err_and}
 use Rattle.omf_format.specs.Header.{form_of}
 use Rattle.omf_format.specs.Record.{Record}
 use Rattle.omf_format.specs.Reading.{records_of}
-use Rattle.omf_records.specs.Segments.{shown}
+use Rattle.omf_records.specs.Segments.{segment_of_view}
 use Rattle.lib_dict.specs.Parts.{Texts, seen_parts, HasParts}
 use Rattle.lib_dict.proofs.ReadLaws.{none_first, other_first, false_first, told_rows, false_rows, parts_fit}
 use Rattle.lib_dict.proofs.RowCounts.{few_rows}
@@ -14,11 +14,11 @@ returns-in-None-clause-refused c = λ file is. none_first c.args.list.now file i
 
 pub returns-then-form-ne-DICTIONARY-clause-refused : goal.returns-then-form-ne-DICTIONARY-clause-refused
 returns-then-form-ne-DICTIONARY-clause-refused c = λ file is.
-    other_first c.args.list.now file (shown c.in-Some.view.now) is.is_file c.in-Some.ensures.value (λ e. c.if-form-ne-DICTIONARY.true (c.form.ensures ∙ e))
+    other_first c.args.list.now file (segment_of_view c.in-Some.view.now) is.is_file c.in-Some.ensures.value (λ e. c.if-form-ne-DICTIONARY.true (c.form.ensures ∙ e))
 
 pub returns-in-None-parts_of-clause-refused : goal.returns-in-None-parts_of-clause-refused
 returns-in-None-parts_of-clause-refused c = λ file is.
-    let s = shown c.in-Some.view.now in
+    let s = segment_of_view c.in-Some.view.now in
     let form : form_of s.fields.kind ≡ 0x08 = sym c.form.ensures ∙ c.if-form-ne-DICTIONARY.false in
     let body : records_of c.records.result ≡ s.records = ap records_of c.records.ensures in
     let none = subst (λ (l : List (ℕ × Record)). (parts : Texts) → HasParts parts l → ⊥) body c.in-None-parts_of.ensures in
@@ -26,7 +26,7 @@ returns-in-None-parts_of-clause-refused c = λ file is.
 
 pub rows_in-requires-clause-place : goal.rows_in-requires-clause-place
 rows_in-requires-clause-place c =
-    let s = shown c.in-Some.view.now in
+    let s = segment_of_view c.in-Some.view.now in
     let parts = seen_parts c.in-Some-parts_of.parts in
     let body : records_of c.records.result ≡ s.records = ap records_of c.records.ensures in
     let has : HasParts parts s.records = subst (HasParts parts) body c.in-Some-parts_of.ensures in
@@ -34,7 +34,7 @@ rows_in-requires-clause-place c =
 
 pub returns-clause-rows : goal.returns-clause-rows
 returns-clause-rows c = λ file is.
-    let s = shown c.in-Some.view.now in
+    let s = segment_of_view c.in-Some.view.now in
     let parts = seen_parts c.in-Some-parts_of.parts in
     let form : form_of s.fields.kind ≡ 0x08 = sym c.form.ensures ∙ c.if-form-ne-DICTIONARY.false in
     let body : records_of c.records.result ≡ s.records = ap records_of c.records.ensures in
@@ -44,7 +44,7 @@ returns-clause-rows c = λ file is.
 pub returns-in_err-rows-clause-refused : goal.returns-in_err-rows-clause-refused
 returns-in_err-rows-clause-refused c =
     let p = err_from_is_err_and c.from_residual.result c.from_residual.ensures.1 in
-    let s = shown c.in-Some.view.now in
+    let s = segment_of_view c.in-Some.view.now in
     let parts = seen_parts c.in-Some-parts_of.parts in
     let form : form_of s.fields.kind ≡ 0x08 = sym c.form.ensures ∙ c.if-form-ne-DICTIONARY.false in
     let body : records_of c.records.result ≡ s.records = ap records_of c.records.ensures in
@@ -54,7 +54,7 @@ returns-in_err-rows-clause-refused c =
 
 pub returns-clause-few : goal.returns-clause-few
 returns-clause-few c = λ file is.
-    let s = shown c.in-Some.view.now in
+    let s = segment_of_view c.in-Some.view.now in
     let parts = seen_parts c.in-Some-parts_of.parts in
     let body : records_of c.records.result ≡ s.records = ap records_of c.records.ensures in
     let has : HasParts parts s.records = subst (HasParts parts) body c.in-Some-parts_of.ensures in

@@ -19,5 +19,5 @@ returns-then-rest-size c = files_over c.args.bytes.now c.files.rest.now c.files.
 
 pub files-preserved : goal.files-preserved
 files-preserved c =
-    subst (λ (l : List ℕ). ReadFiles c.args.bytes.now l c.insert.new.self.keys) (sym c.behind-rest.ensures)
+    subst (λ (l : List ℕ). ReadFiles c.args.bytes.now l c.insert.new.self.keys) (sym c.items_after-rest.ensures)
     (files_next c.args.bytes.now c.files.rest.now c.files.numbers.keys c.insert.new.self.keys c.number-file.result _ c.files.invariant (omega arith) (λ e. absurd (omega arith)) (omega arith) (omega arith) c.number-file.ensures.value c.in_ok-insert.ensures.keys)

@@ -1,6 +1,6 @@
 use Rattle.std.proofs.Common.{◌<◌, ◌++◌, ℕ, List, [], length, take, get_or, sym, ap, ◌∙◌, append_assoc, arith}
 use Rattle.std.specs.Borrow.{Bor}
-use Rattle.written_bodies.specs.Joined.{joined, joined_next}
+use Rattle.load_writer.specs.Joined.{joined, joined_next}
 use Rattle.link_content.proofs.content.append_all.Goals as goal
 
 abbrev none : Bor (List ℕ)

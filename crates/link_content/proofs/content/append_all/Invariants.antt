@@ -1,5 +1,5 @@
 use Rattle.std.proofs.Common.{◌≡◌, ◌++◌, take}
-use Rattle.written_bodies.specs.Joined.{joined}
+use Rattle.load_writer.specs.Joined.{joined}
 use Rattle.link_content.proofs.content.append_all.Given as goal
 
 -- the pieces so far are there

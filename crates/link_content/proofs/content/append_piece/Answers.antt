@@ -1,5 +1,5 @@
 use Rattle.std.proofs.Common.{ap, ◌∙◌}
-use Rattle.written_bodies.specs.Joined.{joined, joined_more}
+use Rattle.load_writer.specs.Joined.{joined, joined_more}
 use Rattle.link_content.proofs.content.append_piece.Goals as goal
 
 pub returns-clause-ok : goal.returns-clause-ok

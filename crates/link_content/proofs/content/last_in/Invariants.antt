@@ -1,5 +1,5 @@
 use Rattle.std.proofs.Common.{◌≡◌, take}
-use Rattle.written_bodies.specs.Joined.{joined}
+use Rattle.load_writer.specs.Joined.{joined}
 use Rattle.link_content.specs.Holding.{last_of}
 use Rattle.link_content.proofs.content.last_in.Given as goal
 

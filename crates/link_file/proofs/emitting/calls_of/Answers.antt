@@ -1,6 +1,6 @@
 use Rattle.std.proofs.Common.{◌+◌, ℕ, map, ap, ◌∙◌, arith}
 use Rattle.link_program.specs.Outside.{all_found}
-use Rattle.link_content.specs.Fits.{told_load}
+use Rattle.link_content.specs.Fits.{to_load_limits}
 use Rattle.link_values.specs.Slots.{rows_of}
 use Rattle.link_values.proofs.FileFacts.{few_of}
 use Rattle.link_file.proofs.LoadLaws.{headers_size}
@@ -19,7 +19,7 @@ fill-requires-clause-whole c =
     record {
       files = c.know_files.ensures;
       known = c.requires.known;
-      loads' = c.as_slice.ensures.value ∙ c.in-Ok.ensures ∙ ap (map told_load) c.load_headers-headers.ensures;
+      loads' = c.as_slice.ensures.value ∙ c.in-Ok.ensures ∙ ap (map to_load_limits) c.load_headers-headers.ensures;
       table' = ap (λ (n : ℕ). n + 1) (headers_size list c.load_headers-headers.result.now c.load_headers-headers.ensures);
     }
 

@@ -4,7 +4,7 @@ use Rattle.link_program.specs.Outside.{all_found}
 use Rattle.link_file.specs.declared.image.ImageFault.{ImageFault}
 use Rattle.link_file.specs.Answers.{IsEmitRefused}
 use Rattle.link_values.specs.Equates.{AreValues}
-use Rattle.link_content.specs.Fits.{told_load}
+use Rattle.link_content.specs.Fits.{to_load_limits}
 use Rattle.link_file.specs.Images.{AreReady, AreLoads}
 use Rattle.link_values.specs.Slots.{rows_of}
 use Rattle.link_values.proofs.FileFacts.{few_of}
@@ -33,7 +33,7 @@ fill-requires-clause-whole c =
     record {
       files = c.know_files.ensures;
       known = values.known;
-      loads' = c.as_slice-2.ensures.value ∙ c.in-Ok.ensures ∙ ap (map told_load) c.load_headers-headers.ensures;
+      loads' = c.as_slice-2.ensures.value ∙ c.in-Ok.ensures ∙ ap (map to_load_limits) c.load_headers-headers.ensures;
       table' = ap (λ (n : ℕ). n + 1) (headers_size list c.load_headers-headers.result.now c.load_headers-headers.ensures);
     }
 
@@ -44,7 +44,7 @@ exports_text-requires c =
     record {
       files = c.know_files.ensures;
       known = values.known;
-      loads' = c.as_slice-2.ensures.value ∙ c.in-Ok.ensures ∙ ap (map told_load) c.load_headers-headers.ensures;
+      loads' = c.as_slice-2.ensures.value ∙ c.in-Ok.ensures ∙ ap (map to_load_limits) c.load_headers-headers.ensures;
       table' = ap (λ (n : ℕ). n + 1) (headers_size list c.load_headers-headers.result.now c.load_headers-headers.ensures);
     }
 

@@ -1,5 +1,5 @@
 use Rattle.std.proofs.Common.{sym, subst, ◌∙◌, arith}
-use Rattle.omf_records.specs.Segments.{shown}
+use Rattle.omf_records.specs.Segments.{segment_of_view}
 use Rattle.link_program.specs.Outside.{all_found}
 use Rattle.link_values.specs.Slots.{rows_of}
 use Rattle.link_file.specs.Exported.{ExportsTo}
@@ -16,13 +16,13 @@ pub put_segment-requires-clause-stands : goal.put_segment-requires-clause-stands
 put_segment-requires-clause-stands c =
     let list = c.args.whole.now.program.now in
     stands_before list (rows_of (all_found list) c.args.whole.now.slots.now) c.members.place c.members.number c.members.out.items c.members.invariant
-    (omega (arith, c.members-test.true, c.members-in-members.ensures)) (shown c.in-Some.segment.now) c.in-Some.ensures.value
+    (omega (arith, c.members-test.true, c.members-in-members.ensures)) (segment_of_view c.in-Some.segment.now) c.in-Some.ensures.value
 
 pub members-preserved : goal.members-preserved
 members-preserved c =
     let list = c.args.whole.now.program.now in
     exports_more list (rows_of (all_found list) c.args.whole.now.slots.now) c.members.place c.members.number c.members.out.items c.members.invariant
-    (omega (arith, c.members-test.true, c.members-in-members.ensures)) (shown c.in-Some.segment.now) c.in_ok-number.number c.put_segment.new.out.items c.in-Some.ensures.value c.in_ok-number.ensures.next c.in_ok-number.ensures.exported
+    (omega (arith, c.members-test.true, c.members-in-members.ensures)) (segment_of_view c.in-Some.segment.now) c.in_ok-number.number c.put_segment.new.out.items c.in-Some.ensures.value c.in_ok-number.ensures.next c.in_ok-number.ensures.exported
 
 pub returns : goal.returns
 returns c =

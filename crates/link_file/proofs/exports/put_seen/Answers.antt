@@ -4,7 +4,7 @@ use Rattle.link_meaning.specs.Layout.{load_headers}
 use Rattle.link_meaning.specs.LinkValues.{found_value}
 use Rattle.link_meaning.specs.LinkWritten.{export_at}
 use Rattle.link_program.specs.Outside.{all_found}
-use Rattle.link_file.specs.Images.{spelled}
+use Rattle.link_file.specs.Images.{spelled_records}
 use Rattle.link_values.specs.Slots.{rows_of}
 use Rattle.link_values.proofs.AllFound.{outer_at}
 use Rattle.link_tables.proofs.OnOks.{on_ok}
@@ -20,8 +20,8 @@ returns-then-seen c =
     (λ go f at seen is.
     exported_more list told c.args.number f out c.put_export.new.out.items at is
     (go list f c.requires.whole.known (outer_at list c.args.number f at) c.requires.whole.loads'
-    ∙ ap (λ (n : List ℕ). out ++ spelled (export_at (load_headers list) n (found_value list told f))) (sym seen.name')
-    ∙ ap (λ (rs : List Record). out ++ spelled rs) (sym (export_public list told f (seen.public' ∙ c.if-seen.true)))))
+    ∙ ap (λ (n : List ℕ). out ++ spelled_records (export_at (load_headers list) n (found_value list told f))) (sym seen.name')
+    ∙ ap (λ (rs : List Record). out ++ spelled_records rs) (sym (export_public list told f (seen.public' ∙ c.if-seen.true)))))
     c.put_export.ensures
 
 pub returns : goal.returns
@@ -29,4 +29,4 @@ returns c = λ f at seen is.
     let list = c.args.whole.now.program.now in
     let told = rows_of (all_found list) c.args.whole.now.slots.now in
     let out = c.args.out.now.items in
-    exported_more list told c.args.number f out out at is (sym (append-nil out) ∙ ap (λ (rs : List Record). out ++ spelled rs) (sym (export_other list told f (seen.public' ∙ c.if-seen.false))))
+    exported_more list told c.args.number f out out at is (sym (append-nil out) ∙ ap (λ (rs : List Record). out ++ spelled_records rs) (sym (export_other list told f (seen.public' ∙ c.if-seen.false))))

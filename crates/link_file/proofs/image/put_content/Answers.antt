@@ -1,9 +1,9 @@
 use Rattle.std.proofs.Common.{◌≡◌, ◌++◌, [], List, ℕ, length, map, sym, ap, subst, ◌∙◌, arith}
 use Rattle.load_meaning.specs.Cells.{Patch}
 use Rattle.load_meaning.specs.WrittenBody.{AreWritten, zeros_behind, written_cells, body_text}
-use Rattle.written_bodies.specs.Joined.{joined}
-use Rattle.written_bodies.specs.WrittenParts.{seen}
-use Rattle.link_content.specs.declared.content.Place.{Place}
+use Rattle.load_writer.specs.Joined.{joined}
+use Rattle.load_writer.specs.WrittenParts.{seen}
+use Rattle.link_content.specs.declared.content.ByteStorage.{ByteStorage}
 use Rattle.link_content.specs.Contents.{IsPlaced}
 use Rattle.link_content.proofs.ZerosBehind.{behind_by, behind_own}
 use Rattle.link_file.proofs.image.put_content.Goals as goal
@@ -12,7 +12,7 @@ pub overflow_add-result : goal.overflow_add-result
 overflow_add-result c =
     let content = c.args.content.now in
     let n = c.place-behind.result.1 in
-    let placed = subst (λ (p : Place). IsPlaced p n content) c.in-Lent.is c.place-behind.ensures in
+    let placed = subst (λ (p : ByteStorage). IsPlaced p n content) c.in-Lent.is c.place-behind.ensures in
     let bytes = joined c.in-Lent.pieces.now in
     let none : map seen content.patches ≡ [] = ap (map seen) placed.1 in
     let b = behind_by c.args.own n bytes content [] placed.0 tt in
@@ -22,7 +22,7 @@ pub put_body-requires-clause-patches : goal.put_body-requires-clause-patches
 put_body-requires-clause-patches c =
     let content = c.args.content.now in
     let n = c.place-behind.result.1 in
-    let placed = subst (λ (p : Place). IsPlaced p n content) c.in-Own.is c.place-behind.ensures in
+    let placed = subst (λ (p : ByteStorage). IsPlaced p n content) c.in-Own.is c.place-behind.ensures in
     let b = behind_own c.args.own n c.in-Own.bytes.now content placed.0 placed.1 c.requires.patches in
     let same : map seen c.patches.result.now ≡ map seen content.patches = ap (map seen) c.patches.ensures in
     subst (AreWritten (length c.in-Own.bytes.now) 0) (sym same) b.are
@@ -31,7 +31,7 @@ pub overflow_add-result-in-Own : goal.overflow_add-result-in-Own
 overflow_add-result-in-Own c =
     let content = c.args.content.now in
     let n = c.place-behind.result.1 in
-    let placed = subst (λ (p : Place). IsPlaced p n content) c.in-Own.is c.place-behind.ensures in
+    let placed = subst (λ (p : ByteStorage). IsPlaced p n content) c.in-Own.is c.place-behind.ensures in
     let b = behind_own c.args.own n c.in-Own.bytes.now content placed.0 placed.1 c.requires.patches in
     let same : map seen c.patches.result.now ≡ map seen content.patches = ap (map seen) c.patches.ensures in
     let told = ap (λ (ps : List Patch). zeros_behind (written_cells c.in-Own.bytes.now ps)) same in
@@ -41,7 +41,7 @@ pub returns-in_ok-zeros-in-Lent-clause-bytes : goal.returns-in_ok-zeros-in-Lent-
 returns-in_ok-zeros-in-Lent-clause-bytes c =
     let content = c.args.content.now in
     let n = c.place-behind.result.1 in
-    let placed = subst (λ (p : Place). IsPlaced p n content) c.in-Lent.is c.place-behind.ensures in
+    let placed = subst (λ (p : ByteStorage). IsPlaced p n content) c.in-Lent.is c.place-behind.ensures in
     let bytes = joined c.in-Lent.pieces.now in
     let none : map seen content.patches ≡ [] = ap (map seen) placed.1 in
     let b = behind_by c.args.own n bytes content [] placed.0 tt in
@@ -51,7 +51,7 @@ pub returns-in_ok-zeros-in-Lent-clause-zeros : goal.returns-in_ok-zeros-in-Lent-
 returns-in_ok-zeros-in-Lent-clause-zeros c =
     let content = c.args.content.now in
     let n = c.place-behind.result.1 in
-    let placed = subst (λ (p : Place). IsPlaced p n content) c.in-Lent.is c.place-behind.ensures in
+    let placed = subst (λ (p : ByteStorage). IsPlaced p n content) c.in-Lent.is c.place-behind.ensures in
     let bytes = joined c.in-Lent.pieces.now in
     let none : map seen content.patches ≡ [] = ap (map seen) placed.1 in
     let b = behind_by c.args.own n bytes content [] placed.0 tt in
@@ -62,7 +62,7 @@ pub returns-in_ok-zeros-in-Own-clause-bytes : goal.returns-in_ok-zeros-in-Own-cl
 returns-in_ok-zeros-in-Own-clause-bytes c =
     let content = c.args.content.now in
     let n = c.place-behind.result.1 in
-    let placed = subst (λ (p : Place). IsPlaced p n content) c.in-Own.is c.place-behind.ensures in
+    let placed = subst (λ (p : ByteStorage). IsPlaced p n content) c.in-Own.is c.place-behind.ensures in
     let b = behind_own c.args.own n c.in-Own.bytes.now content placed.0 placed.1 c.requires.patches in
     let same : map seen c.patches.result.now ≡ map seen content.patches = ap (map seen) c.patches.ensures in
     c.in_ok-zeros-in-Own.ensures.bytes ∙ ap (λ (t : List ℕ). c.args.out.now.items ++ t) (ap (body_text c.args.own c.in-Own.bytes.now) same ∙ sym b.body)
@@ -71,7 +71,7 @@ pub returns-in_ok-zeros-in-Own-clause-zeros : goal.returns-in_ok-zeros-in-Own-cl
 returns-in_ok-zeros-in-Own-clause-zeros c =
     let content = c.args.content.now in
     let n = c.place-behind.result.1 in
-    let placed = subst (λ (p : Place). IsPlaced p n content) c.in-Own.is c.place-behind.ensures in
+    let placed = subst (λ (p : ByteStorage). IsPlaced p n content) c.in-Own.is c.place-behind.ensures in
     let b = behind_own c.args.own n c.in-Own.bytes.now content placed.0 placed.1 c.requires.patches in
     let same : map seen c.patches.result.now ≡ map seen content.patches = ap (map seen) c.patches.ensures in
     let told = ap (λ (ps : List Patch). zeros_behind (written_cells c.in-Own.bytes.now ps)) same in

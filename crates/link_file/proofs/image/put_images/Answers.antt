@@ -3,7 +3,7 @@ use Rattle.std.proofs.lemmas.Result.{err_from_is_err_and}
 use Rattle.omf_format.specs.Record.{Record}
 use Rattle.std.proofs.lemmas.List.{length-append}
 use Rattle.load_meaning.specs.WrittenFile.{file_text}
-use Rattle.link_file.specs.Images.{spelled, images_in, left_from}
+use Rattle.link_file.specs.Images.{spelled_records, images_in, left_from}
 use Rattle.link_file.proofs.ImageLaws.{one_image, long_image, more_ready, none_left, none_behind, drop_next, ready_size}
 use Rattle.link_file.proofs.image.put_images.Goals as goal
 
@@ -48,7 +48,7 @@ loads-preserved c =
     let hs = drop_next headers k c.in-Some.header.now c.in-Some.ensures in
     let cs = drop_next contents k c.in-Some-content_at.content.now c.in-Some-content_at.ensures in
     record {
-      own = λ records same. ap spelled (sym (none_behind k records));
+      own = λ records same. ap spelled_records (sym (none_behind k records));
       whole = λ records same.
           let left = left_from k records in
           ap (λ (l : List Record). c.put_image.new.out.items ++ file_text (images_in l (drop (k + 1) headers) (drop (k + 1) contents))) (none_behind k records)

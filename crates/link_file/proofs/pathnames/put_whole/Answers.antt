@@ -7,11 +7,11 @@ use Rattle.link_tables.proofs.OnOks.{on_ok}
 use Rattle.link_file.proofs.PathLaws.{whole_text, whole_size}
 use Rattle.link_file.proofs.pathnames.put_whole.Goals as goal
 
-pub returns-then-start-head_size-ge-MOST_BYTES-clause-too_long : goal.returns-then-start-head_size-ge-MOST_BYTES-clause-too_long
-returns-then-start-head_size-ge-MOST_BYTES-clause-too_long c = λ e.
+pub returns-then-start-header_size-ge-MOST_BYTES-clause-too_long : goal.returns-then-start-header_size-ge-MOST_BYTES-clause-too_long
+returns-then-start-header_size-ge-MOST_BYTES-clause-too_long c = λ e.
     let f = fields c.args.header.now in
-    let size = whole_size f c.args.bytes.now c.requires.some c.know_size.ensures in
-    omega (arith, size, c.if-start-head_size-ge-MOST_BYTES.true, c.head_size.ensures.value, ap length c.as_slice-start.ensures.value)
+    let size = whole_size f c.args.bytes.now c.requires.some c.recall_header_size.ensures in
+    omega (arith, size, c.if-start-header_size-ge-MOST_BYTES.true, c.header_size.ensures.value, ap length c.as_slice-start.ensures.value)
 
 pub returns-clause-ok : goal.returns-clause-ok
 returns-clause-ok c =
@@ -27,9 +27,9 @@ returns-clause-short c =
     let bytes = c.args.bytes.now in
     let old = c.args.out.now.items in
     let text = image_text (whole_image f bytes) in
-    let size = whole_size f bytes c.requires.some c.know_size.ensures in
+    let size = whole_size f bytes c.requires.some c.recall_header_size.ensures in
     on_ok c.put_parts.result _ _
     (λ more.
     let whole : c.put_parts.new.out.items ≡ old ++ text = more ∙ ap (λ (l : List ℕ). old ++ l) (whole_text f bytes c.as_slice.result.now c.requires.some (c.as_slice.ensures.value ∙ c.in_ok-front.ensures.ok)) in
-    omega (arith, ap length whole, length-append old text, size, c.if-start-head_size-ge-MOST_BYTES.false, c.head_size.ensures.value, ap length c.as_slice-start.ensures.value))
+    omega (arith, ap length whole, length-append old text, size, c.if-start-header_size-ge-MOST_BYTES.false, c.header_size.ensures.value, ap length c.as_slice-start.ensures.value))
     c.put_parts.ensures.ok

@@ -3,7 +3,7 @@ use Rattle.std.proofs.lemmas.List.{length-map}
 use Rattle.load_meaning.specs.declared.table.Target.{Target}
 use Rattle.link_program.specs.Outside.{all_found}
 use Rattle.link_meaning.specs.Layout.{load_headers}
-use Rattle.link_content.specs.Fits.{told_load}
+use Rattle.link_content.specs.Fits.{to_load_limits}
 use Rattle.link_values.specs.Slots.{rows_of}
 use Rattle.link_file.specs.Walks.{IsWalkedTo, AreEmpty}
 use Rattle.link_file.proofs.LoadLaws.{loads_size}
@@ -14,7 +14,7 @@ pub members-init : goal.members-init
 members-init c =
     let list = c.args.whole.now.program.now in
     let told = rows_of (all_found list) c.args.whole.now.slots.now in
-    let size = ap length c.requires.whole.loads' ∙ length-map (load_headers list) told_load ∙ loads_size list in
+    let size = ap length c.requires.whole.loads' ∙ length-map (load_headers list) to_load_limits ∙ loads_size list in
     subst (λ (t : List Target). IsWalkedTo list told 0 t c.in-Ok.contents.items) (sym c.requires.empty) (walked_none list told c.in-Ok.contents.items (subst (λ (n : ℕ). AreEmpty n c.in-Ok.contents.items) size c.in-Ok.ensures))
 
 pub returns-clause-ok : goal.returns-clause-ok

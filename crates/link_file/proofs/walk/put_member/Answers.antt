@@ -1,7 +1,7 @@
 use Rattle.std.proofs.Common.{◌≡◌, inl, inr, ◌+◌, ◌-◌, ◌≤◌, ℕ, Some, length, get_or, refl, ap, sym, subst, ◌∙◌, arith}
 use Rattle.std.specs.Prelude.{slice_get, slice_set}
 use Rattle.std.proofs.lemmas.Option.{slice_get_read}
-use Rattle.omf_records.specs.Segments.{shown}
+use Rattle.omf_records.specs.Segments.{segment_of_view}
 use Rattle.link_program.specs.Outside.{all_found}
 use Rattle.link_meaning.specs.laws.LinkedWalk.{linked_behind}
 use Rattle.link_meaning.specs.declared.fault.LinkFault.{LinkFault}
@@ -36,7 +36,7 @@ overflow_sub-number c =
     let there : member_at list place ≡ Some n.0 = ap (member_at list) (sym again) ∙ n.3 in
     let seat = c.in-Some.seat in
     let s = seat_there list place n.0 seat there c.in-Some.ensures in
-    let segment = segment_is list place n.0 (shown c.in-Some-view.segment.now) there c.in-Some-view.ensures.value in
+    let segment = segment_is list place n.0 (segment_of_view c.in-Some-view.segment.now) there c.in-Some-view.ensures.value in
     omega (arith, load_some list n.0, s.1.load, c.from-number.ensures)
 
 pub index_mut-requires : goal.index_mut-requires
@@ -50,8 +50,8 @@ index_mut-requires c =
     let there : member_at list place ≡ Some n.0 = ap (member_at list) (sym again) ∙ n.3 in
     let seat = c.in-Some.seat in
     let s = seat_there list place n.0 seat there c.in-Some.ensures in
-    let segment = segment_is list place n.0 (shown c.in-Some-view.segment.now) there c.in-Some-view.ensures.value in
-    let within = load_within list told (place - 1) c.args.table.now c.args.contents.now.items w n.0 n.1 seat (shown c.in-Some-view.segment.now) n.2 (s.0 ∙ sym again) s.1 segment in
+    let segment = segment_is list place n.0 (segment_of_view c.in-Some-view.segment.now) there c.in-Some-view.ensures.value in
+    let within = load_within list told (place - 1) c.args.table.now c.args.contents.now.items w n.0 n.1 seat (segment_of_view c.in-Some-view.segment.now) n.2 (s.0 ∙ sym again) s.1 segment in
     omega (arith, within, c.from-number.ensures, c.args.contents.now.ok)
 
 pub put_segment-requires-clause-stood : goal.put_segment-requires-clause-stood
@@ -65,12 +65,12 @@ put_segment-requires-clause-stood c =
     let there : member_at list place ≡ Some n.0 = ap (member_at list) (sym again) ∙ n.3 in
     let seat = c.in-Some.seat in
     let s = seat_there list place n.0 seat there c.in-Some.ensures in
-    let segment = segment_is list place n.0 (shown c.in-Some-view.segment.now) there c.in-Some-view.ensures.value in
+    let segment = segment_is list place n.0 (segment_of_view c.in-Some-view.segment.now) there c.in-Some-view.ensures.value in
     let load = seat.load_segment - 1 in
     let number : c.from-number.result - 1 ≡ load = ap (λ (k : ℕ). k - 1) c.from-number.ensures in
-    let within = load_within list told (place - 1) c.args.table.now c.args.contents.now.items w n.0 n.1 seat (shown c.in-Some-view.segment.now) n.2 (s.0 ∙ sym again) s.1 segment in
+    let within = load_within list told (place - 1) c.args.table.now c.args.contents.now.items w n.0 n.1 seat (segment_of_view c.in-Some-view.segment.now) n.2 (s.0 ∙ sym again) s.1 segment in
     let at : slice_get c.args.contents.now.items load ≡ Some c.index_mut.result.now = slice_get_read c.args.contents.now.items (length c.args.contents.now.items) load c.index_mut.result.now refl within (c.index_mut.ensures.value ∙ ap (λ (k : ℕ). get_or c.args.contents.now.items k c.index_mut.result.now) number) in
-    let stands = stands_behind list told (place - 1) c.args.table.now c.args.contents.now.items w n.0 n.1 seat (shown c.in-Some-view.segment.now) n.2 (s.0 ∙ sym again) s.1 segment c.index_mut.result.now at in
+    let stands = stands_behind list told (place - 1) c.args.table.now c.args.contents.now.items w n.0 n.1 seat (segment_of_view c.in-Some-view.segment.now) n.2 (s.0 ∙ sym again) s.1 segment c.index_mut.result.now at in
     record { front = w.front; m = n.0; back = n.1; cells = linked_behind list told n.0.segment.fields.load_name w.front; stands = stands }
 
 pub returns-in-Ok-clause-ok : goal.returns-in-Ok-clause-ok
@@ -84,14 +84,14 @@ returns-in-Ok-clause-ok c =
     let there : member_at list place ≡ Some n.0 = ap (member_at list) (sym again) ∙ n.3 in
     let seat = c.in-Some.seat in
     let s = seat_there list place n.0 seat there c.in-Some.ensures in
-    let segment = segment_is list place n.0 (shown c.in-Some-view.segment.now) there c.in-Some-view.ensures.value in
+    let segment = segment_is list place n.0 (segment_of_view c.in-Some-view.segment.now) there c.in-Some-view.ensures.value in
     let load = seat.load_segment - 1 in
     let number : c.from-number.result - 1 ≡ load = ap (λ (k : ℕ). k - 1) c.from-number.ensures in
-    let within = load_within list told (place - 1) c.args.table.now c.args.contents.now.items w n.0 n.1 seat (shown c.in-Some-view.segment.now) n.2 (s.0 ∙ sym again) s.1 segment in
+    let within = load_within list told (place - 1) c.args.table.now c.args.contents.now.items w n.0 n.1 seat (segment_of_view c.in-Some-view.segment.now) n.2 (s.0 ∙ sym again) s.1 segment in
     let at : slice_get c.args.contents.now.items load ≡ Some c.index_mut.result.now = slice_get_read c.args.contents.now.items (length c.args.contents.now.items) load c.index_mut.result.now refl within (c.index_mut.ensures.value ∙ ap (λ (k : ℕ). get_or c.args.contents.now.items k c.index_mut.result.now) number) in
-    let stands = stands_behind list told (place - 1) c.args.table.now c.args.contents.now.items w n.0 n.1 seat (shown c.in-Some-view.segment.now) n.2 (s.0 ∙ sym again) s.1 segment c.index_mut.result.now at in
+    let stands = stands_behind list told (place - 1) c.args.table.now c.args.contents.now.items w n.0 n.1 seat (segment_of_view c.in-Some-view.segment.now) n.2 (s.0 ∙ sym again) s.1 segment c.index_mut.result.now at in
     let p = c.in-Ok.ensures.ok w.front n.0 n.1 (linked_behind list told n.0.segment.fields.load_name w.front) stands in
-    let more = walked_more list told (place - 1) c.args.table.now c.args.contents.now.items w n.0 n.1 seat (shown c.in-Some-view.segment.now) n.2 (s.0 ∙ sym again) s.1 segment c.put_segment.new.table c.put_segment.new.content p in
+    let more = walked_more list told (place - 1) c.args.table.now c.args.contents.now.items w n.0 n.1 seat (segment_of_view c.in-Some-view.segment.now) n.2 (s.0 ∙ sym again) s.1 segment c.put_segment.new.table c.put_segment.new.content p in
     subst (λ (k : ℕ). IsWalkedTo list told k c.put_segment.new.table (slice_set c.args.contents.now.items (c.from-number.result - 1) c.put_segment.new.content)) again
     (subst (λ (k : ℕ). IsWalkedTo list told (place - 1 + 1) c.put_segment.new.table (slice_set c.args.contents.now.items k c.put_segment.new.content)) (sym number) more)
 
@@ -115,19 +115,19 @@ returns-in-Err c =
     let there : member_at list place ≡ Some n.0 = ap (member_at list) (sym again) ∙ n.3 in
     let seat = c.in-Some.seat in
     let s = seat_there list place n.0 seat there c.in-Some.ensures in
-    let segment = segment_is list place n.0 (shown c.in-Some-view.segment.now) there c.in-Some-view.ensures.value in
+    let segment = segment_is list place n.0 (segment_of_view c.in-Some-view.segment.now) there c.in-Some-view.ensures.value in
     let load = seat.load_segment - 1 in
     let number : c.from-number.result - 1 ≡ load = ap (λ (k : ℕ). k - 1) c.from-number.ensures in
-    let within = load_within list told (place - 1) c.args.table.now c.args.contents.now.items w n.0 n.1 seat (shown c.in-Some-view.segment.now) n.2 (s.0 ∙ sym again) s.1 segment in
+    let within = load_within list told (place - 1) c.args.table.now c.args.contents.now.items w n.0 n.1 seat (segment_of_view c.in-Some-view.segment.now) n.2 (s.0 ∙ sym again) s.1 segment in
     let at : slice_get c.args.contents.now.items load ≡ Some c.index_mut.result.now = slice_get_read c.args.contents.now.items (length c.args.contents.now.items) load c.index_mut.result.now refl within (c.index_mut.ensures.value ∙ ap (λ (k : ℕ). get_or c.args.contents.now.items k c.index_mut.result.now) number) in
-    let stands = stands_behind list told (place - 1) c.args.table.now c.args.contents.now.items w n.0 n.1 seat (shown c.in-Some-view.segment.now) n.2 (s.0 ∙ sym again) s.1 segment c.index_mut.result.now at in
+    let stands = stands_behind list told (place - 1) c.args.table.now c.args.contents.now.items w n.0 n.1 seat (segment_of_view c.in-Some-view.segment.now) n.2 (s.0 ∙ sym again) s.1 segment c.index_mut.result.now at in
     record {
       ok = tt;
       err = elim (c.value_fault.ensures.told n.0 there) [
         | inl memory ↦ inl memory
         | inr fault ↦ elim (c.in-Err.ensures.err w.front n.0 n.1 (linked_behind list told n.0.segment.fields.load_name w.front) stands) [
           | inl memory ↦ absurd (fault.0 memory)
-          | inr unmade ↦ inr (first_fault list told (place - 1) c.args.table.now c.args.contents.now.items w n.0 n.1 seat (shown c.in-Some-view.segment.now) n.2 (s.0 ∙ sym again) s.1 segment c.in-Err.cause c.in-Err.at c.value_fault.result unmade (ap (λ (f : LinkFault). f.cause) fault.1) (ap (λ (f : LinkFault). f.name) fault.1) (ap (λ (f : LinkFault). f.spot) fault.1))
+          | inr unmade ↦ inr (first_fault list told (place - 1) c.args.table.now c.args.contents.now.items w n.0 n.1 seat (segment_of_view c.in-Some-view.segment.now) n.2 (s.0 ∙ sym again) s.1 segment c.in-Err.cause c.in-Err.at c.value_fault.result unmade (ap (λ (f : LinkFault). f.cause) fault.1) (ap (λ (f : LinkFault). f.name) fault.1) (ap (λ (f : LinkFault). f.spot) fault.1))
         ]
       ];
     }

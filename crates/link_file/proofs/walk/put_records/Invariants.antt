@@ -1,5 +1,5 @@
 use Rattle.std.proofs.Common.{◌≡◌, length, List}
-use Rattle.omf_records.specs.Segments.{shown}
+use Rattle.omf_records.specs.Segments.{segment_of_view}
 use Rattle.load_meaning.specs.Cells.{Cell}
 use Rattle.link_meaning.specs.Member.{Member}
 use Rattle.link_program.specs.Outside.{all_found}
@@ -10,10 +10,10 @@ use Rattle.link_file.proofs.walk.put_records.Given as goal
 -- the records so far gave their cells
 abbrev pub invariant-walk : goal.invariant-walk
 invariant-walk l = record {
-  putting : Putting (shown l.segment).records l.records l.location;
+  putting : Putting (segment_of_view l.segment).records l.records l.location;
   layout : l.records.layout.lab_len ≡ l.segment.header.lab_len;
   puts : (front : List Member) (m : Member) (back : List Member) (before : List Cell)
-      → Begins l.whole.program.now (rows_of (all_found l.whole.program.now) l.whole.slots.now) front m back l.seat (shown l.segment) l.initial.table before l.initial.content
+      → Begins l.whole.program.now (rows_of (all_found l.whole.program.now) l.whole.slots.now) front m back l.seat (segment_of_view l.segment) l.initial.table before l.initial.content
       → Puts l.whole.program.now (rows_of (all_found l.whole.program.now) l.whole.slots.now) front m putting.done l.table before l.content;
 }
 

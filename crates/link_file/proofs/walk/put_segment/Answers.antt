@@ -1,6 +1,6 @@
 use Rattle.std.proofs.Common.{◌-◌, ◌++◌, ℕ, length, subst, arith}
 use Rattle.std.proofs.lemmas.Result.{err_from_is_err_and}
-use Rattle.omf_records.specs.Segments.{shown}
+use Rattle.omf_records.specs.Segments.{segment_of_view}
 use Rattle.link_program.specs.Outside.{all_found}
 use Rattle.link_meaning.specs.LinkedCells.{zeros}
 use Rattle.link_content.specs.Contents.{HoldsCells}
@@ -12,7 +12,7 @@ pub put_zeros-requires-2 : goal.put_zeros-requires-2
 put_zeros-requires-2 c =
     let list = c.args.whole.now.program.now in
     let told = rows_of (all_found list) c.args.whole.now.slots.now in
-    let s = shown c.args.segment.now in
+    let s = segment_of_view c.args.segment.now in
     let st = c.requires.stood in
     let holds = subst (λ (n : ℕ). HoldsCells (st.cells ++ zeros (c.args.seat.offset - n)) c.put_zeros.new.self) (c.len.ensures st.cells st.stands.holds) (c.put_zeros.ensures st.cells st.stands.holds) in
     let b = begins_there list c.requires.whole.files told st.front st.m st.back c.args.seat s c.args.table.now st.cells c.args.content.now st.stands c.put_zeros.new.self holds in
@@ -24,7 +24,7 @@ pub returns-clause-ok : goal.returns-clause-ok
 returns-clause-ok c = λ front m back cells stands.
     let list = c.args.whole.now.program.now in
     let told = rows_of (all_found list) c.args.whole.now.slots.now in
-    let s = shown c.args.segment.now in
+    let s = segment_of_view c.args.segment.now in
     let holds = subst (λ (n : ℕ). HoldsCells (cells ++ zeros (c.args.seat.offset - n)) c.put_zeros.new.self) (c.len.ensures cells stands.holds) (c.put_zeros.ensures cells stands.holds) in
     let b = begins_there list c.requires.whole.files told front m back c.args.seat s c.args.table.now cells c.args.content.now stands c.put_zeros.new.self holds in
     let p = c.in_ok-put_records.ensures.ok front m back (cells ++ zeros (c.args.seat.offset - length cells)) b in
@@ -36,7 +36,7 @@ returns-in_err-put_records-clause-err c =
     rw (p.1, p.2) (λ front m back cells stands.
     let list = c.args.whole.now.program.now in
     let told = rows_of (all_found list) c.args.whole.now.slots.now in
-    let s = shown c.args.segment.now in
+    let s = segment_of_view c.args.segment.now in
     let holds = subst (λ (n : ℕ). HoldsCells (cells ++ zeros (c.args.seat.offset - n)) c.put_zeros.new.self) (c.len.ensures cells stands.holds) (c.put_zeros.ensures cells stands.holds) in
     let b = begins_there list c.requires.whole.files told front m back c.args.seat s c.args.table.now cells c.args.content.now stands c.put_zeros.new.self holds in
     c.in_err-put_records.ensures.err front m back (cells ++ zeros (c.args.seat.offset - length cells)) b)

@@ -4,7 +4,7 @@ use Rattle.link_meaning.specs.Layout.{load_headers}
 use Rattle.link_meaning.specs.LinkedCells.{table_number}
 use Rattle.link_values.proofs.FileFacts.{few_of}
 use Rattle.link_file.proofs.LoadLaws.{loads_size}
-use Rattle.link_map.specs.MapText.{numbered, load_text}
+use Rattle.link_map.specs.MapText.{numbered_texts, load_text}
 use Rattle.link_map.proofs.MapLaws.{map_is}
 use Rattle.link_map.proofs.mapping.map_with.Goals as goal
 
@@ -18,4 +18,4 @@ returns c = λ called.
     let count = ap (λ (l : List Member). length (load_headers l)) c.program-program.ensures in
     let number : c.load_count.result + 1 ≡ table_number list = omega (arith, c.load_count.ensures, count, loads_size list) in
     map_is list table c.put_loads.new.line c.put_table.new.line (c.load_count.result + 1) c.args.table.now
-    (c.in_ok-put_loads.ensures ∙ ap (λ (l : List ℕ). l ++ numbered (load_text list table) 1 (load_headers list)) c.new-line.ensures) c.in_ok-put_table.ensures number called
+    (c.in_ok-put_loads.ensures ∙ ap (λ (l : List ℕ). l ++ numbered_texts (load_text list table) 1 (load_headers list)) c.new-line.ensures) c.in_ok-put_table.ensures number called

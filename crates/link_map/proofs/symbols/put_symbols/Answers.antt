@@ -1,7 +1,7 @@
 use Rattle.std.proofs.Common.{◌≡◌, ◌≤◌, ◌∷◌, ◌++◌, [], ℕ, List, sym, ap, subst, ◌∙◌, append_assoc, arith}
 use Rattle.omf_format.specs.File.{Segment}
 use Rattle.omf_format.specs.Record.{Record}
-use Rattle.omf_records.specs.Segments.{shown}
+use Rattle.omf_records.specs.Segments.{segment_of_view}
 use Rattle.omf_records.specs.View.{view}
 use Rattle.link_meaning.specs.Sizes.{size_at, place_behind, body_size}
 use Rattle.link_program.specs.OfFiles.{IsOfFiles}
@@ -20,7 +20,7 @@ put_title-requires c =
 
 pub walk-init : goal.walk-init
 walk-init c =
-    let s = shown c.args.segment.now in
+    let s = segment_of_view c.args.segment.now in
     record {
       telling = telling_none c.args.values.now c.args.place s c.records-records.result c.args.line.now c.put_title.new.line
           (coming_view c.args.segment.now c.records-records.result c.requires.sound c.records-records.ensures) c.in_ok-put_title.ensures;
@@ -31,14 +31,14 @@ pub returns-in-None : goal.returns-in-None
 returns-in-None c = λ m there.
     let t = c.walk.invariant.telling in
     let none = found_end c.walk.records c.next_record.new.records t.back c.next_record.result t.coming c.next_record.ensures.walk c.in-None.is in
-    telling_all c.args.values.now c.args.place (shown c.args.segment.now) c.walk.records c.walk.location c.args.line.now c.walk.line t none m there
+    telling_all c.args.values.now c.args.place (segment_of_view c.args.segment.now) c.walk.records c.walk.location c.args.line.now c.walk.line t none m there
 
 pub put_defined-requires : goal.put_defined-requires
 put_defined-requires c =
     let list = c.args.values.now.list in
     let of = subst IsOfFiles c.program-program.ensures c.know_files.ensures in
     let h = c.requires.there in
-    let s = shown c.args.segment.now in
+    let s = segment_of_view c.args.segment.now in
     let t = c.walk.invariant.telling in
     let within : c.walk.location ≤ body_size h.member.segment = omega (arith, t.location', behind_within s t.done t.back t.parts, ap body_size h.segment) in
     record {
@@ -51,7 +51,7 @@ overflow_add-location c =
     let list = c.args.values.now.list in
     let of = subst IsOfFiles c.program-program.ensures c.know_files.ensures in
     let h = c.requires.there in
-    let s = shown c.args.segment.now in
+    let s = segment_of_view c.args.segment.now in
     let t = c.walk.invariant.telling in
     let found : ℕ × Record = (c.in-Some.found.0, view c.in-Some.found.1) in
     let w = found_next c.walk.records c.next_record.new.records t.back c.next_record.result c.in-Some.found t.coming c.next_record.ensures.walk c.in-Some.is in
@@ -66,7 +66,7 @@ overflow_cast-location c =
     let list = c.args.values.now.list in
     let of = subst IsOfFiles c.program-program.ensures c.know_files.ensures in
     let h = c.requires.there in
-    let s = shown c.args.segment.now in
+    let s = segment_of_view c.args.segment.now in
     let t = c.walk.invariant.telling in
     let found : ℕ × Record = (c.in-Some.found.0, view c.in-Some.found.1) in
     let w = found_next c.walk.records c.next_record.new.records t.back c.next_record.result c.in-Some.found t.coming c.next_record.ensures.walk c.in-Some.is in
@@ -82,7 +82,7 @@ walk-preserved c =
     let found : ℕ × Record = (c.in-Some.found.0, view c.in-Some.found.1) in
     let w = found_next c.walk.records c.next_record.new.records t.back c.next_record.result c.in-Some.found t.coming c.next_record.ensures.walk c.in-Some.is in
     record {
-      telling = telling_more c.args.values.now c.args.place (shown c.args.segment.now) c.walk.records c.next_record.new.records c.walk.location _ c.args.line.now c.walk.line c.put_defined.new.line found w.0 t w.1 w.2
+      telling = telling_more c.args.values.now c.args.place (segment_of_view c.args.segment.now) c.walk.records c.next_record.new.records c.walk.location _ c.args.line.now c.walk.line c.put_defined.new.line found w.0 t w.1 w.2
           (omega (arith, c.from.ensures, c.size_at.ensures.value)) c.in_ok-put_defined-in-Some.ensures;
       layout = ap (λ l. l.lab_len) c.next_record.ensures.layout ∙ c.walk.invariant.layout;
     }

@@ -1,7 +1,7 @@
 use Rattle.std.proofs.Common.{◌≡◌, ◌++◌, ℕ, Bool, true, false, List, [], ◌∷◌, length, refl, sym, ap, ◌∙◌, arith}
 use Rattle.std.proofs.lemmas.Bool.{eqb-true, eq-eqb}
 use Rattle.std.proofs.lemmas.Result.{on_ok_weaker}
-use Rattle.omf_records.specs.Segments.{shown}
+use Rattle.omf_records.specs.Segments.{segment_of_view}
 use Rattle.link_meaning.specs.Defines.{outer_scope, title_of}
 use Rattle.link_map.specs.MapText.{scope_text}
 use Rattle.link_map.proofs.TextLaws.{nothing}
@@ -17,7 +17,7 @@ true_false e = cc
 
 pub returns-then-is_empty : goal.returns-then-is_empty
 returns-then-is_empty c = λ m there.
-    let s = shown c.args.segment.now in
+    let s = segment_of_view c.args.segment.now in
     let none = sym c.bytes-name.ensures.value ∙ empty c.bytes-name.result.now (eqb-true (length c.bytes-name.result.now) 0 (sym c.if-is_empty.ensures)) in
     nothing c.args.line.now (lines_of c.args.values.now c.args.place m (title_of s)) (title_none c.args.values.now c.args.place m s none)
 
@@ -27,6 +27,6 @@ returns c =
     (λ is m there.
     is
     ∙ ap (λ (l : List ℕ). c.args.line.now ++ l)
-    (title_line c.args.values.now c.args.place m (shown c.args.segment.now) c.title_scope-scope.result.now c.bytes-name.result.now c.place_in.result (c.title_scope-scope.ensures ∙ ap (λ (b : Bool). scope_text (outer_scope b)) c.is_private.ensures) c.bytes-name.ensures.value
+    (title_line c.args.values.now c.args.place m (segment_of_view c.args.segment.now) c.title_scope-scope.result.now c.bytes-name.result.now c.place_in.result (c.title_scope-scope.ensures ∙ ap (λ (b : Bool). scope_text (outer_scope b)) c.is_private.ensures) c.bytes-name.ensures.value
     (λ none. true_false (sym (eq-eqb (length c.bytes-name.result.now) 0 (ap length none)) ∙ sym c.if-is_empty.ensures)) (c.place_in.ensures m there)))
     c.put_symbol.ensures

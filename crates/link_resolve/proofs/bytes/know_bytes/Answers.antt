@@ -24,4 +24,4 @@ pub files-preserved : goal.files-preserved
 files-preserved c =
     let items = c.args.inputs.now.items in
     let at = file_there c.deref-file-items.result.now items c.files.file-index c.file-item.result c.file-item.result.items c.deref-file-items.ensures.value c.files-test.true c.file-item.is refl in
-    all_more (all_bytes items) c.files.file-index c.file-item.result.items at (subst IsBytes c.as_slice.ensures.value c.know_file.ensures) c.files.invariant
+    all_more (all_bytes items) c.files.file-index c.file-item.result.items at (subst IsBytes c.as_slice.ensures.value c.recall_file.ensures) c.files.invariant

@@ -30,4 +30,4 @@ files-preserved c =
     let k = c.files.member-index in
     let member = c.member-item.result in
     let there = slice_get_read given (length given) k member refl c.files-test.true c.member-item.is in
-    all_more (files_of given) k (member.name, member.bytes.items) (file_at given k member there) (subst IsBytes c.as_slice.ensures.value c.know_file.ensures) c.files.invariant
+    all_more (files_of given) k (member.name, member.bytes.items) (file_at given k member there) (subst IsBytes c.as_slice.ensures.value c.recall_file.ensures) c.files.invariant

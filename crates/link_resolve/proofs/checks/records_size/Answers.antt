@@ -1,6 +1,6 @@
 use Rattle.std.proofs.Common.{ℕ, refl, sym, ap, ◌∙◌}
 use Rattle.omf_format.specs.Record.{Record}
-use Rattle.omf_records.specs.Segments.{shown}
+use Rattle.omf_records.specs.Segments.{segment_of_view}
 use Rattle.omf_records.specs.View.{view}
 use Rattle.link_meaning.specs.LinkFaults.{records_fault}
 use Rattle.link_meaning.specs.Sizes.{body_size}
@@ -11,7 +11,7 @@ use Rattle.link_resolve.proofs.checks.records_size.Goals as goal
 
 pub walk-init : goal.walk-init
 walk-init c =
-    let all = (shown c.args.segment.now).records in
+    let all = (segment_of_view c.args.segment.now).records in
     record {
       first = record { back = all; coming = coming_view c.args.segment.now c.records-records.result c.requires c.records-records.ensures; whole = refl };
       cells = 0;
@@ -25,7 +25,7 @@ next_record-requires c = (c.walk.invariant.first.back, c.walk.invariant.first.co
 pub returns-in-None-clause-sound : goal.returns-in-None-clause-sound
 returns-in-None-clause-sound c =
     let s = c.walk.invariant in
-    let all = (shown c.args.segment.now).records in
+    let all = (segment_of_view c.args.segment.now).records in
     let none = found_end c.walk.records c.next_record.new.records s.first.back c.next_record.result s.first.coming c.next_record.ensures.walk c.in-None.is in
     sym (first_end c.alignment-align.result all c.walk.records c.next_record.new.records s.first none ∙ ap (λ (a : ℕ). records_fault a all) c.alignment-align.ensures)
 
@@ -33,14 +33,14 @@ pub returns-in-None-clause-size : goal.returns-in-None-clause-size
 unfolding body_size
 returns-in-None-clause-size c =
     let s = c.walk.invariant in
-    let all = (shown c.args.segment.now).records in
+    let all = (segment_of_view c.args.segment.now).records in
     let none = found_end c.walk.records c.next_record.new.records s.first.back c.next_record.result s.first.coming c.next_record.ensures.walk c.in-None.is in
     sized_end c.alignment-align.result all c.walk.records c.next_record.new.records c.walk.size s none
 
 pub returns-in-Some-record_fault-clause-fault : goal.returns-in-Some-record_fault-clause-fault
 returns-in-Some-record_fault-clause-fault c =
     let s = c.walk.invariant in
-    let all = (shown c.args.segment.now).records in
+    let all = (segment_of_view c.args.segment.now).records in
     let found : ℕ × Record = (c.in-Some.at, view c.in-Some.rec) in
     let w = found_next c.walk.records c.next_record.new.records s.first.back c.next_record.result (c.in-Some.at, c.in-Some.rec) s.first.coming c.next_record.ensures.walk c.in-Some.is in
     sym (first_here c.alignment-align.result all c.walk.records c.next_record.new.records found c.in-Some-record_fault.cause s.first w (sym c.record_fault.ensures ∙ c.in-Some-record_fault.is)
@@ -51,4 +51,4 @@ walk-preserved c =
     let s = c.walk.invariant in
     let found : ℕ × Record = (c.in-Some.at, view c.in-Some.rec) in
     let w = found_next c.walk.records c.next_record.new.records s.first.back c.next_record.result (c.in-Some.at, c.in-Some.rec) s.first.coming c.next_record.ensures.walk c.in-Some.is in
-    sized_more c.alignment-align.result (shown c.args.segment.now).records c.walk.records c.next_record.new.records c.walk.size c.size_behind-size.result found s w (sym c.record_fault.ensures ∙ c.in-None-record_fault.is) (c.size_behind-size.ensures s.cells s.told)
+    sized_more c.alignment-align.result (segment_of_view c.args.segment.now).records c.walk.records c.next_record.new.records c.walk.size c.size_behind-size.result found s w (sym c.record_fault.ensures ∙ c.in-None-record_fault.is) (c.size_behind-size.ensures s.cells s.told)

@@ -1,5 +1,5 @@
 use Rattle.std.proofs.Common.{◌≡◌, ◌+◌, ◌++◌, ◌∷◌, [], List, take, refl, sym, ap, subst, ◌∙◌, append_assoc, arith}
-use Rattle.omf_records.specs.Segments.{shown}
+use Rattle.omf_records.specs.Segments.{segment_of_view}
 use Rattle.omf_records.specs.SegmentLaws.{shown_at}
 use Rattle.link_meaning.specs.Member.{Member, members_from}
 use Rattle.link_program.specs.Linked.{Holds}
@@ -10,13 +10,13 @@ use Rattle.link_resolve.proofs.gather.add_object.Goals as goal
 pub add-requires-clause-short : goal.add-requires-clause-short
 add-requires-clause-short c =
     let there = shown_at c.args.list.now c.segments.number c.in-Some.segment.now c.in-Some.ensures.value in
-    let short = body_short c.args.list.now c.segments.number (shown c.in-Some.segment.now) c.requires.sound there in
+    let short = body_short c.args.list.now c.segments.number (segment_of_view c.in-Some.segment.now) c.requires.sound there in
     omega (arith, short, c.length_of-length.ensures, c.length_of-length.type_inv)
 
 pub segments-preserved : goal.segments-preserved
 segments-preserved c =
     let there = shown_at c.args.list.now c.segments.number c.in-Some.segment.now c.in-Some.ensures.value in
-    let s = shown c.in-Some.segment.now in (
+    let s = segment_of_view c.in-Some.segment.now in (
       omega (arith, c.segments-test.true, c.count.ensures),
       omega (arith, c.segments.invariant.1, c.in_ok-add.ensures.one),
       λ setting before holds.

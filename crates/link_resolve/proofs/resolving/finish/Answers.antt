@@ -1,6 +1,6 @@
 use Rattle.std.proofs.Common.{inl, refl, sym, subst, arith}
 use Rattle.link_meaning.specs.LinkFaults.{IsResolved}
-use Rattle.link_program.specs.declared.program.Kept.{Kept}
+use Rattle.link_program.specs.declared.program.ResolvedProgram.{ResolvedProgram}
 use Rattle.link_resolve.proofs.ResolveLaws.{is_kept}
 use Rattle.link_resolve.proofs.resolving.finish.Goals as goal
 
@@ -20,7 +20,7 @@ of-requires c =
     let grown = c.args.grown in
     let layout = c.in-Ok.layout in
     let out = c.in-Ok.ensures.laid c.requires.0 c.requires.2 in
-    let kept : Kept = record {
+    let kept : ResolvedProgram = record {
       files = grown.files;
       linked = grown.linked;
       places = layout.places;
@@ -37,7 +37,7 @@ returns-clause-resolved c = λ given bytes of.
     let grown = c.args.grown in
     let layout = c.in-Ok.layout in
     let out = c.in-Ok.ensures.laid given of in
-    let kept : Kept = record {
+    let kept : ResolvedProgram = record {
       files = grown.files;
       linked = grown.linked;
       places = layout.places;

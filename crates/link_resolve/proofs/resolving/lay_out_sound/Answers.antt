@@ -2,7 +2,7 @@ use Rattle.std.proofs.Common.{inl, refl, List, sym, ap, subst, arith}
 use Rattle.std.proofs.lemmas.Result.{err_from_is_err_and}
 use Rattle.omf_format.specs.File.{Segment}
 use Rattle.link_program.specs.Files.{AllAmong}
-use Rattle.link_meaning.specs.Member.{Setting}
+use Rattle.link_meaning.specs.Member.{LinkSetting}
 use Rattle.link_program.proofs.LinkedLaws.{count_is}
 use Rattle.link_resolve.proofs.ResolveLaws.{list_outside, list_setting, refused_use, refused_layout, laid_out}
 use Rattle.link_resolve.proofs.resolving.lay_out_sound.Goals as goal
@@ -29,7 +29,7 @@ returns-in-Some-clause-refused c = λ given of.
     let g = of.grown in
     let among = subst (λ (l : List (List Segment)). AllAmong l g.list) (sym c.as_slice.ensures.value) g.among in
     let laid = c.in-Ok.ensures g.list g.holds among in
-    refused_layout given kept c.in-Some.fault of (c.in_ok-check_names.ensures.fine g.list g.holds (list_outside given kept of)) (c.in-Some.ensures.told g.list (ap (λ (s : Setting). s.form) (list_setting given kept of)) laid)
+    refused_layout given kept c.in-Some.fault of (c.in_ok-check_names.ensures.fine g.list g.holds (list_outside given kept of)) (c.in-Some.ensures.told g.list (ap (λ (s : LinkSetting). s.form) (list_setting given kept of)) laid)
 
 pub returns-clause-laid : goal.returns-clause-laid
 returns-clause-laid c = λ given of.
@@ -37,5 +37,5 @@ returns-clause-laid c = λ given of.
     let g = of.grown in
     let among = subst (λ (l : List (List Segment)). AllAmong l g.list) (sym c.as_slice.ensures.value) g.among in
     let laid = c.in-Ok.ensures g.list g.holds among in
-    laid_out given kept c.in-Ok.layout of (c.in_ok-check_names.ensures.fine g.list g.holds (list_outside given kept of)) (c.in-None.ensures.told g.list (ap (λ (s : Setting). s.form) (list_setting given kept of)) laid) laid
+    laid_out given kept c.in-Ok.layout of (c.in_ok-check_names.ensures.fine g.list g.holds (list_outside given kept of)) (c.in-None.ensures.told g.list (ap (λ (s : LinkSetting). s.form) (list_setting given kept of)) laid) laid
     (c.in-None.ensures.fine refl)

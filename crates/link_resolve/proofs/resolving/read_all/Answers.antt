@@ -6,8 +6,8 @@ use Rattle.link_resolve.specs.Runtimes.{files_of}
 use Rattle.link_resolve.proofs.ResolveLaws.{few_inputs, few_members, few_runtimes, short_runtimes, refused_input, refused_runtime, refused_empty}
 use Rattle.link_resolve.proofs.resolving.read_all.Goals as goal
 
-pub gather-requires : goal.gather-requires
-gather-requires c = few_inputs (given_of c.args.inputs.now.items c.args.given.now c.args.form) c.requires.few
+pub read_inputs-requires : goal.read_inputs-requires
+read_inputs-requires c = few_inputs (given_of c.args.inputs.now.items c.args.given.now c.args.form) c.requires.few
 
 pub returns-in_err-gathered-clause-refused : goal.returns-in_err-gathered-clause-refused
 returns-in_err-gathered-clause-refused c =

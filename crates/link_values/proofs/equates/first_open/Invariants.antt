@@ -1,5 +1,5 @@
 use Rattle.std.proofs.Common.{ℕ, drop}
-use Rattle.rings.specs.Graphs.{IsIn}
+use Rattle.cycles.specs.Graphs.{IsIn}
 use Rattle.link_values.specs.Equates.{IsOpen}
 use Rattle.link_values.proofs.equates.first_open.Given as goal
 

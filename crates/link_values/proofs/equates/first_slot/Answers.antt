@@ -19,7 +19,7 @@ place_at-requires c =
     let d = c.args.definition.now in
     let member = ap (λ (x : ToldSymbol). x.member) t.3 in
     let here = inside_place list t.0 t.1 t.2 (λ none. c.if-definition-eq0.false (member ∙ none)) in
-    seat_near list c.requires.files t.0 t.1 here d.member member c.in-Some-seat_of.seat d.at c.in-Some-seat_of.ensures (ap (λ (x : ToldSymbol). x.at) t.3)
+    seat_near list c.requires.files t.0 t.1 here d.member member c.in-Some-place_of_member.seat d.at c.in-Some-place_of_member.ensures (ap (λ (x : ToldSymbol). x.at) t.3)
 
 pub unreachable-requires : goal.unreachable-requires
 unreachable-requires c =
@@ -27,15 +27,15 @@ unreachable-requires c =
     let t = c.requires.there in
     let member = ap (λ (x : ToldSymbol). x.member) t.3 in
     let here = inside_place list t.0 t.1 t.2 (λ none. c.if-definition-eq0.false (member ∙ none)) in
-    no_seat list c.requires.files t.0 t.1 here c.args.definition.now.member member c.in-None-seat_of.ensures
+    no_seat list c.requires.files t.0 t.1 here c.args.definition.now.member member c.in-None-place_of_member.ensures
 
-pub returns-in-Some-seat_of : goal.returns-in-Some-seat_of
-returns-in-Some-seat_of c = λ k f at same.
+pub returns-in-Some-place_of_member : goal.returns-in-Some-place_of_member
+returns-in-Some-place_of_member c = λ k f at same.
     let list = c.args.program.now in
     let d = c.args.definition.now in
     let member = ap (λ (x : ToldSymbol). x.member) same in
     let some = λ (none : f.place ≡ 0). c.if-definition-eq0.false (member ∙ none) in
-    let s = its_seat list c.requires.files k f (inside_place list k f at some) d.member member c.in-Some-seat_of.seat c.in-Some-seat_of.ensures in
+    let s = its_seat list c.requires.files k f (inside_place list k f at some) d.member member c.in-Some-place_of_member.seat c.in-Some-place_of_member.ensures in
     first_label list f c.place_at.result (no_text list d f c.in-None.is same)
     (c.place_at.ensures list f.member s.1 ∙ ap (λ (n : ℕ). place_value list n f.member d.at) (s.0 ∙ member) ∙ ap (place_value list f.place f.member) (ap (λ (x : ToldSymbol). x.at) same)
     ∙ sym (inside_label list f some))

@@ -20,7 +20,7 @@ unreachable-requires c =
     let t = told_there list c.args.number (symbol_of d) c.in-Some.ensures in
     let text = text_of list d t.0 c.in-Some-expr.expr c.in-Some-expr.is t.2 in
     let here = inside_equate list c.args.number t.0 t.1 (ap has_expr text) in
-    no_seat list c.requires.files c.args.number t.0 here d.member (ap (λ (s : ToldSymbol). s.member) t.2) c.in-None-seat_of.ensures
+    no_seat list c.requires.files c.args.number t.0 here d.member (ap (λ (s : ToldSymbol). s.member) t.2) c.in-None-place_of_member.ensures
 
 pub value_in-requires-clause-spelled : goal.value_in-requires-clause-spelled
 value_in-requires-clause-spelled c =
@@ -29,7 +29,7 @@ value_in-requires-clause-spelled c =
     let t = told_there list c.args.number (symbol_of d) c.in-Some.ensures in
     let text = text_of list d t.0 c.in-Some-expr.expr c.in-Some-expr.is t.2 in
     let here = inside_equate list c.args.number t.0 t.1 (ap has_expr text) in
-    seat_spelled list c.requires.files c.args.number t.0 here d.member (ap (λ (s : ToldSymbol). s.member) t.2) c.in-Some-seat_of.seat c.in-Some-expr.expr.now c.in-Some-seat_of.ensures text
+    seat_spelled list c.requires.files c.args.number t.0 here d.member (ap (λ (s : ToldSymbol). s.member) t.2) c.in-Some-place_of_member.seat c.in-Some-expr.expr.now c.in-Some-place_of_member.ensures text
 
 pub value_in-requires-clause-near : goal.value_in-requires-clause-near
 value_in-requires-clause-near c =
@@ -38,7 +38,7 @@ value_in-requires-clause-near c =
     let t = told_there list c.args.number (symbol_of d) c.in-Some.ensures in
     let text = text_of list d t.0 c.in-Some-expr.expr c.in-Some-expr.is t.2 in
     let here = inside_equate list c.args.number t.0 t.1 (ap has_expr text) in
-    seat_near list c.requires.files c.args.number t.0 here d.member (ap (λ (s : ToldSymbol). s.member) t.2) c.in-Some-seat_of.seat d.at c.in-Some-seat_of.ensures (ap (λ (s : ToldSymbol). s.at) t.2)
+    seat_near list c.requires.files c.args.number t.0 here d.member (ap (λ (s : ToldSymbol). s.member) t.2) c.in-Some-place_of_member.seat d.at c.in-Some-place_of_member.ensures (ap (λ (s : ToldSymbol). s.at) t.2)
 
 pub returns-in-Ok : goal.returns-in-Ok
 returns-in-Ok c = λ f at equate.
@@ -49,8 +49,8 @@ returns-in-Ok c = λ f at equate.
     let text = text_of list d t.0 c.in-Some-expr.expr c.in-Some-expr.is t.2 in
     let here = inside_equate list c.args.number t.0 t.1 (ap has_expr text) in
     let same = one_found list c.args.number t.0 f t.1 at in
-    ap some (equate_worth list c.requires.files c.args.number t.0 here d.member (ap (λ (s : ToldSymbol). s.member) t.2) c.in-Some-seat_of.seat d.at c.in-Some-expr.expr.now table (Ok c.in-Ok.value)
-    c.in-Some-seat_of.ensures (ap (λ (s : ToldSymbol). s.at) t.2) text c.in-Ok.ensures
+    ap some (equate_worth list c.requires.files c.args.number t.0 here d.member (ap (λ (s : ToldSymbol). s.member) t.2) c.in-Some-place_of_member.seat d.at c.in-Some-expr.expr.now table (Ok c.in-Ok.value)
+    c.in-Some-place_of_member.ensures (ap (λ (s : ToldSymbol). s.at) t.2) text c.in-Ok.ensures
     ∙ ap (equate_value list table) same)
 
 pub returns-in-Err : goal.returns-in-Err
@@ -62,6 +62,6 @@ returns-in-Err c = λ f at equate.
     let text = text_of list d t.0 c.in-Some-expr.expr c.in-Some-expr.is t.2 in
     let here = inside_equate list c.args.number t.0 t.1 (ap has_expr text) in
     let same = one_found list c.args.number t.0 f t.1 at in
-    ap some (equate_worth list c.requires.files c.args.number t.0 here d.member (ap (λ (s : ToldSymbol). s.member) t.2) c.in-Some-seat_of.seat d.at c.in-Some-expr.expr.now table (Err c.in-Err.fault)
-    c.in-Some-seat_of.ensures (ap (λ (s : ToldSymbol). s.at) t.2) text c.in-Err.ensures
+    ap some (equate_worth list c.requires.files c.args.number t.0 here d.member (ap (λ (s : ToldSymbol). s.member) t.2) c.in-Some-place_of_member.seat d.at c.in-Some-expr.expr.now table (Err c.in-Err.fault)
+    c.in-Some-place_of_member.ensures (ap (λ (s : ToldSymbol). s.at) t.2) text c.in-Err.ensures
     ∙ ap (equate_value list table) same)

@@ -3,7 +3,7 @@ use Rattle.omf_expr.specs.View.{view}
 use Rattle.omf_expr.specs.declared.term.Term as declared
 use Rattle.link_meaning.specs.First.{IsIn}
 use Rattle.link_meaning.specs.Rings.{is_equate}
-use Rattle.link_meaning.specs.Search.{Found}
+use Rattle.link_meaning.specs.Search.{FoundDefinition}
 use Rattle.link_meaning.specs.Terms.{asks_value}
 use Rattle.link_values.specs.Equates.{NameRow}
 use Rattle.link_values.proofs.LeadLaws.{name_without, name_with, found_none, found_some, open_is, shut_is, named_asks}
@@ -31,7 +31,7 @@ returns-else-is_open c = λ m names there one row.
     let asked = subst (λ (l : List (List ℕ)). IsIn l name) (sym asks) (inl refl) in
     let f = found_some list place m name n there c.in-Some.ensures in
     subst (λ (l : List (List ℕ)). NameRow list place m (names ++ l) c.args.row.now.items) (sym asks)
-    (name_without list place m names name c.args.row.now.items (λ g is equate. shut_is list c.args.slots.now n f.0 c.requires f.1 (c.if-is_open.ensures.fails refl) (ap (λ (x : Found). is_equate x) (one name f.0 g asked f.2 is) ∙ equate)) row)
+    (name_without list place m names name c.args.row.now.items (λ g is equate. shut_is list c.args.slots.now n f.0 c.requires f.1 (c.if-is_open.ensures.fails refl) (ap (λ (x : FoundDefinition). is_equate x) (one name f.0 g asked f.2 is) ∙ equate)) row)
 
 pub returns-in-None : goal.returns-in-None
 returns-in-None c = λ m names there one row.

@@ -1,11 +1,11 @@
 use Rattle.std.proofs.Common.{ℕ, [], ◌++◌, replicate, ap, ◌∙◌, arith}
 use Rattle.std.specs.Prelude.{Result, Ok, Err, OnOk}
-use Rattle.load_content.specs.declared.pieces.Piece.{Piece}
+use Rattle.load_content.specs.declared.pieces.BytePiece.{BytePiece}
 use Rattle.load_content.proofs.Splits.{get_there}
 use Rattle.load_content.proofs.FilledLists.{filled_more, put_more, put_all}
 use Rattle.load_content.proofs.filled.put_bytes.Goals as goal
 
-abbrev no_piece : Piece
+abbrev no_piece : BytePiece
 no_piece = record { start = 0; bytes = record { ref_ptr = (0, 0); now = [] } }
 
 pub pieces-preserved : goal.pieces-preserved

@@ -3,7 +3,7 @@ use Rattle.std.proofs.lemmas.List.{length-append}
 use Rattle.omf_format.specs.Record.{Record, content_of}
 use Rattle.omf_format.specs.Reading.{Reader}
 use Rattle.omf_records.specs.View.{view}
-use Rattle.load_content.specs.declared.pieces.Piece.{Piece}
+use Rattle.load_content.specs.declared.pieces.BytePiece.{BytePiece}
 use Rattle.load_content.specs.Content.{ArePieces}
 use Rattle.load_content.proofs.Walks.{Left, left_all, left_more, left_none, left_full, left_fault, left_within}
 use Rattle.load_content.proofs.PieceLists.{no_pieces}
@@ -14,7 +14,7 @@ records-init c = record {
   so_far = [];
   left = left_all c.args.records c.requires.body;
   size = refl;
-  are = subst (λ (l : List Piece). ArePieces l []) (sym c.new-pieces.ensures.items) no_pieces;
+  are = subst (λ (l : List BytePiece). ArePieces l []) (sym c.new-pieces.ensures.items) no_pieces;
 }
 
 pub returns-then-start-from-clause-are : goal.returns-then-start-from-clause-are

@@ -5,13 +5,13 @@ use Rattle.std.proofs.Common.{◌≡◌, ℕ, ℤ, ◌+◌, ◌-◌, ◌<◌, �
 use Rattle.std.specs.Prelude.{slice_get, pos}
 use Rattle.std.proofs.lemmas.Bool.{cases_lt}
 use Rattle.load_meaning.specs.Cells.{Part}
-use Rattle.load_content.specs.declared.spots.Spot.{Spot}
+use Rattle.load_content.specs.declared.spots.PatchSpot.{PatchSpot}
 use Rattle.load_content.specs.Content.{IsSplit, AreRising, offset_of, shown_spots, last_at}
 use Rattle.load_content.proofs.Splits.{get_there}
 use Rattle.load_content.proofs.SpotLists.{each_place, none_over, last_over_it, Covers, cell_in}
 use Rattle.load_content.proofs.spots.spot_in.Goals as goal
 
-abbrev no_spot : Spot
+abbrev no_spot : PatchSpot
 no_spot = record { at = 0; offset = 0; segment = 0; shift = pos 0; first = 0; end = 0 }
 
 pub returns-then-count-eq0 : goal.returns-then-count-eq0
@@ -19,12 +19,12 @@ returns-then-count-eq0 c =
     sym (none_over c.args.spots.now c.args.at (each_place (λ s. Covers c.args.at s → ⊥) c.args.spots.now
     (λ i s is over. let behind = c.count_up_to-count.ensures.split.behind i s (omega (arith, c.if-count-eq0.true)) is in omega (arith, behind, over.0))))
 
-some_spot : (s t : Spot) → Some s ≡ Some t → s ≡ t
+some_spot : (s t : PatchSpot) → Some s ≡ Some t → s ≡ t
 some_spot s t e = cc
 
 -- the last spot that begins at an offset or before it
-module _ (spots : List Spot) (at count : ℕ) (split : IsSplit offset_of spots at count) (bound : count ≤ length spots) (some : 0 < count) where
-  abbrev pub last : Spot
+module _ (spots : List PatchSpot) (at count : ℕ) (split : IsSplit offset_of spots at count) (bound : count ≤ length spots) (some : 0 < count) where
+  abbrev pub last : PatchSpot
   last = get_or spots (count - 1) no_spot
 
   there : slice_get spots (count - 1) ≡ Some last
@@ -33,7 +33,7 @@ module _ (spots : List Spot) (at count : ℕ) (split : IsSplit offset_of spots a
   low : last.at ≤ at
   low = split.before (count - 1) last (omega (arith, some)) there
 
-  none_behind : (j : ℕ) (t : Spot) → count - 1 < j → slice_get spots j ≡ Some t → Covers at t → ⊥
+  none_behind : (j : ℕ) (t : PatchSpot) → count - 1 < j → slice_get spots j ≡ Some t → Covers at t → ⊥
   none_behind j t lt is over = let behind = split.behind j t (omega (arith, lt)) is in omega (arith, behind, over.0)
 
   -- where it reaches the offset, it gives the cell there

@@ -1,7 +1,7 @@
 use Rattle.std.proofs.Common.{◌≡◌, ℕ, ◌+◌, ◌-◌, ◌/◌, ◌%◌, ◌^◌, suc, List, ◌∷◌, length, sym, ap, subst, ◌∙◌, arith}
 use Rattle.std.specs.Prelude.{slice_set}
 use Rattle.std.proofs.Math.Nat.{pow-suc, div-div-eq-div-mul}
-use Rattle.omf_format.specs.Value.{wrapped, shifted}
+use Rattle.omf_format.specs.Value.{wrapped_to_32_bits, shifted_bits}
 use Rattle.load_meaning.specs.Cells.{Cell, Part, byte_of}
 use Rattle.load_content.specs.Content.{spot_patch, spread_from, AreBelow, with_cells}
 use Rattle.load_content.specs.Places.{address_in}
@@ -28,7 +28,7 @@ bytes-preserved c =
     let rest = spread_from p (at + 1) (index + 1) more in
     let next : spread_from p at index rest_of ≡ (at, cell) ∷ rest = spread_next p at index rest_of more one in
     let below : AreBelow (length c.bytes.out) ((at, cell) ∷ rest) = subst (AreBelow (length c.bytes.out)) next c.bytes.invariant.below in
-    let number = shifted (wrapped (places s.segment + s.offset)) s.shift in
+    let number = shifted_bits (wrapped_to_32_bits (places s.segment + s.offset)) s.shift in
     let byte : c.bytes.left % 256 ≡ byte_of places cell = ap (λ (n : ℕ). n % 256) c.bytes.invariant.left in
     record {
       at = omega (arith, c.bytes.invariant.at, c.bytes.invariant.from);

@@ -1,17 +1,17 @@
 use Rattle.std.proofs.Common.{◌≡◌, ℕ, ◌+◌, ◌<◌, List, length, drop, get_or, sym, ap, subst, ◌∙◌}
 use Rattle.std.specs.Prelude.{pos}
 use Rattle.load_meaning.specs.Cells.{Cell}
-use Rattle.load_content.specs.declared.spots.Spot.{Spot}
+use Rattle.load_content.specs.declared.spots.PatchSpot.{PatchSpot}
 use Rattle.load_content.specs.Content.{spread_spot, shown_spots, AreBelow, with_cells}
 use Rattle.load_content.specs.Places.{address_in}
 use Rattle.load_content.proofs.SpotLists.{length-with_cells, with_cells-append, shown-next}
 use Rattle.load_content.proofs.Contents.{parts-below}
 use Rattle.load_content.proofs.spots.write_spots.Goals as goal
 
-abbrev no_spot : Spot
+abbrev no_spot : PatchSpot
 no_spot = record { at = 0; offset = 0; segment = 0; shift = pos 0; first = 0; end = 0 }
 
-next-below : (spots : List Spot) (i size : ℕ) → i < length spots → AreBelow size (shown_spots (drop i spots)) → AreBelow size (spread_spot (get_or spots i no_spot)) × AreBelow size (shown_spots (drop (i + 1) spots))
+next-below : (spots : List PatchSpot) (i size : ℕ) → i < length spots → AreBelow size (shown_spots (drop i spots)) → AreBelow size (spread_spot (get_or spots i no_spot)) × AreBelow size (shown_spots (drop (i + 1) spots))
 next-below spots i size lt below =
     parts-below size (spread_spot (get_or spots i no_spot)) (shown_spots (drop (i + 1) spots)) (subst (AreBelow size) (shown-next spots i no_spot lt) below)
 

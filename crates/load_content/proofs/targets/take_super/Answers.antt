@@ -1,13 +1,13 @@
 use Rattle.std.proofs.Common.{map, Ok, sym, ap, ◌∙◌}
-use Rattle.omf_records.specs.Segments.{shown}
+use Rattle.omf_records.specs.Segments.{segment_of_view}
 use Rattle.load_content.specs.Content.{shown_spots}
 use Rattle.load_content.proofs.SuperPatches.{refusal_next, spread_more}
 use Rattle.load_content.proofs.targets.take_super.Goals as goal
 
 pub locations-preserved : goal.locations-preserved
 locations-preserved c =
-    let segments = map shown c.args.views.now.items in
-    let s = shown c.args.view.now in
+    let segments = map segment_of_view c.args.views.now.items in
+    let s = segment_of_view c.args.view.now in
     let is = sym c.next.ensures.answer ∙ c.in-Some.is in
     record {
       same =

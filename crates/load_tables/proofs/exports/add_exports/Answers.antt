@@ -1,7 +1,7 @@
 use Rattle.std.proofs.Common.{ℕ, ◌++◌, List, map, sym, subst, arith}
 use Rattle.omf_format.specs.Record.{Record}
 use Rattle.omf_format.specs.Reading.{Reader}
-use Rattle.load_meaning.specs.Exports.{Export, exported}
+use Rattle.load_meaning.specs.Exports.{Export, exports_of_record}
 use Rattle.omf_records.specs.View.{view}
 use Rattle.load_tables.specs.View.{seen_export}
 use Rattle.load_tables.proofs.ExportWalks.{Exported, exported_none, exported_more, exported_whole, exported_fault}
@@ -23,7 +23,7 @@ records-preserved c =
     let more = exported_more c.args.holder c.args.records c.records.records found front old c.records.invariant.added (sym (rw c.in-Ok-Some.field-0-is at c.in-Ok-Some.ensures.answer)) in
     record {
       added = subst (λ (l : List Export). Exported c.args.holder c.args.records c.next.new.self front l) (sym c.in_ok-add_export-in-Ok-Some.ensures.value)
-          (subst (λ (r : Reader). Exported c.args.holder c.args.records r front (old ++ exported c.args.holder found.1)) (sym c.in-Ok-Some.ensures.after) more);
+          (subst (λ (r : Reader). Exported c.args.holder c.args.records r front (old ++ exports_of_record c.args.holder found.1)) (sym c.in-Ok-Some.ensures.after) more);
       few = omega (arith, c.records.invariant.few, c.in_ok-add_export-in-Ok-Some.ensures.one, rw c.in-Ok-Some.field-0-is at c.in-Ok-Some.ensures.shorter);
     }
 

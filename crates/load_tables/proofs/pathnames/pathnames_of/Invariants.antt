@@ -1,11 +1,11 @@
 use Rattle.std.proofs.Common.{◌≡◌, ◌+◌, drop, map}
 use Rattle.load_meaning.specs.Pathnames.{pathnames_from, pathnames_of}
-use Rattle.omf_records.specs.Segments.{shown}
+use Rattle.omf_records.specs.Segments.{segment_of_view}
 use Rattle.load_tables.proofs.pathnames.pathnames_of.Given as goal
 
 -- the views so far are no pathname segments
 abbrev pub invariant-views : goal.invariant-views
 invariant-views l = record {
   place : l.number ≡ l.view-index + 1;
-  same : pathnames_of (map shown l.views.items) ≡ pathnames_from l.number (map shown (drop l.view-index l.views.items));
+  same : pathnames_of (map segment_of_view l.views.items) ≡ pathnames_from l.number (map segment_of_view (drop l.view-index l.views.items));
 }

@@ -30,7 +30,7 @@ rows-preserved c =
     let open' = sym (ap (λ (n : ℕ). eqb n 0 && ltb 0 rows) c.number-file.ensures.value) ∙ sym c.is_end.ensures ∙ c.if-is_end.false in
     let is = sym (ap (λ (n : ℕ). ltb rows most && eqb n (rows + 2)) c.number-file.ensures.value) ∙ sym c.is_next.ensures ∙ c.if-not-is_next.false in
     let size = c.number-size.ensures.value in
-    let path : c.front.result.now ≡ first_path rest = c.front.ensures ∙ ap (λ (n : ℕ). take n c.behind.result.now) size ∙ ap (λ (l : List ℕ). take (Rattle.load_meaning.specs.Pathnames.path_size rest) l) c.behind.ensures in
-    let more = ap seen_paths c.in_ok-push.ensures.items ∙ map-append (λ (p : Bor (List ℕ)). p.now) c.rows.paths.items (c.front.result ∷ []) in
-    so_next most c.args.bytes.now rows c.rows.at rest (seen_paths c.rows.paths.items) _ c.behind-rest.result.now c.front.result.now (seen_paths c.push.new.self.items) c.rows.invariant long open' is
-    (sym c.row_flaw.ensures.value ∙ c.in-None.is) c.in-None.ensures.inside (ap (λ (n : ℕ). c.rows.at + (11 + n)) size) (c.behind-rest.ensures ∙ ap (λ (n : ℕ). drop (11 + n) rest) size) path more
+    let path : c.first_items.result.now ≡ first_path rest = c.first_items.ensures ∙ ap (λ (n : ℕ). take n c.items_after.result.now) size ∙ ap (λ (l : List ℕ). take (Rattle.load_meaning.specs.Pathnames.path_size rest) l) c.items_after.ensures in
+    let more = ap seen_paths c.in_ok-push.ensures.items ∙ map-append (λ (p : Bor (List ℕ)). p.now) c.rows.paths.items (c.first_items.result ∷ []) in
+    so_next most c.args.bytes.now rows c.rows.at rest (seen_paths c.rows.paths.items) _ c.items_after-rest.result.now c.first_items.result.now (seen_paths c.push.new.self.items) c.rows.invariant long open' is
+    (sym c.row_flaw.ensures.value ∙ c.in-None.is) c.in-None.ensures.inside (ap (λ (n : ℕ). c.rows.at + (11 + n)) size) (c.items_after-rest.ensures ∙ ap (λ (n : ℕ). drop (11 + n) rest) size) path more

@@ -3,14 +3,14 @@ use Rattle.omf_format.specs.Header.{first_of}
 use Rattle.load_meaning.specs.Cells.{segment_bytes}
 use Rattle.load_meaning.specs.Table.{entry_start}
 use Rattle.load_meaning.specs.LoadTable.{entry_checks, entries_checks}
-use Rattle.omf_records.specs.Segments.{shown}
+use Rattle.omf_records.specs.Segments.{segment_of_view}
 use Rattle.load_tables.proofs.TableRuns.{entries_next, or-here, or-next}
 use Rattle.load_tables.proofs.table.entries_flaw.Goals as goal
 
 pub returns-in-Some : goal.returns-in-Some
 returns-in-Some c =
-    let segments = map shown c.args.views.now.items in
-    let bytes = segment_bytes (shown c.args.view.now) in
+    let segments = map segment_of_view c.args.views.now.items in
+    let bytes = segment_bytes (segment_of_view c.args.view.now) in
     let place = c.entries.place in
     let left = c.args.count - (place + 1) in
     let one : c.args.count - place ≡ suc left = omega (arith, c.entries-test.true) in
@@ -19,8 +19,8 @@ returns-in-Some c =
 
 pub entries-preserved : goal.entries-preserved
 entries-preserved c =
-    let segments = map shown c.args.views.now.items in
-    let bytes = segment_bytes (shown c.args.view.now) in
+    let segments = map segment_of_view c.args.views.now.items in
+    let bytes = segment_bytes (segment_of_view c.args.view.now) in
     let place = c.entries.place in
     let left = c.args.count - (place + 1) in
     let one : c.args.count - place ≡ suc left = omega (arith, c.entries-test.true) in

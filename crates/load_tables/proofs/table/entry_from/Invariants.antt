@@ -2,7 +2,7 @@ use Rattle.std.proofs.Common.{◌≡◌, ◌+◌, ◌-◌, ◌<◌, ◌≤◌, �
 use Rattle.std.specs.Prelude.{slice_index}
 use Rattle.omf_format.specs.Number.{number_at}
 use Rattle.load_meaning.specs.Cells.{segment_bytes}
-use Rattle.omf_records.specs.Segments.{shown}
+use Rattle.omf_records.specs.Segments.{segment_of_view}
 use Rattle.load_tables.proofs.table.entry_from.Given as goal
 
 -- the bytes so far are those of the data
@@ -10,7 +10,7 @@ abbrev pub invariant-bytes : goal.invariant-bytes
 invariant-bytes l = record {
   most : l.place ≤ 14;
   size : length l.entry ≡ 14;
-  are : (n : ℕ) → n < l.place → number_at 1 (l.at + n) (segment_bytes (shown l.view)) ≡ slice_index l.entry n;
+  are : (n : ℕ) → n < l.place → number_at 1 (l.at + n) (segment_bytes (segment_of_view l.view)) ≡ slice_index l.entry n;
 }
 
 abbrev pub decreases-bytes : goal.decreases-bytes

@@ -1,7 +1,7 @@
 use Rattle.std.proofs.Common.{◌≡◌, ◌+◌, ℕ, ap, ◌∙◌, arith}
 use Rattle.omf_format.specs.Number.{number_at}
 use Rattle.load_meaning.specs.Cells.{segment_bytes}
-use Rattle.omf_records.specs.Segments.{shown}
+use Rattle.omf_records.specs.Segments.{segment_of_view}
 use Rattle.load_tables.proofs.EntryNumbers.{two_same, four_same, call_same}
 use Rattle.load_tables.proofs.table.fields_from.Goals as goal
 
@@ -9,7 +9,7 @@ pub returns : goal.returns
 returns c =
     let v = c.args.view.now in
     let at = c.args.at in
-    let bytes = segment_bytes (shown v) in
+    let bytes = segment_bytes (segment_of_view v) in
     let entry = c.entry_from-entry.result in
     let near = c.entry_from-entry.ensures.near in
     let size = c.entry_from-entry.ensures.size in

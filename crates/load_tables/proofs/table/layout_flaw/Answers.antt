@@ -5,7 +5,7 @@ use Rattle.omf_format.specs.File.{Segment}
 use Rattle.load_meaning.specs.Cells.{segment_bytes}
 use Rattle.load_meaning.specs.Table.{entry_start}
 use Rattle.load_meaning.specs.LoadTable.{zero_checks, entries_checks, table_checks}
-use Rattle.omf_records.specs.Segments.{shown}
+use Rattle.omf_records.specs.Segments.{segment_of_view}
 use Rattle.load_tables.proofs.TableRuns.{first_of-append, or-here, or-next}
 use Rattle.load_tables.proofs.table.layout_flaw.Goals as goal
 
@@ -17,8 +17,8 @@ parts segments bytes n =
 
 pub returns-in-Some-entries_flaw : goal.returns-in-Some-entries_flaw
 returns-in-Some-entries_flaw c =
-    let segments = map shown c.args.views.now.items in
-    let bytes = segment_bytes (shown c.args.view.now) in
+    let segments = map segment_of_view c.args.views.now.items in
+    let bytes = segment_bytes (segment_of_view c.args.view.now) in
     let back = first_of (zero_checks bytes (entry_start c.args.count) 4) in
     let entries = first_of (entries_checks segments bytes 0 c.args.count) in
     sym (parts segments bytes c.args.count
@@ -27,8 +27,8 @@ returns-in-Some-entries_flaw c =
 
 pub returns : goal.returns
 returns c =
-    let segments = map shown c.args.views.now.items in
-    let bytes = segment_bytes (shown c.args.view.now) in
+    let segments = map segment_of_view c.args.views.now.items in
+    let bytes = segment_bytes (segment_of_view c.args.view.now) in
     let back = first_of (zero_checks bytes (entry_start c.args.count) 4) in
     let entries = first_of (entries_checks segments bytes 0 c.args.count) in
     c.nonzero_from-2.ensures

@@ -3,13 +3,13 @@ use Rattle.std.specs.Prelude.{not, ◌==◌}
 use Rattle.omf_format.specs.Header.{first_of}
 use Rattle.load_meaning.specs.Cells.{segment_bytes}
 use Rattle.load_meaning.specs.LoadTable.{zero_checks}
-use Rattle.omf_records.specs.Segments.{shown}
+use Rattle.omf_records.specs.Segments.{segment_of_view}
 use Rattle.load_tables.proofs.TableRuns.{zeros_next}
 use Rattle.load_tables.proofs.table.nonzero_from.Goals as goal
 
 pub zeros-preserved : goal.zeros-preserved
 zeros-preserved c =
-    let bytes = segment_bytes (shown c.args.view.now) in
+    let bytes = segment_bytes (segment_of_view c.args.view.now) in
     let passed = c.zeros.passed in
     let left = c.args.count - (passed + 1) in
     let one : c.args.count - passed ≡ suc left = omega (arith, c.zeros-test.true) in

@@ -2,7 +2,7 @@ use Rattle.std.proofs.Common.{◌≡◌, ℕ, suc, ◌+◌, ◌<◌, List, Some,
 use Rattle.std.specs.Prelude.{if◌then◌else◌}
 use Rattle.load_meaning.specs.LoadTable.{table_from}
 use Rattle.omf_records.specs.declared.segment.SegmentView.{SegmentView}
-use Rattle.omf_records.specs.Segments.{shown}
+use Rattle.omf_records.specs.Segments.{segment_of_view}
 use Rattle.load_tables.proofs.TableSearch.{table-next, table-past}
 use Rattle.load_tables.proofs.table.table_of.Goals as goal
 
@@ -17,7 +17,7 @@ returns-then-is_table c =
     let item = c.view-item.is ∙ ap (λ (l : List SegmentView). get_or l i v) c.deref-view-items.ensures.value in
     let lt : i < length views = omega (arith, c.views-test.true, ap length c.deref-view-items.ensures.value) in
     sym (c.views.invariant.same ∙ table-next views i c.views.number v lt item
-    ∙ ap (λ b. if b then Some c.views.number else table_from (c.views.number + 1) (map shown (drop (suc i) views))) (sym c.is_table.ensures ∙ c.if-is_table.true))
+    ∙ ap (λ b. if b then Some c.views.number else table_from (c.views.number + 1) (map segment_of_view (drop (suc i) views))) (sym c.is_table.ensures ∙ c.if-is_table.true))
 
 pub overflow_add-number : goal.overflow_add-number
 overflow_add-number c = omega (arith, c.views.invariant.place, c.views-test.true, ap length c.deref-view-items.ensures.value, c.requires)
@@ -34,8 +34,8 @@ views-preserved c =
       place = omega (arith, c.views.invariant.place);
       same =
           c.views.invariant.same ∙ table-next views i c.views.number v lt item
-          ∙ ap (λ b. if b then Some c.views.number else table_from (c.views.number + 1) (map shown (drop (suc i) views))) (sym c.is_table.ensures ∙ c.if-is_table.false)
-          ∙ ap (λ (n : ℕ). table_from (c.views.number + 1) (map shown (drop n views))) step;
+          ∙ ap (λ b. if b then Some c.views.number else table_from (c.views.number + 1) (map segment_of_view (drop (suc i) views))) (sym c.is_table.ensures ∙ c.if-is_table.false)
+          ∙ ap (λ (n : ℕ). table_from (c.views.number + 1) (map segment_of_view (drop n views))) step;
     }
 
 pub returns : goal.returns

@@ -14,19 +14,19 @@ alloc-requires-clause-no_place c movable =
 
 pub address_of-requires : goal.address_of-requires
 address_of-requires c =
-    alloc_there c.args.loader.now.memory c.alloc.new.self.memory c.alloc_want-want.result c.has.result c.level_in.result c.is_movable.result c.in-Ok.handle c.in-Ok.ensures.placed.0
+    alloc_there c.args.loader.now.memory c.alloc.new.self.memory c.alloc_want-want.result c.has_attribute_bit.result c.level_in.result c.is_movable.result c.in-Ok.handle c.in-Ok.ensures.placed.0
 
 pub returns-in-Ok : goal.returns-in-Ok
 returns-in-Ok c store =
     idle_line c.placed_line.result store (commands.Alloc c.args.size c.args.attr c.args.address) c.args.loader.now c.alloc.new.self (commands.Placed c.in-Ok.handle c.address_of.result) c.placed_line.ensures refl refl refl
-    (λ files state agrees. alloc_asked files state c.alloc.new.self c.alloc_want-want.result c.has.result c.level_in.result c.is_movable.result c.args.size c.args.attr c.args.address (commands.Placed c.in-Ok.handle c.address_of.result)
-    c.alloc_want-want.ensures c.has.ensures c.level_in.ensures c.is_movable.ensures
-    (alloc_at files state c.alloc.new.self c.alloc_want-want.result c.has.result c.level_in.result c.is_movable.result c.in-Ok.handle c.address_of.result c.address_of.ensures (c.in-Ok.ensures.meets files state agrees)))
+    (λ files state agrees. alloc_asked files state c.alloc.new.self c.alloc_want-want.result c.has_attribute_bit.result c.level_in.result c.is_movable.result c.args.size c.args.attr c.args.address (commands.Placed c.in-Ok.handle c.address_of.result)
+    c.alloc_want-want.ensures c.has_attribute_bit.ensures c.level_in.ensures c.is_movable.ensures
+    (alloc_at files state c.alloc.new.self c.alloc_want-want.result c.has_attribute_bit.result c.level_in.result c.is_movable.result c.in-Ok.handle c.address_of.result c.address_of.ensures (c.in-Ok.ensures.meets files state agrees)))
 
 pub returns-in-Err : goal.returns-in-Err
 returns-in-Err c store =
     let old = c.args.loader.now in
     idle_line c.refusal_line.result store (commands.Alloc c.args.size c.args.attr c.args.address) old c.alloc.new.self (commands.Refused c.in-Err.fault)
     (refusal_text c.refusal_line.result c.in-Err.fault c.refusal_line.ensures) (alloc_safe old.memory c.alloc_want-want.result c.in-Err.fault c.in-Err.ensures.refused) refl refl
-    (λ files state agrees. alloc_asked files state c.alloc.new.self c.alloc_want-want.result c.has.result c.level_in.result c.is_movable.result c.args.size c.args.attr c.args.address (commands.Refused c.in-Err.fault)
-    c.alloc_want-want.ensures c.has.ensures c.level_in.ensures c.is_movable.ensures (c.in-Err.ensures.refuses files state agrees))
+    (λ files state agrees. alloc_asked files state c.alloc.new.self c.alloc_want-want.result c.has_attribute_bit.result c.level_in.result c.is_movable.result c.args.size c.args.attr c.args.address (commands.Refused c.in-Err.fault)
+    c.alloc_want-want.ensures c.has_attribute_bit.ensures c.level_in.ensures c.is_movable.ensures (c.in-Err.ensures.refuses files state agrees))

@@ -4,7 +4,7 @@ use Rattle.omf_io.specs.Outside.{outside}
 use Rattle.loader_machine.specs.Replies.{reply_line}
 use Rattle.loader_machine.specs.Commands as step
 use Rattle.script_text.specs.View as view
-use Rattle.loader_replies.specs.declared.command.Stop.{Stop}
+use Rattle.loader_replies.specs.declared.command.ReplyStop.{ReplyStop}
 use Rattle.loader_replies.specs.Answered.{HasAnswered}
 use Rattle.loader_script.proofs.UnderWay.{no_loader, nothing_yet, first_answered, goes_past, stops_at, later_command, first_command, ended, ended_empty, no_memory}
 use Rattle.loader_script.proofs.run.run_commands.Goals as goal
@@ -29,7 +29,7 @@ returns-in_err-print g c =
     let command = view.command c.in-Some.first.now in
     let first = first_answered store sink now command c.in-Ok.loader c.print.result c.in-Ok.ensures (c.print.ensures.printed (reply_line step.Okay) c.okay_line.ensures) in
     rw (p.1, p.2) (stops_at store store store sink sink now c.args.script.now 0 command no_loader c.in-Ok.loader (nothing_yet store sink) c.in-Some.ensures c.in_err-print.field-0.0
-    (subst (λ (r : Result (Unit {0}) Stop). HasAnswered r command no_loader c.in-Ok.loader (outside store store sink now)) c.in_err-print.was first))
+    (subst (λ (r : Result (Unit {0}) ReplyStop). HasAnswered r command no_loader c.in-Ok.loader (outside store store sink now)) c.in_err-print.was first))
 
 pub commands-init : goal.commands-init
 commands-init g c =
@@ -39,7 +39,7 @@ commands-init g c =
     let command = view.command c.in-Some.first.now in
     let first = first_answered store sink now command c.in-Ok.loader c.print.result c.in-Ok.ensures (c.print.ensures.printed (reply_line step.Okay) c.okay_line.ensures) in
     goes_past store store store sink sink now c.args.script.now 0 command no_loader c.in-Ok.loader (nothing_yet store sink) c.in-Some.ensures
-    (subst (λ (r : Result (Unit {0}) Stop). HasAnswered r command no_loader c.in-Ok.loader (outside store store sink now)) c.in_ok-print.was first)
+    (subst (λ (r : Result (Unit {0}) ReplyStop). HasAnswered r command no_loader c.in-Ok.loader (outside store store sink now)) c.in_ok-print.was first)
 
 pub run_command-requires : goal.run_command-requires
 run_command-requires g c = later_command c.args.script.now c.commands.place (view.command c.in-Some-get.command.now) c.requires c.commands.auto.place c.in-Some-get.ensures
@@ -54,7 +54,7 @@ returns-in_err-run_command g c =
     let command = view.command c.in-Some-get.command.now in
     rw (p.1, p.2) (stops_at (g.F.Files.seen c.args.files.now) mid now (g.S.Sink.seen c.args.out.now) sink new c.args.script.now c.commands.place command c.commands.loader c.run_command.new.loader
     c.commands.invariant c.in-Some-get.ensures c.in_err-run_command.field-0.0
-    (subst (λ (r : Result (Unit {0}) Stop). HasAnswered r command c.commands.loader c.run_command.new.loader (outside mid now sink new)) c.in_err-run_command.was c.run_command.ensures))
+    (subst (λ (r : Result (Unit {0}) ReplyStop). HasAnswered r command c.commands.loader c.run_command.new.loader (outside mid now sink new)) c.in_err-run_command.was c.run_command.ensures))
 
 pub commands-preserved : goal.commands-preserved
 commands-preserved g c =
@@ -65,7 +65,7 @@ commands-preserved g c =
     let command = view.command c.in-Some-get.command.now in
     goes_past (g.F.Files.seen c.args.files.now) mid now (g.S.Sink.seen c.args.out.now) sink new c.args.script.now c.commands.place command c.commands.loader c.run_command.new.loader
     c.commands.invariant c.in-Some-get.ensures
-    (subst (λ (r : Result (Unit {0}) Stop). HasAnswered r command c.commands.loader c.run_command.new.loader (outside mid now sink new)) c.in_ok-run_command.was c.run_command.ensures)
+    (subst (λ (r : Result (Unit {0}) ReplyStop). HasAnswered r command c.commands.loader c.run_command.new.loader (outside mid now sink new)) c.in_ok-run_command.was c.run_command.ensures)
 
 pub returns : goal.returns
 returns g c =

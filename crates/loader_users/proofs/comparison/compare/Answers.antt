@@ -4,7 +4,7 @@ use Rattle.std.proofs.lemmas.List.{length-map}
 use Rattle.omf_header.specs.View.{fields}
 use Rattle.loader_machine.specs.declared.faults.LoaderFault.TheVariants as fault
 use Rattle.loader_machine.specs.declared.seen.Facts.{Facts}
-use Rattle.loader_machine.specs.declared.seen.Head.{Head}
+use Rattle.loader_machine.specs.declared.seen.SegmentHead.{SegmentHead}
 use Rattle.loader_machine.specs.Heads.{head_of}
 use Rattle.loader_users.specs.Changed.{facts_of, count_facts}
 use Rattle.loader_users.proofs.Written.{heads_of}
@@ -17,7 +17,7 @@ places-preserved c =
     let inside : c.places.place < length items = omega (arith, c.places-test.true, c.min-place-end.ensures, c.len-kept.ensures) in
     same_more (heads_of items) (map head_of c.args.load.now) c.places.place c.places.invariant c.index.result.now.head c.head_from-head.result
     (head_get items c.places.place c.index.result.now inside c.index.ensures)
-    (fields_get c.args.load.now c.places.place (fields c.in-Some.header.now) c.in-Some.ensures ∙ ap (λ (x : Head). Some x) (sym c.head_from-head.ensures))
+    (fields_get c.args.load.now c.places.place (fields c.in-Some.header.now) c.in-Some.ensures ∙ ap (λ (x : SegmentHead). Some x) (sym c.head_from-head.ensures))
     (c.is_same.ensures.yes c.if-not-is_same.false)
 
 pub returns-then-not-is_same-clause-changed : goal.returns-then-not-is_same-clause-changed
@@ -37,7 +37,7 @@ returns-then-not-is_same-clause-changed c =
       is,
       differs (heads_of items) (map head_of c.args.load.now) c.places.place c.places.invariant was is
           (head_get items c.places.place c.index.result.now inside c.index.ensures)
-          (fields_get c.args.load.now c.places.place (fields c.in-Some.header.now) c.in-Some.ensures ∙ ap (λ (x : Head). Some x) (sym c.head_from-head.ensures))
+          (fields_get c.args.load.now c.places.place (fields c.in-Some.header.now) c.in-Some.ensures ∙ ap (λ (x : SegmentHead). Some x) (sym c.head_from-head.ensures))
           (c.is_same.ensures.no c.if-not-is_same.true),
       ap (λ (x : Facts). fault.Changed x c.facts_of-then-not-is_same.result) kept ∙ ap (fault.Changed (facts_of (length (heads_of items)) number was)) found,
     )

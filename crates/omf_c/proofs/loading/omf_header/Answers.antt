@@ -8,4 +8,4 @@ returns-in-Some c =
     (Made c.told.result, (_, c.in-Ok.ensures.ok.0, tells_at _ c.args.number c.told.result _ c.in-Some.ensures c.told.ensures), (refl, refl, c.in-Ok.ensures.ok.1))
 
 pub returns : goal.returns
-returns c = unread_told c.args.file.now c.in-Err.status c.args.fault.now c.read.new.fault _ _ c.args.told.now c.in-Err.ensures.refused
+returns c = unread_told c.args.file.now c.in-Err.status c.args.fault.now c.read_load_file.new.fault _ _ c.args.told.now c.in-Err.ensures.report_load_fault

@@ -1,9 +1,9 @@
 use Rattle.std.specs.Prelude.{pos}
-use Rattle.load_content.specs.declared.spots.Spot.{Spot}
+use Rattle.load_content.specs.declared.spots.PatchSpot.{PatchSpot}
 use Rattle.omf_cells.proofs.EndLists.{last_more}
 use Rattle.omf_cells.proofs.ends.last_end.Goals as goal
 
-abbrev no_spot : Spot
+abbrev no_spot : PatchSpot
 no_spot = record { at = 0; offset = 0; segment = 0; shift = pos 0; first = 0; end = 0 }
 
 pub spots-preserved : goal.spots-preserved

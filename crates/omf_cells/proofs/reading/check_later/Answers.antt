@@ -3,7 +3,7 @@ use Rattle.std.proofs.lemmas.List.{length-map}
 use Rattle.std.proofs.lemmas.Result.{err_from_is_err_and}
 use Rattle.std.specs.Borrow.{Bor}
 use Rattle.load_meaning.specs.Loadable.{first_in, target_fault, pathnames_fault, table_fault}
-use Rattle.omf_records.specs.Segments.{shown}
+use Rattle.omf_records.specs.Segments.{segment_of_view}
 use Rattle.load_content.proofs.NamedFaults.{unless, unless_then}
 use Rattle.omf_cells.proofs.Phases.{later_is}
 use Rattle.omf_cells.proofs.PathFew.{few_kept}
@@ -11,7 +11,7 @@ use Rattle.omf_cells.proofs.reading.check_later.Goals as goal
 
 pub returns-in-Some-clause-refused : goal.returns-in-Some-clause-refused
 returns-in-Some-clause-refused c =
-    let segments = map shown c.args.views.now.items in
+    let segments = map segment_of_view c.args.views.now.items in
     let fault = c.in-Some.fault in
     unless fault.cause fault _ c.in-Some.ensures.named
     (later_is segments (Some fault) (first_in (target_fault segments) 1 segments) (first_in (pathnames_fault segments) 1 segments) (first_in (table_fault segments) 1 segments)
@@ -20,7 +20,7 @@ returns-in-Some-clause-refused c =
 pub returns-in_err-contents-clause-refused : goal.returns-in_err-contents-clause-refused
 returns-in_err-contents-clause-refused c =
     let p = err_from_is_err_and c.from_residual.result c.from_residual.ensures.1 in
-    let segments = map shown c.args.views.now.items in
+    let segments = map segment_of_view c.args.views.now.items in
     let fault = c.in_err-contents.field-0.0 in
     rw (p.1, p.2)
     (unless_then fault.cause fault _ _
@@ -31,7 +31,7 @@ returns-in_err-contents-clause-refused c =
 pub returns-in_err-paths-clause-refused : goal.returns-in_err-paths-clause-refused
 returns-in_err-paths-clause-refused c =
     let p = err_from_is_err_and c.from_residual-in_err-paths.result c.from_residual-in_err-paths.ensures.1 in
-    let segments = map shown c.args.views.now.items in
+    let segments = map segment_of_view c.args.views.now.items in
     let fault = c.in_err-paths.field-0.0 in
     rw (p.1, p.2)
     (unless_then fault.cause fault _ _
@@ -40,11 +40,11 @@ returns-in_err-paths-clause-refused c =
 
 pub overflow_cast-len : goal.overflow_cast-len
 overflow_cast-len c =
-    omega (arith, few_kept c.in_ok-paths.paths.items (map shown c.args.views.now.items) c.in_ok-paths.ensures.paths, c.len.ensures, c.in_ok-paths.paths.ok)
+    omega (arith, few_kept c.in_ok-paths.paths.items (map segment_of_view c.args.views.now.items) c.in_ok-paths.ensures.paths, c.len.ensures, c.in_ok-paths.paths.ok)
 
 pub check_tables-requires-clause-few : goal.check_tables-requires-clause-few
 check_tables-requires-clause-few c =
-    omega (arith, few_kept c.in_ok-paths.paths.items (map shown c.args.views.now.items) c.in_ok-paths.ensures.paths, c.len.ensures, c.in_ok-paths.paths.ok)
+    omega (arith, few_kept c.in_ok-paths.paths.items (map segment_of_view c.args.views.now.items) c.in_ok-paths.ensures.paths, c.len.ensures, c.in_ok-paths.paths.ok)
 
 pub check_tables-requires-clause-paths : goal.check_tables-requires-clause-paths
 check_tables-requires-clause-paths c =
@@ -53,7 +53,7 @@ check_tables-requires-clause-paths c =
 
 pub returns-in-Some-check_tables-clause-refused : goal.returns-in-Some-check_tables-clause-refused
 returns-in-Some-check_tables-clause-refused c =
-    let segments = map shown c.args.views.now.items in
+    let segments = map segment_of_view c.args.views.now.items in
     let fault = c.in-Some-check_tables.fault in
     unless fault.cause fault _ c.in-Some-check_tables.ensures.named
     (later_is segments None None None (Some fault) (sym c.check_shapes.ensures.value ∙ c.in-None.is) c.in_ok-contents.ensures.ok.0 c.in_ok-paths.ensures.sound (sym c.check_tables.ensures.value ∙ c.in-Some-check_tables.is))

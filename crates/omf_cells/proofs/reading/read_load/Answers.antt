@@ -3,7 +3,7 @@ use Rattle.std.proofs.lemmas.Bool.{eqb-false}
 use Rattle.std.proofs.lemmas.List.{map-append}
 use Rattle.std.proofs.lemmas.Result.{err_from_is_err_and}
 use Rattle.omf_format.specs.Reading.{Reader, records_of}
-use Rattle.omf_records.specs.Segments.{placed, shown}
+use Rattle.omf_records.specs.Segments.{placed_view, segment_of_view}
 use Rattle.omf_records.specs.declared.segment.SegmentView.{SegmentView}
 use Rattle.load_tables.proofs.ExportWalks.{exported_all, exports_by, exports_by-one, exports_are, body_short}
 use Rattle.omf_cells.proofs.ReadSegments.{Read, view_lies, read_more, read_loadable, refused_in, few_read}
@@ -30,13 +30,13 @@ segments-preserved c =
     let views = c.segments.views.items in
     let more = read_more c.args.file.now views v c.segments.start c.segments.number inv.read c.in_ok-view.ensures.start c.segments-test.true c.in_ok-view.ensures.ok in
     let pushed = c.in_ok-push.ensures.items in
-    let whole : map shown (views ++ v ∷ []) ≡ map shown views ++ shown v ∷ [] = map-append shown views (v ∷ []) in
+    let whole : map segment_of_view (views ++ v ∷ []) ≡ map segment_of_view views ++ segment_of_view v ∷ [] = map-append segment_of_view views (v ∷ []) in
     let all = c.in_ok-add_exports.ensures.value ∙ ap (λ l. l ++ exported_all v.header.seg_num (records_of c.records.result)) inv.exported
-    ∙ ap (λ (r : Reader). exports_by (map shown views) ++ exported_all v.header.seg_num (records_of r)) c.records.ensures ∙ sym (exports_by-one (map shown views) (shown v)) in
-    let short = body_short v.start (placed v).fields v.file.now in
+    ∙ ap (λ (r : Reader). exports_by (map segment_of_view views) ++ exported_all v.header.seg_num (records_of r)) c.records.ensures ∙ sym (exports_by-one (map segment_of_view views) (segment_of_view v)) in
+    let short = body_short v.start (placed_view v).fields v.file.now in
     record {
       read = subst (λ (l : List SegmentView). Read c.args.file.now l (c.segments.start + v.header.byte_count) (c.segments.number + 1)) (sym pushed) more;
-      exported = all ∙ ap exports_by (sym whole) ∙ ap (λ (l : List SegmentView). exports_by (map shown l)) (sym pushed);
+      exported = all ∙ ap exports_by (sym whole) ∙ ap (λ (l : List SegmentView). exports_by (map segment_of_view l)) (sym pushed);
       few = omega (arith, inv.few, c.in_ok-add_exports.ensures.few, ap (λ (r : Reader). length r.left) c.records.ensures, short);
     }
 
@@ -54,7 +54,7 @@ invariant_of-result c =
         loadable = read_loadable file views c.segments.start c.segments.number inv.read (omega (arith, c.segments-test.false)) (eqb-false (length file) 0 (sym c.is_empty.ensures ∙ c.if-is_empty.false)) later.sound;
         contents' = later.contents;
       };
-      exports' = inv.exported ∙ exports_are (map shown views) later.sound;
+      exports' = inv.exported ∙ exports_are (map segment_of_view views) later.sound;
       few = omega (arith, inv.few, inv.read.within, c.requires);
       paths' = later.paths;
     }

@@ -1,5 +1,5 @@
 use Rattle.std.proofs.Common.{map, drop}
-use Rattle.written_bodies.specs.WrittenParts.{seen}
+use Rattle.load_writer.specs.WrittenParts.{seen}
 use Rattle.omf_cells.specs.Whole.{AreSpaced}
 use Rattle.omf_cells.proofs.whole.are_spaced.Given as goal
 

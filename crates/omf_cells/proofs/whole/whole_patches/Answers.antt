@@ -4,18 +4,18 @@ use Rattle.std.proofs.lemmas.Int.{to_z-of_z}
 use Rattle.std.proofs.Common.{◌≡◌, ℤ, get_or, refl, ap, ◌∙◌, arith}
 use Rattle.std.specs.Prelude.{pos}
 use Rattle.load_meaning.specs.Cells.{Patch}
-use Rattle.load_content.specs.declared.spots.Spot.{Spot}
+use Rattle.load_content.specs.declared.spots.PatchSpot.{PatchSpot}
 use Rattle.load_content.specs.Content.{spot_patch}
 use Rattle.omf_cells.proofs.WholeLists.{whole_more}
 use Rattle.omf_cells.proofs.whole.whole_patches.Goals as goal
 
-abbrev no_spot : Spot
+abbrev no_spot : PatchSpot
 no_spot = record { at = 0; offset = 0; segment = 0; shift = pos 0; first = 0; end = 0 }
 
-shaped : Spot → ℤ → Patch
+shaped : PatchSpot → ℤ → Patch
 shaped s z = record { location = s.at; count = s.end; file = 1; segment = s.segment; offset = s.offset; shift = z }
 
-shaped-is : (s : Spot) → shaped s s.shift ≡ spot_patch s
+shaped-is : (s : PatchSpot) → shaped s s.shift ≡ spot_patch s
 unfolding shaped
 shaped-is s = refl
 

@@ -1,6 +1,6 @@
 use Rattle.std.proofs.Common.{List, sym, ap, ◌∙◌}
 use Rattle.omf_format.specs.File.{Segment}
-use Rattle.omf_listing.specs.Listing.{listing_from}
+use Rattle.dump_lines.specs.Listing.{listing_from}
 use Rattle.omf_cli.proofs.laws.headline.Goals as goal
 
 pub returns : goal.returns

@@ -2,7 +2,7 @@ use Rattle.std.proofs.Common.{◌≤◌, length, sym, subst, arith}
 use Rattle.std.specs.Prelude.{Vec, ℕ, IfOk}
 use Rattle.std.specs.declared.alloc.Global.{Global}
 use Rattle.std.proofs.lemmas.List.{length-map}
-use Rattle.link_meaning.specs.LinkFaults.{Given}
+use Rattle.link_meaning.specs.LinkFaults.{LinkInput}
 use Rattle.link_resolve.specs.Resolved.{FewGiven, HavePaths}
 use Rattle.omf_making.specs.Words.{words_of}
 use Rattle.omf_making.specs.Made.{all_bytes, made_of}
@@ -30,4 +30,4 @@ returns c =
     let files = c.args.files.items in
     let paths = c.args.paths.now in
     let given = given_parted paths files c.in_ok-inputs.inputs.items c.in_ok-inputs.behind.items c.in_ok-runtimes.runtimes.items c.in_ok-inputs.ensures.front c.in_ok-inputs.ensures.behind c.in_ok-runtimes.ensures in
-    subst (λ (g : Given). IfOk c.make_of.result (λ made. LinkMakes g (made_of made))) given c.make_of.ensures
+    subst (λ (g : LinkInput). IfOk c.make_of.result (λ made. LinkMakes g (made_of made))) given c.make_of.ensures

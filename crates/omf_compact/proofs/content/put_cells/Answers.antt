@@ -1,5 +1,5 @@
 use Rattle.std.proofs.Common.{ℕ, List, map, ◌++◌, ap, ◌∙◌}
-use Rattle.written_bodies.specs.WrittenParts.{seen}
+use Rattle.load_writer.specs.WrittenParts.{seen}
 use Rattle.omf_compact.proofs.ContentLaws.{patches_written, body_is}
 use Rattle.omf_compact.proofs.content.put_cells.Goals as goal
 

@@ -1,10 +1,10 @@
 use Rattle.std.proofs.Common.{◌≡◌, ◌+◌, List, map, sym, ap, subst, ◌∙◌, arith}
-use Rattle.written_bodies.specs.declared.written.Patch.{Patch}
-use Rattle.written_bodies.specs.WrittenParts.{seen}
+use Rattle.load_writer.specs.declared.written.Patch.{Patch}
+use Rattle.load_writer.specs.WrittenParts.{seen}
 use Rattle.omf_compact.proofs.KnownLaws.{written_there}
 use Rattle.omf_compact.proofs.PartWalks.{Walked, walked_more, walked_over, walked_broken, walked_all}
 use Rattle.omf_compact.proofs.parting.part_cells.Goals as goal
-use Rattle.omf_compact.proofs.parting.part_cells.Goals.{in-Some+in_ok-put-in-Some+else-not-branch, in-None}
+use Rattle.omf_compact.proofs.parting.part_cells.Goals.{in-Some+in_ok-append_part-in-Some+else-not-branch, in-None}
 
 pub part_at-requires : goal.part_at-requires
 part_at-requires c = written_there c.args.load.now c.args.number c.cells.at c.requires
@@ -12,7 +12,7 @@ part_at-requires c = written_there c.args.load.now c.args.number c.cells.at c.re
 pub returns-then-not-branch : goal.returns-then-not-branch
 returns-then-not-branch c = λ s at.
     walked_broken c.args.load.now c.args.number c.cells.at (map seen c.cells.patches.items) c.in-Some.part s at c.cells.invariant c.in-Some.ensures
-    (c.in_ok-put-in-Some.ensures.broken c.if-not-branch.true)
+    (c.in_ok-append_part-in-Some.ensures.broken c.if-not-branch.true)
 
 pub cells-preserved : goal.cells-preserved
 cells-preserved c =
@@ -20,9 +20,9 @@ cells-preserved c =
     let number = c.args.number in
     let at = c.cells.at in
     elim c.match-part_at.branch [
-      | in-Some+in_ok-put-in-Some+else-not-branch w ↦
+      | in-Some+in_ok-append_part-in-Some+else-not-branch w ↦
           subst (λ (l : List Patch). Walked load number (at + 1) (map seen l)) (ap (λ v. v.items) (sym w.patches-is))
-          (walked_more load number at (map seen c.cells.patches.items) (map seen w.put.new.patches.items) w.in-Some.part c.cells.invariant w.in-Some.ensures (w.in_ok-put-in-Some.ensures.put w.if-not-branch.false))
+          (walked_more load number at (map seen c.cells.patches.items) (map seen w.append_part.new.patches.items) w.in-Some.part c.cells.invariant w.in-Some.ensures (w.in_ok-append_part-in-Some.ensures.append_part w.if-not-branch.false))
       | in-None w ↦
           subst (λ (l : List Patch). Walked load number (at + 1) (map seen l)) (ap (λ v. v.items) (sym w.patches-is))
           (walked_over load number at (map seen c.cells.patches.items) c.cells.invariant w.in-None.ensures)

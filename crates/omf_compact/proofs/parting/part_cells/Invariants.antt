@@ -1,5 +1,5 @@
 use Rattle.std.proofs.Common.{map}
-use Rattle.written_bodies.specs.WrittenParts.{seen}
+use Rattle.load_writer.specs.WrittenParts.{seen}
 use Rattle.omf_compact.proofs.PartWalks.{Walked}
 use Rattle.omf_compact.proofs.parting.part_cells.Given as goal
 

@@ -59,7 +59,7 @@ overflow_sub-size c =
     let body = first_text number (plain_of s) ++ entries_text s in
     let out = c.args.out.now.items in
     let r3 = c.put_exports.new.out.items in
-    let room = c.head_size-room.result in
+    let room = c.header_size-room.result in
     let there = at_own load number f.seg_num s (sym own) at in
     let mid = body_there out c.put_room.new.out.items c.put_content.new.out.items r3 room f.seg_num number s own c.in_ok-put_room.ensures.ok (c.in_ok-zeros.ensures.ok s there) (c.in_ok-next.ensures.ok s there) in
     let sizes = behind_size out body r3 room mid in
@@ -78,7 +78,7 @@ overflow_sub-size-2 c =
     let body = first_text number (plain_of s) ++ entries_text s in
     let out = c.args.out.now.items in
     let r3 = c.put_exports.new.out.items in
-    let room = c.head_size-room.result in
+    let room = c.header_size-room.result in
     let there = at_own load number f.seg_num s (sym own) at in
     let mid = body_there out c.put_room.new.out.items c.put_content.new.out.items r3 room f.seg_num number s own c.in_ok-put_room.ensures.ok (c.in_ok-zeros.ensures.ok s there) (c.in_ok-next.ensures.ok s there) in
     let sizes = behind_size out body r3 room mid in
@@ -110,7 +110,7 @@ returns-in_err-front-clause-too_long c =
     let body = first_text number (plain_of s) ++ entries_text s in
     let out = c.args.out.now.items in
     let r3 = c.put_exports.new.out.items in
-    let room = c.head_size-room.result in
+    let room = c.header_size-room.result in
     let there = at_own load number f.seg_num s (sym own) at in
     let mid = body_there out c.put_room.new.out.items c.put_content.new.out.items r3 room f.seg_num number s own c.in_ok-put_room.ensures.ok (c.in_ok-zeros.ensures.ok s there) (c.in_ok-next.ensures.ok s there) in
     let sizes = behind_size out body r3 room mid in
@@ -119,7 +119,7 @@ returns-in_err-front-clause-too_long c =
     let is = its_fields load number f s c.in-Some.ensures at in
     let size = length c.as_slice.result.now - length c.as_slice-start.result.now - room in
     let same : size ≡ length body = omega (arith, sizes, start, whole) in
-    long_by number 0x1000000 (length out) size s f body is c.know_size.ensures refl same (c.in_err-front.ensures.too_long (err_moved _ _ e)))
+    long_by number 0x1000000 (length out) size s f body is c.recall_header_size.ensures refl same (c.in_err-front.ensures.too_long (err_moved _ _ e)))
 
 pub close-requires : goal.close-requires
 close-requires c =
@@ -132,14 +132,14 @@ close-requires c =
     let body = first_text number (plain_of s) ++ entries_text s in
     let out = c.args.out.now.items in
     let r3 = c.put_exports.new.out.items in
-    let room = c.head_size-room.result in
+    let room = c.header_size-room.result in
     let there = at_own load number f.seg_num s (sym own) at in
     let mid = body_there out c.put_room.new.out.items c.put_content.new.out.items r3 room f.seg_num number s own c.in_ok-put_room.ensures.ok (c.in_ok-zeros.ensures.ok s there) (c.in_ok-next.ensures.ok s there) in
     let sizes = behind_size out body r3 room mid in
     let start = ap length c.as_slice-start.ensures.value in
     let whole = ap length c.as_slice.ensures.value in
-    let front = ap length (c.as_slice-2.ensures.value ∙ c.in_ok-front.ensures.ok) ∙ length-header (fields_with f c.in_ok-zeros.zeros) _ c.know_size.ensures in
-    omega (arith, sizes, start, front, c.head_size-room.ensures.value)
+    let front = ap length (c.as_slice-2.ensures.value ∙ c.in_ok-front.ensures.ok) ∙ length-header (fields_with f c.in_ok-zeros.zeros) _ c.recall_header_size.ensures in
+    omega (arith, sizes, start, front, c.header_size-room.ensures.value)
 
 pub returns-clause-ok : goal.returns-clause-ok
 returns-clause-ok c = λ s at.
@@ -150,7 +150,7 @@ returns-clause-ok c = λ s at.
     let body = first_text number (plain_of s) ++ entries_text s in
     let out = c.args.out.now.items in
     let r3 = c.put_exports.new.out.items in
-    let room = c.head_size-room.result in
+    let room = c.header_size-room.result in
     let there = at_own load number f.seg_num s (sym own) at in
     let mid = body_there out c.put_room.new.out.items c.put_content.new.out.items r3 room f.seg_num number s own c.in_ok-put_room.ensures.ok (c.in_ok-zeros.ensures.ok s there) (c.in_ok-next.ensures.ok s there) in
     let sizes = behind_size out body r3 room mid in
@@ -160,7 +160,7 @@ returns-clause-ok c = λ s at.
     let space : c.in_ok-zeros.zeros ≡ (canon_fields number (plain_of s)).res_spc = c.in_ok-zeros.ensures.zeros s there ∙ ap (λ (n : ℕ). (canon_fields n (plain_of s)).res_spc) own in
     let size = length c.as_slice.result.now - length c.as_slice-start.result.now - room in
     let left : size ≡ length r3 - length c.as_slice-start.result.now - room = ap (λ (n : ℕ). n - length c.as_slice-start.result.now - room) whole in
-    segment_done number c.in_ok-zeros.zeros size (length c.as_slice-start.result.now) room s f out r3 c.as_slice-2.result.now c.close.new.out.items is own space c.know_size.ensures c.head_size-room.ensures.value start mid left
+    segment_done number c.in_ok-zeros.zeros size (length c.as_slice-start.result.now) room s f out r3 c.as_slice-2.result.now c.close.new.out.items is own space c.recall_header_size.ensures c.header_size-room.ensures.value start mid left
     (c.as_slice-2.ensures.value ∙ c.in_ok-front.ensures.ok) c.in_ok-close.ensures.ok
 
 pub returns-clause-next : goal.returns-clause-next
@@ -182,11 +182,11 @@ returns-in_err-close-clause-too_long c =
     let body = first_text number (plain_of s) ++ entries_text s in
     let out = c.args.out.now.items in
     let r3 = c.put_exports.new.out.items in
-    let room = c.head_size-room.result in
+    let room = c.header_size-room.result in
     let there = at_own load number f.seg_num s (sym own) at in
     let mid = body_there out c.put_room.new.out.items c.put_content.new.out.items r3 room f.seg_num number s own c.in_ok-put_room.ensures.ok (c.in_ok-zeros.ensures.ok s there) (c.in_ok-next.ensures.ok s there) in
     let sizes = behind_size out body r3 room mid in
     let start = ap length c.as_slice-start.ensures.value in
     let whole = ap length c.as_slice.ensures.value in
     let is = its_fields load number f s c.in-Some.ensures at in
-    long_all number 0x1000000 room out r3 body s f is c.know_size.ensures refl c.head_size-room.ensures.value sizes (c.in_err-close.ensures.too_long (err_moved _ _ e)))
+    long_all number 0x1000000 room out r3 body s f is c.recall_header_size.ensures refl c.header_size-room.ensures.value sizes (c.in_err-close.ensures.too_long (err_moved _ _ e)))

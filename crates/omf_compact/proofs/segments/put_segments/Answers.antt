@@ -1,7 +1,7 @@
 use Rattle.std.proofs.Common.{List, map, sym, subst, arith}
 use Rattle.std.proofs.lemmas.Result.{err_from_is_err_and}
-use Rattle.written_bodies.specs.declared.written.Patch.{Patch}
-use Rattle.written_bodies.specs.WrittenParts.{seen}
+use Rattle.load_writer.specs.declared.written.Patch.{Patch}
+use Rattle.load_writer.specs.WrittenParts.{seen}
 use Rattle.omf_compact.specs.laws.Writing.{HasStretches}
 use Rattle.omf_compact.proofs.SegmentLaws.{segment_there, place_of, written_none, written_more, written_long, written_all, err_moved}
 use Rattle.omf_compact.proofs.segments.put_segments.Goals as goal

@@ -11,4 +11,4 @@ amount_of-requires c = subst (AreTerms 0) (sym c.terms.ensures) (terms_formed c.
 
 pub returns-in-Ok-clause-fine : goal.returns-in-Ok-clause-fine
 returns-in-Ok-clause-fine c =
-    then_if c.amount_of.result (λ answer k. amount_fine (constants c.args.known) c.args.text.bytes.now c.in-Ok.formula answer c.know_small.ensures (rw c.in-Ok.is at c.in_ok-formula.ensures) (λ tree is. k tree (subst (λ (l : List Term). IsFormulaOf l tree) (sym c.terms.ensures) is))) c.amount_of.ensures
+    then_if c.amount_of.result (λ answer k. amount_fine (constants c.args.known) c.args.text.bytes.now c.in-Ok.formula answer c.recall_small.ensures (rw c.in-Ok.is at c.in_ok-formula.ensures) (λ tree is. k tree (subst (λ (l : List Term). IsFormulaOf l tree) (sym c.terms.ensures) is))) c.amount_of.ensures

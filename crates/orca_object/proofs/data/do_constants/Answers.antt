@@ -4,7 +4,7 @@ use Rattle.orca_object.proofs.After.{then_if}
 use Rattle.orca_object.proofs.data.do_constants.Goals as goal
 
 pub give_statement-requires : goal.give_statement-requires
-give_statement-requires c = record { plain = constants_plain (constants c.known-known.result) c.args.kept.now.msb c.args.text.bytes.now c.in_ok-given.given c.know_small.ensures c.args.text.short c.in_ok-given.ensures }
+give_statement-requires c = record { plain = constants_plain (constants c.known-known.result) c.args.kept.now.msb c.args.text.bytes.now c.in_ok-given.given c.recall_small.ensures c.args.text.short c.in_ok-given.ensures }
 
 pub returns : goal.returns
 returns c =

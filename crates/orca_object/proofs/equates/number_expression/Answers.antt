@@ -4,4 +4,4 @@ use Rattle.orca_object.proofs.After.{then_if}
 use Rattle.orca_object.proofs.equates.number_expression.Goals as goal
 
 pub returns-clause-fine : goal.returns-clause-fine
-returns-clause-fine c = then_if c.ended.result (λ v k. number_fine c.args.n v.items c.ranges.n.fits (k (Leaf (Constant c.args.n)) c.in_ok-text.ensures)) c.ended.ensures
+returns-clause-fine c = then_if c.shift_and_end.result (λ v k. number_fine c.args.n v.items c.ranges.n.fits (k (Leaf (Constant c.args.n)) c.in_ok-text.ensures)) c.shift_and_end.ensures

@@ -1,5 +1,5 @@
 use Rattle.std.proofs.Common.{◌≡◌, ◌∷◌, ◌≤◌, map, length, sym, ap, subst, ◌∙◌, arith}
-use Rattle.asm_meaning.specs.Elements.{numbered}
+use Rattle.asm_meaning.specs.Elements.{piece_of_number}
 use Rattle.orca_object.specs.NamesView.{constants}
 use Rattle.orca_object.specs.PieceView.{piece}
 use Rattle.orca_object.proofs.ByFormulas.{empty_list}
@@ -9,15 +9,15 @@ use Rattle.orca_object.proofs.Listed.{some_list}
 use Rattle.orca_object.proofs.numbers.numbers_in.Goals as goal
 
 pub formulas-init : goal.formulas-init
-formulas-init c = nothing_yet FormulaStands (numbered (constants c.args.known) c.args.width) piece c.args.text.bytes.now c.new-out.result.items c.new-out.ensures.items
+formulas-init c = nothing_yet FormulaStands (piece_of_number (constants c.args.known) c.args.width) piece c.args.text.bytes.now c.new-out.result.items c.new-out.ensures.items
 
 pub returns-in_default-clause-none : goal.returns-in_default-clause-none
 returns-in_default-clause-none c =
-    no_formulas c.args.text.bytes.now (gathers_none FormulaStands (numbered (constants c.args.known) c.args.width) c.args.text.bytes.now c.formulas.fault (map piece c.formulas.out.items) c.formulas.left.now c.formulas.invariant
+    no_formulas c.args.text.bytes.now (gathers_none FormulaStands (piece_of_number (constants c.args.known) c.args.width) c.args.text.bytes.now c.formulas.fault (map piece c.formulas.out.items) c.formulas.left.now c.formulas.invariant
     (rw c.in_default.is at c.in_ok-found.ensures.none))
 
-pub numbered-requires-clause-fine : goal.numbered-requires-clause-fine
-numbered-requires-clause-fine c =
+pub piece_of_number-requires-clause-fine : goal.piece_of_number-requires-clause-fine
+piece_of_number-requires-clause-fine c =
     fine_terms c.formulas.left.now c.in-Some.found.formula c.in-Some.found.large c.in-Some.found.rest.now (omega (arith, c.formulas.invariant.short, c.args.text.short)) (rw c.in-Some.is at c.in_ok-found.ensures.found)
 
 pub returns-then-is_empty-clause-found : goal.returns-then-is_empty-clause-found
@@ -25,15 +25,15 @@ returns-then-is_empty-clause-found c =
     let f = rw c.in-Some.is at c.in_ok-found.ensures.found in
     let short : length c.formulas.left.now ≤ 255 = omega (arith, c.formulas.invariant.short, c.args.text.short) in
     let answer = c.in_ok-answer.ensures f.tree (kept_from c.formulas.left.now c.in-Some.found.formula c.in-Some.found.large c.in-Some.found.rest.now short f) in
-    let all = gathers_last FormulaStands (numbered (constants c.args.known) c.args.width) piece c.args.text.bytes.now c.formulas.fault c.gather.new.fault c.formulas.out.items c.gather.new.out.items c.in_ok-answer.answer
-    c.formulas.left.now c.in-Some.found.rest.now f.tree c.formulas.invariant f.means answer c.in_ok-gather.ensures.fault c.in_ok-gather.ensures.all (empty_list c.in-Some.found.rest.now (sym c.is_empty.ensures ∙ c.if-is_empty.true)) in
+    let all = gathers_last FormulaStands (piece_of_number (constants c.args.known) c.args.width) piece c.args.text.bytes.now c.formulas.fault c.gather_answer.new.fault c.formulas.out.items c.gather_answer.new.out.items c.in_ok-answer.answer
+    c.formulas.left.now c.in-Some.found.rest.now f.tree c.formulas.invariant f.means answer c.in_ok-gather_answer.ensures.fault c.in_ok-gather_answer.ensures.all (empty_list c.in-Some.found.rest.now (sym c.is_empty.ensures ∙ c.if-is_empty.true)) in
     has_numbers (constants c.args.known) c.args.width c.args.text.bytes.now _
-    (subst (GathersAll FormulaStands (numbered (constants c.args.known) c.args.width) c.args.text.bytes.now) (sym (all_pieces c.gather.new.fault c.gather.new.out c.gathered.result c.gathered.ensures)) all)
+    (subst (GathersAll FormulaStands (piece_of_number (constants c.args.known) c.args.width) c.args.text.bytes.now) (sym (all_pieces c.gather_answer.new.fault c.gather_answer.new.out c.answer_or_fault.result c.answer_or_fault.ensures)) all)
 
 pub returns-in_default-behind_byte-clause-none : goal.returns-in_default-behind_byte-clause-none
 returns-in_default-behind_byte-clause-none c =
     let f = rw c.in-Some.is at c.in_ok-found.ensures.found in
-    no_formulas c.args.text.bytes.now (gathers_wrong FormulaStands (numbered (constants c.args.known) c.args.width) formula_once c.args.text.bytes.now c.formulas.fault (map piece c.formulas.out.items) c.formulas.left.now c.in-Some.found.rest.now f.tree
+    no_formulas c.args.text.bytes.now (gathers_wrong FormulaStands (piece_of_number (constants c.args.known) c.args.width) formula_once c.args.text.bytes.now c.formulas.fault (map piece c.formulas.out.items) c.formulas.left.now c.in-Some.found.rest.now f.tree
     c.formulas.invariant f.means (some_list c.in-Some.found.rest.now (sym c.is_empty.ensures ∙ c.if-is_empty.false)) c.in_default-behind_byte.ensures)
 
 pub formulas-preserved : goal.formulas-preserved
@@ -43,5 +43,5 @@ formulas-preserved c =
     let answer = c.in_ok-answer.ensures f.tree (kept_from c.formulas.left.now c.in-Some.found.formula c.in-Some.found.large c.in-Some.found.rest.now short f) in
     let comma : c.in-Some.found.rest.now ≡ 0x2C ∷ c.in-Some-behind_byte.behind.now = c.in-Some-behind_byte.ensures in
     let less : length c.in-Some.found.rest.now ≤ length c.formulas.left.now = rw c.in-Some.is at c.in_ok-found.ensures.bound in
-    gathers_more FormulaStands (numbered (constants c.args.known) c.args.width) piece formula_once c.args.text.bytes.now c.formulas.fault c.gather.new.fault c.formulas.out.items c.gather.new.out.items c.in_ok-answer.answer
-    c.formulas.left.now c.in-Some.found.rest.now c.in-Some-behind_byte.behind.now f.tree c.formulas.invariant f.means answer c.in_ok-gather.ensures.fault c.in_ok-gather.ensures.all comma (omega (arith, ap length comma, less))
+    gathers_more FormulaStands (piece_of_number (constants c.args.known) c.args.width) piece formula_once c.args.text.bytes.now c.formulas.fault c.gather_answer.new.fault c.formulas.out.items c.gather_answer.new.out.items c.in_ok-answer.answer
+    c.formulas.left.now c.in-Some.found.rest.now c.in-Some-behind_byte.behind.now f.tree c.formulas.invariant f.means answer c.in_ok-gather_answer.ensures.fault c.in_ok-gather_answer.ensures.all comma (omega (arith, ap length comma, less))

@@ -1,5 +1,5 @@
 use Rattle.std.proofs.Common.{map, length}
-use Rattle.asm_meaning.specs.Elements.{numbered}
+use Rattle.asm_meaning.specs.Elements.{piece_of_number}
 use Rattle.orca_object.specs.NamesView.{constants}
 use Rattle.orca_object.specs.PieceView.{piece}
 use Rattle.orca_object.proofs.Gathering.{Gathers}
@@ -7,7 +7,7 @@ use Rattle.orca_object.proofs.Judging.{FormulaStands}
 use Rattle.orca_object.proofs.numbers.numbers_in.Given as goal
 
 abbrev pub invariant-formulas : goal.invariant-formulas
-invariant-formulas l = Gathers FormulaStands (numbered (constants l.known) l.width) l.text.bytes.now l.fault (map piece l.out.items) l.left
+invariant-formulas l = Gathers FormulaStands (piece_of_number (constants l.known) l.width) l.text.bytes.now l.fault (map piece l.out.items) l.left
 
 abbrev pub decreases-formulas : goal.decreases-formulas
 decreases-formulas l = length l.left

@@ -19,7 +19,7 @@ returns-in_ok-answer-in-Ok c =
     (rw c.in-Ok.is at c.read_operand.ensures.operand) c.in_ok-answer-in-Ok.ensures in
     record {
       given = by;
-      plain = instruct_plain (constants c.args.known) (widths c.args.of) c.args.mnemonic (line_operand c.args.line.now) c.in_ok-answer-in-Ok.answer c.know_small.ensures short by;
+      plain = instruct_plain (constants c.args.known) (widths c.args.of) c.args.mnemonic (line_operand c.args.line.now) c.in_ok-answer-in-Ok.answer c.recall_small.ensures short by;
     }
 
 pub returns-in-BadOperand-clause-given : goal.returns-in-BadOperand-clause-given

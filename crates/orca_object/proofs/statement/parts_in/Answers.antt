@@ -24,10 +24,10 @@ returns-in_default-clause-none c =
 pub returns-then-is_empty-clause-found : goal.returns-then-is_empty-clause-found
 returns-then-is_empty-clause-found c =
     let f = rw c.in-Some.is at c.in_ok-found.ensures.found in
-    let all = gathers_last IsElementAt (element_pieces (constants c.args.known) c.args.msb) part_pieces c.args.text.bytes.now c.elements.fault c.gather.new.fault c.elements.out.items c.gather.new.out.items c.in-Some.answer
-    c.elements.left.now c.in-Some.rest.now f.element c.elements.invariant f.is f.gives c.in_ok-gather.ensures.fault c.in_ok-gather.ensures.all (empty_list c.in-Some.rest.now (sym c.is_empty.ensures ∙ c.if-is_empty.true)) in
+    let all = gathers_last IsElementAt (element_pieces (constants c.args.known) c.args.msb) part_pieces c.args.text.bytes.now c.elements.fault c.gather_answer.new.fault c.elements.out.items c.gather_answer.new.out.items c.in-Some.answer
+    c.elements.left.now c.in-Some.rest.now f.element c.elements.invariant f.is f.gives c.in_ok-gather_answer.ensures.fault c.in_ok-gather_answer.ensures.all (empty_list c.in-Some.rest.now (sym c.is_empty.ensures ∙ c.if-is_empty.true)) in
     has_elements (constants c.args.known) c.args.msb c.args.text.bytes.now _
-    (subst (GathersAll IsElementAt (element_pieces (constants c.args.known) c.args.msb) c.args.text.bytes.now) (sym (all_parts c.gather.new.fault c.gather.new.out c.gathered.result c.gathered.ensures)) all)
+    (subst (GathersAll IsElementAt (element_pieces (constants c.args.known) c.args.msb) c.args.text.bytes.now) (sym (all_parts c.gather_answer.new.fault c.gather_answer.new.out c.answer_or_fault.result c.answer_or_fault.ensures)) all)
 
 pub returns-in_default-behind_byte-clause-none : goal.returns-in_default-behind_byte-clause-none
 returns-in_default-behind_byte-clause-none c =
@@ -39,8 +39,8 @@ pub elements-preserved : goal.elements-preserved
 elements-preserved c =
     let f = rw c.in-Some.is at c.in_ok-found.ensures.found in
     let comma : c.in-Some.rest.now ≡ 0x2C ∷ c.in-Some-behind_byte.behind.now = c.in-Some-behind_byte.ensures in
-    gathers_more IsElementAt (element_pieces (constants c.args.known) c.args.msb) part_pieces stands_once c.args.text.bytes.now c.elements.fault c.gather.new.fault c.elements.out.items c.gather.new.out.items c.in-Some.answer
-    c.elements.left.now c.in-Some.rest.now c.in-Some-behind_byte.behind.now f.element c.elements.invariant f.is f.gives c.in_ok-gather.ensures.fault c.in_ok-gather.ensures.all comma
+    gathers_more IsElementAt (element_pieces (constants c.args.known) c.args.msb) part_pieces stands_once c.args.text.bytes.now c.elements.fault c.gather_answer.new.fault c.elements.out.items c.gather_answer.new.out.items c.in-Some.answer
+    c.elements.left.now c.in-Some.rest.now c.in-Some-behind_byte.behind.now f.element c.elements.invariant f.is f.gives c.in_ok-gather_answer.ensures.fault c.in_ok-gather_answer.ensures.all comma
     (omega (arith, ap length comma, element-le c.elements.left.now f.element c.in-Some.rest.now f.is))
 
 pub elements-smaller : goal.elements-smaller

@@ -10,8 +10,8 @@ returns-in-Turn c =
     rw c.in-Turn.is (then_if c.turning.result (λ done leaves state l shows. turn_left state l c.in-Turn.switch c.args.label c.args.text.bytes.now done c.turning.new.kept (leaves state shows)) c.turning.ensures)
 
 pub returns-in-Nothing : goal.returns-in-Nothing
-returns-in-Nothing c = rw c.in-Nothing.is (then_if c.rest.result (λ done leaves state l shows. nothing_left state l c.args.label c.args.text.bytes.now done c.rest.new.kept (leaves state shows)) c.rest.ensures)
+returns-in-Nothing c = rw c.in-Nothing.is (then_if c.do_anop.result (λ done leaves state l shows. nothing_left state l c.args.label c.args.text.bytes.now done c.do_anop.new.kept (leaves state shows)) c.do_anop.ensures)
 
 pub returns-in-Ignored : goal.returns-in-Ignored
 returns-in-Ignored c =
-    rw c.in-Ignored.is (then_if c.rest-in-Ignored.result (λ done leaves state l shows. ignored_left state l c.args.label c.args.text.bytes.now done c.rest-in-Ignored.new.kept (leaves state shows)) c.rest-in-Ignored.ensures)
+    rw c.in-Ignored.is (then_if c.do_anop-in-Ignored.result (λ done leaves state l shows. ignored_left state l c.args.label c.args.text.bytes.now done c.do_anop-in-Ignored.new.kept (leaves state shows)) c.do_anop-in-Ignored.ensures)

@@ -1,5 +1,5 @@
 use Rattle.std.proofs.Common.{refl}
-use Rattle.orca_symbols.specs.declared.template.Part.TheVariants.{Plain}
+use Rattle.orca_symbols.specs.declared.template.TemplatePart.TheVariants.{Plain}
 use Rattle.orca_symbols.proofs.Templates.{closed_some}
 use Rattle.orca_symbols.proofs.template.close.Goals as goal
 

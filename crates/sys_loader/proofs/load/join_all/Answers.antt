@@ -1,11 +1,11 @@
 use Rattle.std.proofs.Common.{◌≡◌, inl, inr, ℕ, suc, ◌+◌, List, [], ◌∷◌, ◌++◌, map, Option, Some, refl, sym, ap, subst, ◌∙◌, arith}
 use Rattle.std.proofs.lemmas.Result.{err_from_is_err_and}
 use Rattle.std.proofs.lemmas.List.{map-append}
-use Rattle.omf_io.specs.Counts.{one_more, risen}
+use Rattle.omf_io.specs.Counts.{one_more, saturating_sum}
 use Rattle.omf_io.specs.Files.{FileMap}
 use Rattle.load_meaning.specs.Pathnames.{paths_of}
 use Rattle.loader_machine.specs.Found.{Joins}
-use Rattle.loader_agrees.specs.Agrees.{Kept}
+use Rattle.loader_agrees.specs.Agrees.{LoadedUser}
 use Rattle.loader_agrees.specs.Acts.{joined_kepts}
 use Rattle.loader_users.specs.declared.user.User.{User}
 use Rattle.loader_users.specs.View.{kept}
@@ -14,11 +14,11 @@ use Rattle.loader_users.proofs.Families.{take_past}
 use Rattle.sys_loader.proofs.Joined.{AreGood, good_all, stops_rows, good_more, users_more, good_users, good_length}
 use Rattle.sys_loader.proofs.load.join_all.Goals as goal
 
-more_reads : (k count now : ℕ) → now ≡ risen k count → one_more now ≡ risen (k + 1) count
-more_reads k count now is = let e : suc k ≡ k + 1 = omega arith in ap one_more is ∙ ap (λ (n : ℕ). risen n count) e
+more_reads : (k count now : ℕ) → now ≡ saturating_sum k count → one_more now ≡ saturating_sum (k + 1) count
+more_reads k count now is = let e : suc k ≡ k + 1 = omega arith in ap one_more is ∙ ap (λ (n : ℕ). saturating_sum n count) e
 
 pub rows-init : goal.rows-init
-rows-init g c = (refl, refl, refl, omega arith, ([], tt, ap (λ (items : List User). map (λ (k : Kept). Some k) (map kept items)) c.new-users.ensures.items))
+rows-init g c = (refl, refl, refl, omega arith, ([], tt, ap (λ (items : List User). map (λ (k : LoadedUser). Some k) (map kept items)) c.new-users.ensures.items))
 
 pub returns-in_err-user-clause-held : goal.returns-in_err-user-clause-held
 returns-in_err-user-clause-held g c = c.join.ensures.held ∙ c.rows.invariant.0
@@ -37,7 +37,7 @@ returns-in_err-user-clause-stops g c =
     let stops : JoinStops before.held c.path_of.result.now before.faults now.faults c.in_err-user.field-0.0 =
     subst (λ (h : Option FileMap). JoinStops h c.path_of.result.now before.faults now.faults c.in_err-user.field-0.0) held
     (subst (λ (n : ℕ). JoinStops mid.held c.path_of.result.now n now.faults c.in_err-user.field-0.0) inv.1 c.in_err-user.ensures.stops) in
-    let count : now.asked ≡ risen (c.rows.place + 1) before.asked = c.join.ensures.asked ∙ more_reads c.rows.place before.asked mid.asked inv.2 in
+    let count : now.asked ≡ saturating_sum (c.rows.place + 1) before.asked = c.join.ensures.asked ∙ more_reads c.rows.place before.asked mid.asked inv.2 in
     rw (p.1, p.2) (elim (stops_rows before.held c.rows.place (paths_of c.args.load.now) inv.4.0 c.path_of.result.now before.faults now.faults c.in_err-user.field-0.0 inv.4.1 c.path_of.ensures stops) [
       | inl read ↦ inl (c.rows.place + 1, read, count)
       | inr short ↦ inr (short.0, short.1, c.rows.place + 1, omega (arith, c.rows-test.true, c.paths-place-end.ensures), count)
@@ -77,8 +77,8 @@ rows-preserved g c =
       (
         inv.4.0 ++ has.1 ∷ [],
         good_more before.held paths inv.4.0 c.rows.place c.path_of.result.now has.1 c.path_of.ensures inv.4.1 (has.0, has.2, has.3, has.4),
-        ap (λ (items : List User). map (λ (k : Kept). Some k) (map kept items)) c.in-Ok.ensures.items
-            ∙ ap (map (λ (k : Kept). Some k)) (map-append kept c.rows.users.items (c.in_ok-user.user ∷ []))
+        ap (λ (items : List User). map (λ (k : LoadedUser). Some k) (map kept items)) c.in-Ok.ensures.items
+            ∙ ap (map (λ (k : LoadedUser). Some k)) (map-append kept c.rows.users.items (c.in_ok-user.user ∷ []))
             ∙ users_more before.held paths inv.4.0 c.rows.place c.path_of.result.now has.1 (map kept c.rows.users.items) (kept c.in_ok-user.user) c.path_of.ensures inv.4.1 has.5 inv.4.2,
       ),
     )
@@ -101,5 +101,5 @@ returns-clause-joins g c =
       inv.4.0,
       subst (λ (n : ℕ). AreRowsRead before.held paths before.faults n (Joins inv.4.0)) (sym inv.1) (good_all before.held paths inv.4.0 before.faults good),
       good_users before.held paths inv.4.0 (map kept c.rows.users.items) good (inv.4.2 ∙ ap (λ (ps : List (List ℕ)). joined_kepts ps inv.4.0) past),
-      inv.2 ∙ ap (λ (n : ℕ). risen n before.asked) (omega (arith, long, c.rows-test.false, c.paths-place-end.ensures, inv.3)),
+      inv.2 ∙ ap (λ (n : ℕ). saturating_sum n before.asked) (omega (arith, long, c.rows-test.false, c.paths-place-end.ensures, inv.3)),
     )

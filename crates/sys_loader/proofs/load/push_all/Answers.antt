@@ -1,7 +1,7 @@
 use Rattle.std.proofs.Common.{List, [], ◌∷◌, ◌++◌, length, map, Some, refl, sym, ap, ◌∙◌, arith, append-nil}
 use Rattle.std.specs.Prelude.{option_map}
 use Rattle.std.proofs.lemmas.List.{length-append}
-use Rattle.loader_agrees.specs.Agrees.{Kept}
+use Rattle.loader_agrees.specs.Agrees.{LoadedUser}
 use Rattle.loader_users.specs.declared.user.User.{User}
 use Rattle.loader_users.specs.View.{kept}
 use Rattle.sys_loader.proofs.Beginning.{none_left, pushed_more}
@@ -10,7 +10,7 @@ use Rattle.sys_loader.proofs.load.push_all.Goals as goal
 pub joined-init : goal.joined-init
 joined-init c =
     let gives = c.into_iter-user-iterator.ensures.into_iter_gives in (
-      ap (λ (items : List User). map (option_map kept) c.args.users.now.items ++ map (λ (k : Kept). Some k) (map kept items)) gives.0,
+      ap (λ (items : List User). map (option_map kept) c.args.users.now.items ++ map (λ (k : LoadedUser). Some k) (map kept items)) gives.0,
       refl,
       omega (arith, c.requires, ap length gives.0),
       omega (arith, gives.1, ap length gives.0),
@@ -34,7 +34,7 @@ returns-clause-pushed c =
     let inv = c.joined.invariant in
     let none = none_left c.joined.user-iterator.rest.items (omega (arith, inv.3, c.in-None.ensures.steps.0)) in
     sym (append-nil (map (option_map kept) c.joined.users.items))
-    ∙ ap (λ (items : List User). map (option_map kept) c.joined.users.items ++ map (λ (k : Kept). Some k) (map kept items)) (sym none) ∙ inv.0
+    ∙ ap (λ (items : List User). map (option_map kept) c.joined.users.items ++ map (λ (k : LoadedUser). Some k) (map kept items)) (sym none) ∙ inv.0
 
 pub returns-clause-room : goal.returns-clause-room
 returns-clause-room c = c.joined.invariant.1

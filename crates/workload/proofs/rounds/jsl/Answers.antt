@@ -1,7 +1,7 @@
 use Rattle.std.proofs.Common.{◌*◌, ◌-◌, refl}
 use Rattle.loader_machine.specs.State.{first_id}
 use Rattle.loader_machine.specs.Commands as commands
-use Rattle.workload.specs.declared.rounds.Outcome.TheVariants.{Entered}
+use Rattle.workload.specs.declared.rounds.RoundOutcome.TheVariants.{Entered}
 use Rattle.workload.proofs.Steps.{by_meets, reading_done, reading_refused}
 use Rattle.workload.proofs.rounds.jsl.Goals as goal
 

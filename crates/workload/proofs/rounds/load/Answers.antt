@@ -1,6 +1,6 @@
 use Rattle.std.proofs.Common.{refl}
 use Rattle.loader_machine.specs.Commands as commands
-use Rattle.workload.specs.declared.rounds.Outcome.TheVariants.{Done}
+use Rattle.workload.specs.declared.rounds.RoundOutcome.TheVariants.{Done}
 use Rattle.workload.specs.Rounds.{program}
 use Rattle.workload.proofs.Steps.{by_reads, reading_done, reading_refused}
 use Rattle.workload.proofs.rounds.load.Goals as goal

@@ -1,7 +1,7 @@
 use Rattle.std.proofs.Common.{refl}
 use Rattle.loader_machine.specs.State.{first_id}
 use Rattle.loader_machine.specs.Commands as commands
-use Rattle.workload.specs.declared.rounds.Outcome.TheVariants.{Done}
+use Rattle.workload.specs.declared.rounds.RoundOutcome.TheVariants.{Done}
 use Rattle.workload.proofs.Steps.{none_read, quiet_done, quiet_refused}
 use Rattle.workload.proofs.rounds.purge.Goals as goal
 

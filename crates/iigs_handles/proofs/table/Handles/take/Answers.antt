@@ -1,5 +1,5 @@
 use Rattle.std.proofs.Common.{arith, refl, ◌<◌, length}
-use Rattle.iigs_meaning.specs.declared.slots.Content.TheVariants.{Used}
+use Rattle.iigs_meaning.specs.declared.slots.SlotContent.TheVariants.{Used}
 use Rattle.iigs_handles.proofs.SlotLemmas.{none_below, counts_one, IsSound-take}
 use Rattle.iigs_handles.proofs.table.Handles.take.Goals as goal
 

@@ -1,7 +1,7 @@
 use Rattle.std.proofs.Common.{◌≡◌, ◌<◌, ◌≤◌, length, get_or, ap, arith}
 use Rattle.std.proofs.lemmas.Grind.{common_steps}
 use Rattle.std.proofs.lemmas.List.Elements.{Contains-get_or}
-use Rattle.iigs_places.specs.declared.marks.Mark.{Mark}
+use Rattle.iigs_places.specs.declared.marks.BlockMark.{BlockMark}
 use Rattle.iigs_places.proofs.Marked.{is_marked, marks_sized}
 use Rattle.iigs_places.proofs.Orders.{nth_none, nth_is}
 use Rattle.iigs_places.proofs.places.Places.nth.Goals as goal
@@ -12,7 +12,7 @@ handle_in-requires c =
     let mark = c.in-Some.mark.now in
     let inside : c.args.place < length marks = grind (arith, common_steps) in
     let is : get_or marks c.args.place mark ≡ mark = grind (arith, common_steps) in
-    omega (arith, ap (λ (m : Mark). m.slot) is, (is_marked c.self.inside.map c.self.inside.table c.self.inside.layout c.self.invariant.0 c.self.invariant.1).small (get_or marks c.args.place mark) (Contains-get_or marks c.args.place mark inside))
+    omega (arith, ap (λ (m : BlockMark). m.slot) is, (is_marked c.self.inside.map c.self.inside.table c.self.inside.layout c.self.invariant.0 c.self.invariant.1).small (get_or marks c.args.place mark) (Contains-get_or marks c.args.place mark inside))
 
 pub returns-in-Some : goal.returns-in-Some
 returns-in-Some c =

@@ -3,7 +3,7 @@ use Rattle.std.specs.Prelude.{option_map, nat_eq, ◌&&◌}
 use Rattle.std.specs.List.{list_any}
 use Rattle.link_meaning.specs.Uses.{usings_of}
 use Rattle.link_meaning.specs.Search.{only_place, finds_data}
-use Rattle.link_tables.specs.declared.names.Outcome.TheVariants.{Nothing, One, Several}
+use Rattle.link_tables.specs.declared.names.Matches.TheVariants.{Nothing, One, Several}
 use Rattle.link_program.proofs.SearchLaws.{told_titles, nothing_one, several_one}
 use Rattle.link_program.proofs.UsingLaws.{nowhere_used, used_so, found_one, found_others}
 use Rattle.link_program.proofs.linked.Linked.uses_data.Goals as goal

@@ -2,13 +2,13 @@ use Rattle.std.proofs.Common.{◌≡◌, ℕ, ◌-◌, ◌<◌, length, get_or, 
 use Rattle.std.specs.Prelude.{slice_get}
 use Rattle.std.proofs.lemmas.Option.{slice_get_read, slice_get_within}
 use Rattle.link_tables.specs.declared.definitions.Origin.{Origin}
-use Rattle.link_tables.specs.declared.layout.Place.{Place}
-use Rattle.link_program.specs.declared.program.Kept.{Kept}
+use Rattle.link_tables.specs.declared.layout.LoadOffset.{LoadOffset}
+use Rattle.link_program.specs.declared.program.ResolvedProgram.{ResolvedProgram}
 use Rattle.link_program.specs.Programs.{list_of, StandsAt, IsKept}
 use Rattle.link_program.proofs.ProgramLaws.{IsTold, told_at, linked_told}
 use Rattle.link_program.proofs.program.Program.member.Goals as goal
 
-stands : (kept : Kept) (place : ℕ) (origin : Origin) (p : Place) (told : IsTold (list_of kept) place origin) → IsKept (list_of kept) kept → p ≡ get_or kept.places.items (place - 1) p → StandsAt (list_of kept) told.k told.member p
+stands : (kept : ResolvedProgram) (place : ℕ) (origin : Origin) (p : LoadOffset) (told : IsTold (list_of kept) place origin) → IsKept (list_of kept) kept → p ≡ get_or kept.places.items (place - 1) p → StandsAt (list_of kept) told.k told.member p
 stands kept place origin p told is read =
     let within = slice_get_within (list_of kept) told.k told.member told.at in
     let less : place - 1 < length kept.places.items = omega (arith, within, told.place', is.count) in

@@ -3,7 +3,7 @@ use Rattle.std.specs.Prelude.{slice_get, option_map}
 use Rattle.std.proofs.lemmas.Bool.{ltb-false}
 use Rattle.std.proofs.lemmas.Option.{slice_get_read, slice_get_past}
 use Rattle.omf_format.specs.File.{Segment}
-use Rattle.link_meaning.specs.Member.{RuntimeFile, Setting, Member, setting_in}
+use Rattle.link_meaning.specs.Member.{RuntimeFile, LinkSetting, Member, setting_in}
 use Rattle.link_program.proofs.ProgramLaws.{segments_at}
 use Rattle.link_program.proofs.program.Program.runtime.Goals as goal
 
@@ -17,7 +17,7 @@ returns-in-Some c =
     let item : load ≡ get_or items k load = c.in-Some.ensures.lookup.1 ∙ ap (λ (l : List (List Segment)). get_or l k load) c.deref.ensures.value in
     subst (λ (l : List Member). Some load ≡ option_map (λ (r : RuntimeFile). r.segments) (slice_get (setting_in l).runtimes k)) c.self.view_is
     (sym (slice_get_read items (length items) k load refl lt item) ∙ sym (segments_at items kept.given.now k c.self.invariant.read)
-    ∙ ap (λ (s : Setting). option_map (λ (r : RuntimeFile). r.segments) (slice_get s.runtimes k)) c.self.invariant.setting)
+    ∙ ap (λ (s : LinkSetting). option_map (λ (r : RuntimeFile). r.segments) (slice_get s.runtimes k)) c.self.invariant.setting)
 
 pub returns-in-None : goal.returns-in-None
 returns-in-None c =
@@ -28,4 +28,4 @@ returns-in-None c =
     let none : slice_get items k ≡ None = slice_get_past items k (omega (arith, past, ap (λ (l : List (List Segment)). length l) c.deref.ensures.value)) in
     subst (λ (l : List Member). None ≡ option_map (λ (r : RuntimeFile). r.segments) (slice_get (setting_in l).runtimes k)) c.self.view_is
     (sym none ∙ sym (segments_at items kept.given.now k c.self.invariant.read)
-    ∙ ap (λ (s : Setting). option_map (λ (r : RuntimeFile). r.segments) (slice_get s.runtimes k)) c.self.invariant.setting)
+    ∙ ap (λ (s : LinkSetting). option_map (λ (r : RuntimeFile). r.segments) (slice_get s.runtimes k)) c.self.invariant.setting)

@@ -3,7 +3,7 @@ use Rattle.std.specs.Prelude.{slice_get, option_map}
 use Rattle.std.proofs.lemmas.Bool.{ltb-false}
 use Rattle.std.proofs.lemmas.Option.{slice_get_read, slice_get_past}
 use Rattle.lib_dict.specs.declared.member.Member as held
-use Rattle.link_meaning.specs.Member.{RuntimeFile, Setting, Member, setting_in}
+use Rattle.link_meaning.specs.Member.{RuntimeFile, LinkSetting, Member, setting_in}
 use Rattle.link_program.proofs.ProgramLaws.{path_at}
 use Rattle.link_program.proofs.program.Program.runtime_path.Goals as goal
 
@@ -15,7 +15,7 @@ returns-then-place-len c =
     let none : slice_get given k ≡ None = slice_get_past given k (omega (arith, c.if-place-len.true, c.len.ensures, c.self.invariant.read)) in
     subst (λ (l : List Member). None ≡ option_map (λ (r : RuntimeFile). r.path) (slice_get (setting_in l).runtimes k)) c.self.view_is
     (sym (ap (option_map (λ (m : held.Member). m.name)) none) ∙ sym (path_at kept.runtimes.items given k c.self.invariant.read)
-    ∙ ap (λ (s : Setting). option_map (λ (r : RuntimeFile). r.path) (slice_get s.runtimes k)) c.self.invariant.setting)
+    ∙ ap (λ (s : LinkSetting). option_map (λ (r : RuntimeFile). r.path) (slice_get s.runtimes k)) c.self.invariant.setting)
 
 pub returns-in-Some : goal.returns-in-Some
 returns-in-Some c =
@@ -26,7 +26,7 @@ returns-in-Some c =
     let there : slice_get given k ≡ Some member = slice_get_read given (length given) k member refl c.in-Some.ensures.lookup.3.0 c.in-Some.ensures.lookup.1 in
     subst (λ (l : List Member). Some member.name ≡ option_map (λ (r : RuntimeFile). r.path) (slice_get (setting_in l).runtimes k)) c.self.view_is
     (sym (ap (option_map (λ (m : held.Member). m.name)) there) ∙ sym (path_at kept.runtimes.items given k c.self.invariant.read)
-    ∙ ap (λ (s : Setting). option_map (λ (r : RuntimeFile). r.path) (slice_get s.runtimes k)) c.self.invariant.setting)
+    ∙ ap (λ (s : LinkSetting). option_map (λ (r : RuntimeFile). r.path) (slice_get s.runtimes k)) c.self.invariant.setting)
 
 pub returns-in-None : goal.returns-in-None
 returns-in-None c =
@@ -37,4 +37,4 @@ returns-in-None c =
     let none : slice_get given k ≡ None = slice_get_past given k past in
     subst (λ (l : List Member). None ≡ option_map (λ (r : RuntimeFile). r.path) (slice_get (setting_in l).runtimes k)) c.self.view_is
     (sym (ap (option_map (λ (m : held.Member). m.name)) none) ∙ sym (path_at kept.runtimes.items given k c.self.invariant.read)
-    ∙ ap (λ (s : Setting). option_map (λ (r : RuntimeFile). r.path) (slice_get s.runtimes k)) c.self.invariant.setting)
+    ∙ ap (λ (s : LinkSetting). option_map (λ (r : RuntimeFile). r.path) (slice_get s.runtimes k)) c.self.invariant.setting)

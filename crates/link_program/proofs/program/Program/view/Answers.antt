@@ -1,7 +1,7 @@
 use Rattle.std.proofs.Common.{List, sym, ap, ◌∙◌}
 use Rattle.std.specs.Prelude.{option_map}
 use Rattle.omf_format.specs.File.{Segment}
-use Rattle.omf_records.specs.Segments.{shown}
+use Rattle.omf_records.specs.Segments.{segment_of_view}
 use Rattle.link_meaning.specs.Member.{Member}
 use Rattle.link_program.specs.Files.{segment_in}
 use Rattle.link_program.specs.Programs.{list_of}
@@ -23,4 +23,4 @@ pub returns-in-Some-clause-value : goal.returns-in-Some-clause-value
 returns-in-Some-clause-value c = value_is c
 
 pub returns-in-Some-clause-input : goal.returns-in-Some-clause-input
-returns-in-Some-clause-input c = shown_in_input c.rows_are_laid_out.ensures.laid_out c.args.self.now c.args.place (λ view. shown view.now) c.segment_in.result (value_is c)
+returns-in-Some-clause-input c = shown_in_input c.rows_are_laid_out.ensures.laid_out c.args.self.now c.args.place (λ view. segment_of_view view.now) c.segment_in.result (value_is c)

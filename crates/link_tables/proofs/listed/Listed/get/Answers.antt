@@ -2,7 +2,7 @@ use Rattle.std.proofs.Common.{◌≡◌, ◌<◌, ◌≤◌, List, None, length,
 use Rattle.std.specs.Prelude.{slice_get, option_map}
 use Rattle.std.proofs.lemmas.Bool.{ltb-false}
 use Rattle.std.proofs.lemmas.Option.{slice_get_read, slice_get_past}
-use Rattle.link_tables.specs.declared.listed.Mark.{Mark}
+use Rattle.link_tables.specs.declared.listed.DefinitionMark.{DefinitionMark}
 use Rattle.link_tables.specs.Listed.{expr_at}
 use Rattle.link_tables.proofs.ListedLaws.{got_row, gone_row}
 use Rattle.link_tables.proofs.listed.Listed.get.Goals as goal
@@ -13,7 +13,7 @@ returns-in-Some c =
     let items = c.self.inside.marks.items in
     let k = c.args.number in
     let lt : k < length items = omega (arith, c.in-Some.ensures.lookup.3.0, ap length c.deref.ensures.value) in
-    let item : mark ≡ get_or items k mark = c.in-Some.ensures.lookup.1 ∙ ap (λ (l : List Mark). get_or l k mark) c.deref.ensures.value in
+    let item : mark ≡ get_or items k mark = c.in-Some.ensures.lookup.1 ∙ ap (λ (l : List DefinitionMark). get_or l k mark) c.deref.ensures.value in
     got_row (expr_at c.self.inside.exprs) items k mark (option_map (λ text. text.now) c.expr_of.result) c.args.self.now (slice_get_read items (length items) k mark refl lt item) c.expr_of.ensures c.self.view_is
 
 pub returns-in-None : goal.returns-in-None

@@ -1,16 +1,16 @@
 use Rattle.std.proofs.Common.{◌≡◌, List, map, Option, Some, None, subst, sym, ◌∙◌, ap}
 use Rattle.std.specs.Prelude.{IfSome, Vec}
 use Rattle.std.specs.declared.alloc.Global.{Global}
-use Rattle.load_content.specs.declared.spots.Spot.{Spot}
+use Rattle.load_content.specs.declared.spots.PatchSpot.{PatchSpot}
 use Rattle.load_content.specs.Content.{spread_all, shown_spots}
-use Rattle.written_bodies.specs.declared.written.Patch.{Patch}
-use Rattle.written_bodies.specs.WrittenParts.{seen}
+use Rattle.load_writer.specs.declared.written.Patch.{Patch}
+use Rattle.load_writer.specs.WrittenParts.{seen}
 use Rattle.omf_cells.specs.Whole.{AreSpaced}
 use Rattle.omf_cells.proofs.WholeLists.{whole_there}
 use Rattle.omf_cells.proofs.EndShows.{has_whole}
 use Rattle.omf_cells.proofs.load.LoadFile.patches.Goals as goal
 
-of_some : (found : Option (Vec Patch Global)) (patches : Vec Patch Global) (spots kept : List Spot) → found ≡ Some patches → IfSome found (λ ps. spread_all (map seen ps.items) ≡ shown_spots spots) → spots ≡ kept
+of_some : (found : Option (Vec Patch Global)) (patches : Vec Patch Global) (spots kept : List PatchSpot) → found ≡ Some patches → IfSome found (λ ps. spread_all (map seen ps.items) ≡ shown_spots spots) → spots ≡ kept
     → spread_all (map seen patches.items) ≡ shown_spots kept
 of_some None patches spots kept is has same = absurd cc
 of_some (Some ps) patches spots kept is has same =

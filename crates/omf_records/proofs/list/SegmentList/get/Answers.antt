@@ -4,7 +4,7 @@ use Rattle.std.proofs.lemmas.Bool.{ltb-false}
 use Rattle.std.proofs.lemmas.Option.{slice_get_read, slice_get_past}
 use Rattle.omf_format.specs.File.{Segment, segment_at}
 use Rattle.omf_records.specs.declared.segment.SegmentView.{SegmentView}
-use Rattle.omf_records.specs.Segments.{shown}
+use Rattle.omf_records.specs.Segments.{segment_of_view}
 use Rattle.omf_records.proofs.Lists.{at_none, at_some}
 use Rattle.omf_records.proofs.list.SegmentList.get.Goals as goal
 
@@ -17,7 +17,7 @@ returns-in-Some-clause-value c =
     let lt : place < length views = omega (arith, c.in-Some.ensures.lookup.3.0, ap length c.deref.ensures.value) in
     let item : v ≡ get_or views place v = c.in-Some.ensures.lookup.1 ∙ ap (λ (l : List SegmentView). get_or l place v) c.deref.ensures.value in
     let found : slice_get views place ≡ Some v = slice_get_read views (length views) place v refl lt item in
-    sym (subst (λ (segments : List Segment). segment_at segments c.args.place ≡ Some (shown v)) c.self.view_is (at_some views c.args.place v more found))
+    sym (subst (λ (segments : List Segment). segment_at segments c.args.place ≡ Some (segment_of_view v)) c.self.view_is (at_some views c.args.place v more found))
 
 pub returns-in-None-clause-value : goal.returns-in-None-clause-value
 returns-in-None-clause-value c =

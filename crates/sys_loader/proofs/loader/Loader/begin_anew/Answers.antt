@@ -10,7 +10,7 @@ use Rattle.loader_machine.specs.declared.seen.Life.TheVariants.{Running}
 use Rattle.loader_machine.specs.Heads.{head_of, wants_of}
 use Rattle.loader_machine.specs.State.{user_of, with_user, with_all}
 use Rattle.loader_machine.specs.Steps.{lost_refusal}
-use Rattle.loader_agrees.specs.Agrees.{Kept, Loaded}
+use Rattle.loader_agrees.specs.Agrees.{LoadedUser, Loaded}
 use Rattle.sys_loader.specs.declared.answers.Started.{Started}
 use Rattle.loader_users.specs.View.{kept, loaded}
 use Rattle.loader_users.specs.Users.{with_life, HasItsUsers}
@@ -41,9 +41,9 @@ set_lives-requires-clause-made c =
     let can : CanRestart old id c.requires.can.0 = subst (λ (l : Loaded). CanRestart l id c.requires.can.0) (sym c.self.view_is) c.requires.can.1 in
     let found = c.requires.can.0 in
     let items = c.settle.new.segments.items in
-    let begun : Kept = record found { life = Running; handles = map (λ s. s.handle) items; heads = map (λ s. s.head) items } in
+    let begun : LoadedUser = record found { life = Running; handles = map (λ s. s.handle) items; heads = map (λ s. s.head) items } in
     let set = c.set_segments.ensures.set found can.made in
-    let there : user_of (map (option_map kept) c.set_segments.new.users.items) id ≡ Some begun = ap (λ (us : List (Option Kept)). user_of us id) set ∙ user_set old.users id found can.made (Some begun) in
+    let there : user_of (map (option_map kept) c.set_segments.new.users.items) id ≡ Some begun = ap (λ (us : List (Option LoadedUser)). user_of us id) set ∙ user_set old.users id found can.made (Some begun) in
     rw there refl
 
 pub set_lives-requires-clause-there : goal.set_lives-requires-clause-there
@@ -53,9 +53,9 @@ set_lives-requires-clause-there c =
     let can : CanRestart old id c.requires.can.0 = subst (λ (l : Loaded). CanRestart l id c.requires.can.0) (sym c.self.view_is) c.requires.can.1 in
     let found = c.requires.can.0 in
     let items = c.settle.new.segments.items in
-    let begun : Kept = record found { life = Running; handles = map (λ s. s.handle) items; heads = map (λ s. s.head) items } in
+    let begun : LoadedUser = record found { life = Running; handles = map (λ s. s.handle) items; heads = map (λ s. s.head) items } in
     let set = c.set_segments.ensures.set found can.made in
-    subst (λ (us : List (Option Kept)). HasItsUsers us id) (sym set) (its_there old.users c.self.invariant.0.attached id found begun can.made refl)
+    subst (λ (us : List (Option LoadedUser)). HasItsUsers us id) (sym set) (its_there old.users c.self.invariant.0.attached id found begun can.made refl)
 
 pub invariant_of-self-2 : goal.invariant_of-self-2
 invariant_of-self-2 c =
@@ -66,11 +66,11 @@ invariant_of-self-2 c =
     let found = c.requires.can.0 in
     let plan = c.requires.plan in
     let items = c.settle.new.segments.items in
-    let begun : Kept = record found { life = Running; handles = map (λ s. s.handle) items; heads = map (λ s. s.head) items } in
+    let begun : LoadedUser = record found { life = Running; handles = map (λ s. s.handle) items; heads = map (λ s. s.head) items } in
     let set = c.set_segments.ensures.set found can.made in
-    let there : user_of (map (option_map kept) c.set_segments.new.users.items) id ≡ Some begun = ap (λ (us : List (Option Kept)). user_of us id) set ∙ user_set old.users id found can.made (Some begun) in
+    let there : user_of (map (option_map kept) c.set_segments.new.users.items) id ≡ Some begun = ap (λ (us : List (Option LoadedUser)). user_of us id) set ∙ user_set old.users id found can.made (Some begun) in
     let users' : last.users ≡ with_all (with_life Running) (with_user old.users id (Some begun)) found.attached =
-    c.set_lives.ensures.set begun there ∙ ap (λ (us : List (Option Kept)). with_all (with_life Running) us found.attached) set in
+    c.set_lives.ensures.set begun there ∙ ap (λ (us : List (Option LoadedUser)). with_all (with_life Running) us found.attached) set in
     let started : Started = record { user = id; entry = c.entry_of-entry.result } in
     let did : HasBegunAnew old id found c.args.load.now started last =
     begun_anew old c.place_all_anew.new.banks c.settle.new.banks items c.args.load.now found c.as_slice.result.now c.as_slice-2.result.now c.place_all_anew.new.handles id c.entry_of-entry.result c.requires.short
@@ -92,11 +92,11 @@ returns-clause-begun c k made =
     let found = c.requires.can.0 in
     let plan = c.requires.plan in
     let items = c.settle.new.segments.items in
-    let begun : Kept = record found { life = Running; handles = map (λ s. s.handle) items; heads = map (λ s. s.head) items } in
+    let begun : LoadedUser = record found { life = Running; handles = map (λ s. s.handle) items; heads = map (λ s. s.head) items } in
     let set = c.set_segments.ensures.set found can.made in
-    let there : user_of (map (option_map kept) c.set_segments.new.users.items) id ≡ Some begun = ap (λ (us : List (Option Kept)). user_of us id) set ∙ user_set old.users id found can.made (Some begun) in
+    let there : user_of (map (option_map kept) c.set_segments.new.users.items) id ≡ Some begun = ap (λ (us : List (Option LoadedUser)). user_of us id) set ∙ user_set old.users id found can.made (Some begun) in
     let users' : last.users ≡ with_all (with_life Running) (with_user old.users id (Some begun)) found.attached =
-    c.set_lives.ensures.set begun there ∙ ap (λ (us : List (Option Kept)). with_all (with_life Running) us found.attached) set in
+    c.set_lives.ensures.set begun there ∙ ap (λ (us : List (Option LoadedUser)). with_all (with_life Running) us found.attached) set in
     let started : Started = record { user = id; entry = c.entry_of-entry.result } in
     let did : HasBegunAnew old id found c.args.load.now started last =
     begun_anew old c.place_all_anew.new.banks c.settle.new.banks items c.args.load.now found c.as_slice.result.now c.as_slice-2.result.now c.place_all_anew.new.handles id c.entry_of-entry.result c.requires.short
@@ -104,4 +104,4 @@ returns-clause-begun c k made =
     c.args.plan.handles.items c.args.plan.handles.len c.in_ok-place_all_anew.ensures.placed.puts c.as_slice.ensures.value plan.handles' c.args.plan.handles.ok.0 c.as_slice-2.ensures.value) c.settle.ensures.settled c.settle.ensures.heads c.settle.ensures.handles c.entry_of-entry.ensures
     last.users users' in
     let same : found ≡ k = same_Some found k (sym c.requires.can.1.made ∙ made) in
-    subst (λ (l : Loaded). HasBegunAnew l id k c.args.load.now started last) c.self.view_is (subst (λ (x : Kept). HasBegunAnew old id x c.args.load.now started last) same did)
+    subst (λ (l : Loaded). HasBegunAnew l id k c.args.load.now started last) c.self.view_is (subst (λ (x : LoadedUser). HasBegunAnew old id x c.args.load.now started last) same did)

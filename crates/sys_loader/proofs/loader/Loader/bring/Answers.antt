@@ -2,11 +2,11 @@ use Rattle.std.proofs.Common.{◌≡◌, ℕ, ◌-◌, List, length, Some, refl,
 use Rattle.std.proofs.lemmas.List.{length-map}
 use Rattle.std.proofs.lemmas.Option.{same_Some}
 use Rattle.loader_machine.specs.Heads.{head_of, at_number}
-use Rattle.loader_machine.specs.declared.seen.Head.{Head}
+use Rattle.loader_machine.specs.declared.seen.SegmentHead.{SegmentHead}
 use Rattle.loader_machine.specs.State.{first_id, user_of}
 use Rattle.loader_machine.specs.Presences.{presence, there_at}
 use Rattle.loader_machine.specs.Needs.{is_read}
-use Rattle.loader_agrees.specs.Agrees.{Kept, Loaded}
+use Rattle.loader_agrees.specs.Agrees.{LoadedUser, Loaded}
 use Rattle.loader_agrees.specs.laws.Seeing.{made_at}
 use Rattle.loader_users.specs.View.{kept, loaded}
 use Rattle.loader_users.specs.Filling.{HasHead, IsWritten}
@@ -142,8 +142,8 @@ invariant_of-self-2 c =
       came_sound old last c.args.user c.args.number s.head s.handle c.args.load.now c.place_of-address.result c.self.invariant.0 can
           (ap (λ (l : Loaded). is_read (presence l.memory.slots s.handle)) c.self.view_is ∙ c.requires.gone)
           (dynamic_plain c.requires.taken.0 c.args.load.now c.requires.taken.1 c.args.number s.head
-          (ap (λ (hs : List Head). at_number hs c.args.number) (c.requires.same k made ∙ ap (λ (x : Kept). x.heads) same) ∙ can.head') can.dynamic)
-          (subst (λ (x : Kept). HasCome old c.args.user c.args.number x s.head s.handle c.args.load.now c.place_of-address.result last) same did),
+          (ap (λ (hs : List SegmentHead). at_number hs c.args.number) (c.requires.same k made ∙ ap (λ (x : LoadedUser). x.heads) same) ∙ can.head') can.dynamic)
+          (subst (λ (x : LoadedUser). HasCome old c.args.user c.args.number x s.head s.handle c.args.load.now c.place_of-address.result last) same did),
       omega (arith, c.self.invariant.1, c.set_handle.ensures.room),
     )
 
@@ -165,4 +165,4 @@ returns-clause-come c = λ k made.
     (length lead_items) lead (lead_is old c.args.user c.led_by-owner.result pair lead c.user_in-lead.ensures) (sym (length-map lead_items (λ s. s.head))) refl
     c.requires.taken.1 (c.requires.same found made_found) c.set_places.ensures c.from.ensures c.set.ensures c.from-2.ensures c.fill_block.ensures (renewed_by old c.args.user c.led_by-owner.result pair lead.heads lead.handles c.args.number (length lead_items) (Some c.place_of-address.result) c.fill_block.new.banks c.renew_tables.new.banks c.renew_tables.ensures) refl (c.set_handle.ensures.set found c.user_in-found.ensures) in
     subst (λ (l : Loaded). HasCome l c.args.user c.args.number k s.head s.handle c.args.load.now c.place_of-address.result last) c.self.view_is
-    (subst (λ (x : Kept). HasCome old c.args.user c.args.number x s.head s.handle c.args.load.now c.place_of-address.result last) same did)
+    (subst (λ (x : LoadedUser). HasCome old c.args.user c.args.number x s.head s.handle c.args.load.now c.place_of-address.result last) same did)

@@ -3,7 +3,7 @@ use Rattle.std.proofs.lemmas.Result.{err_from_is_err_and}
 use Rattle.std.proofs.lemmas.List.{length-map}
 use Rattle.loader_machine.specs.Heads.{head_of}
 use Rattle.loader_machine.specs.State.{first_id, user_of}
-use Rattle.loader_agrees.specs.Agrees.{Kept, Loaded}
+use Rattle.loader_agrees.specs.Agrees.{LoadedUser, Loaded}
 use Rattle.loader_agrees.specs.laws.Seeing.{made_at}
 use Rattle.loader_users.specs.View.{kept, loaded}
 use Rattle.loader_users.specs.Changed.{IsChanged}
@@ -33,7 +33,7 @@ compare-requires c =
     let made = subst (λ (l : Loaded). user_of l.users c.args.user ≡ Some (kept found)) c.self.view_is c.user_in-found.ensures in
     record {
       taken = (c.args.file.now, as_loadable c.is_attached.result c.args.file.now c.in_ok-load.load c.in_ok-load.ensures.loaded);
-      kept = omega (arith, length-map found.segments.items (λ s. s.head), c.is_sound.ensures.short (c.args.user - first_id) (kept found) (made_at c.args.self.now.users c.args.user (kept found) made).0);
+      kept = omega (arith, length-map found.segments.items (λ s. s.head), c.recall_invariant.ensures.short (c.args.user - first_id) (kept found) (made_at c.args.self.now.users c.args.user (kept found) made).0);
     }
 
 pub returns-in_err-compare-clause-refused : goal.returns-in_err-compare-clause-refused
@@ -43,7 +43,7 @@ returns-in_err-compare-clause-refused c =
     let same = one_kept (loaded c.self.inside.banks c.self.inside.users.items) c.args.self.now c.args.user (kept c.user_in-found.result.now) k c.self.view_is c.user_in-found.ensures made in
     let s = c.args.segment.now in
     file_changed c.args.file.now c.args.self.now c.args.user c.args.number k s.head s.handle c.in_ok-load.load (subst (λ (b : Bool). IsReadAs b c.args.file.now c.in_ok-load.load) c.is_attached.ensures c.in_ok-load.ensures.loaded) c.in_err-compare.field-0.0
-    (subst (λ (x : Kept). IsChanged x.heads (map head_of c.in_ok-load.load) c.in_err-compare.field-0.0) same c.in_err-compare.ensures.changed))
+    (subst (λ (x : LoadedUser). IsChanged x.heads (map head_of c.in_ok-load.load) c.in_err-compare.field-0.0) same c.in_err-compare.ensures.changed))
 
 pub bring-requires : goal.bring-requires
 bring-requires c = record {
@@ -53,19 +53,19 @@ bring-requires c = record {
   gone = c.requires.gone;
   same = λ k made.
       c.in_ok-compare.ensures.same
-      ∙ ap (λ (x : Kept). x.heads) (one_kept (loaded c.self.inside.banks c.self.inside.users.items) c.args.self.now c.args.user (kept c.user_in-found.result.now) k c.self.view_is c.user_in-found.ensures made);
+      ∙ ap (λ (x : LoadedUser). x.heads) (one_kept (loaded c.self.inside.banks c.self.inside.users.items) c.args.self.now c.args.user (kept c.user_in-found.result.now) k c.self.view_is c.user_in-found.ensures made);
 }
 
 pub returns-clause-come : goal.returns-clause-come
 returns-clause-come c = λ k made.
     let same = c.in_ok-compare.ensures.same
-    ∙ ap (λ (x : Kept). x.heads) (one_kept (loaded c.self.inside.banks c.self.inside.users.items) c.args.self.now c.args.user (kept c.user_in-found.result.now) k c.self.view_is c.user_in-found.ensures made) in
+    ∙ ap (λ (x : LoadedUser). x.heads) (one_kept (loaded c.self.inside.banks c.self.inside.users.items) c.args.self.now c.args.user (kept c.user_in-found.result.now) k c.self.view_is c.user_in-found.ensures made) in
     let s = c.args.segment.now in
     come_from c.args.file.now c.args.self.now c.args.user c.args.number k s.head s.handle c.in_ok-load.load (subst (λ (b : Bool). IsReadAs b c.args.file.now c.in_ok-load.load) c.is_attached.ensures c.in_ok-load.ensures.loaded) c.bring.new.self c.bring.result same (c.bring.ensures.come k made)
 
 pub returns-clause-refused : goal.returns-clause-refused
 returns-clause-refused c = λ k made.
     let same = c.in_ok-compare.ensures.same
-    ∙ ap (λ (x : Kept). x.heads) (one_kept (loaded c.self.inside.banks c.self.inside.users.items) c.args.self.now c.args.user (kept c.user_in-found.result.now) k c.self.view_is c.user_in-found.ensures made) in
+    ∙ ap (λ (x : LoadedUser). x.heads) (one_kept (loaded c.self.inside.banks c.self.inside.users.items) c.args.self.now c.args.user (kept c.user_in-found.result.now) k c.self.view_is c.user_in-found.ensures made) in
     let s = c.args.segment.now in
     brings_none c.args.file.now c.args.self.now c.args.user c.args.number k s.head s.handle c.in_ok-load.load (subst (λ (b : Bool). IsReadAs b c.args.file.now c.in_ok-load.load) c.is_attached.ensures c.in_ok-load.ensures.loaded) c.bring.result same c.bring.ensures.refused

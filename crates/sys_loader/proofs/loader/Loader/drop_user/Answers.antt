@@ -2,7 +2,7 @@ use Rattle.std.proofs.Common.{◌≡◌, false, List, length, map, Option, Some,
 use Rattle.std.specs.Prelude.{option_map}
 use Rattle.loader_machine.specs.State.{user_of, without_all, is_attached}
 use Rattle.loader_machine.specs.Refusals.{shut_down_refusal}
-use Rattle.loader_agrees.specs.Agrees.{Kept, Loaded, kept_outlines, seen_by}
+use Rattle.loader_agrees.specs.Agrees.{LoadedUser, Loaded, kept_outlines, seen_by}
 use Rattle.loader_users.specs.View.{kept, loaded}
 use Rattle.sys_loader.specs.Lives.{HasDropped}
 use Rattle.loader_users.proofs.Families.{take_past}
@@ -18,7 +18,7 @@ remove-requires c =
     let some = some_is (user_of old.users id) (subst (λ (l : Loaded). IsSome (user_of l.users id)) (sym c.self.view_is) c.in_ok-droppable.ensures.ok.0) in
     let all = take_past some.0.attached (length some.0.attached) (omega arith) in
     let there : user_of (map (option_map kept) c.drop_attached.new.users.items) id ≡ Some some.0 =
-    ap (λ (us : List (Option Kept)). user_of us id) (c.drop_attached.ensures.gone some.0 some.1 ∙ ap (without_all old.users) (sym all))
+    ap (λ (us : List (Option LoadedUser)). user_of us id) (c.drop_attached.ensures.gone some.0 some.1 ∙ ap (without_all old.users) (sym all))
     ∙ still_there old.users c.self.invariant.0.attached id some.0 some.1 (length some.0.attached) in
     rw there refl
 

@@ -5,7 +5,7 @@ use Rattle.std.proofs.lemmas.Result.{IfOk-weaker, IfErr-weaker}
 use Rattle.loader_machine.specs.declared.faults.LoaderFault.TheVariants as fault
 use Rattle.loader_machine.specs.State.{first_id, user_of}
 use Rattle.loader_machine.specs.Steps.{lost_refusal}
-use Rattle.loader_agrees.specs.Agrees.{Kept, Loaded}
+use Rattle.loader_agrees.specs.Agrees.{LoadedUser, Loaded}
 use Rattle.loader_agrees.specs.laws.Seeing.{made_at}
 use Rattle.loader_users.specs.View.{kept, loaded}
 use Rattle.loader_users.specs.Users.{kept_heads}
@@ -28,7 +28,7 @@ returns-in-Some-clause-other c k made =
     let lost : lost_refusal (kept_heads (loaded c.self.inside.banks c.self.inside.users.items).users found.attached) c.args.load.now ≡ Some (fault.BadFile c.in-Some.fault) =
     refusal_of (kept_heads (loaded c.self.inside.banks c.self.inside.users.items).users found.attached) c.args.load.now c.lost_in.result c.lost_in.ensures ∙ ap (option_map fault.BadFile) c.in-Some.is in
     inl (ap (λ (l : Loaded). lost_refusal (kept_heads l.users k.attached) c.args.load.now) (sym c.self.view_is)
-    ∙ ap (λ (x : Kept). lost_refusal (kept_heads (loaded c.self.inside.banks c.self.inside.users.items).users x.attached) c.args.load.now) (sym same) ∙ lost)
+    ∙ ap (λ (x : LoadedUser). lost_refusal (kept_heads (loaded c.self.inside.banks c.self.inside.users.items).users x.attached) c.args.load.now) (sym same) ∙ lost)
 
 pub compare-requires-clause-kept : goal.compare-requires-clause-kept
 compare-requires-clause-kept c =
@@ -43,8 +43,8 @@ returns-clause-same c k made =
     IfOk-weaker c.compare.result _ _
     (λ _ heads. (
       ap (λ (l : Loaded). lost_refusal (kept_heads l.users k.attached) c.args.load.now) (sym c.self.view_is)
-          ∙ ap (λ (x : Kept). lost_refusal (kept_heads (loaded c.self.inside.banks c.self.inside.users.items).users x.attached) c.args.load.now) (sym same) ∙ none,
-      heads ∙ ap (λ (x : Kept). x.heads) same,
+          ∙ ap (λ (x : LoadedUser). lost_refusal (kept_heads (loaded c.self.inside.banks c.self.inside.users.items).users x.attached) c.args.load.now) (sym same) ∙ none,
+      heads ∙ ap (λ (x : LoadedUser). x.heads) same,
     ))
     c.compare.ensures.same
 
@@ -57,5 +57,5 @@ returns-clause-other c k made =
     IfErr-weaker c.compare.result _ _
     (λ why changed.
     subst (λ (l : Loaded). IsOtherFile l.users k c.args.load.now why) c.self.view_is
-    (subst (λ (x : Kept). IsOtherFile (loaded c.self.inside.banks c.self.inside.users.items).users x c.args.load.now why) same (inr (none, changed))))
+    (subst (λ (x : LoadedUser). IsOtherFile (loaded c.self.inside.banks c.self.inside.users.items).users x c.args.load.now why) same (inr (none, changed))))
     c.compare.ensures.changed

@@ -5,14 +5,14 @@ use Rattle.sys_loader.proofs.Reaching.{lent_size}
 use Rattle.sys_loader.proofs.loader.Loader.jsl_place.Goals as goal
 
 pub called-requires : goal.called-requires
-called-requires c = lent_size c.args.self.now c.is_sound.ensures c.args.user c.args.segment c.args.at 4 c.in_ok-four.four.now c.in_ok-four.ensures.lent
+called-requires c = lent_size c.args.self.now c.recall_invariant.ensures c.args.user c.args.segment c.args.at 4 c.in_ok-four.four.now c.in_ok-four.ensures.borrow_bytes
 
 pub returns-in_err-address-clause-refused : goal.returns-in_err-address-clause-refused
 returns-in_err-address-clause-refused c =
     let p = err_from_is_err_and c.from_residual-in_err-address.result c.from_residual-in_err-address.ensures.1 in
-    rw (p.1, p.2) (NoJsl c.in_ok-four.four.now c.in_ok-four.ensures.lent c.in_err-address.ensures.err)
+    rw (p.1, p.2) (NoJsl c.in_ok-four.four.now c.in_ok-four.ensures.borrow_bytes c.in_err-address.ensures.err)
 
 pub returns-in-None-clause-refused : goal.returns-in-None-clause-refused
 returns-in-None-clause-refused c =
     let jsl = c.in_ok-address.ensures.ok in
-    NoPlace c.in_ok-address.address (record { bytes = c.in_ok-four.four.now; lent = c.in_ok-four.ensures.lent; jsl = jsl.0; address_is = jsl.1 }) c.in-None.ensures refl
+    NoPlace c.in_ok-address.address (record { bytes = c.in_ok-four.four.now; lent = c.in_ok-four.ensures.borrow_bytes; jsl = jsl.0; address_is = jsl.1 }) c.in-None.ensures refl

@@ -4,7 +4,7 @@ use Rattle.std.proofs.lemmas.List.{length-map}
 use Rattle.loader_machine.specs.declared.seen.Life.TheVariants.{Dormant}
 use Rattle.loader_machine.specs.State.{first_id, user_of, with_user, with_all, family, is_attached}
 use Rattle.loader_machine.specs.Refusals.{shut_down_refusal}
-use Rattle.loader_agrees.specs.Agrees.{Kept, Loaded, kept_outlines, seen_by}
+use Rattle.loader_agrees.specs.Agrees.{LoadedUser, Loaded, kept_outlines, seen_by}
 use Rattle.loader_agrees.specs.laws.Seeing.{made_at}
 use Rattle.loader_users.specs.View.{kept, loaded}
 use Rattle.sys_loader.specs.Lives.{HasKept}
@@ -27,7 +27,7 @@ set_life-requires c =
     let id = c.args.user in
     let k = kept c.user_in.result.now in
     let now = stays_all (with_life Dormant) (λ x. refl) old.users k.attached id k c.user_in.ensures in
-    let there : user_of (map (option_map kept) c.set_lives.new.users.items) id ≡ Some now.0 = ap (λ (us : List (Option Kept)). user_of us id) (c.set_lives.ensures.set k c.user_in.ensures) ∙ now.1 in
+    let there : user_of (map (option_map kept) c.set_lives.new.users.items) id ≡ Some now.0 = ap (λ (us : List (Option LoadedUser)). user_of us id) (c.set_lives.ensures.set k c.user_in.ensures) ∙ now.1 in
     rw there refl
 
 pub invariant_of-self : goal.invariant_of-self
@@ -44,9 +44,9 @@ invariant_of-self c =
     subst (λ (l : Loaded). shut_down_refusal (is_attached (kept_outlines l.users) id) (seen_by l id) true ≡ None) (sym c.self.view_is) ok.3 in
     let set = c.set_lives.ensures.set k c.user_in.ensures in
     let now = stays_all (with_life Dormant) (λ x. refl) old.users k.attached id k c.user_in.ensures in
-    let there : user_of (map (option_map kept) c.set_lives.new.users.items) id ≡ Some now.0 = ap (λ (us : List (Option Kept)). user_of us id) set ∙ now.1 in
+    let there : user_of (map (option_map kept) c.set_lives.new.users.items) id ≡ Some now.0 = ap (λ (us : List (Option LoadedUser)). user_of us id) set ∙ now.1 in
     let users : last.users ≡ with_all (with_life Dormant) old.users (family id k.attached) =
-    c.set_life.ensures.set now.0 there ∙ ap (λ (us : List (Option Kept)). with_user us id (Some (with_life Dormant now.0))) set ∙ sym (all_last (with_life Dormant) old.users k.attached id now.0 now.1) in
+    c.set_life.ensures.set now.0 there ∙ ap (λ (us : List (Option LoadedUser)). with_user us id (Some (with_life Dormant now.0))) set ∙ sym (all_last (with_life Dormant) old.users k.attached id now.0 now.1) in
     let did = has_kept old last id k c.renew_tables.new.banks (length items) c.user_in.ensures runs (sym (length-map items (λ s. s.head))) c.renew_tables.ensures (c.idle_family.ensures k c.user_in.ensures) users in
     (kept_sound old last id c.self.invariant.0 did (top_of old id true k c.self.invariant.0 c.user_in.ensures passes), omega (arith, c.self.invariant.1, c.set_lives.ensures.room, c.set_life.ensures.room))
 
@@ -64,8 +64,8 @@ returns c =
     subst (λ (l : Loaded). shut_down_refusal (is_attached (kept_outlines l.users) id) (seen_by l id) true ≡ None) (sym c.self.view_is) ok.3 in
     let set = c.set_lives.ensures.set k c.user_in.ensures in
     let now = stays_all (with_life Dormant) (λ x. refl) old.users k.attached id k c.user_in.ensures in
-    let there : user_of (map (option_map kept) c.set_lives.new.users.items) id ≡ Some now.0 = ap (λ (us : List (Option Kept)). user_of us id) set ∙ now.1 in
+    let there : user_of (map (option_map kept) c.set_lives.new.users.items) id ≡ Some now.0 = ap (λ (us : List (Option LoadedUser)). user_of us id) set ∙ now.1 in
     let users : last.users ≡ with_all (with_life Dormant) old.users (family id k.attached) =
-    c.set_life.ensures.set now.0 there ∙ ap (λ (us : List (Option Kept)). with_user us id (Some (with_life Dormant now.0))) set ∙ sym (all_last (with_life Dormant) old.users k.attached id now.0 now.1) in
+    c.set_life.ensures.set now.0 there ∙ ap (λ (us : List (Option LoadedUser)). with_user us id (Some (with_life Dormant now.0))) set ∙ sym (all_last (with_life Dormant) old.users k.attached id now.0 now.1) in
     let did = has_kept old last id k c.renew_tables.new.banks (length items) c.user_in.ensures runs (sym (length-map items (λ s. s.head))) c.renew_tables.ensures (c.idle_family.ensures k c.user_in.ensures) users in
     record { did = (subst (λ (l : Loaded). HasKept l id last) c.self.view_is did, ok.3) }

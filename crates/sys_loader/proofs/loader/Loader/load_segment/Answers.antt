@@ -5,7 +5,7 @@ use Rattle.sys_loader.proofs.loader.Loader.load_segment.Goals as goal
 pub returns-clause-meets : goal.returns-clause-meets
 returns-clause-meets g c held state is agrees =
     activates_meet (g.F.Files.seen c.args.files.now).held held c.args.self.now c.make_active.new.self state c.args.user c.args.segment c.make_active.result
-    (g.F.Files.seen c.args.files.now).faults (g.F.Files.seen c.make_active.new.files).faults is c.is_sound.ensures c.make_active.ensures.did agrees
+    (g.F.Files.seen c.args.files.now).faults (g.F.Files.seen c.make_active.new.files).faults is c.recall_invariant.ensures c.make_active.ensures.did agrees
 
 pub returns-clause-needed : goal.returns-clause-needed
 returns-clause-needed g c held state is agrees =

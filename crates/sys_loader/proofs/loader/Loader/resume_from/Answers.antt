@@ -5,7 +5,7 @@ use Rattle.std.proofs.lemmas.Option.{same_Some}
 use Rattle.loader_machine.specs.declared.seen.Life.TheVariants.{Dormant}
 use Rattle.loader_machine.specs.State.{user_of}
 use Rattle.loader_machine.specs.Steps.{lost_refusal}
-use Rattle.loader_agrees.specs.Agrees.{Kept, Loaded}
+use Rattle.loader_agrees.specs.Agrees.{LoadedUser, Loaded}
 use Rattle.loader_users.specs.View.{kept, loaded}
 use Rattle.loader_users.specs.Filling.{AreFilled}
 use Rattle.sys_loader.specs.Restarting.{is_whole, AreReread, again_handle, HasReloaded}
@@ -50,7 +50,7 @@ invariant_of-self c =
     let user = c.user_in-found.result.now in
     let made' = ap (λ (l : Loaded). user_of l.users c.args.user) (sym c.self.view_is) ∙ c.user_in-found.ensures in
     let rests : user.life ≡ Dormant =
-    ap (λ (x : Kept). x.life) (same_Some (kept user) c.requires.can.0 (sym made' ∙ c.requires.can.1.made)) ∙ c.requires.can.1.rests in
+    ap (λ (x : LoadedUser). x.life) (same_Some (kept user) c.requires.can.0 (sym made' ∙ c.requires.can.1.made)) ∙ c.requires.can.1.rests in
     let reread : AreReread c.args.load.now c.args.user (kept user) old.memory c.fill_again.new.banks =
     has_reread old c.args.user user c.self.invariant.0 c.user_in-found.ensures rests c.args.load.now (c.requires.same (kept user) made').1 c.fill_again.new.banks
     (subst (λ (places : List (Option ℕ)). AreFilled c.args.load.now (map again_handle user.segments.items) c.args.user places old.memory c.fill_again.new.banks (length user.segments.items)) c.set_places.ensures c.fill_again.ensures) in (
@@ -66,7 +66,7 @@ returns c file k taken made =
     let user = c.user_in-found.result.now in
     let made' = ap (λ (l : Loaded). user_of l.users c.args.user) (sym c.self.view_is) ∙ c.user_in-found.ensures in
     let rests : user.life ≡ Dormant =
-    ap (λ (x : Kept). x.life) (same_Some (kept user) c.requires.can.0 (sym made' ∙ c.requires.can.1.made)) ∙ c.requires.can.1.rests in
+    ap (λ (x : LoadedUser). x.life) (same_Some (kept user) c.requires.can.0 (sym made' ∙ c.requires.can.1.made)) ∙ c.requires.can.1.rests in
     let reread : AreReread c.args.load.now c.args.user (kept user) old.memory c.fill_again.new.banks =
     has_reread old c.args.user user c.self.invariant.0 c.user_in-found.ensures rests c.args.load.now (c.requires.same (kept user) made').1 c.fill_again.new.banks
     (subst (λ (places : List (Option ℕ)). AreFilled c.args.load.now (map again_handle user.segments.items) c.args.user places old.memory c.fill_again.new.banks (length user.segments.items)) c.set_places.ensures c.fill_again.ensures) in
@@ -74,4 +74,4 @@ returns c file k taken made =
     let did : HasReloaded file old c.args.user (kept user) c.resume.result c.resume.new.self =
     (c.args.load.now, taken, ap (λ (l : Loaded). lost_refusal (kept_heads l.users user.attached.items) c.args.load.now) c.self.view_is ∙ (c.requires.same (kept user) made').0, (c.requires.same (kept user) made').1, c.fill_again.new.banks, reread, c.resume.ensures (kept user) c.user_in-found.ensures) in
     subst (λ (l : Loaded). HasReloaded file l c.args.user k c.resume.result c.resume.new.self) c.self.view_is
-    (subst (λ (x : Kept). HasReloaded file old c.args.user x c.resume.result c.resume.new.self) same did)
+    (subst (λ (x : LoadedUser). HasReloaded file old c.args.user x c.resume.result c.resume.new.self) same did)

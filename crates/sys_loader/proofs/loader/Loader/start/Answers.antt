@@ -1,6 +1,6 @@
 use Rattle.std.proofs.Common.{◌+◌, List, ◌++◌, map, Option, Some, refl, sym, ap, ◌∙◌, arith}
 use Rattle.std.specs.Prelude.{string_bytes, option_map}
-use Rattle.loader_agrees.specs.Agrees.{Kept}
+use Rattle.loader_agrees.specs.Agrees.{LoadedUser}
 use Rattle.loader_users.specs.View.{kept}
 use Rattle.loader_machine.specs.declared.seen.Life.TheVariants.{Running}
 use Rattle.loader_users.specs.declared.user.User.{User}
@@ -15,7 +15,7 @@ invariant_of-self-2 c =
           c.as_slice.result.now c.as_slice-2.result.now c.place_all.new.handles (4097 + c.len.result) c.len.result c.entry_of-entry.result (sym c.self.view_is) c.requires.few c.requires.short refl (omega (arith, c.len.ensures))
           c.in_ok-place_all.ensures.placed (c.as_slice.ensures.value ∙ plan.wants') (same_handles c.self.inside.banks.banks (4097 + c.len.result) c.self.inside.banks.slots c.place_all.new.banks.slots c.as_slice.result.now c.args.plan.wants.items c.as_slice-2.result.now c.place_all.new.handles
           c.args.plan.handles.items c.args.plan.handles.len c.in_ok-place_all.ensures.placed.puts c.as_slice.ensures.value plan.handles' c.args.plan.handles.ok.0 c.as_slice-2.ensures.value) c.settle.ensures.settled c.settle.ensures.heads c.settle.ensures.handles refl refl c.requires.attached c.entry_of-entry.ensures
-          c.requires.users.1 (c.push_all.ensures.pushed ∙ ap (λ (us : List (Option User)). map (option_map kept) us ++ map (λ (k : Kept). Some k) (map kept c.args.joined.items)) c.push_reserved.ensures.items) c.self.invariant.0 c.requires.loadable.0 c.requires.loadable.1 c.requires.users.2,
+          c.requires.users.1 (c.push_all.ensures.pushed ∙ ap (λ (us : List (Option User)). map (option_map kept) us ++ map (λ (k : LoadedUser). Some k) (map kept c.args.joined.items)) c.push_reserved.ensures.items) c.self.invariant.0 c.requires.loadable.0 c.requires.loadable.1 c.requires.users.2,
       omega (arith, c.self.invariant.1, c.push_reserved.ensures.capacity, c.push_all.ensures.room),
     )
 
@@ -27,4 +27,4 @@ returns-clause-begun c all rows =
     c.as_slice.result.now c.as_slice-2.result.now c.place_all.new.handles (4097 + c.len.result) c.len.result c.entry_of-entry.result (sym c.self.view_is) c.requires.few c.requires.short refl (omega (arith, c.len.ensures))
     c.in_ok-place_all.ensures.placed (c.as_slice.ensures.value ∙ plan.wants') (same_handles c.self.inside.banks.banks (4097 + c.len.result) c.self.inside.banks.slots c.place_all.new.banks.slots c.as_slice.result.now c.args.plan.wants.items c.as_slice-2.result.now c.place_all.new.handles
     c.args.plan.handles.items c.args.plan.handles.len c.in_ok-place_all.ensures.placed.puts c.as_slice.ensures.value plan.handles' c.args.plan.handles.ok.0 c.as_slice-2.ensures.value) c.settle.ensures.settled c.settle.ensures.heads c.settle.ensures.handles refl refl c.requires.attached c.entry_of-entry.ensures
-    rows (c.push_all.ensures.pushed ∙ ap (λ (us : List (Option User)). map (option_map kept) us ++ map (λ (k : Kept). Some k) (map kept c.args.joined.items)) c.push_reserved.ensures.items)
+    rows (c.push_all.ensures.pushed ∙ ap (λ (us : List (Option User)). map (option_map kept) us ++ map (λ (k : LoadedUser). Some k) (map kept c.args.joined.items)) c.push_reserved.ensures.items)

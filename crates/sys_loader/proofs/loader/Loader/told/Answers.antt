@@ -3,23 +3,23 @@ use Rattle.std.proofs.lemmas.Result.{err_from_is_err_and}
 use Rattle.std.specs.Prelude.{option_map}
 use Rattle.loader_machine.specs.Refusals.{info_refusal}
 use Rattle.loader_machine.specs.Presences.{presence}
-use Rattle.loader_agrees.specs.Agrees.{Kept, Loaded, seen_in}
+use Rattle.loader_agrees.specs.Agrees.{LoadedUser, Loaded, seen_in}
 use Rattle.loader_users.specs.View.{kept}
 use Rattle.loader_agrees.specs.laws.Checking.{info_no_user, info_stops, info_passes}
 use Rattle.sys_loader.proofs.loader.Loader.told.Goals as goal
 
 pub returns-in_default-clause-refused : goal.returns-in_default-clause-refused
-returns-in_default-clause-refused c = ap (λ (o : Option Kept). info_refusal (option_map seen_in o) c.args.segment) (sym c.in_default.ensures) ∙ info_no_user c.args.segment
+returns-in_default-clause-refused c = ap (λ (o : Option LoadedUser). info_refusal (option_map seen_in o) c.args.segment) (sym c.in_default.ensures) ∙ info_no_user c.args.segment
 
 pub returns-in_err-found-clause-refused : goal.returns-in_err-found-clause-refused
 returns-in_err-found-clause-refused c =
     let p = err_from_is_err_and c.from_residual.result c.from_residual.ensures.1 in
-    rw (p.1, p.2) (ap (λ (o : Option Kept). info_refusal (option_map seen_in o) c.args.segment) (sym c.in-Some.ensures)
+    rw (p.1, p.2) (ap (λ (o : Option LoadedUser). info_refusal (option_map seen_in o) c.args.segment) (sym c.in-Some.ensures)
     ∙ info_stops (seen_in (kept c.in-Some.kept.now)) c.args.segment c.in_err-found.field-0.0 c.in_err-found.ensures.err)
 
 pub returns-clause-told : goal.returns-clause-told
 returns-clause-told c = record {
-  passes = ap (λ (o : Option Kept). info_refusal (option_map seen_in o) c.args.segment) (sym c.in-Some.ensures)
+  passes = ap (λ (o : Option LoadedUser). info_refusal (option_map seen_in o) c.args.segment) (sym c.in-Some.ensures)
       ∙ info_passes (seen_in (kept c.in-Some.kept.now)) c.args.segment c.in_ok-found.found.head c.in_ok-found.ensures.ok.2;
   kept = kept c.in-Some.kept.now;
   made = sym c.in-Some.ensures;

@@ -1,6 +1,0 @@
-use Rattle.std.proofs.Common.{take}
-use Rattle.link_tables.specs.Laid.{AllShort}
-use Rattle.link_tables.proofs.layout.Layout.too_long.Given as goal
-
-abbrev pub invariant-loads : goal.invariant-loads
-invariant-loads l = AllShort (take l.load-index l.self.loads.items)

@@ -1,5 +1,0 @@
-use Rattle.link_values.specs.Equates.{AreTrue}
-use Rattle.link_values.proofs.equates.settle_in.Given as goal
-
-abbrev pub invariant-order : goal.invariant-order
-invariant-order l = AreTrue l.program l.slots.items

@@ -1,7 +1,0 @@
-use Rattle.std.proofs.Common.{◌≡◌, ◌++◌, take}
-use Rattle.omf_listing.specs.Listing.{hex_bytes}
-use Rattle.omf_listing.proofs.listing.put_hex.Given as goal
-
--- the bytes so far were appended
-abbrev pub invariant-bytes : goal.invariant-bytes
-invariant-bytes l = l.line ≡ l.fn.line ++ hex_bytes (take l.place l.bytes)

@@ -1,6 +1,0 @@
-//! The listing of a file in Object Module Format: a line for each segment, and a line for each of its records.
-#![tactic(auto)]
-
-mod listing;
-
-pub use listing::{list_file, put_field, put_labelled, put_name, put_quoted};

@@ -1,7 +1,0 @@
-use Rattle.orca_text.specs.View.{line}
-use Rattle.orca_macro.specs.DeedView.{where_}
-use Rattle.orca_macro.proofs.Plans.{plain_does}
-use Rattle.orca_macro.proofs.visited.known_deed.Goals as goal
-
-pub returns-in-Open : goal.returns-in-Open
-returns-in-Open c = plain_does (where_ c.args.at) (line c.args.of.now) c.bytes-in-Open.result.now c.written.result c.bytes-in-Open.ensures.value c.requires.plain c.written.ensures

@@ -1,6 +1,0 @@
-use Rattle.orca_object.specs.StateView.{named}
-use Rattle.orca_object.proofs.After.{then_ok}
-use Rattle.orca_object.proofs.state.Open.mark.Goals as goal
-
-pub returns-clause-segment : goal.returns-clause-segment
-returns-clause-segment c = then_ok c.put_local.result (λ k s shows. k (named c.args.label.now _ s) (c.in_ok-define.ensures.segment s shows)) c.put_local.ensures.segment

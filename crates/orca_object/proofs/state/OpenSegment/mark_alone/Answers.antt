@@ -1,0 +1,6 @@
+use Rattle.orca_object.proofs.After.{then_ok}
+use Rattle.orca_object.proofs.OpenLaws.{marked_none}
+use Rattle.orca_object.proofs.state.OpenSegment.mark_alone.Goals as goal
+
+pub returns : goal.returns
+returns c = then_ok c.mark.result (λ k s shows. marked_none c.args.label.now 0x4E s c.mark.new.self (k s shows)) c.mark.ensures.segment

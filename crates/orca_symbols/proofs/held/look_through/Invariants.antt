@@ -1,8 +1,0 @@
-use Rattle.std.proofs.Common.{◌≡◌, drop}
-use Rattle.std.specs.Prelude.{bytes_eq}
-use Rattle.std.specs.Map.{lookup}
-use Rattle.orca_symbols.specs.Held.{held}
-use Rattle.orca_symbols.proofs.held.look_through.Given as goal
-
-abbrev pub invariant-names : goal.invariant-names
-invariant-names g l = lookup (λ k. bytes_eq l.name k.items) (drop l.at l.map.entries) ≡ held l.map l.name

@@ -1,8 +1,0 @@
-use Rattle.std.proofs.Common.{◌⊎◌, ◌<◌, drop, ℕ}
-use Rattle.rings.specs.Graphs.{IsIn}
-use Rattle.rings.specs.Ranks.{rank_at}
-use Rattle.rings.proofs.ring.falls.Given as goal
-
--- the edges so far fall
-abbrev pub invariant-edges : goal.invariant-edges
-invariant-edges l = (to : ℕ) → IsIn l.row to → IsIn (drop l.to-index l.row) to ⊎ (rank_at l.ranks to < l.rank)

@@ -1,9 +1,0 @@
-use Rattle.std.proofs.Common.{◌+◌, ◌-◌, length}
-use Rattle.rings.specs.Ranks.{Searching, unseen}
-use Rattle.rings.proofs.ring.leads_back.Given as goal
-
-abbrev pub invariant-queue : goal.invariant-queue
-invariant-queue l = Searching l.edges l.vertex l.seen.items l.queue.items l.next
-
-abbrev pub decreases-queue : goal.decreases-queue
-decreases-queue l = unseen l.seen.items + length l.queue.items - l.next

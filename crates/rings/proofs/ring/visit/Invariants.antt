@@ -1,6 +1,0 @@
-use Rattle.std.proofs.Common.{drop}
-use Rattle.rings.specs.Ranks.{Visiting}
-use Rattle.rings.proofs.ring.visit.Given as goal
-
-abbrev pub invariant-edges : goal.invariant-edges
-invariant-edges l = Visiting l.row l.vertex (drop l.to-index l.row) l.initial.seen.items l.seen.items l.initial.queue.items l.queue.items

@@ -1,0 +1,52 @@
+//! What the lines that were read so far left.
+
+use crate::running::RunOutcome;
+use crate::shelf::Shelf;
+use std::alloc::Global;
+
+/// The files, what is to fail, the last run, and what was told.
+#[derive(Drop)]
+pub struct Fixture {
+    pub shelf: Shelf,
+    /// The calls of the store that fail.
+    pub store: Vec<u32>,
+    /// The calls of the sink that fail.
+    pub sink: Vec<u32>,
+    /// How many of the last lines of a text are told; all where it is 0.
+    pub lines: usize,
+    /// What the last run left.
+    pub outcome: RunOutcome,
+    /// All that was told.
+    told: Vec<u8>,
+}
+
+impl Fixture {
+    pub fn new(alloc: Global) -> Fixture {
+        Fixture {
+            shelf: Shelf::new(alloc),
+            store: Vec::new(alloc),
+            sink: Vec::new(alloc),
+            lines: 0,
+            outcome: RunOutcome::none(alloc),
+            told: Vec::new(alloc),
+        }
+    }
+
+    /// Begins a row.
+    pub fn begin(&mut self) {
+        self.shelf.begin();
+        self.store.clear();
+        self.sink.clear();
+        self.lines = 0;
+    }
+
+    /// Where more is told.
+    pub fn out(&mut self) -> &mut Vec<u8> {
+        &mut self.told
+    }
+
+    /// All that was told.
+    pub fn into_told(self) -> Vec<u8> {
+        self.told
+    }
+}

@@ -1,9 +1,0 @@
-use Rattle.std.proofs.lemmas.Result.{on_ok_weaker}
-use Rattle.list_meaning.specs.Listed.{Equates}
-use Rattle.list_meaning.specs.Listing.{flushed}
-use Rattle.w65_list.proofs.Gives.{line_gave}
-use Rattle.w65_list.proofs.records.Before.equate.Goals as goal
-
-pub returns-clause-gave : goal.returns-clause-gave
-returns-clause-gave c =
-    on_ok_weaker c.equates.result (λ wrote b is. line_gave (flushed b) (Equates c.args.global c.args.name.now c.args.n) c.args.out.now c.flush.new.out c.equates.new.out c.flush.new.self (c.in_ok-flush.ensures.gave b is) wrote) c.equates.ensures.wrote

@@ -1,6 +1,0 @@
-use Rattle.written_bodies.proofs.FormLists.{put_is}
-use Rattle.written_bodies.proofs.by_form.put_in.Goals as goal
-
-pub returns : goal.returns
-returns c =
-    put_is (λ l. l.items) c.args.lists.now.items c.from.result c.args.form c.args.at c.index_mut.result.now c.push.new.self c.from.ensures c.requires c.index_mut.ensures.value c.in_ok-push.ensures.items

@@ -1,7 +1,0 @@
-use Rattle.std.proofs.Common.{◌≡◌, ◌++◌, take}
-use Rattle.written_bodies.specs.Joined.{joined}
-use Rattle.written_bodies.proofs.plain_body.put_pieces.Given as goal
-
--- the pieces so far are there
-abbrev pub invariant-loop-piece : goal.invariant-loop-piece
-invariant-loop-piece l = l.out.items ≡ l.initial.out.items ++ joined (take l.piece-index l.pieces)

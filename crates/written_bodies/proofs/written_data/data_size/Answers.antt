@@ -1,7 +1,0 @@
-use Rattle.std.proofs.Common.{length, map, arith}
-use Rattle.written_bodies.specs.WrittenParts.{seen}
-use Rattle.written_bodies.proofs.KeptLaws.{end_within}
-use Rattle.written_bodies.proofs.written_data.data_size.Goals as goal
-
-pub kept-requires : goal.kept-requires
-kept-requires c = omega (arith, c.end_of.ensures, end_within (length c.args.content.now) 0 (map seen c.args.patches.now) (omega arith) c.requires)

@@ -1,5 +1,0 @@
-use Rattle.load_meaning.specs.laws.WrittenBodyLaws.{stands_for}
-use Rattle.written_bodies.proofs.written_laws.bodies_stand_for_their_cells.Goals as goal
-
-pub returns : goal.returns
-returns c = stands_for

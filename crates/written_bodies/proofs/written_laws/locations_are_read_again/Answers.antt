@@ -1,5 +1,0 @@
-use Rattle.load_meaning.specs.laws.PageLaws.{read_again}
-use Rattle.written_bodies.proofs.written_laws.locations_are_read_again.Goals as goal
-
-pub returns : goal.returns
-returns c = read_again
