@@ -6,7 +6,7 @@ use Rattle.omf_format.specs.Expression.{Tree}
 use Rattle.omf_format.specs.File as format
 use Rattle.omf_format.specs.Record.{Record, Label}
 use Rattle.orca_meaning.specs.Line.{Line, part}
-use Rattle.link_meaning.specs.Sizes.{Located, records_with_offsets}
+use Rattle.object_meaning.specs.Sizes.{Located, records_with_offsets}
 use Rattle.asm_meaning.specs.declared.directives.Class.{Class}
 use Rattle.asm_meaning.specs.declared.directives.Directive.TheVariants as directives
 use Rattle.asm_meaning.specs.declared.directives.Operation.{Operation}

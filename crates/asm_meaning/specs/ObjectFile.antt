@@ -4,7 +4,7 @@ use Rattle.std.proofs.Common.{◌≡◌, ℕ, ◌≤◌, List, [], ◌∷◌, le
 use Rattle.omf_format.specs.Header.{written_fields}
 use Rattle.omf_format.specs.File as format
 use Rattle.omf_format.specs.File.{IsFile}
-use Rattle.link_meaning.specs.Sizes.{body_size}
+use Rattle.object_meaning.specs.Sizes.{body_size}
 use Rattle.asm_meaning.specs.Object.{records_text, object_text, most_bytes, HasLines}
 use Rattle.asm_meaning.specs.State.{Ended, State}
 

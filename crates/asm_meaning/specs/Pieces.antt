@@ -2,7 +2,7 @@
 -- appendix F, CONST and LCONST).
 use Rattle.std.specs.Prelude.{ℕ, zero, suc, ◌+◌, ◌-◌, nat_le, List, [], ◌∷◌, ◌++◌, length, if◌then◌else◌}
 use Rattle.omf_format.specs.Record.{Record, Const, LongConst}
-use Rattle.link_meaning.specs.Sizes.{size_at}
+use Rattle.object_meaning.specs.Sizes.{size_at}
 
 -- constant bytes, or a record of another kind
 pub data Piece : Type 0 where

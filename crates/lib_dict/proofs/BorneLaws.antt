@@ -15,7 +15,7 @@ use Rattle.omf_format.specs.Record.{Record}
 use Rattle.omf_format.specs.File.{Segment, segment_at}
 use Rattle.link_meaning.specs.First.{IsIn}
 use Rattle.link_meaning.specs.Member.{Row}
-use Rattle.link_meaning.specs.Defines.{Scope, ForSegment, ForUnit, ForAll, Definition, title_of, defined_in}
+use Rattle.object_meaning.specs.Defines.{Scope, ForSegment, ForUnit, ForAll, Definition, title_of, defined_in}
 use Rattle.lib_dict.specs.Library.{LibraryRow, told_row, name_in, outer_name, outer_names, segment_rows, LibraryFile, rows_from, files_text, names_text, row_text, rows_text, is_dictionary}
 use Rattle.lib_dict.specs.DictionaryLayout.{counted_name, AreFileNumbers, DefinesSo, IsRow, AreRows}
 use Rattle.lib_dict.specs.View.{outer_of}

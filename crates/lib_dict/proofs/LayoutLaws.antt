@@ -15,7 +15,7 @@ use Rattle.omf_format.specs.Record.{Record, End, Const, LongConst, Align, Org, S
 use Rattle.omf_format.specs.File.{Segment, segment_at}
 use Rattle.link_meaning.specs.First.{IsIn}
 use Rattle.link_meaning.specs.Member.{Row, is_library}
-use Rattle.link_meaning.specs.Defines.{Scope, ForSegment, ForUnit, ForAll, Definition, outer_scope, defined_in}
+use Rattle.object_meaning.specs.Defines.{Scope, ForSegment, ForUnit, ForAll, Definition, outer_scope, defined_in}
 use Rattle.load_meaning.specs.Pathnames.{long_bytes}
 use Rattle.link_meaning.specs.Dictionary.{file_numbers, names_from, numbered_from, has_scope, first_pair, or_false, row_at, rows_from, rows_in, rows_of_records, rows_of}
 use Rattle.lib_dict.specs.DictionaryLayout.{counted_name, AreFileNumbers, AreNames, IsRow, AreRows, IsDictionary}

@@ -14,7 +14,7 @@ use Rattle.omf_format.specs.Record.{Record, End, LongConst, spelling}
 use Rattle.omf_format.specs.Reading.{Reader, HandsOut}
 use Rattle.omf_format.specs.File.{Segment, body_reader, IsSegment, AreSegments, IsFile}
 use Rattle.omf_format.specs.laws.FileLaws.{file_same, no_file}
-use Rattle.load_meaning.specs.laws.RunLaws.{reader_at, text, placed, IsBodyRecord, runs}
+use Rattle.object_meaning.specs.laws.RunLaws.{reader_at, text, placed, IsBodyRecord, runs}
 use Rattle.link_meaning.specs.Member.{Row, is_library}
 use Rattle.link_meaning.specs.Dictionary.{rows_of}
 use Rattle.lib_dict.specs.declared.fault.DictFault.{DictFault}

@@ -9,8 +9,8 @@ use Rattle.omf_format.specs.Field.{Layout, IsName}
 use Rattle.omf_format.specs.Header.{Fields, is_private}
 use Rattle.omf_format.specs.Record.{Record, End, Const, LongConst, Align, Org, Space, Reloc, InterSeg, ShortReloc, ShortInterSeg, Super, Using, Strong, Label, Equate, Formula, Entry, IsRecord}
 use Rattle.omf_format.specs.File.{Segment, body_reader}
-use Rattle.link_meaning.specs.Sizes.{size_at, located_from, records_with_offsets, Located}
-use Rattle.link_meaning.specs.Defines.{ForUnit, ForAll, Definition, scope_of, outer_scope, title_of, defined_by, defined_in}
+use Rattle.object_meaning.specs.Sizes.{size_at, located_from, records_with_offsets, Located}
+use Rattle.object_meaning.specs.Defines.{ForUnit, ForAll, Definition, scope_of, outer_scope, title_of, defined_by, defined_in}
 use Rattle.lib_dict.specs.Library.{name_in, outer_name, outer_names, segment_rows}
 use Rattle.lib_dict.specs.View.{outer_of, row_of_name, record_rows}
 

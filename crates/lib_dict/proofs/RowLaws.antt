@@ -14,7 +14,7 @@ use Rattle.omf_format.specs.Header.{form_of}
 use Rattle.omf_format.specs.File.{Segment, AreSegments, IsFile, segment_at}
 use Rattle.omf_format.specs.laws.FileLaws.{header_lies}
 use Rattle.link_meaning.specs.Member.{Row}
-use Rattle.link_meaning.specs.Defines.{Scope, ForSegment, ForUnit, ForAll, Definition, defined_in}
+use Rattle.object_meaning.specs.Defines.{Scope, ForSegment, ForUnit, ForAll, Definition, defined_in}
 use Rattle.link_meaning.specs.Dictionary.{names_from, numbered_from, has_scope, first_pair, or_false, row_at}
 use Rattle.lib_dict.specs.declared.rows.Tables.{Tables}
 use Rattle.lib_dict.specs.Library.{LibraryRow, name_in, outer_name, outer_names, segment_rows, is_dictionary}

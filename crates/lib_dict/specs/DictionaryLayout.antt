@@ -8,7 +8,7 @@ use Rattle.omf_format.specs.Record.{Record, LongConst}
 use Rattle.omf_format.specs.File.{Segment, IsFile, segment_at}
 use Rattle.link_meaning.specs.First.{IsIn}
 use Rattle.link_meaning.specs.Member.{Row, is_library}
-use Rattle.link_meaning.specs.Defines.{Definition, outer_scope, defined_in}
+use Rattle.object_meaning.specs.Defines.{Definition, outer_scope, defined_in}
 use Rattle.link_meaning.specs.Dictionary.{rows_of}
 
 -- a name as it stands in a dictionary: its length, and its bytes

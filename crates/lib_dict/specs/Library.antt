@@ -9,7 +9,7 @@ use Rattle.omf_format.specs.Header.{Fields, form_of, header_bytes}
 use Rattle.omf_format.specs.Record.{End, LongConst, spelling}
 use Rattle.omf_format.specs.File.{Segment, IsFile, segment_at}
 use Rattle.link_meaning.specs.Member.{Row, is_library}
-use Rattle.link_meaning.specs.Defines.{Scope, ForSegment, ForUnit, ForAll, Definition, defined_in}
+use Rattle.object_meaning.specs.Defines.{Scope, ForSegment, ForUnit, ForAll, Definition, defined_in}
 use Rattle.link_meaning.specs.Dictionary.{rows_of}
 
 -- a row of a dictionary: a name, the number of the file that has it, whether it is private, and where the segment starts that

@@ -2,7 +2,7 @@
 
 ghost use Rattle.std.specs.Prelude.{◌≡◌, ◌+◌, ◌<◌, ◌^◌, ◌++◌, List, OnOk, length};
 ghost use Rattle.load_meaning.specs.Cells.{Cell};
-ghost use Rattle.link_meaning.specs.Sizes.{size_at};
+ghost use Rattle.object_meaning.specs.Sizes.{size_at};
 ghost use Rattle.omf_records.specs.View.{view};
 ghost use Rattle.link_content.specs.Contents.{HoldsCells};
 ghost use Rattle.link_content.specs.Plain.{plain_cells};

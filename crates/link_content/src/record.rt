@@ -5,7 +5,7 @@ ghost use Rattle.load_meaning.specs.Cells.{Cell};
 ghost use Rattle.link_meaning.specs.declared.fault.LinkCause.TheVariants as causes;
 ghost use Rattle.link_meaning.specs.Fitting.{ends_in_jsl, value_cause};
 ghost use Rattle.omf_format.specs.Record as format;
-ghost use Rattle.link_meaning.specs.Sizes.{size_at};
+ghost use Rattle.object_meaning.specs.Sizes.{size_at};
 ghost use Rattle.link_meaning.specs.Member.{Member, setting_in};
 ghost use Rattle.link_meaning.specs.LinkValues.{Told, value_in};
 ghost use Rattle.link_meaning.specs.LinkedCells.{LinkState, Item, cells_before, made_by};

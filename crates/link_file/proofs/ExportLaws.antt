@@ -16,8 +16,8 @@ use Rattle.omf_format.specs.File.{Segment}
 use Rattle.link_meaning.specs.Member.{Member, setting_in, form_in}
 use Rattle.link_meaning.specs.declared.form.LinkForm.{LinkForm}
 use Rattle.link_meaning.specs.declared.form.LinkForm.TheVariants.{Runtime as LibraryForm}
-use Rattle.link_meaning.specs.Sizes.{size_at, located_from, place_behind}
-use Rattle.link_meaning.specs.Defines.{Scope, ForSegment, ForUnit, ForAll, Definition, outer_scope, scope_of, title_of, defined_by, defined_in}
+use Rattle.object_meaning.specs.Sizes.{size_at, located_from, place_behind}
+use Rattle.object_meaning.specs.Defines.{Scope, ForSegment, ForUnit, ForAll, Definition, outer_scope, scope_of, title_of, defined_by, defined_in}
 use Rattle.link_meaning.specs.Search.{FoundDefinition, entries_from, entries, outside}
 use Rattle.link_program.specs.Outside.{all_found}
 use Rattle.link_values.specs.declared.slots.ValueSlot.{ValueSlot}

@@ -7,7 +7,7 @@ use Rattle.omf_format.specs.File.{Segment}
 use Rattle.load_meaning.specs.Cells.{Cell}
 use Rattle.load_meaning.specs.declared.table.Target.{Target}
 use Rattle.link_meaning.specs.declared.fault.LinkCause.{LinkCause}
-use Rattle.link_meaning.specs.Sizes.{size_at, located_from, records_with_offsets, place_behind, body_size}
+use Rattle.object_meaning.specs.Sizes.{size_at, located_from, records_with_offsets, place_behind, body_size}
 use Rattle.link_meaning.specs.Member.{Member, setting_in}
 use Rattle.link_meaning.specs.Layout.{offset_of, load_headers}
 use Rattle.link_meaning.specs.LinkValues.{Told}

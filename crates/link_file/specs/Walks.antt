@@ -10,7 +10,7 @@ use Rattle.link_meaning.specs.declared.fault.LinkCause.{LinkCause}
 use Rattle.link_meaning.specs.declared.fault.LinkCause.TheVariants as causes
 use Rattle.link_meaning.specs.declared.fault.LinkFault.{LinkFault}
 use Rattle.link_meaning.specs.First.{IsFirst}
-use Rattle.link_meaning.specs.Sizes.{located_from, place_behind}
+use Rattle.object_meaning.specs.Sizes.{located_from, place_behind}
 use Rattle.link_meaning.specs.Member.{Member}
 use Rattle.link_meaning.specs.Layout.{end_from, load_names, load_headers, offset_of}
 use Rattle.link_meaning.specs.LinkValues.{Told}

@@ -8,7 +8,7 @@ ghost use Rattle.omf_format.specs.Record.{Entry, spelling};
 ghost use Rattle.omf_records.specs.Segments.{IsSound, segment_of_view};
 ghost use Rattle.omf_records.specs.View.{view};
 ghost use Rattle.link_meaning.specs.Member.{Member, form_in};
-ghost use Rattle.link_meaning.specs.Defines.{scope_of, defined_by, title_of, defined_in};
+ghost use Rattle.object_meaning.specs.Defines.{scope_of, defined_by, title_of, defined_in};
 ghost use Rattle.link_meaning.specs.Search.{FoundDefinition, entries};
 ghost use Rattle.link_meaning.specs.Layout.{load_headers};
 ghost use Rattle.link_meaning.specs.LinkValues.{found_value};

@@ -10,9 +10,9 @@ use Rattle.omf_format.specs.Header.{is_private}
 use Rattle.omf_format.specs.Record.{Record, Label, Equate}
 use Rattle.omf_format.specs.Reading.{Reader}
 use Rattle.omf_format.specs.File.{Segment}
-use Rattle.link_meaning.specs.Sizes.{size_at, place_behind}
+use Rattle.object_meaning.specs.Sizes.{size_at, place_behind}
 use Rattle.link_meaning.specs.Member.{Member}
-use Rattle.link_meaning.specs.Defines.{Definition, scope_of, outer_scope, title_of, defined_by, defined_in}
+use Rattle.object_meaning.specs.Defines.{Definition, scope_of, outer_scope, title_of, defined_by, defined_in}
 use Rattle.link_meaning.specs.LinkValues.{place_value, value_in}
 use Rattle.link_tables.specs.Coming.{Coming}
 use Rattle.link_program.specs.Linked.{member_at}

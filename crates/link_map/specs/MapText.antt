@@ -14,7 +14,7 @@ use Rattle.load_meaning.specs.declared.table.Target.{Target}
 use Rattle.load_meaning.specs.Table.{entry_place, file_entry, table_bytes}
 use Rattle.load_meaning.specs.WrittenFile.{table_fields}
 use Rattle.link_meaning.specs.Member.{Member}
-use Rattle.link_meaning.specs.Defines.{Scope, ForSegment, ForUnit, ForAll, Definition, defined_in}
+use Rattle.object_meaning.specs.Defines.{Scope, ForSegment, ForUnit, ForAll, Definition, defined_in}
 use Rattle.link_meaning.specs.Layout.{load_headers, load_of, offset_of}
 use Rattle.link_meaning.specs.LinkValues.{Told, place_value, value_in}
 use Rattle.link_meaning.specs.LinkedCells.{table_number, targets}

@@ -4,7 +4,7 @@ ghost use Rattle.std.specs.Prelude.{◌≡◌, ◌++◌, ℕ, Some, Ok, OnOk, fl
 ghost use Rattle.omf_records.specs.Segments.{IsSound, segment_of_view};
 ghost use Rattle.omf_records.specs.View.{view};
 ghost use Rattle.link_meaning.specs.Member.{Member};
-ghost use Rattle.link_meaning.specs.Defines.{scope_of, outer_scope, title_of, defined_by, defined_in};
+ghost use Rattle.object_meaning.specs.Defines.{scope_of, outer_scope, title_of, defined_by, defined_in};
 ghost use Rattle.link_program.specs.Linked.{member_at};
 ghost use Rattle.link_file.specs.Valued.{HasPlace};
 ghost use Rattle.link_map.specs.MapText.{scope_text, shift_text, value_text, symbol_text, symbol_line};

@@ -1,9 +1,6 @@
 pub mod First
-pub mod Sizes
 pub mod Member
-pub mod Defines
 pub mod Dictionary
-pub mod Terms
 pub mod Uses
 pub mod Search
 pub mod LinkedList

@@ -16,7 +16,7 @@ use Rattle.link_meaning.specs.declared.fault.LinkCause.{LinkCause}
 use Rattle.link_meaning.specs.declared.fault.LinkCause.TheVariants.{Truncated, BadHeader, Unsupported, BadRecord, AlignFault, BadLength, BadLibrary, BadRuntime, NotDynamic, Empty, Unresolved, Duplicate, OrgConflict, TooManySegments, SegmentTooLong, Memory}
 use Rattle.link_meaning.specs.declared.fault.LinkFault.{LinkFault}
 use Rattle.link_meaning.specs.First.{IsFirst, HasNone, first_some}
-use Rattle.link_meaning.specs.Sizes.{body_size}
+use Rattle.object_meaning.specs.Sizes.{body_size}
 use Rattle.link_meaning.specs.Member.{Row, Input, RuntimeFile, LinkSetting, Member, is_library, objects, form_in}
 use Rattle.link_meaning.specs.declared.form.LinkForm.{LinkForm}
 use Rattle.link_meaning.specs.declared.form.LinkForm.TheVariants.{Program, Runtime as LibraryForm}

@@ -8,7 +8,7 @@ use Rattle.omf_format.specs.Expression.{Term, Named, Tree}
 use Rattle.omf_format.specs.Value.{Environment, value}
 use Rattle.link_meaning.specs.First.{IsIn}
 use Rattle.link_meaning.specs.Member.{Member}
-use Rattle.link_meaning.specs.Terms.{tree_in, term_at}
+use Rattle.object_meaning.specs.Terms.{tree_in, term_at}
 use Rattle.link_meaning.specs.Search.{FoundDefinition, finds}
 use Rattle.link_meaning.specs.Layout.{load_of, offset_of}
 use Rattle.link_meaning.specs.Rings.{equates, IsCircular}

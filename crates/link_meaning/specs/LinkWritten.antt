@@ -17,7 +17,7 @@ use Rattle.omf_format.specs.declared.value.ValueFault.{ValueFault}
 use Rattle.load_meaning.specs.Pathnames.{paths_text}
 use Rattle.link_meaning.specs.Fitting.{length_of}
 use Rattle.link_meaning.specs.Search.{FoundDefinition, entries}
-use Rattle.link_meaning.specs.Defines.{ForSegment, ForUnit, ForAll}
+use Rattle.object_meaning.specs.Defines.{ForSegment, ForUnit, ForAll}
 use Rattle.link_meaning.specs.declared.form.LinkForm.TheVariants.{Program, Runtime as LibraryForm}
 use Rattle.link_meaning.specs.declared.form.LinkForm.{LinkForm}
 use Rattle.link_meaning.specs.Member.{Member, RuntimeFile, setting_in, form_in}

@@ -5,7 +5,7 @@ use Rattle.omf_format.specs.Record.{Record, Const, LongConst, Align, Org, Space,
 use Rattle.omf_format.specs.Header.{Fields}
 use Rattle.load_meaning.specs.Cells.{Cell, Byte}
 use Rattle.link_meaning.specs.declared.fault.LinkCause.{LinkCause}
-use Rattle.link_meaning.specs.Sizes.{Located, records_with_offsets}
+use Rattle.object_meaning.specs.Sizes.{Located, records_with_offsets}
 use Rattle.omf_format.specs.Number.{padding}
 use Rattle.link_meaning.specs.Member.{Member, setting_in}
 use Rattle.link_meaning.specs.Layout.{in_load, load_names, load_headers, load_of, offset_of}

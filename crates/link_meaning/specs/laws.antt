@@ -3,7 +3,6 @@ pub mod MemberLists
 pub mod LinkedListLaws
 pub mod ProgressLaws
 pub mod LayoutLaws
-pub mod TreeInLaws
 pub mod TableLaws
 pub mod LinkFaultLaws
 pub mod RunCells

@@ -11,7 +11,7 @@ use Rattle.link_meaning.specs.declared.search.Want.{Want}
 use Rattle.link_meaning.specs.declared.search.Want.TheVariants.{Data, One, Any}
 use Rattle.link_meaning.specs.Search.{FoundDefinition, finds, finds_data}
 use Rattle.link_meaning.specs.LinkedList.{all_uses, row_for, found_for, unless_found, wanted, Follow}
-use Rattle.link_meaning.specs.Sizes.{body_size}
+use Rattle.object_meaning.specs.Sizes.{body_size}
 use Rattle.link_meaning.specs.LinkFaults.{segments_fault}
 use Rattle.link_program.proofs.BodyLengths.{body_short}
 use Rattle.link_meaning.specs.laws.ProgressLaws.{AreSound, fresh_name, fresh_data}

@@ -11,7 +11,7 @@ use Rattle.std.proofs.lemmas.Option.{slice_get-map, slice_get_within, slice_get_
 use Rattle.std.proofs.lemmas.List.Concat.{flat_map-cons}
 use Rattle.omf_format.specs.File.{Segment}
 use Rattle.link_meaning.specs.Member.{Member}
-use Rattle.link_meaning.specs.Defines.{Definition, defined_in, data_title_of}
+use Rattle.object_meaning.specs.Defines.{Definition, defined_in, data_title_of}
 use Rattle.link_meaning.specs.Uses.{Use, data_name, uses_of, usings_of}
 use Rattle.link_meaning.specs.Search.{FoundDefinition, entries_from, entries, data_titles}
 use Rattle.link_meaning.specs.LinkedList.{PlacedUse, asked_from, all_uses}

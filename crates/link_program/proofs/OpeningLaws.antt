@@ -10,7 +10,7 @@ use Rattle.std.proofs.lemmas.List.Elements.{filter-append}
 use Rattle.std.proofs.lemmas.List.Concat.{flat_map-cons}
 use Rattle.link_meaning.specs.First.{first_some, IsIn}
 use Rattle.link_meaning.specs.Member.{Member, Offer, setting_in}
-use Rattle.link_meaning.specs.Defines.{Definition, Scope, ForSegment, ForUnit, ForAll, outer_scope, data_title_of, defined_in}
+use Rattle.object_meaning.specs.Defines.{Definition, Scope, ForSegment, ForUnit, ForAll, outer_scope, data_title_of, defined_in}
 use Rattle.link_meaning.specs.declared.search.Step.{Step}
 use Rattle.link_meaning.specs.declared.search.Step.TheVariants.{Within, OfUnit, Everyone}
 use Rattle.link_meaning.specs.declared.search.Want.{Want}

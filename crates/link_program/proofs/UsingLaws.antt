@@ -9,11 +9,11 @@ use Rattle.std.proofs.lemmas.List.Concat.{flat_map-cons}
 use Rattle.omf_format.specs.Header.{is_private}
 use Rattle.omf_format.specs.File.{Segment}
 use Rattle.link_meaning.specs.First.{IsIn}
-use Rattle.link_meaning.specs.Member.{Member, is_data}
+use Rattle.link_meaning.specs.Member.{Member}
+use Rattle.object_meaning.specs.Defines.{is_data, Definition, title_of, data_title_of, outer_scope}
 use Rattle.link_meaning.specs.laws.MemberLists.{in_filter}
 use Rattle.link_meaning.specs.laws.EquatePlaces.{passes_filter}
 use Rattle.link_meaning.specs.laws.PlaceFits.{in-append, own_entry}
-use Rattle.link_meaning.specs.Defines.{Definition, title_of, data_title_of, outer_scope}
 use Rattle.link_meaning.specs.declared.search.Step.{Step}
 use Rattle.link_meaning.specs.declared.search.Step.TheVariants.{Within}
 use Rattle.link_meaning.specs.Search.{FoundDefinition, is_seen_by_step, or_else, first_step_found, outer_steps, only_place, entries_from, data_titles, with_this_name, finds_data}

@@ -4,7 +4,7 @@ use Rattle.omf_format.specs.File.{Segment}
 use Rattle.link_meaning.specs.First.{IsIn}
 use Rattle.link_meaning.specs.Member.{Input, LinkSetting, Member, Offer, objects, library_offers}
 use Rattle.link_meaning.specs.Search.{outside}
-use Rattle.link_meaning.specs.Defines.{Definition, defined_in, outer_scope}
+use Rattle.object_meaning.specs.Defines.{Definition, defined_in, outer_scope}
 use Rattle.link_meaning.specs.LinkFaults.{segments_fault}
 use Rattle.link_meaning.specs.LinkedList.{IsLinked}
 use Rattle.link_program.specs.declared.linked.Linked.{Linked}

@@ -5,8 +5,8 @@ use Rattle.std.specs.List.{flat_map}
 use Rattle.std.specs.Borrow.{Bor}
 use Rattle.indexmap.specs.IndexMap.{IndexMap, get}
 use Rattle.omf_format.specs.File.{Segment}
-use Rattle.link_meaning.specs.Member.{Member, is_data}
-use Rattle.link_meaning.specs.Defines.{Definition}
+use Rattle.link_meaning.specs.Member.{Member}
+use Rattle.object_meaning.specs.Defines.{is_data, Definition}
 use Rattle.link_meaning.specs.Uses.{usings_of}
 use Rattle.link_meaning.specs.Search.{FoundDefinition, entries, data_titles, only_place, finds_data}
 use Rattle.link_meaning.specs.LinkedList.{all_uses}

@@ -2,7 +2,7 @@
 use Rattle.std.specs.Prelude.{◌≡◌, ◌<◌, ◌+◌, ◌++◌, ℕ, List, None, map}
 use Rattle.std.specs.List.{AllByRecursion}
 use Rattle.link_meaning.specs.Member.{Member, setting_in}
-use Rattle.link_meaning.specs.Defines.{ForAll}
+use Rattle.object_meaning.specs.Defines.{ForAll}
 use Rattle.link_meaning.specs.Search.{FoundDefinition, entries, outside}
 use Rattle.link_tables.specs.declared.names.Matches.{Matches}
 use Rattle.link_tables.specs.declared.names.Matches.TheVariants.{Nothing, One, Several}

@@ -3,9 +3,9 @@
 ghost use Rattle.std.specs.Prelude.{◌≡◌, ◌+◌, ◌-◌, ◌<◌, ◌≤◌, ◌^◌, ◌++◌, ◌∷◌, [], List, ℕ, Some, None, length, map, nat_eq, if◌then◌else◌, slice_get, filter, OnOk, IfOk, IsNone, MatchOption, ◌⊎◌, option_map};
 ghost use Rattle.std.specs.List.{list_any};
 ghost use Rattle.omf_records.specs.Segments.{IsSound, segment_of_view};
-ghost use Rattle.link_meaning.specs.Sizes.{body_size};
+ghost use Rattle.object_meaning.specs.Sizes.{body_size};
 ghost use Rattle.link_meaning.specs.Member.{Member, Offer};
-ghost use Rattle.link_meaning.specs.Defines.{data_title_of};
+ghost use Rattle.object_meaning.specs.Defines.{data_title_of};
 ghost use Rattle.link_meaning.specs.Uses.{data_name, usings_of};
 ghost use Rattle.link_meaning.specs.Search.{FoundDefinition, entries, data_titles, first_step_found, outer_steps, with_this_name, is_seen_by_step, finds_inside, finds, finds_data};
 ghost use Rattle.link_meaning.specs.First.{HasNone};

@@ -13,7 +13,7 @@ use Rattle.omf_records.specs.SegmentLaws.{shown_at}
 use Rattle.std.proofs.lemmas.List.Elements.{filter_map-append}
 use Rattle.link_meaning.specs.First.{IsIn}
 use Rattle.link_meaning.specs.Member.{Row, Offer, offer_of, LinkSetting}
-use Rattle.link_meaning.specs.Defines.{Definition, outer_scope, title_of, data_title_of}
+use Rattle.object_meaning.specs.Defines.{Definition, outer_scope, title_of, data_title_of}
 use Rattle.link_meaning.specs.LinkedList.{has_title}
 use Rattle.lib_dict.specs.Library.{LibraryRow, told_row}
 use Rattle.link_tables.specs.declared.definitions.Origin.{Origin}

@@ -12,9 +12,9 @@ use Rattle.std.specs.Str.{bytes_eq}
 use Rattle.omf_format.specs.Record.{Record}
 use Rattle.omf_format.specs.Reading.{Reader}
 use Rattle.omf_format.specs.File.{Segment}
-use Rattle.link_meaning.specs.Sizes.{Located, size_at, located_from, place_behind}
+use Rattle.object_meaning.specs.Sizes.{Located, size_at, located_from, place_behind}
 use Rattle.link_meaning.specs.Member.{Member}
-use Rattle.link_meaning.specs.Defines.{Definition, outer_scope, defined_by, title_of}
+use Rattle.object_meaning.specs.Defines.{Definition, outer_scope, defined_by, title_of}
 use Rattle.omf_format.specs.Header.{is_private}
 use Rattle.link_meaning.specs.Search.{FoundDefinition, step_for, step_of, is_step, is_seen_by_step, with_this_name}
 use Rattle.link_meaning.specs.declared.search.Step.{Step}

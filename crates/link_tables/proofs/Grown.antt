@@ -3,7 +3,7 @@ use Rattle.std.proofs.Common.{◌≡◌, ℕ, ◌+◌, ◌≤◌, ◌^◌, Bool,
 use Rattle.std.specs.Prelude.{if◌then◌else◌}
 use Rattle.std.proofs.lemmas.Bool.{le-ltb}
 use Rattle.omf_format.specs.Record.{Record}
-use Rattle.link_meaning.specs.Sizes.{size_at, place_behind}
+use Rattle.object_meaning.specs.Sizes.{size_at, place_behind}
 use Rattle.link_tables.specs.Sizes.{in_32_bits}
 
 -- no record makes it less

@@ -9,7 +9,7 @@ use Rattle.link_meaning.specs.declared.search.Step.TheVariants.{OfUnit, Everyone
 use Rattle.link_meaning.specs.declared.search.Want.TheVariants as wants
 use Rattle.link_meaning.specs.Member.{Member, Offer}
 use Rattle.link_meaning.specs.Uses.{Use}
-use Rattle.link_meaning.specs.Defines.{outer_scope}
+use Rattle.object_meaning.specs.Defines.{outer_scope}
 use Rattle.link_meaning.specs.Search.{is_step, step_for}
 use Rattle.link_meaning.specs.LinkedList.{has_title, counts_for, is_of_member, first_offer, row_for}
 use Rattle.link_tables.specs.declared.definitions.Origin.{Origin}

@@ -5,7 +5,7 @@ use Rattle.std.proofs.lemmas.Bool.{ltb-false}
 use Rattle.omf_format.specs.Record.{Record}
 use Rattle.omf_format.specs.Reading.{Reader}
 use Rattle.link_meaning.specs.LinkFaults.{record_fault}
-use Rattle.link_meaning.specs.Sizes.{size_at, place_behind}
+use Rattle.object_meaning.specs.Sizes.{size_at, place_behind}
 use Rattle.link_tables.specs.Coming.{Walks}
 use Rattle.link_tables.specs.Sizes.{in_32_bits}
 use Rattle.link_tables.proofs.FirstLeft.{FirstLeft, first_more}

@@ -5,7 +5,7 @@ use Rattle.std.specs.List.{flat_map}
 use Rattle.link_meaning.specs.declared.search.Step.{Step}
 use Rattle.link_meaning.specs.declared.search.Step.TheVariants.{Within, OfUnit, Everyone}
 use Rattle.link_meaning.specs.Member.{Member}
-use Rattle.link_meaning.specs.Defines.{Definition}
+use Rattle.object_meaning.specs.Defines.{Definition}
 use Rattle.link_meaning.specs.Search.{FoundDefinition, step_of, with_this_name, is_seen_by_step}
 use Rattle.link_tables.specs.declared.names.Matches.{Matches}
 use Rattle.link_tables.specs.declared.names.Matches.TheVariants.{Nothing, One, Several}

@@ -3,9 +3,9 @@
 ghost use Rattle.std.specs.Prelude.{◌≡◌, ◌<◌, ◌^◌, ◌++◌, List, OnOk};
 ghost use Rattle.std.specs.List.{flat_map};
 ghost use Rattle.omf_records.specs.Segments.{IsSound, segment_of_view};
-ghost use Rattle.link_meaning.specs.Sizes.{records_with_offsets, body_size};
+ghost use Rattle.object_meaning.specs.Sizes.{records_with_offsets, body_size};
 ghost use Rattle.link_meaning.specs.Member.{Member};
-ghost use Rattle.link_meaning.specs.Defines.{defined_by};
+ghost use Rattle.object_meaning.specs.Defines.{defined_by};
 ghost use Rattle.link_meaning.specs.Uses.{uses_of};
 ghost use Rattle.link_meaning.specs.Search.{FoundDefinition};
 ghost use Rattle.link_tables.specs.Definitions.{AreDefinitions, IsOf, founds_in};

@@ -4,7 +4,7 @@ ghost use Rattle.std.specs.Prelude.{◌≡◌, ◌<◌, ◌^◌, ◌++◌, ◌�
 ghost use Rattle.omf_records.specs.Segments.{IsSound, segment_of_view};
 ghost use Rattle.omf_records.specs.View.{view};
 ghost use Rattle.link_meaning.specs.Member.{Member};
-ghost use Rattle.link_meaning.specs.Defines.{scope_of, title_of, defined_by};
+ghost use Rattle.object_meaning.specs.Defines.{scope_of, title_of, defined_by, outer_scope};
 ghost use Rattle.link_meaning.specs.Search.{FoundDefinition, step_for};
 ghost use Rattle.link_tables.specs.Names.{Row, Indexes, key_of};
 ghost use Rattle.link_tables.specs.Definitions.{AreDefinitions, AreHolders, Sees, IsOf, local_under, is_found, key_of_found, told_definition, founds_in};
@@ -230,8 +230,6 @@ pub fn outer_step(private: bool, origin: Origin) -> Step
         Step::Everyone
     }
 }
-
-ghost use Rattle.link_meaning.specs.Defines.{outer_scope};
 
 /// The step that sees a label or an equate.
 fn step_for(global: bool, private: u8, origin: Origin, place: u32) -> Step

@@ -1,7 +1,7 @@
 //! How many cells records give.
 
 ghost use Rattle.std.specs.Prelude.{◌≡◌, ◌+◌, ◌<◌, ◌^◌, ℕ};
-ghost use Rattle.link_meaning.specs.Sizes.{size_at, body_size};
+ghost use Rattle.object_meaning.specs.Sizes.{size_at, body_size};
 ghost use Rattle.link_tables.specs.Sizes.{in_32_bits};
 ghost use Rattle.omf_records.specs.Segments.{IsSound, segment_of_view};
 ghost use Rattle.omf_records.specs.View.{view};

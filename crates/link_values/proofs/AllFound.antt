@@ -7,7 +7,7 @@ use Rattle.omf_format.specs.File.{Segment, segment_at}
 use Rattle.load_meaning.specs.Exports.{Export, exports_of}
 use Rattle.link_meaning.specs.First.{IsIn}
 use Rattle.link_meaning.specs.Member.{RuntimeFile, LinkSetting, without_runtimes, Member, setting_in}
-use Rattle.link_meaning.specs.Defines.{ForAll}
+use Rattle.object_meaning.specs.Defines.{ForAll}
 use Rattle.link_meaning.specs.Search.{FoundDefinition, entries, outside_of, outside_from, outside}
 use Rattle.link_meaning.specs.Rings.{has_expr, is_equate}
 use Rattle.link_meaning.specs.LinkValues.{place_value, outside_value}

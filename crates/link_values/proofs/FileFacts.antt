@@ -11,10 +11,10 @@ use Rattle.omf_format.specs.File.{Segment}
 use Rattle.link_meaning.specs.declared.search.Want.{Want}
 use Rattle.link_meaning.specs.declared.search.Want.TheVariants.{One, Any}
 use Rattle.link_meaning.specs.First.{IsIn}
-use Rattle.link_meaning.specs.Sizes.{Located, size_at, located_from, body_size}
+use Rattle.object_meaning.specs.Sizes.{Located, size_at, located_from, body_size}
 use Rattle.link_meaning.specs.Member.{Member}
-use Rattle.link_meaning.specs.Defines.{Definition, defined_by}
-use Rattle.link_meaning.specs.Terms.{asks_value}
+use Rattle.object_meaning.specs.Defines.{Definition, defined_by}
+use Rattle.object_meaning.specs.Terms.{asks_value}
 use Rattle.link_meaning.specs.Uses.{Use, used_by_term, used_by, uses_of}
 use Rattle.link_meaning.specs.Search.{FoundDefinition, entries, finds}
 use Rattle.link_meaning.specs.LinkedList.{asked_from, all_uses, found_for}

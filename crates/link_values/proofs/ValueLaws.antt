@@ -10,8 +10,8 @@ use Rattle.omf_format.specs.Expression.{Expression, Term, Operator, Location, Co
 use Rattle.omf_format.specs.laws.ExpressionLaws.{terms_are}
 use Rattle.omf_format.specs.Value.{Environment, value}
 use Rattle.link_meaning.specs.Member.{Member}
-use Rattle.link_meaning.specs.Terms.{tree_in, term_at}
-use Rattle.link_meaning.specs.laws.TreeInLaws.{tree_in-again}
+use Rattle.object_meaning.specs.Terms.{tree_in, term_at}
+use Rattle.object_meaning.specs.laws.TreeInLaws.{tree_in-again}
 use Rattle.link_meaning.specs.Search.{FoundDefinition, finds}
 use Rattle.link_program.specs.Outside.{all_found}
 use Rattle.link_meaning.specs.Rings.{has_expr, is_equate}

@@ -5,12 +5,12 @@ use Rattle.std.specs.List.{flat_map}
 use Rattle.omf_format.specs.Record.{Record}
 use Rattle.omf_format.specs.Reading.{Reader}
 use Rattle.omf_format.specs.File.{Segment}
-use Rattle.link_meaning.specs.Sizes.{located_from}
+use Rattle.object_meaning.specs.Sizes.{located_from}
 use Rattle.link_tables.specs.Coming.{Coming}
 use Rattle.link_meaning.specs.declared.fault.LinkCause.TheVariants.{Circular}
 use Rattle.link_meaning.specs.declared.fault.LinkFault.{LinkFault}
 use Rattle.link_meaning.specs.Member.{Member}
-use Rattle.link_meaning.specs.Defines.{Definition, title_of, defined_by, defined_in}
+use Rattle.object_meaning.specs.Defines.{Definition, title_of, defined_by, defined_in}
 use Rattle.link_meaning.specs.Search.{FoundDefinition, entries_from, entries}
 use Rattle.link_meaning.specs.LinkFaults.{spot_in}
 use Rattle.link_program.specs.Memory.{memory_fault}

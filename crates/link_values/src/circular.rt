@@ -3,7 +3,7 @@
 ghost use Rattle.std.specs.Prelude.{◌≡◌, ◌<◌, ℕ, length, option_map};
 ghost use Rattle.omf_records.specs.Segments.{IsSound, segment_of_view};
 ghost use Rattle.omf_records.specs.View.{view};
-ghost use Rattle.link_meaning.specs.Defines.{defined_by, defined_in};
+ghost use Rattle.object_meaning.specs.Defines.{defined_by, defined_in};
 ghost use Rattle.link_meaning.specs.Search.{entries};
 ghost use Rattle.link_values.specs.Circulars.{DefinesName, IsBehindTitle, IsNth, IsCircularAt};
 

@@ -5,7 +5,7 @@ ghost use Rattle.std.specs.List.{flat_map};
 ghost use Rattle.omf_format.specs.Expression.{IsExpression, terms_in};
 ghost use Rattle.omf_expr.specs.View.{view};
 ghost use Rattle.link_meaning.specs.Member.{Member};
-ghost use Rattle.link_meaning.specs.Terms.{asks_value};
+ghost use Rattle.object_meaning.specs.Terms.{asks_value};
 ghost use Rattle.link_meaning.specs.Search.{FoundDefinition};
 ghost use Rattle.link_program.specs.Outside.{all_found};
 ghost use Rattle.link_program.specs.Programs.{symbol_of, told_symbol};

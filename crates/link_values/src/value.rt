@@ -6,7 +6,7 @@ ghost use Rattle.omf_expr.specs.View.{view};
 ghost use Rattle.link_meaning.specs.Member.{Member};
 ghost use Rattle.link_meaning.specs.Search.{FoundDefinition};
 ghost use Rattle.link_program.specs.Outside.{all_found};
-ghost use Rattle.link_meaning.specs.Terms.{term_at};
+ghost use Rattle.object_meaning.specs.Terms.{term_at};
 ghost use Rattle.link_meaning.specs.LinkValues.{fault_found, fault_named, place_value, value_in};
 ghost use Rattle.link_program.specs.Finding.{IsFirstOf};
 ghost use Rattle.link_values.specs.Slots.{AreOnce, AreSlots, rows_of};

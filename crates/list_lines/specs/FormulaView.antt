@@ -3,7 +3,7 @@ use Rattle.std.specs.Prelude.{◌≡◌, ℕ, ◌==◌, Bool, true, false, List,
 use Rattle.std.specs.List.{list_all, list_any}
 use Rattle.omf_format.specs.Expression.{Term, Operator, Constant, Named, Tree, Leaf, Unary, Binary, Lead, Expression, terms_in}
 use Rattle.omf_expr.specs.View.{view}
-use Rattle.link_meaning.specs.Terms.{trees_behind}
+use Rattle.object_meaning.specs.Terms.{trees_behind}
 use Rattle.list_meaning.specs.Listed as listed
 use Rattle.list_meaning.specs.Listed.{formula_text}
 use Rattle.list_lines.specs.declared.formula.Front.{Front}

@@ -4,9 +4,9 @@ use Rattle.std.specs.List.{flat_map}
 use Rattle.omf_format.specs.Expression.{Tree}
 use Rattle.omf_format.specs.File.{Segment}
 use Rattle.omf_format.specs.Record.{Record, End, Const, LongConst, Align, Org, Space, Reloc, InterSeg, ShortReloc, ShortInterSeg, Super, Using, Strong, Label, Equate, Formula, Entry}
-use Rattle.link_meaning.specs.Defines.{Scope, Definition, defined_in}
-use Rattle.link_meaning.specs.Sizes.{size_at}
-use Rattle.link_meaning.specs.Terms.{tree_in}
+use Rattle.object_meaning.specs.Defines.{Scope, Definition, defined_in}
+use Rattle.object_meaning.specs.Sizes.{size_at}
+use Rattle.object_meaning.specs.Terms.{tree_in}
 use Rattle.asm_meaning.specs.Formulas.{expression_text}
 
 -- ---- flat

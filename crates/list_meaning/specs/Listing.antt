@@ -9,8 +9,8 @@ use Rattle.omf_format.specs.Expression.{Tree, Leaf, Binary, Term, Operator, Loca
 use Rattle.omf_format.specs.File.{Segment}
 use Rattle.omf_format.specs.Header.{Fields, form_of, alignment_of}
 use Rattle.omf_format.specs.Record.{Record, End, Const, LongConst, Align, Org, Space, Using, Strong, Label, Equate, Formula}
-use Rattle.link_meaning.specs.Sizes.{records_with_offsets, body_size}
-use Rattle.link_meaning.specs.Terms.{tree_in}
+use Rattle.object_meaning.specs.Sizes.{records_with_offsets, body_size}
+use Rattle.object_meaning.specs.Terms.{tree_in}
 use Rattle.orca_meaning.specs.declared.mnemonics.Mnemonic.{Mnemonic}
 use Rattle.orca_meaning.specs.declared.mnemonics.Mnemonic.TheVariants.{Brk, Rep, Sep}
 use Rattle.orca_meaning.specs.declared.modes.Mode.{Mode}

@@ -9,7 +9,6 @@ pub mod PageLaws
 pub mod FormLaws
 pub mod StoredLaws
 pub mod PageSizeLaws
-pub mod RunLaws
 pub mod ExportLaws
 pub mod WrittenBodyLaws
 pub mod WrittenFileLaws

@@ -26,7 +26,7 @@ use Rattle.omf_compact.specs.laws.Fronts.{front, zero_cells, front-zeros, writte
 use Rattle.omf_compact.specs.laws.HeldLaws.{cell-of}
 use Rattle.omf_compact.specs.laws.CanonLaws.{records-plain}
 use Rattle.omf_compact.specs.laws.AnswerLaws.{data-length, text-longer, segment-length}
-use Rattle.load_meaning.specs.laws.RunLaws.{text}
+use Rattle.object_meaning.specs.laws.RunLaws.{text}
 use Rattle.omf_compact.specs.laws.PathnameLaws.{path-is, lone_of, lone_patches, bytes-there}
 use Rattle.omf_compact.proofs.KnownLaws.{known_sound, known_written, known_held}
 

@@ -10,7 +10,7 @@ use Rattle.omf_format.specs.laws.WrittenHeaderLaws.{length-header}
 use Rattle.omf_format.specs.Record.{spelling}
 use Rattle.omf_format.specs.File.{Segment, segment_at}
 use Rattle.load_meaning.specs.Exports.{exports_of, exports_from}
-use Rattle.load_meaning.specs.laws.RunLaws.{text}
+use Rattle.object_meaning.specs.laws.RunLaws.{text}
 use Rattle.omf_compact.specs.Canonical.{plain_of, plain, canon_records, canon_fields, canon_segment, canon_from, canon}
 use Rattle.omf_compact.specs.laws.Writing.{first_records, first_text, entries_text, fields_with, AtExports}
 use Rattle.omf_cells.specs.Load.{HasFields}

@@ -2,7 +2,7 @@
 use Rattle.std.proofs.Common.{◌≡◌, ℕ, ◌+◌, ◌<◌, ◌≤◌, List, [], ◌∷◌, ◌++◌, length, replicate, Option, sym, ap, ◌∙◌, append_assoc, arith}
 use Rattle.omf_format.specs.Field.{written_layout}
 use Rattle.omf_format.specs.Record.{Record, spelling}
-use Rattle.link_meaning.specs.Sizes.{size_at}
+use Rattle.object_meaning.specs.Sizes.{size_at}
 use Rattle.asm_meaning.specs.laws.LabelProofs.{lengths_add}
 use Rattle.asm_meaning.specs.Object.{records_text}
 use Rattle.asm_meaning.specs.Pieces.{length_at}

@@ -1,7 +1,7 @@
 -- Changes of the segment that is open.
 use Rattle.std.proofs.Common.{◌≡◌, ℕ, List, [], ◌∷◌, ◌++◌, None, sym, ap, subst, ◌∙◌, append_assoc, append-nil, arith}
 use Rattle.omf_format.specs.Record.{Record}
-use Rattle.link_meaning.specs.Sizes.{size_at}
+use Rattle.object_meaning.specs.Sizes.{size_at}
 use Rattle.asm_meaning.specs.Pieces.{place_behind, length_at}
 use Rattle.asm_meaning.specs.State.{Segment, cells_of, with_label, local_of, with_local_record}
 use Rattle.orca_object.specs.declared.state.OpenSegment.{OpenSegment}

@@ -78,7 +78,7 @@ impl Body {
     ghost use Rattle.omf_format.specs.Field.{written_layout};
     ghost use Rattle.omf_format.specs.Record.{Record, IsRecord};
     ghost use Rattle.omf_records.specs.View.{view};
-    ghost use Rattle.link_meaning.specs.Sizes.{size_at};
+    ghost use Rattle.object_meaning.specs.Sizes.{size_at};
     ghost use Rattle.asm_meaning.specs.declared.faults.AsmCause.TheVariants.{SegmentTooLong};
     ghost use Rattle.asm_meaning.specs.Object.{records_text};
     ghost use Rattle.asm_meaning.specs.Pieces.{place_behind};
@@ -126,7 +126,7 @@ impl OpenSegment {
     ghost use Rattle.omf_format.specs.Field.{written_layout};
     ghost use Rattle.omf_format.specs.Record.{IsRecord};
     ghost use Rattle.omf_records.specs.View.{view};
-    ghost use Rattle.link_meaning.specs.Sizes.{size_at};
+    ghost use Rattle.object_meaning.specs.Sizes.{size_at};
     ghost use Rattle.asm_meaning.specs.State.{Segment, local_of, with_local_record};
     ghost use Rattle.orca_object.specs.StateView.{ShowsSegment, ShowsGrown, with_defined_name, with_records, with_local_label};
 

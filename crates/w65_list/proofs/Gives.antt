@@ -5,7 +5,7 @@ use Rattle.std.specs.List.{list_all, list_any, IsLastAndRest}
 use Rattle.omf_format.specs.Expression.{Tree, terms_of, Spells}
 use Rattle.omf_format.specs.Header.{Fields}
 use Rattle.omf_format.specs.Record as format
-use Rattle.link_meaning.specs.laws.TreeInLaws.{tree_in-again}
+use Rattle.object_meaning.specs.laws.TreeInLaws.{tree_in-again}
 use Rattle.list_meaning.specs.Listed.{ListedStatement, Wanted}
 use Rattle.list_meaning.specs.Listing as listing
 use Rattle.list_meaning.specs.Listing.{Given, are_short, if_short, then_said, with_run_written, split_last, behind_byte, is_held, held_back, dc_of_formula, weak_of, simple_of, number_of, formula_given, formula_listable, expr_listable, term_listable, term_may_stand, is_open, is_some_name, is_some_wanted, follows_opcode, equate_given, on_tree, given_by}

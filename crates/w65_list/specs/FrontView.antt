@@ -6,7 +6,7 @@ use Rattle.omf_format.specs.File.{Segment}
 use Rattle.omf_format.specs.Header.{Fields, form_of}
 use Rattle.omf_format.specs.Record.{Record}
 use Rattle.omf_format.specs.Reading.{Reader, HandsOut}
-use Rattle.link_meaning.specs.Sizes.{located_from, place_behind, body_size}
+use Rattle.object_meaning.specs.Sizes.{located_from, place_behind, body_size}
 use Rattle.list_meaning.specs.Listing.{is_listed_form, is_listable, is_listable_load_name, greatest_length, is_lost, has_lost_place}
 
 -- ALIGN is 0, or a power of two up to $10000

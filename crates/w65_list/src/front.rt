@@ -4,7 +4,7 @@ ghost use Rattle.std.specs.Prelude.{◌≡◌, ◌==◌, ◌&&◌, ◌||◌, ◌
 ghost use Rattle.std.specs.List.{list_all, position_or_len};
 ghost use Rattle.omf_format.specs.Ascii as ascii;
 ghost use Rattle.omf_format.specs.Reading.{records_of, IsBody};
-ghost use Rattle.link_meaning.specs.Sizes.{size_at, place_behind, body_size};
+ghost use Rattle.object_meaning.specs.Sizes.{size_at, place_behind, body_size};
 ghost use Rattle.omf_header.specs.View.{fields};
 ghost use Rattle.omf_records.specs.View.{view};
 ghost use Rattle.omf_records.specs.Segments.{IsSound, segment_of_view};

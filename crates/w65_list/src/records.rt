@@ -10,7 +10,7 @@ ghost use Rattle.omf_header.specs.View.{fields};
 ghost use Rattle.omf_records.specs.View.{view};
 ghost use Rattle.omf_expr.specs.View.{view as seen};
 ghost use Rattle.asm_meaning.specs.Instruction.{kind_of, address_code};
-ghost use Rattle.link_meaning.specs.Terms.{tree_in};
+ghost use Rattle.object_meaning.specs.Terms.{tree_in};
 ghost use Rattle.list_meaning.specs.Listed.{ListedStatement, Aligns, OrgIs, Ds, UsingIs, StrongIs, Labels, Equates, FormulaIs, WeakIs, EndIs};
 ghost use Rattle.list_meaning.specs.Listing as listing;
 ghost use Rattle.list_meaning.specs.Listing.{Given, is_record, record_by, record_of_opcode, with_run_written, then_said, with_name, is_among, is_listable, is_short, are_short, if_short, unless_zero, equate_given, number_of, both_long, follows_opcode, is_some_name, is_some_wanted, dc_of_formula, weak_of, simple_of, split_last, is_held, held_back, formula_listable, formula_given, given_by};

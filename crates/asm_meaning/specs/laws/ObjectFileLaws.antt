@@ -13,9 +13,9 @@ use Rattle.omf_format.specs.Record.{Record, End, spelling}
 use Rattle.omf_format.specs.Reading.{Reader, HandsOut}
 use Rattle.omf_format.specs.File as format
 use Rattle.omf_format.specs.File.{body_reader, IsSegment, AreSegments, IsFile}
-use Rattle.load_meaning.specs.laws.RunLaws.{IsBodyRecord, reader_at, text, placed, runs}
-use Rattle.link_meaning.specs.Sizes.{size_at, body_size}
-use Rattle.link_meaning.specs.Sizes as sizes
+use Rattle.object_meaning.specs.laws.RunLaws.{IsBodyRecord, reader_at, text, placed, runs}
+use Rattle.object_meaning.specs.Sizes.{size_at, body_size}
+use Rattle.object_meaning.specs.Sizes as sizes
 use Rattle.orca_meaning.specs.Line.{Line}
 use Rattle.asm_meaning.specs.Object.{records_text, segment_text, object_text, most_bytes, AreSteps, HasLines}
 use Rattle.asm_meaning.specs.Pieces.{place_behind}

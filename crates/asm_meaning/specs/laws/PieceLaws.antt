@@ -6,8 +6,8 @@ use Rattle.std.proofs.lemmas.List.Concat.{flat_map-cons}
 use Rattle.omf_format.specs.Field.{written_layout}
 use Rattle.omf_format.specs.Record.{Record, Const, LongConst, IsRecord}
 use Rattle.omf_format.specs.Reading.{is_end}
-use Rattle.load_meaning.specs.laws.RunLaws.{IsBodyRecord}
-use Rattle.link_meaning.specs.Sizes.{size_at}
+use Rattle.object_meaning.specs.laws.RunLaws.{IsBodyRecord}
+use Rattle.object_meaning.specs.Sizes.{size_at}
 use Rattle.asm_meaning.specs.Pieces.{Piece, Bytes, Whole, constant_records, records_behind, copies, place_behind, length_at}
 use Rattle.asm_meaning.specs.Elements.{joined_pieces}
 

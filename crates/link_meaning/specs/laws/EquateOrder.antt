@@ -6,9 +6,9 @@ use Rattle.std.proofs.lemmas.List.{map-append}
 use Rattle.std.proofs.lemmas.List.Concat.{flat_map-cons}
 use Rattle.omf_format.specs.Record.{Record, End, Const, LongConst, Align, Org, Space, Reloc, InterSeg, ShortReloc, ShortInterSeg, Super, Using, Strong, Label, Equate, Formula, Entry}
 use Rattle.link_meaning.specs.First.{IsIn}
-use Rattle.link_meaning.specs.Sizes.{Located, size_at, located_from, records_with_offsets}
+use Rattle.object_meaning.specs.Sizes.{Located, size_at, located_from, records_with_offsets}
 use Rattle.link_meaning.specs.Member.{Member}
-use Rattle.link_meaning.specs.Defines.{Definition, title_of, defined_by, defined_in}
+use Rattle.object_meaning.specs.Defines.{Definition, title_of, defined_by, defined_in}
 use Rattle.link_meaning.specs.Search.{FoundDefinition, entries_from, entries}
 use Rattle.link_meaning.specs.Rings.{has_expr, is_equate}
 use Rattle.link_meaning.specs.laws.ReadMembers.{members_read}

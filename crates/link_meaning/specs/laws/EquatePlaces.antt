@@ -17,9 +17,9 @@ use Rattle.omf_format.specs.laws.FileLaws.{header_lies}
 use Rattle.link_meaning.specs.First.{IsIn}
 use Rattle.link_meaning.specs.laws.FirstLaws.{Parted, Same, Sooner, Later, parted}
 use Rattle.link_meaning.specs.laws.MemberLists.{in_filter}
-use Rattle.link_meaning.specs.Sizes.{Located, size_at, located_from, records_with_offsets}
+use Rattle.object_meaning.specs.Sizes.{Located, size_at, located_from, records_with_offsets}
 use Rattle.link_meaning.specs.Member.{Member}
-use Rattle.link_meaning.specs.Defines.{Definition, outer_scope, title_of, defined_by, defined_in}
+use Rattle.object_meaning.specs.Defines.{Definition, outer_scope, title_of, defined_by, defined_in}
 use Rattle.link_meaning.specs.Search.{FoundDefinition, entries_from, entries}
 use Rattle.link_meaning.specs.Rings.{has_expr, is_equate, equates}
 use Rattle.link_meaning.specs.LinkFaults.{LinkInput, HasBytes, IsResolved}

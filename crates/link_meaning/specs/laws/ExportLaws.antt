@@ -20,9 +20,9 @@ use Rattle.omf_format.specs.declared.value.ValueFault.{ValueFault}
 use Rattle.omf_format.specs.File.{Segment}
 use Rattle.load_meaning.specs.WrittenFile.{IsExport}
 use Rattle.link_meaning.specs.First.{IsIn}
-use Rattle.link_meaning.specs.Sizes.{Located, size_at, located_from, records_with_offsets}
+use Rattle.object_meaning.specs.Sizes.{Located, size_at, located_from, records_with_offsets}
 use Rattle.link_meaning.specs.Member.{Member}
-use Rattle.link_meaning.specs.Defines.{outer_scope, Scope, ForSegment, ForUnit, ForAll, Definition, title_of, defined_by, defined_in}
+use Rattle.object_meaning.specs.Defines.{outer_scope, Scope, ForSegment, ForUnit, ForAll, Definition, title_of, defined_by, defined_in}
 use Rattle.link_meaning.specs.Search.{FoundDefinition, entries_from, entries}
 use Rattle.link_meaning.specs.Layout.{load_headers}
 use Rattle.link_meaning.specs.LinkValues.{Told, found_value}

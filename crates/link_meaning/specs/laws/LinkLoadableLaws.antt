@@ -18,7 +18,7 @@ use Rattle.omf_format.specs.declared.value.Value.TheVariants.{Fixed, At}
 use Rattle.omf_format.specs.declared.value.ValueFault.{ValueFault}
 use Rattle.load_meaning.specs.Pathnames.{IsPath, pathnames_from, has_pathnames, most_paths, paths_in, paths_of, paths_text, rows_text, rows_flaw, is_one_long}
 use Rattle.load_meaning.specs.laws.PathTextLaws.{paths_written}
-use Rattle.load_meaning.specs.laws.RunLaws.{placed}
+use Rattle.object_meaning.specs.laws.RunLaws.{placed}
 use Rattle.omf_format.specs.File.{Segment}
 use Rattle.load_meaning.specs.declared.load.LoadCause.TheVariants.{NotLoadFile, NoSuchTarget, BadTable}
 use Rattle.load_meaning.specs.declared.load.LoadFault.{LoadFault}
@@ -31,14 +31,14 @@ use Rattle.load_meaning.specs.WrittenBody.{data_records}
 use Rattle.load_meaning.specs.WrittenFile.{Image, table_fields, pathnames_image, pathnames_fields}
 use Rattle.link_meaning.specs.declared.form.LinkForm.{LinkForm}
 use Rattle.link_meaning.specs.declared.form.LinkForm.TheVariants.{Program, Runtime as LibraryForm}
-use Rattle.link_meaning.specs.Defines.{Scope, ForSegment, ForUnit, ForAll}
+use Rattle.object_meaning.specs.Defines.{Scope, ForSegment, ForUnit, ForAll}
 use Rattle.link_meaning.specs.laws.SettingLaws.{has_paths, of_setting, setting_of}
 use Rattle.load_meaning.specs.Runtime.{kind_fault, runtime_fault}
 use Rattle.link_meaning.specs.laws.OutsideLaws.{outside_named}
 use Rattle.link_meaning.specs.Search.{FoundDefinition, entries, outside}
 use Rattle.link_meaning.specs.First.{IsIn}
 use Rattle.link_meaning.specs.Member.{Member, objects, setting_in, RuntimeFile, LinkSetting, form_in}
-use Rattle.link_meaning.specs.Sizes.{size_at, located_from, records_with_offsets, place_behind, body_size}
+use Rattle.object_meaning.specs.Sizes.{size_at, located_from, records_with_offsets, place_behind, body_size}
 use Rattle.link_meaning.specs.laws.ReadMembers.{IsRead, members_read, read_header, read_size, read_some, read_kind}
 use Rattle.link_meaning.specs.laws.PlaceFits.{IsPlaceIn, place_fits, name_there, behind-le}
 use Rattle.link_meaning.specs.laws.PlaceValues.{expression_fits, entry_fits}

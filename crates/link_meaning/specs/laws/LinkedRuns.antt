@@ -9,7 +9,7 @@ use Rattle.omf_format.specs.Record.{Record}
 use Rattle.omf_format.specs.Header.{alignment_of}
 use Rattle.load_meaning.specs.Cells.{Cell}
 use Rattle.link_meaning.specs.declared.fault.LinkCause.{LinkCause}
-use Rattle.link_meaning.specs.Sizes.{Located, size_at, located_from, place_behind, records_with_offsets, body_size}
+use Rattle.object_meaning.specs.Sizes.{Located, size_at, located_from, place_behind, records_with_offsets, body_size}
 use Rattle.link_meaning.specs.Member.{Member}
 use Rattle.link_meaning.specs.Layout.{aligned_from, in_load, end_from, load_length, offset_of}
 use Rattle.link_meaning.specs.laws.LayoutLaws.{aligned_from-least, alignment-some}

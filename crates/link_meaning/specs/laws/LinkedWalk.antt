@@ -4,7 +4,7 @@ use Rattle.std.proofs.lemmas.List.{append-nil}
 use Rattle.std.proofs.lemmas.Bool.{ne_eqb, eq-eqb}
 use Rattle.load_meaning.specs.Cells.{Cell}
 use Rattle.link_meaning.specs.declared.fault.LinkCause.{LinkCause}
-use Rattle.link_meaning.specs.Sizes.{Located, records_with_offsets}
+use Rattle.object_meaning.specs.Sizes.{Located, records_with_offsets}
 use Rattle.link_meaning.specs.Member.{Member}
 use Rattle.link_meaning.specs.Layout.{in_load, offset_of}
 use Rattle.link_meaning.specs.LinkValues.{Told}

@@ -6,7 +6,7 @@ use Rattle.omf_format.specs.File.{Segment, segment_at}
 use Rattle.load_meaning.specs.Exports.{Export, exports_of}
 use Rattle.link_meaning.specs.First.{IsIn}
 use Rattle.link_meaning.specs.Member.{RuntimeFile, without_runtimes, setting_in, Member}
-use Rattle.link_meaning.specs.Defines.{ForAll}
+use Rattle.object_meaning.specs.Defines.{ForAll}
 use Rattle.link_meaning.specs.Search.{FoundDefinition, outside_of, outside_from, outside}
 use Rattle.link_meaning.specs.LinkValues.{outside_value}
 use Rattle.link_meaning.specs.laws.MadeLaws.{FitsPlace, FitsPatch}

@@ -14,7 +14,7 @@ use Rattle.omf_format.specs.Value.{wrapped_to_32_bits, signed, is_unshifted, div
 use Rattle.link_meaning.specs.First.{IsIn}
 use Rattle.link_meaning.specs.laws.MemberLists.{in_filter, filter_in}
 use Rattle.link_meaning.specs.Member.{Member, setting_in}
-use Rattle.link_meaning.specs.Terms.{asks_value, asked_by, asked_in, tree_in}
+use Rattle.object_meaning.specs.Terms.{asks_value, asked_by, asked_in, tree_in}
 use Rattle.link_meaning.specs.Search.{FoundDefinition, entries, finds, outside}
 use Rattle.link_meaning.specs.Rings.{has_expr, is_equate, equates, names_in, LeadsTo}
 use Rattle.link_meaning.specs.LinkValues.{Told, value_of_definition, place_value, found_value, if_ok, label_value, member_environment, value_or_equate_fault, tree_value, value_in, IsTable, outside_value}

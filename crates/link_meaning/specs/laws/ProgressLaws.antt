@@ -4,10 +4,10 @@ use Rattle.std.specs.Prelude.{◌&&◌, ◌||◌, not, filter, map, ◌==◌, if
 use Rattle.std.specs.Option.{option_or}
 use Rattle.std.specs.List.{list_any}
 use Rattle.std.specs.Str.{bytes_eq}
-use Rattle.link_meaning.specs.Member.{Member, Offer, is_data, setting_in}
+use Rattle.link_meaning.specs.Member.{Member, Offer, setting_in}
+use Rattle.object_meaning.specs.Defines.{is_data, Scope, Definition, outer_scope, title_of, data_title_of, defined_in}
 use Rattle.omf_format.specs.Header.{is_private}
 use Rattle.omf_format.specs.File.{Segment}
-use Rattle.link_meaning.specs.Defines.{Scope, Definition, outer_scope, title_of, data_title_of, defined_in}
 use Rattle.link_meaning.specs.First.{IsIn}
 use Rattle.std.proofs.lemmas.Bool.{eq-eqb, eqb-true}
 use Rattle.link_meaning.specs.laws.MemberLists.{filter_in}

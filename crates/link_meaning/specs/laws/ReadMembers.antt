@@ -20,7 +20,7 @@ use Rattle.load_meaning.specs.laws.LoadTableLaws.{first_of-none}
 use Rattle.link_meaning.specs.declared.fault.LinkCause.{LinkCause}
 use Rattle.link_meaning.specs.declared.fault.LinkCause.TheVariants.{Unsupported, BadRecord}
 use Rattle.link_meaning.specs.First.{IsIn, first_some}
-use Rattle.link_meaning.specs.Sizes.{body_size}
+use Rattle.object_meaning.specs.Sizes.{body_size}
 use Rattle.link_meaning.specs.Member.{Row, Input, Member, is_library, members_from, objects_from, objects, Offer, offer_of, offers_from, library_offers, LinkSetting}
 use Rattle.link_meaning.specs.Uses.{Use}
 use Rattle.link_meaning.specs.Search.{FoundDefinition}

@@ -14,11 +14,11 @@ use Rattle.omf_format.specs.Expression.{Term, Operator, Location, Constant, Name
 use Rattle.omf_format.specs.Value.{known_or_fault, operand_value, apply_one, apply_two, size_of, value}
 use Rattle.load_meaning.specs.Exports.{Export, exports_of}
 use Rattle.omf_format.specs.File.{Segment, segment_at}
-use Rattle.link_meaning.specs.Defines.{ForAll}
+use Rattle.object_meaning.specs.Defines.{ForAll}
 use Rattle.link_meaning.specs.First.{IsIn}
 use Rattle.link_meaning.specs.laws.MemberLists.{in_filter, filter_in}
 use Rattle.link_meaning.specs.Member.{Member, RuntimeFile, LinkSetting, setting_in, without_runtimes}
-use Rattle.link_meaning.specs.Terms.{asks_value, asked_by, asked_in, term_at, tree_in}
+use Rattle.object_meaning.specs.Terms.{asks_value, asked_by, asked_in, term_at, tree_in}
 use Rattle.link_meaning.specs.declared.search.Step.{Step}
 use Rattle.link_meaning.specs.Search.{FoundDefinition, is_seen_by_step, or_else, first_step_found, steps_of, with_this_name, entries, finds, finds_inside, outside_of, outside_from, outside}
 use Rattle.link_meaning.specs.Rings.{is_equate, equates, names_in, LeadsTo, Path, Last, Through, IsCircular}

@@ -8,7 +8,7 @@ use Rattle.omf_format.specs.Record.{Record, End, Const, LongConst, Align, Org, S
 use Rattle.link_meaning.specs.laws.OutsideLaws.{outside_fits}
 use Rattle.link_meaning.specs.Search.{FoundDefinition, outside}
 use Rattle.link_meaning.specs.First.{IsIn}
-use Rattle.link_meaning.specs.Sizes.{Located, size_at, located_from, records_with_offsets, place_behind, body_size}
+use Rattle.object_meaning.specs.Sizes.{Located, size_at, located_from, records_with_offsets, place_behind, body_size}
 use Rattle.link_meaning.specs.Member.{Member, setting_in}
 use Rattle.link_meaning.specs.LinkValues.{Told, place_value, value_in, IsTable, outside_value}
 use Rattle.link_meaning.specs.LinkFaults.{LinkInput, HasBytes, IsResolved}

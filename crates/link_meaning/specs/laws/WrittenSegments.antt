@@ -16,7 +16,7 @@ use Rattle.load_meaning.specs.laws.CellLaws.{patches-cons}
 use Rattle.load_meaning.specs.Loadable.{Fault, record_refusal, patch_refusal, first_refusal, entry_refusal, target_refusal, first_target_fault, target_fault, patch_list}
 use Rattle.omf_format.specs.Body.{body_bytes}
 use Rattle.load_meaning.specs.laws.ExportLaws.{exports_content, exports_patches}
-use Rattle.load_meaning.specs.laws.RunLaws.{placed, flat-placed}
+use Rattle.object_meaning.specs.laws.RunLaws.{placed, flat-placed}
 use Rattle.load_meaning.specs.laws.LayingLaws.{Has}
 use Rattle.load_meaning.specs.WrittenBody.{is_own, is_short, lone_record, patches_stored_alone, of_form, super_records, with_stored, supers_from, data_records, written_data, body_records, HasBody}
 use Rattle.load_meaning.specs.laws.WrittenBodyLaws.{without, without_places, data_content, data_patches, segment_has, stands, patches_are, from_records, HasRecords}

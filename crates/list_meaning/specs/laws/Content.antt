@@ -5,8 +5,8 @@ use Rattle.std.specs.List.{AllByRecursion, flat_map}
 use Rattle.std.proofs.lemmas.List.{map-append}
 use Rattle.std.proofs.lemmas.List.Concat.{flat_map-cons, flat_map-append}
 use Rattle.omf_format.specs.Record.{Record, End, Const, LongConst, Space, content_of}
-use Rattle.link_meaning.specs.Defines.{defined_by}
-use Rattle.link_meaning.specs.Sizes.{size_at}
+use Rattle.object_meaning.specs.Defines.{defined_by}
+use Rattle.object_meaning.specs.Sizes.{size_at}
 use Rattle.asm_meaning.specs.Pieces.{place_behind}
 use Rattle.asm_meaning.specs.laws.PieceLaws.{place_behind-append}
 use Rattle.list_meaning.specs.Flat.{FlatCell, One, zeros, places_at, places_from, Defined, comparable_definition, used_by, asked_by}

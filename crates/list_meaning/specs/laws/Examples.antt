@@ -6,8 +6,8 @@ use Rattle.orca_meaning.specs.Length as lengths
 use Rattle.orca_meaning.specs.Matrix as matrix
 use Rattle.orca_meaning.specs.Operation as operation
 use Rattle.asm_meaning.specs.Instruction as instruction
-use Rattle.link_meaning.specs.Sizes as sizes
-use Rattle.link_meaning.specs.Terms as terms
+use Rattle.object_meaning.specs.Sizes as sizes
+use Rattle.object_meaning.specs.Terms as terms
 use Rattle.omf_format.specs.Expression as expression
 use Rattle.omf_format.specs.Field as field
 use Rattle.omf_format.specs.Name as names

@@ -8,8 +8,8 @@ use Rattle.std.proofs.lemmas.Slice.Eq.{bytes_eq-Decides}
 use Rattle.omf_format.specs.Expression as expression
 use Rattle.omf_format.specs.Expression.{Tree, Leaf, Unary, Binary, IsTree, terms_of, depth, operand_count}
 use Rattle.omf_format.specs.Field.{IsName}
-use Rattle.link_meaning.specs.Terms.{tree_in}
-use Rattle.link_meaning.specs.laws.TreeInLaws.{tree_in-again}
+use Rattle.object_meaning.specs.Terms.{tree_in}
+use Rattle.object_meaning.specs.laws.TreeInLaws.{tree_in-again}
 use Rattle.orca_meaning.specs.Characters.{is_name, is_name_start, is_name_byte, folded}
 use Rattle.orca_meaning.specs.Formula.{pending, sign_code, operator_code}
 use Rattle.asm_meaning.specs.Constant.{Constants}

@@ -8,8 +8,8 @@ use Rattle.omf_format.specs.Number.{IsBytes}
 use Rattle.omf_format.specs.File.{Segment, AreSegments, IsFile}
 use Rattle.omf_format.specs.Header.{Fields, is_private}
 use Rattle.omf_format.specs.Record.{Record, End}
-use Rattle.link_meaning.specs.Defines.{defined_by, defined_in, title_of, outer_scope}
-use Rattle.link_meaning.specs.Sizes.{Located, located_from, records_with_offsets, size_at}
+use Rattle.object_meaning.specs.Defines.{defined_by, defined_in, title_of, outer_scope}
+use Rattle.object_meaning.specs.Sizes.{Located, located_from, records_with_offsets, size_at}
 use Rattle.orca_meaning.specs.Line.{Line, line_of, numbered_lines}
 use Rattle.asm_meaning.specs.Object.{AreSteps, HasLines, InLength, object_text, most_bytes}
 use Rattle.asm_meaning.specs.ObjectFile.{IsReadAs, AreReadAs}

@@ -12,9 +12,9 @@ use Rattle.omf_format.specs.Reading.{is_end}
 use Rattle.omf_format.specs.Header.{Fields, alignment_of}
 use Rattle.omf_format.specs.Record as records
 use Rattle.omf_format.specs.Record.{Record, IsRecord, IsDistance, Const, content_of}
-use Rattle.link_meaning.specs.Defines.{Scope, scope_of}
-use Rattle.link_meaning.specs.Terms.{tree_in}
-use Rattle.link_meaning.specs.laws.TreeInLaws.{tree_in-again}
+use Rattle.object_meaning.specs.Defines.{Scope, scope_of}
+use Rattle.object_meaning.specs.Terms.{tree_in}
+use Rattle.object_meaning.specs.laws.TreeInLaws.{tree_in-again}
 use Rattle.orca_meaning.specs.declared.mnemonics.Mnemonic.{Mnemonic}
 use Rattle.orca_meaning.specs.declared.modes.Mode.{Mode}
 use Rattle.orca_meaning.specs.declared.modes.Mode.TheVariants as modes

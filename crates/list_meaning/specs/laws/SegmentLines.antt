@@ -13,7 +13,7 @@ use Rattle.omf_format.specs.Header.{Fields, form_of, is_listed}
 use Rattle.omf_format.specs.Record as records
 use Rattle.omf_format.specs.Record.{Record, End, IsRecord}
 use Rattle.omf_format.specs.laws.FieldLaws.{bind_ok}
-use Rattle.link_meaning.specs.Sizes.{body_size}
+use Rattle.object_meaning.specs.Sizes.{body_size}
 use Rattle.orca_meaning.specs.Line.{line_of}
 use Rattle.macro_meaning.specs.Symbol.{with_name}
 use Rattle.asm_meaning.specs.declared.directives.Class.{Class}

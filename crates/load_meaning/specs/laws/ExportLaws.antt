@@ -5,7 +5,7 @@ use Rattle.std.proofs.lemmas.List.Concat.{flat_map-cons}
 use Rattle.omf_format.specs.Record.{Record, End, Const, LongConst, Align, Org, Space, Reloc, InterSeg, ShortReloc, ShortInterSeg, Super, Using, Strong, Label, Equate, Formula, Entry, content_of}
 use Rattle.omf_format.specs.File.{Segment}
 use Rattle.load_meaning.specs.Cells.{Patch, patches_in}
-use Rattle.load_meaning.specs.laws.RunLaws.{IsBodyRecord}
+use Rattle.object_meaning.specs.laws.RunLaws.{IsBodyRecord}
 use Rattle.load_meaning.specs.WrittenFile.{IsExport}
 
 pub export_fits : (r : Record) → IsExport r → IsBodyRecord r

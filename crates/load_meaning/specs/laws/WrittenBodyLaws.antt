@@ -25,7 +25,7 @@ use Rattle.load_meaning.specs.laws.LayingLaws.{Has, Missed, same_laid}
 use Rattle.load_meaning.specs.laws.FormLaws.{IsForm, Own2, Own3, Other3, Named, NamedBank, form_is, Holds, super_gives, lone_gives, lone_fits, lone_content}
 use Rattle.load_meaning.specs.laws.StoredLaws.{written_is, written_apart, parts, patched-laid, fit-cells, holds, restored, length-data, data-missed}
 use Rattle.load_meaning.specs.laws.PageSizeLaws.{Under, text_short}
-use Rattle.load_meaning.specs.laws.RunLaws.{IsBodyRecord, reader_at, text, placed, runs, flat-placed}
+use Rattle.object_meaning.specs.laws.RunLaws.{IsBodyRecord, reader_at, text, placed, runs, flat-placed}
 
 -- ---- members
 

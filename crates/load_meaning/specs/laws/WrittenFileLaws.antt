@@ -16,7 +16,7 @@ use Rattle.omf_format.specs.laws.FileLaws.{HandsOut-same}
 use Rattle.load_meaning.specs.Cells.{Byte, Patch, segment_bytes, patches_in, patches_of, patched_cells, cells}
 use Rattle.load_meaning.specs.laws.ExportLaws.{exports_fit, exports_content, exports_patches}
 use Rattle.load_meaning.specs.WrittenBody.{body_records, HasBody, data_records, written_cells}
-use Rattle.load_meaning.specs.laws.RunLaws.{reader_at, text, placed, runs, IsBodyRecord, flat-placed}
+use Rattle.object_meaning.specs.laws.RunLaws.{reader_at, text, placed, runs, IsBodyRecord, flat-placed}
 use Rattle.load_meaning.specs.laws.WrittenBodyLaws.{records_fit, cells_are, without, without_places, data_content, data_patches, reader_is}
 use Rattle.load_meaning.specs.WrittenFile.{Image, image_body, image_fields, image_text, file_text, IsImage, IsReadAs, AreReadAs, image_records, IsExport}
 

@@ -20,7 +20,7 @@ use Rattle.load_meaning.specs.Loadable.{IsLoadable}
 use Rattle.load_meaning.specs.WrittenBody.{data_records, written_data, zeros_behind, body_records, patches_stored_alone, lone_record, supers_from}
 use Rattle.load_meaning.specs.laws.StoredLaws.{zeros_left}
 use Rattle.load_meaning.specs.laws.WrittenBodyLaws.{length-written}
-use Rattle.load_meaning.specs.laws.RunLaws.{text}
+use Rattle.object_meaning.specs.laws.RunLaws.{text}
 use Rattle.omf_compact.specs.Stretches.{first_broken, stretches, byte_in, bytes_in, IsWrittenCell}
 use Rattle.omf_compact.specs.laws.StretchLaws.{stretches_written, given_back}
 use Rattle.omf_compact.specs.laws.Fronts.{front, zero_cells, front-zeros}

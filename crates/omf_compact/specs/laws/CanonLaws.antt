@@ -13,7 +13,7 @@ use Rattle.omf_format.specs.Body.{body_bytes}
 use Rattle.load_meaning.specs.Cells.{Cell, Byte, Patch, patched_cells, segment_bytes, patches_in, patches_of, cells}
 use Rattle.load_meaning.specs.WrittenBody.{is_own, is_short, patches_stored_alone, lone_record, super_records, supers_from, of_form, data_records, written_data, body_records}
 use Rattle.load_meaning.specs.laws.StoredLaws.{zeros-le}
-use Rattle.load_meaning.specs.laws.RunLaws.{IsBodyRecord, text, placed, flat-placed}
+use Rattle.object_meaning.specs.laws.RunLaws.{IsBodyRecord, text, placed, flat-placed}
 use Rattle.omf_compact.specs.Stretches.{first_broken, stretches, byte_in, bytes_in, IsWrittenCell}
 use Rattle.omf_compact.specs.Canonical.{is_entry, Plain, entries_in, plain_of, plain, is_pathname, canon_records, canon_fields, canon_segment, canon_from, canon}
 use Rattle.omf_compact.specs.laws.Sheets.{Sheet, sheet_text, IsSheet, IsSheetOf, AreSheetsOf, file_of_sheets}

@@ -13,7 +13,7 @@ use Rattle.omf_format.specs.File.{Segment}
 use Rattle.omf_format.specs.Body.{body_bytes}
 use Rattle.load_meaning.specs.Cells.{Cell, Byte, Patch, patched_cells, segment_bytes, super_patch, patches_in, patches_of, cells}
 use Rattle.load_meaning.specs.WrittenBody.{AreWritten, written_cells, body_records}
-use Rattle.load_meaning.specs.laws.RunLaws.{placed, flat-placed}
+use Rattle.object_meaning.specs.laws.RunLaws.{placed, flat-placed}
 use Rattle.load_meaning.specs.laws.WrittenBodyLaws.{cells_are}
 use Rattle.omf_compact.specs.Stretches.{first_broken, stretches, byte_in, bytes_in, IsWrittenCell}
 use Rattle.omf_compact.specs.laws.StretchLaws.{stretches_written, given_back}

@@ -9,7 +9,7 @@ use Rattle.load_meaning.specs.Cells.{Cell, Byte, Part, Patch}
 use Rattle.load_meaning.specs.WrittenBody.{stored_bytes, with_stored, is_zero, zeros_behind, written_cells, written_data, body_records, data_records, patches_stored_alone, lone_record, supers_from}
 use Rattle.load_meaning.specs.laws.LayingLaws.{laid, Fit}
 use Rattle.load_meaning.specs.laws.StoredLaws.{stored-laid, fit-stored, length-data}
-use Rattle.load_meaning.specs.laws.RunLaws.{IsBodyRecord}
+use Rattle.object_meaning.specs.laws.RunLaws.{IsBodyRecord}
 use Rattle.load_meaning.specs.laws.WrittenBodyLaws.{records_fit}
 use Rattle.omf_compact.specs.Stretches.{same_cell, first_broken, broken_from, run_length, stretches_from, stretches, byte_in, bytes_in, IsWrittenCell}
 use Rattle.omf_compact.specs.laws.StretchLaws.{unbroken-both, stretches_written, given_back}

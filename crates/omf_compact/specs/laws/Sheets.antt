@@ -12,7 +12,7 @@ use Rattle.omf_format.specs.laws.WrittenHeaderLaws.{length-header, fields_of-wri
 use Rattle.omf_format.specs.Record.{Record}
 use Rattle.omf_format.specs.Reading.{Reader, HandsOut}
 use Rattle.omf_format.specs.File.{Segment, body_reader, IsSegment, AreSegments, IsFile}
-use Rattle.load_meaning.specs.laws.RunLaws.{IsBodyRecord, reader_at, text, placed, runs}
+use Rattle.object_meaning.specs.laws.RunLaws.{IsBodyRecord, reader_at, text, placed, runs}
 
 -- ---- what is written
 

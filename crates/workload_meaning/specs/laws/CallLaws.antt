@@ -20,13 +20,13 @@ use Rattle.load_meaning.specs.Table.{is_same, with_target}
 use Rattle.link_meaning.specs.declared.fault.LinkCause.{LinkCause}
 use Rattle.link_meaning.specs.declared.fault.LinkCause.TheVariants as fault
 use Rattle.link_meaning.specs.First.{IsIn}
-use Rattle.link_meaning.specs.Sizes.{Located, size_at, located_from, records_with_offsets}
+use Rattle.object_meaning.specs.Sizes.{Located, size_at, located_from, records_with_offsets}
 use Rattle.link_meaning.specs.declared.form.LinkForm.{LinkForm}
 use Rattle.link_meaning.specs.Member.{LinkSetting, without_runtimes, Member, members_from}
 use Rattle.link_meaning.specs.Search.{FoundDefinition}
 use Rattle.link_meaning.specs.Layout.{load_length, load_names, number_in, load_of, offset_of, load_fields, headers_from, load_headers}
-use Rattle.link_meaning.specs.laws.TreeInLaws.{tree_in-again}
-use Rattle.link_meaning.specs.Terms.{tree_in}
+use Rattle.object_meaning.specs.laws.TreeInLaws.{tree_in-again}
+use Rattle.object_meaning.specs.Terms.{tree_in}
 use Rattle.link_meaning.specs.laws.PlaceFits.{name_there, offset-le, in_parts}
 use Rattle.link_meaning.specs.LinkValues.{Told, place_value, outside_value, label_value, member_environment, value_or_equate_fault, tree_value, value_in}
 use Rattle.link_meaning.specs.Fitting.{PatchPlace, Fit, Place, place_fit, is_dynamic_load, length_of, ends_in_jsl, is_call, target_of, has_room_for, may_call, call_fit, or_does_not_fit, fit_value, fit_cells, targets_behind}

@@ -6,7 +6,7 @@ use Rattle.std.proofs.lemmas.List.{length-replicate}
 use Rattle.omf_format.specs.Header.{Fields, is_listed, form_of, is_private}
 use Rattle.omf_format.specs.Record.{Record, End, Const, LongConst, Align, Org, Space, Reloc, InterSeg, ShortReloc, ShortInterSeg, Super, Using, Strong, Label, Equate, Formula, Entry}
 use Rattle.omf_format.specs.File.{Segment}
-use Rattle.link_meaning.specs.Sizes.{body_size}
+use Rattle.object_meaning.specs.Sizes.{body_size}
 use Rattle.asm_meaning.specs.State.{Ended}
 use Rattle.asm_meaning.specs.Pieces.{place_behind}
 use Rattle.asm_meaning.specs.laws.PieceLaws.{IsPlain, ArePlain}

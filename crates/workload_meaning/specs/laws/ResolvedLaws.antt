@@ -16,7 +16,7 @@ use Rattle.link_meaning.specs.declared.fault.LinkCause.TheVariants.{Unsupported,
 use Rattle.link_meaning.specs.declared.fault.LinkFault.{LinkFault}
 use Rattle.link_meaning.specs.declared.search.Want.TheVariants.{One}
 use Rattle.link_meaning.specs.First.{IsIn, HasNone, IsFirst, first_some}
-use Rattle.link_meaning.specs.Sizes.{body_size}
+use Rattle.object_meaning.specs.Sizes.{body_size}
 use Rattle.link_meaning.specs.declared.form.LinkForm.{LinkForm}
 use Rattle.link_meaning.specs.declared.form.LinkForm.TheVariants.{Program}
 use Rattle.link_meaning.specs.Member.{Row, Input, RuntimeFile, LinkSetting, without_runtimes, Member, is_library, members_from, objects, setting_in, Offer, library_offers}

@@ -13,9 +13,9 @@ use Rattle.omf_format.specs.Record.{Record, End, Const, LongConst, Align, Org, S
 use Rattle.omf_format.specs.File.{Segment}
 use Rattle.link_meaning.specs.declared.search.Want.TheVariants.{One}
 use Rattle.link_meaning.specs.declared.search.Step.{Step}
-use Rattle.link_meaning.specs.Sizes.{Located, size_at, located_from, records_with_offsets}
+use Rattle.object_meaning.specs.Sizes.{Located, size_at, located_from, records_with_offsets}
 use Rattle.link_meaning.specs.Member.{Member, without_runtimes, members_from, setting_in}
-use Rattle.link_meaning.specs.Defines.{Definition, ForAll, outer_scope, title_of, defined_by, defined_in}
+use Rattle.object_meaning.specs.Defines.{Definition, ForAll, outer_scope, title_of, defined_by, defined_in}
 use Rattle.link_meaning.specs.Uses.{Use, used_by, used_in_text, used_by_term, uses_of, data_name, usings_of}
 use Rattle.link_meaning.specs.Search.{FoundDefinition, entries_from, entries, with_this_name, first_step_found, steps_of, outer_steps, or_else, only_place, finds_data, used_data, finds_inside, outside, finds}
 use Rattle.workload_meaning.specs.Object.{name_of, padded, value_of}

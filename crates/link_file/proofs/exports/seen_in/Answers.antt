@@ -1,7 +1,7 @@
 use Rattle.std.proofs.Common.{Some, refl, sym, ap, subst}
 use Rattle.omf_format.specs.Record.{Record}
 use Rattle.omf_records.specs.View.{view}
-use Rattle.link_meaning.specs.Defines.{defined_by}
+use Rattle.object_meaning.specs.Defines.{defined_by}
 use Rattle.link_file.specs.Exported.{DefinesSeen}
 use Rattle.link_file.proofs.exports.seen_in.Goals as goal
 

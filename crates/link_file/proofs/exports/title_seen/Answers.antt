@@ -1,7 +1,7 @@
 use Rattle.std.proofs.Common.{◌≡◌, ◌≤◌, ℕ, Some, List, [], ◌∷◌, true, false, not, length, refl, sym, ap, subst, ◌∙◌, arith}
 use Rattle.std.proofs.lemmas.Bool.{eqb-true, eq-eqb}
 use Rattle.omf_records.specs.Segments.{segment_of_view}
-use Rattle.link_meaning.specs.Defines.{title_of}
+use Rattle.object_meaning.specs.Defines.{title_of}
 use Rattle.link_file.specs.Exported.{DefinesSeen}
 use Rattle.link_values.proofs.CircularLaws.{title_empty}
 use Rattle.link_file.proofs.ExportLaws.{title_named}

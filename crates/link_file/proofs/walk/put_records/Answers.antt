@@ -3,7 +3,7 @@ use Rattle.std.proofs.lemmas.List.{length-append}
 use Rattle.omf_format.specs.Record.{Record}
 use Rattle.omf_records.specs.Segments.{segment_of_view}
 use Rattle.omf_records.specs.View.{view}
-use Rattle.link_meaning.specs.Sizes.{size_at, place_behind}
+use Rattle.object_meaning.specs.Sizes.{size_at, place_behind}
 use Rattle.link_meaning.specs.Layout.{load_headers}
 use Rattle.link_program.specs.Outside.{all_found}
 use Rattle.link_meaning.specs.LinkedCells.{made}

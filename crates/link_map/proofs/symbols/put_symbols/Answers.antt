@@ -3,7 +3,7 @@ use Rattle.omf_format.specs.File.{Segment}
 use Rattle.omf_format.specs.Record.{Record}
 use Rattle.omf_records.specs.Segments.{segment_of_view}
 use Rattle.omf_records.specs.View.{view}
-use Rattle.link_meaning.specs.Sizes.{size_at, place_behind, body_size}
+use Rattle.object_meaning.specs.Sizes.{size_at, place_behind, body_size}
 use Rattle.link_program.specs.OfFiles.{IsOfFiles}
 use Rattle.link_values.proofs.Coming.{coming_view, body_lab_len, found_next, found_end}
 use Rattle.link_values.proofs.LocatedLaws.{behind-append}

@@ -2,7 +2,7 @@ use Rattle.std.proofs.Common.{◌≡◌, ◌++◌, ℕ, Bool, true, false, List,
 use Rattle.std.proofs.lemmas.Bool.{eqb-true, eq-eqb}
 use Rattle.std.proofs.lemmas.Result.{on_ok_weaker}
 use Rattle.omf_records.specs.Segments.{segment_of_view}
-use Rattle.link_meaning.specs.Defines.{outer_scope, title_of}
+use Rattle.object_meaning.specs.Defines.{outer_scope, title_of}
 use Rattle.link_map.specs.MapText.{scope_text}
 use Rattle.link_map.proofs.TextLaws.{nothing}
 use Rattle.link_map.proofs.SymbolLaws.{lines_of, title_none, title_line}

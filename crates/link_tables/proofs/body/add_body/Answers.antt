@@ -3,7 +3,7 @@ use Rattle.omf_format.specs.Field.{Layout}
 use Rattle.omf_format.specs.Record.{Record}
 use Rattle.omf_records.specs.Segments.{segment_of_view}
 use Rattle.omf_records.specs.View.{view}
-use Rattle.link_meaning.specs.Sizes.{records_with_offsets, body_size, place_behind}
+use Rattle.object_meaning.specs.Sizes.{records_with_offsets, body_size, place_behind}
 use Rattle.link_meaning.specs.Uses.{used_by, uses_of}
 use Rattle.link_tables.proofs.ComingLaws.{coming_view, found_next, found_end}
 use Rattle.link_tables.proofs.DefinitionLaws.{defining_all, defining_end, defining_within, defining_more}

@@ -1,6 +1,6 @@
 use Rattle.std.proofs.Common.{sym, ◌∙◌}
 use Rattle.omf_records.specs.View.{view}
-use Rattle.link_meaning.specs.Sizes.{size_at}
+use Rattle.object_meaning.specs.Sizes.{size_at}
 use Rattle.link_tables.proofs.Sized.{behind_past}
 use Rattle.link_tables.proofs.sizes.size_behind.Goals as goal
 

@@ -1,7 +1,7 @@
 use Rattle.std.proofs.Common.{Some, refl, sym, ap, subst}
 use Rattle.omf_format.specs.Record.{Record}
 use Rattle.omf_records.specs.View.{view}
-use Rattle.link_meaning.specs.Defines.{defined_by}
+use Rattle.object_meaning.specs.Defines.{defined_by}
 use Rattle.link_values.specs.Circulars.{DefinesName}
 use Rattle.link_values.proofs.circular.defined_name.Goals as goal
 

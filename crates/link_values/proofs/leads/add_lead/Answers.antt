@@ -4,7 +4,7 @@ use Rattle.omf_expr.specs.declared.term.Term as declared
 use Rattle.link_meaning.specs.First.{IsIn}
 use Rattle.link_meaning.specs.Rings.{is_equate}
 use Rattle.link_meaning.specs.Search.{FoundDefinition}
-use Rattle.link_meaning.specs.Terms.{asks_value}
+use Rattle.object_meaning.specs.Terms.{asks_value}
 use Rattle.link_values.specs.Equates.{NameRow}
 use Rattle.link_values.proofs.LeadLaws.{name_without, name_with, found_none, found_some, open_is, shut_is, named_asks}
 use Rattle.link_values.proofs.leads.add_lead.Goals as goal

@@ -2,7 +2,7 @@ use Rattle.std.proofs.Common.{◌++◌, ℕ}
 use Rattle.std.specs.List.{flat_map}
 use Rattle.omf_format.specs.Expression.{Term}
 use Rattle.omf_expr.specs.View.{view}
-use Rattle.link_meaning.specs.Terms.{asks_value}
+use Rattle.object_meaning.specs.Terms.{asks_value}
 use Rattle.link_values.proofs.LeadLaws.{named_more, one_more, split_terms}
 use Rattle.link_values.proofs.leads.add_leads.Goals as goal
 

@@ -1,7 +1,7 @@
 use Rattle.std.proofs.Common.{◌≡◌, ◌++◌, ℕ, Some, List, [], length}
 use Rattle.std.specs.List.{flat_map}
 use Rattle.link_meaning.specs.Member.{Member}
-use Rattle.link_meaning.specs.Terms.{asks_value}
+use Rattle.object_meaning.specs.Terms.{asks_value}
 use Rattle.link_program.specs.Linked.{member_at}
 use Rattle.link_values.specs.Equates.{NameRow, FindOne}
 use Rattle.link_values.proofs.leads.add_leads.Given as goal

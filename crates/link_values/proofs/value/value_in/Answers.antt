@@ -4,7 +4,7 @@ use Rattle.omf_format.specs.declared.value.ValueFault.{ValueFault}
 use Rattle.omf_format.specs.declared.value.ValueFault.TheVariants.{DivideByZero, NotRelocatable, Unknown}
 use Rattle.omf_format.specs.Expression.{Expression, Spells}
 use Rattle.link_program.specs.Outside.{all_found}
-use Rattle.link_meaning.specs.Terms.{term_at}
+use Rattle.object_meaning.specs.Terms.{term_at}
 use Rattle.link_meaning.specs.LinkValues.{fault_named}
 use Rattle.link_values.specs.Slots.{rows_of}
 use Rattle.link_values.proofs.ValueLaws.{value_settled, evaluated}

@@ -2,7 +2,7 @@ use Rattle.std.proofs.Common.{◌≡◌, ℕ, List, take, Option, false, subst, 
 use Rattle.std.specs.Prelude.{option_map}
 use Rattle.std.proofs.lemmas.Result.{on_ok_weaker}
 use Rattle.omf_expr.specs.View.{view}
-use Rattle.link_meaning.specs.laws.TreeInLaws.{tree_in-again}
+use Rattle.object_meaning.specs.laws.TreeInLaws.{tree_in-again}
 use Rattle.list_meaning.specs.Listed.{FormulaIs}
 use Rattle.list_meaning.specs.Listing.{dc_of_formula, is_short}
 use Rattle.list_lines.specs.LineView.{Wrote}

@@ -1,0 +1,2 @@
+pub mod TreeInLaws
+pub mod RunLaws
