@@ -76,15 +76,15 @@ with_byte byte (Some (text, rest)) = Some (byte ∷ text, rest)
 unfoldable pub text_at : List ℕ → Found (List ℕ)
 text_at [] = None
 text_at (byte ∷ []) = if byte == ascii.apostrophe then Some ([], []) else None
-text_at (byte ∷ next ∷ behind) =
-    if byte == ascii.apostrophe then (if next == ascii.apostrophe then with_byte ascii.apostrophe (text_at behind) else Some ([], next ∷ behind))
-    else with_byte byte (text_at (next ∷ behind))
+text_at (byte ∷ next ∷ following) =
+    if byte == ascii.apostrophe then (if next == ascii.apostrophe then with_byte ascii.apostrophe (text_at following) else Some ([], next ∷ following))
+    else with_byte byte (text_at (next ∷ following))
 
 -- the names, one at least, that commas part in a text
 abbrev pub AreNames : List ℕ → List (List ℕ) → Type 0
 AreNames text [] = ⊥
 AreNames text (name ∷ []) = name_at text ≡ Some (name, [])
-AreNames text (name ∷ next ∷ names) = (behind : List ℕ) × (name_at text ≡ Some (name, ascii.comma ∷ behind)) × AreNames behind (next ∷ names)
+AreNames text (name ∷ next ∷ names) = (following : List ℕ) × (name_at text ≡ Some (name, ascii.comma ∷ following)) × AreNames following (next ∷ names)
 
 -- the types of elements: I and A with the bytes of each number, H, B, C, R, S
 pub data Kind : Type 0 where
@@ -98,19 +98,19 @@ pub data Kind : Type 0 where
 -- the number of bytes behind I and A, which is 2 where none stands there
 abbrev pub width_at : List ℕ → Kind × List ℕ
 width_at [] = (Number 2, [])
-width_at (digit ∷ behind) = if nat_le ascii.digit_1 digit && nat_le digit ascii.digit_4 then (Number (digit - ascii.digit_0), behind) else (Number 2, digit ∷ behind)
+width_at (digit ∷ following) = if nat_le ascii.digit_1 digit && nat_le digit ascii.digit_4 then (Number (digit - ascii.digit_0), following) else (Number 2, digit ∷ following)
 
 -- the type at the front, in upper or lower case
 unfoldable pub kind_at : List ℕ → Found Kind
 kind_at [] = None
-kind_at (letter ∷ behind) =
+kind_at (letter ∷ following) =
     let capital = to_ascii_uppercase letter in
-    if capital == ascii.capital_i || capital == ascii.capital_a then Some (width_at behind)
-    else if capital == ascii.capital_h then Some (Hexadecimal, behind)
-    else if capital == ascii.capital_b then Some (Binary, behind)
-    else if capital == ascii.capital_c then Some (Characters, behind)
-    else if capital == ascii.capital_r then Some (References, behind)
-    else if capital == ascii.capital_s then Some (WeakReferences, behind)
+    if capital == ascii.capital_i || capital == ascii.capital_a then Some (width_at following)
+    else if capital == ascii.capital_h then Some (Hexadecimal, following)
+    else if capital == ascii.capital_b then Some (Binary, following)
+    else if capital == ascii.capital_c then Some (Characters, following)
+    else if capital == ascii.capital_r then Some (References, following)
+    else if capital == ascii.capital_s then Some (WeakReferences, following)
     else None
 
 -- the value of a type stands at the front, behind its opening quote and with its closing one
@@ -128,34 +128,34 @@ IsValueAt WeakReferences text value rest =
     (inner : List ℕ) × (names : List (List ℕ)) × (closed_at text ≡ Some (inner, rest)) × AreNames inner names × (value ≡ Weak names)
 
 -- what stands behind a parenthesis that opens at the front
-abbrev pub behind_parenthesis : List ℕ → Option (List ℕ)
-behind_parenthesis [] = None
-behind_parenthesis (byte ∷ behind) = if byte == ascii.opening_round then Some behind else None
+abbrev pub after_parenthesis : List ℕ → Option (List ℕ)
+after_parenthesis [] = None
+after_parenthesis (byte ∷ following) = if byte == ascii.opening_round then Some following else None
 
 -- how often an element stands, at the front: a formula in parentheses, decimal digits, or nothing
 abbrev pub IsRepeatBy : Option (List ℕ) → Found ℕ → List ℕ → Repeat → List ℕ → Type 0
-IsRepeatBy (Some behind) digits text repeat rest = (tree : Tree) × MeansAt Labels behind tree (ascii.closing_round ∷ rest) × (repeat ≡ Computed tree)
+IsRepeatBy (Some following) digits text repeat rest = (tree : Tree) × MeansAt Labels following tree (ascii.closing_round ∷ rest) × (repeat ≡ Computed tree)
 IsRepeatBy None (Some found) text repeat rest = (repeat ≡ Digits found.0) × (rest ≡ found.1)
 IsRepeatBy None None text repeat rest = (repeat ≡ Once) × (rest ≡ text)
 
 abbrev pub IsRepeatAt : List ℕ → Repeat → List ℕ → Type 0
-IsRepeatAt text repeat rest = IsRepeatBy (behind_parenthesis text) (digits_at 10 text) text repeat rest
+IsRepeatAt text repeat rest = IsRepeatBy (after_parenthesis text) (digits_at 10 text) text repeat rest
 
 -- an element stands at the front: how often, its type, and its value in quotes
 pub record IsElementAt (text : List ℕ) (element : Element) (rest : List ℕ) : Type 0 where
-  pub behind_repeat : List ℕ
+  pub after_repeat : List ℕ
   pub kind : Kind
-  pub behind_quote : List ℕ
-  pub repeat : IsRepeatAt text element.repeat behind_repeat
-  pub of_kind : kind_at behind_repeat ≡ Some (kind, ascii.apostrophe ∷ behind_quote)
-  pub value : IsValueAt kind behind_quote element.value rest
+  pub after_quote : List ℕ
+  pub repeat : IsRepeatAt text element.repeat after_repeat
+  pub of_kind : kind_at after_repeat ≡ Some (kind, ascii.apostrophe ∷ after_quote)
+  pub value : IsValueAt kind after_quote element.value rest
 
 -- the elements, one at least, that commas part in an operand
 abbrev pub AreElements : List ℕ → List Element → Type 0
 AreElements text [] = ⊥
 AreElements text (element ∷ []) = IsElementAt text element []
 AreElements text (element ∷ next ∷ elements) =
-    (behind : List ℕ) × IsElementAt text element (ascii.comma ∷ behind) × AreElements behind (next ∷ elements)
+    (following : List ℕ) × IsElementAt text element (ascii.comma ∷ following) × AreElements following (next ∷ elements)
 
 -- ---- what they give
 

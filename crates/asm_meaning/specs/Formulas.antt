@@ -18,7 +18,7 @@ IsFormula text (Some tree) = MeansAt Labels text tree []
 abbrev pub AreFormulas : List ℕ → List Tree → Type 0
 AreFormulas text [] = ⊥
 AreFormulas text (tree ∷ []) = MeansAt Labels text tree []
-AreFormulas text (tree ∷ next ∷ trees) = (behind : List ℕ) × MeansAt Labels text tree (ascii.comma ∷ behind) × AreFormulas behind (next ∷ trees)
+AreFormulas text (tree ∷ next ∷ trees) = (following : List ℕ) × MeansAt Labels text tree (ascii.comma ∷ following) × AreFormulas following (next ∷ trees)
 
 -- at most 64 values are pending, and its numbers are at most 4,294,967,295
 unfoldable pub checked_formula : Tree → Answer Tree

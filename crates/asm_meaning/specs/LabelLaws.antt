@@ -12,7 +12,7 @@ use Rattle.asm_meaning.specs.declared.directives.Directive.TheVariants as direct
 use Rattle.asm_meaning.specs.declared.directives.Operation.{Operation}
 use Rattle.asm_meaning.specs.declared.directives.Operation.TheVariants.{Direct}
 use Rattle.asm_meaning.specs.Operations.{operation_of}
-use Rattle.asm_meaning.specs.Pieces.{place_behind, length_at}
+use Rattle.asm_meaning.specs.Pieces.{place_after, length_at}
 use Rattle.asm_meaning.specs.State.{Segment, State, start, cells_of, local_of, with_local_record}
 use Rattle.asm_meaning.specs.Statement.{equate, label_of, IsStep}
 use Rattle.asm_meaning.specs.Object.{AreSteps}
@@ -28,8 +28,8 @@ LocalStandsBefore = (byte : ℕ) (label : List ℕ) (form : ℕ) (contents : Lis
 
 -- in a segment with these records the linker finds the record behind others at the place where their cells end
 abbrev pub LinkerSeesPlace : Type 0
-LinkerSeesPlace = (s : format.Segment) (before behind : List Record) (r : Record) → map (λ found. found.1) s.records ≡ before ++ r ∷ behind
-    → (l : Located) × (slice_get (records_with_offsets s) (length before) ≡ Some l) × (l.content ≡ r) × (l.location ≡ place_behind 0 before)
+LinkerSeesPlace = (s : format.Segment) (before following : List Record) (r : Record) → map (λ found. found.1) s.records ≡ before ++ r ∷ following
+    → (l : Located) × (slice_get (records_with_offsets s) (length before) ≡ Some l) × (l.content ≡ r) × (l.location ≡ place_after 0 before)
 
 -- ---- the statements of a segment
 

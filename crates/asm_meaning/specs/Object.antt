@@ -75,9 +75,9 @@ cause_of macros.Memory = Memory
 -- a line with a fault, behind lines that have none
 pub record HasBadLine (source : List ℕ) (macros : List (List ℕ)) (line : Line) (cause : AsmCause) : Type 0 where
   pub before : List Line
-  pub behind : List Line
+  pub following : List Line
   pub last : State
-  pub expanded : IsExpanded source macros (before ++ line ∷ behind)
+  pub expanded : IsExpanded source macros (before ++ line ∷ following)
   pub steps : AreSteps start before last
   pub wrong : IsStep last line (Err cause)
 

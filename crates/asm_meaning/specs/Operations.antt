@@ -30,5 +30,5 @@ directives =
 -- what an operation is, in upper or lower case; a line without one is read as ANOP
 unfoldable pub operation_of : List ℕ → Option Operation
 operation_of [] = Some (Direct Nothing)
-operation_of (byte ∷ behind) =
-    option_or (option_map Instruct (mnemonic_of (byte ∷ behind))) (option_map Direct (value_of_spelling (folded (byte ∷ behind)) directives))
+operation_of (byte ∷ following) =
+    option_or (option_map Instruct (mnemonic_of (byte ∷ following))) (option_map Direct (value_of_spelling (folded (byte ∷ following)) directives))

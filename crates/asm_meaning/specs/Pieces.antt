@@ -16,13 +16,13 @@ constant_records (byte ∷ bytes) =
     (if nat_le (length (byte ∷ bytes)) 223 then Const (byte ∷ bytes) else LongConst (byte ∷ bytes)) ∷ []
 
 -- the records of pieces behind constant bytes that have no record yet
-unfoldable pub records_behind : List ℕ → List Piece → List Record
-records_behind bytes [] = constant_records bytes
-records_behind bytes (Bytes more ∷ pieces) = records_behind (bytes ++ more) pieces
-records_behind bytes (Whole content ∷ pieces) = constant_records bytes ++ content ∷ records_behind [] pieces
+unfoldable pub records_after : List ℕ → List Piece → List Record
+records_after bytes [] = constant_records bytes
+records_after bytes (Bytes more ∷ pieces) = records_after (bytes ++ more) pieces
+records_after bytes (Whole content ∷ pieces) = constant_records bytes ++ content ∷ records_after [] pieces
 
 abbrev pub records_of : List Piece → List Record
-records_of pieces = records_behind [] pieces
+records_of pieces = records_after [] pieces
 
 -- pieces so often
 abbrev pub copies : ℕ → List Piece → List Piece
@@ -32,10 +32,10 @@ copies (suc n) pieces = pieces ++ copies n pieces
 -- ---- cells
 
 -- the place behind these records, where the first stands at this place of its segment
-unfoldable pub place_behind : ℕ → List Record → ℕ
-place_behind at [] = at
-place_behind at (content ∷ contents) = place_behind (at + size_at at content) contents
+unfoldable pub place_after : ℕ → List Record → ℕ
+place_after at [] = at
+place_after at (content ∷ contents) = place_after (at + size_at at content) contents
 
 -- the length of a statement is the number of cells that its records give
 unfoldable pub length_at : ℕ → List Record → ℕ
-length_at at contents = place_behind at contents - at
+length_at at contents = place_after at contents - at

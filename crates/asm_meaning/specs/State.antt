@@ -14,7 +14,7 @@ use Rattle.asm_meaning.specs.declared.faults.AsmCause.TheVariants.{SegmentTooLon
 use Rattle.asm_meaning.specs.Answer.{Answer}
 use Rattle.asm_meaning.specs.Constant.{Constants}
 use Rattle.asm_meaning.specs.Instruction.{Widths}
-use Rattle.asm_meaning.specs.Pieces.{place_behind, length_at}
+use Rattle.asm_meaning.specs.Pieces.{place_after, length_at}
 
 -- the names that a segment defines, each with its value where it is a constant
 abbrev pub Names : Type 0
@@ -69,7 +69,7 @@ start = record {
 
 -- how many cells a segment has so far
 abbrev pub cells_of : Segment → ℕ
-cells_of s = place_behind 0 s.body
+cells_of s = place_after 0 s.body
 
 -- KIND and BANKSIZE of a class, and the greatest LENGTH
 abbrev pub kind_of : Class → ℕ

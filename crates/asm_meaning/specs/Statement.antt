@@ -31,10 +31,10 @@ use Rattle.asm_meaning.specs.State.{Segment, State, state_after_start, state_aft
 -- ---- inside and outside of segments
 
 -- `*+` at the front, with which ORG moves the location counter, and what stands behind it
-abbrev pub behind_here : List ℕ → Option (List ℕ)
-behind_here [] = None
-behind_here (byte ∷ []) = None
-behind_here (byte ∷ next ∷ behind) = if byte == ascii.star && next == ascii.plus then Some behind else None
+abbrev pub following_here : List ℕ → Option (List ℕ)
+following_here [] = None
+following_here (byte ∷ []) = None
+following_here (byte ∷ next ∷ following) = if byte == ascii.star && next == ascii.plus then Some following else None
 
 abbrev pub is_some_text : Option (List ℕ) → Bool
 is_some_text None = false
@@ -57,7 +57,7 @@ needs_segment (Direct directives.Gequ) label operand = false
 needs_segment (Direct directives.Constants) label operand = true
 needs_segment (Direct directives.Space) label operand = true
 needs_segment (Direct directives.Align) label operand = is_labelled label
-needs_segment (Direct directives.Org) label operand = is_labelled label || is_some_text (behind_here operand)
+needs_segment (Direct directives.Org) label operand = is_labelled label || is_some_text (following_here operand)
 needs_segment (Direct directives.Kind) label operand = true
 needs_segment (Direct (directives.Turn switch)) label operand = is_labelled label
 needs_segment (Direct directives.Nothing) label operand = is_labelled label
@@ -224,7 +224,7 @@ IsMoveText (Some text) found = IsFormula text found
 
 abbrev pub IsMove : Option Segment → List ℕ → Option Tree → Type 0
 IsMove None text found = IsFormula text found
-IsMove (Some s) text found = IsMoveText (behind_here text) found
+IsMove (Some s) text found = IsMoveText (following_here text) found
 
 -- ---- what each operation does
 

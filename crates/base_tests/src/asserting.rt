@@ -7,8 +7,8 @@ use std::process::Abort;
 pub(crate) fn same<R: Debug, T: Debug + PartialEq + Drop>(
     rt: &impl Abort,
     row: &R,
-    told: T,
+    reported: T,
     want: T,
 ) {
-    assert_eq!(rt; told, want, "at {row:?}");
+    assert_eq!(rt; reported, want, "at {row:?}");
 }

@@ -241,8 +241,8 @@ static FALSE: [(usize, usize, &[(usize, u8)], Option<DictFault>); 28] = [
 #[test]
 fn each_cause_of_a_false_dictionary(rt: HostRuntime) {
     for (from, to, changes, want) in &FALSE {
-        let told = fault_of(rt.alloc(), *from, *to, changes);
-        same(&rt, &(*from, *to, *changes), told, *want);
+        let reported = fault_of(rt.alloc(), *from, *to, changes);
+        same(&rt, &(*from, *to, *changes), reported, *want);
     }
 }
 
@@ -340,8 +340,8 @@ fn libraries_are_made(rt: HostRuntime) {
             at: 43,
         },
     };
-    let told = outcome(alloc, &MAIN[..43], &MAIN);
-    same(&rt, &"cut", is_made(told, &[]), Err(Some(cut)));
+    let reported = outcome(alloc, &MAIN[..43], &MAIN);
+    same(&rt, &"cut", is_made(reported, &[]), Err(Some(cut)));
 
     // A row that is one byte off is false.
     let mut bytes = library_of_one();

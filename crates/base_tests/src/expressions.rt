@@ -1,5 +1,5 @@
 // Expressions. What no clause says: that the definitions are those of the field, and that memory is enough.
-mod told;
+mod reported;
 mod wanted;
 
 ghost use Rattle.std.specs.Prelude.{Some, None, if◌then◌else◌};
@@ -12,10 +12,10 @@ use crate::asserting::same;
 use omf_expr::{
     Env, Expr, ExprFault, ExprPutFault, Term, Terms, Value, ValueFault, evaluate, put_term,
 };
+use reported::{REPORTED, Reported, as_reported, place};
 use std::alloc::Global;
 use std::process::Abort;
 use std::test::Fail;
-use told::{TOLD, Told, as_told, place};
 use wanted::{OF_ONE, OF_TWO, SHIFTS, VALUES};
 
 /// An environment that knows one name.
@@ -68,26 +68,26 @@ fn names() -> OneName<'static> {
 }
 
 /// The value of the expression at the front of the bytes.
-fn value_of(bytes: &[u8], lab_len: u8) -> Told {
+fn value_of(bytes: &[u8], lab_len: u8) -> Reported {
     let expr = Expr::of(bytes, lab_len)?;
     Ok(evaluate(&expr, &names()))
 }
 
 /// An operator of two numbers.
-fn of_two(code: u8, a: u32, b: u32) -> Told {
+fn of_two(code: u8, a: u32, b: u32) -> Reported {
     let [a0, a1, a2, a3] = a.to_le_bytes();
     let [b0, b1, b2, b3] = b.to_le_bytes();
     value_of(&[0x81, a0, a1, a2, a3, 0x81, b0, b1, b2, b3, code, 0], 0)
 }
 
 /// An operator of one number.
-fn of_one(code: u8, a: u32) -> Told {
+fn of_one(code: u8, a: u32) -> Reported {
     let [a0, a1, a2, a3] = a.to_le_bytes();
     value_of(&[0x81, a0, a1, a2, a3, code, 0], 0)
 }
 
 /// What an operator is to give, where it gives this number: there is no quotient and no remainder by 0.
-fn given(code: u8, b: u32, number: u32) -> Told {
+fn given(code: u8, b: u32, number: u32) -> Reported {
     if b == 0 && (code == 0x04 || code == 0x05) {
         return Ok(Err(ValueFault::DivideByZero));
     }
@@ -142,8 +142,8 @@ fn operators_at_the_extremes(rt: HostRuntime) {
 
 #[test]
 fn expressions_have_values_or_faults(rt: HostRuntime) {
-    for (bytes, lab_len, want) in &TOLD {
-        same(&rt, bytes, value_of(bytes, *lab_len), as_told(want));
+    for (bytes, lab_len, want) in &REPORTED {
+        same(&rt, bytes, value_of(bytes, *lab_len), as_reported(want));
     }
 }
 
@@ -180,7 +180,7 @@ fn is_all(text: &[u8]) -> bool {
 }
 
 /// What is told of 64 constants, so many additions and these bytes, and whether they are one expression.
-fn told_of_sum(alloc: Global, additions: u32, last: &[u8]) -> Result<(Told, bool), Fail> {
+fn reported_of_sum(alloc: Global, additions: u32, last: &[u8]) -> Result<(Reported, bool), Fail> {
     let text = sum_of(alloc, additions, last)?;
     Ok((value_of(&text, 0), is_all(&text)))
 }
@@ -191,12 +191,12 @@ fn sixty_four_values_may_be_pending(rt: HostRuntime) -> Result<(), Fail> {
     same(
         &rt,
         &64,
-        told_of_sum(alloc, 63, &[0x00])?,
+        reported_of_sum(alloc, 63, &[0x00])?,
         (Ok(Ok(Value::Fixed(64))), true),
     );
 
     let location = written(alloc, &Term::Location)?;
-    let deeper = told_of_sum(alloc, 0, &location)?;
+    let deeper = reported_of_sum(alloc, 0, &location)?;
     same(&rt, &65, deeper, (Err(ExprFault::TooDeep(320)), false));
     Ok(())
 }

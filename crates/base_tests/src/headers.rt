@@ -51,7 +51,7 @@ static BREAKS: [(usize, u8, HeaderFault); 9] = [
 ];
 
 #[test]
-fn the_first_check_is_told(rt: HostRuntime) {
+fn the_first_check_is_reported(rt: HostRuntime) {
     let alloc = rt.alloc();
     same(&rt, &"whole", fault(alloc, &HEADER), None);
     let cut = fault(alloc, &HEADER[..43]);
@@ -65,10 +65,10 @@ fn the_first_check_is_told(rt: HostRuntime) {
 }
 
 /// What is told of a header: whether it has the name, the alignment, and whether it stays in a bank.
-type Told = (bool, u32, bool);
+type Reported = (bool, u32, bool);
 
 /// Bytes of that header that are changed, the name, and what is told.
-static CHANGED: [(&[(usize, u8)], &[u8], Told); 8] = [
+static CHANGED: [(&[(usize, u8)], &[u8], Reported); 8] = [
     // With LABLEN 2 the name is the two bytes behind the load name, here `A` and a space.
     (
         &[(0x0D, 2), (0x36, 0x41), (0x37, 0x20)],
@@ -111,26 +111,26 @@ static CHANGED: [(&[(usize, u8)], &[u8], Told); 8] = [
 ];
 
 /// What is told of that header with bytes changed; and ORG, SEGNUM and ENTRY, where it has the load name.
-fn told(
+fn reported(
     alloc: Global,
     changes: &[(usize, u8)],
     name: &[u8],
-) -> Result<(Told, Option<[u32; 3]>), HeaderFault> {
+) -> Result<(Reported, Option<[u32; 3]>), HeaderFault> {
     let mut bytes = HEADER;
     for (at, value) in changes {
         put(&mut bytes, *at, *value);
     }
     let header = read(alloc, &bytes)?;
-    let told = (
+    let reported = (
         header.name.bytes() == name,
         header.alignment(),
         header.stays_in_bank(),
     );
     if header.load_name != *b"LOAD      " {
-        return Ok((told, None));
+        return Ok((reported, None));
     }
     let places = [header.org, u32::from(header.seg_num), header.entry];
-    Ok((told, Some(places)))
+    Ok((reported, Some(places)))
 }
 
 #[test]
@@ -141,7 +141,7 @@ fn fields_are_where_they_stand(rt: HostRuntime) {
         same(
             &rt,
             changes,
-            told(alloc, changes, name),
+            reported(alloc, changes, name),
             Ok((*want, places)),
         );
     }

@@ -84,7 +84,7 @@ fn segments_have_lengths_data_and_cells(rt: HostRuntime) {
     let data = [0xA9, 0x01, 0x60, 0, 0, 0, 0, 0];
     same(&rt, &"data", is_data(alloc, &data), true);
     for (segment, cells) in &CELLS {
-        let told = unlike(alloc, &ONE, *segment, 0, cells);
-        same(&rt, segment, told, Ok(None));
+        let reported = unlike(alloc, &ONE, *segment, 0, cells);
+        same(&rt, segment, reported, Ok(None));
     }
 }

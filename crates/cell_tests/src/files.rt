@@ -101,9 +101,9 @@ fn first_unlike(
 ) -> Option<(u32, Option<Cell>)> {
     let mut at = from;
     for seen in cells {
-        let told = load.cell(segment, at);
-        if told != cell(seen) {
-            return Some((at, told));
+        let reported = load.cell(segment, at);
+        if reported != cell(seen) {
+            return Some((at, reported));
         }
         at = at.wrapping_add(1);
     }

@@ -198,25 +198,25 @@ fn segments_are_patched(rt: HostRuntime) -> Result<(), Fail> {
     let alloc = rt.alloc();
     let file = file_of_shifts(alloc)?;
     for (segment, lie, bytes) in &SHIFTED {
-        let told = is_patched(alloc, &file, *segment, *lie, bytes);
-        same(&rt, bytes, told, true);
+        let reported = is_patched(alloc, &file, *segment, *lie, bytes);
+        same(&rt, bytes, reported, true);
     }
 
     // At $F00000 the bytes are those of $F00403, of $F00504 shifted right by 16, and of $1324_5678 by 8.
     let file = file_over_one_another(alloc)?;
     let bytes = [1, 2, 0x03, 0xF0, 0x56, 6, 7, 8, 0, 0, 0, 0];
-    let told = is_patched(alloc, &file, 1, (0x00F0_0000, 0), &bytes);
-    same(&rt, &"over one another", told, true);
+    let reported = is_patched(alloc, &file, 1, (0x00F0_0000, 0), &bytes);
+    same(&rt, &"over one another", reported, true);
 
     // At $F10000 the first two bytes are $00F1, and the third is that of $F10201 and of $F10605.
     let file = file_of_supers(alloc)?;
     let bytes = [0xF1, 0, 0xF1, 4, 0xF1, 0, 0xF1, 8];
-    let told = is_patched(alloc, &file, 1, (0x00F1_0000, 0), &bytes);
-    same(&rt, &"later", told, true);
+    let reported = is_patched(alloc, &file, 1, (0x00F1_0000, 0), &bytes);
+    same(&rt, &"later", reported, true);
 
     let file = file_that_falls(alloc)?;
     let bytes = bytes_that_fall(alloc)?;
-    let told = is_patched(alloc, &file, 1, (0x0003_0000, 0), &bytes);
-    same(&rt, &"falling", told, true);
+    let reported = is_patched(alloc, &file, 1, (0x0003_0000, 0), &bytes);
+    same(&rt, &"falling", reported, true);
     Ok(())
 }

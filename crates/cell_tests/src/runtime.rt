@@ -9,7 +9,7 @@ use std::test::Fail;
 /// A fault as rows name it: cause, segment and place.
 type Fault = (LoadCause, u32, u32);
 
-fn told(fault: LoadFault) -> Fault {
+fn reported(fault: LoadFault) -> Fault {
     (fault.cause, fault.segment, fault.at)
 }
 
@@ -17,7 +17,7 @@ fn told(fault: LoadFault) -> Fault {
 fn fault_in(alloc: Global, file: &[u8]) -> Option<Fault> {
     match read(alloc, file) {
         Ok(_) => None,
-        Err(Some(fault)) => Some(told(fault)),
+        Err(Some(fault)) => Some(reported(fault)),
         Err(None) => None,
     }
 }
@@ -32,7 +32,7 @@ static BODY: [u8; 33] = [
 const DATA: usize = 0x37 + 5;
 
 /// Where the second segment begins.
-const BEHIND: usize = 0x37 + 33;
+const AFTER: usize = 0x37 + 33;
 
 /// A pathname segment and a static one of 8 bytes, with one byte changed.
 fn file_of_paths(alloc: Global, at: usize, value: u8) -> Result<Vec<u8>, AllocError> {
@@ -85,8 +85,8 @@ static FLAWS: [(usize, u8, Option<Fault>); 29] = [
     (0x08, 28, Some((LoadCause::BadTable, 1, 0))),
     (0x08, 40, Some((LoadCause::BadTable, 1, 0))),
     // A second one is refused at its start, whatever it is.
-    (BEHIND + 0x14, 0x04, Some((LoadCause::BadTable, 2, 0))),
-    (BEHIND + 0x14, 0x00, None),
+    (AFTER + 0x14, 0x04, Some((LoadCause::BadTable, 2, 0))),
+    (AFTER + 0x14, 0x00, None),
 ];
 
 #[test]
@@ -116,9 +116,9 @@ fn paths_in(alloc: Global, file: &[u8]) -> Result<Paths<'_>, Option<LoadFault>> 
 }
 
 #[test]
-fn paths_are_told(rt: HostRuntime) -> Result<(), Fail> {
+fn paths_are_reported(rt: HostRuntime) -> Result<(), Fail> {
     let alloc = rt.alloc();
-    let file = file_of_paths(alloc, BEHIND + 0x14, 0x00)?;
+    let file = file_of_paths(alloc, AFTER + 0x14, 0x00)?;
     let want: Paths<'_> = (Some(1), 2, [Some(b"ab"), Some(b"c"), None]);
     same(&rt, &"two", paths_in(alloc, &file), Ok(want));
 
@@ -183,7 +183,7 @@ fn export(name: &[u8], segment: u16, offset: u32, holder: u16) -> Option<Export<
 }
 
 #[test]
-fn exports_are_told(rt: HostRuntime) -> Result<(), Fail> {
+fn exports_are_reported(rt: HostRuntime) -> Result<(), Fail> {
     let alloc = rt.alloc();
     let file = file_of_entries(alloc, [0, 0], [0, 0], 0x22, 1)?;
     let want: Exports<'_> = (
@@ -238,7 +238,7 @@ fn runtime_fault(alloc: Global, file: &[u8]) -> Option<Fault> {
     }
     match read_runtime(alloc, file) {
         Ok(_) => None,
-        Err(fault) => Some(told(fault)),
+        Err(fault) => Some(reported(fault)),
     }
 }
 

@@ -48,9 +48,9 @@ fn targets(load: &LoadFile) -> [Result<Option<u32>, Target>; 4] {
 }
 
 /// The table, how many targets it has, and the targets at the places 0, 1, 4679 and 4680.
-type Told = (Option<u32>, u32, [Result<Option<u32>, Target>; 4]);
+type Reported = (Option<u32>, u32, [Result<Option<u32>, Target>; 4]);
 
-fn told(alloc: Global, file: &[u8]) -> Result<Told, Option<LoadFault>> {
+fn reported(alloc: Global, file: &[u8]) -> Result<Reported, Option<LoadFault>> {
     match read(alloc, file) {
         Ok(load) => Ok((load.table(), load.target_count(), targets(&load))),
         Err(fault) => Err(fault),
@@ -63,11 +63,11 @@ fn entries_lead_to_targets(rt: HostRuntime) -> Result<(), Fail> {
     let file = file_of_entries(alloc, 4680)?;
     let targets = [Ok(Some(0)), Ok(Some(1)), Ok(Some(4679)), Ok(None)];
     let want = (Some(1), 4680, targets);
-    same(&rt, &"4680", told(alloc, &file), Ok(want));
+    same(&rt, &"4680", reported(alloc, &file), Ok(want));
 
     // A file without a table has none.
     let file = file_of_one(alloc, 8, &[0])?;
     let want = (None, 0, [Ok(None); 4]);
-    same(&rt, &"none", told(alloc, &file), Ok(want));
+    same(&rt, &"none", reported(alloc, &file), Ok(want));
     Ok(())
 }

@@ -65,7 +65,7 @@ fn written(
 }
 
 /// The bytes behind a place.
-fn behind(bytes: &[u8], at: usize) -> &[u8] {
+fn following(bytes: &[u8], at: usize) -> &[u8] {
     match bytes.get(at..) {
         Some(rest) => rest,
         None => &[],
@@ -169,8 +169,8 @@ static BODIES: [(u16, &[u8], &[Row], &[u8], u32); 7] = [
 #[test]
 fn bodies_have_their_bytes(rt: HostRuntime) {
     for (own, content, rows, bytes, zeros) in &BODIES {
-        let told = body(rt.alloc(), *own, content, rows, bytes);
-        same(&rt, rows, told, Ok((true, *zeros)));
+        let reported = body(rt.alloc(), *own, content, rows, bytes);
+        same(&rt, rows, reported, Ok((true, *zeros)));
     }
 }
 
@@ -220,7 +220,7 @@ fn records_of_types(alloc: Global) -> Result<(bool, u32), BodyFault> {
     let patches = patches_of_types(alloc)?;
     let body = written(alloc, 20, &[0; 56], &patches)?;
     let wanted = supers(alloc)?;
-    Ok((behind(&body.bytes, 61) == wanted.as_slice(), body.zeros))
+    Ok((following(&body.bytes, 61) == wanted.as_slice(), body.zeros))
 }
 
 /// Whether this stands behind the type in the SUPER of two locations of own references, in the first page and behind a gap of
@@ -232,7 +232,7 @@ fn is_gap(alloc: Global, pages: u32, want: &[u8]) -> Result<bool, BodyFault> {
     let body = written(alloc, 7, &content, &patches)?;
     // behind the code, the length and the data of LCONST, and the code, the length and the type of SUPER
     let at = usize::wrapping_sub(0x10000 + 5 + 6, body.zeros as usize);
-    Ok(behind(&body.bytes, at) == want)
+    Ok(following(&body.bytes, at) == want)
 }
 
 /// Gaps of pages, and what stands there.

@@ -54,7 +54,7 @@ pub(crate) fn one(
 }
 
 /// The canonical form of a file, whose size is that of a file; nothing is told where it isn't.
-pub(crate) fn told(alloc: Global, file: &[u8]) -> Result<Vec<u8>, Option<CompactFault>> {
+pub(crate) fn reported(alloc: Global, file: &[u8]) -> Result<Vec<u8>, Option<CompactFault>> {
     if file.len() > 0x100_0000 {
         return Err(None);
     }
@@ -66,7 +66,7 @@ pub(crate) fn told(alloc: Global, file: &[u8]) -> Result<Vec<u8>, Option<Compact
 
 /// Whether these bytes are the canonical form of a file, and their own.
 pub(crate) fn gives(alloc: Global, file: &[u8], bytes: &[u8]) -> bool {
-    match told(alloc, file) {
+    match reported(alloc, file) {
         Ok(made) => made.as_slice() == bytes && is_own(alloc, bytes),
         Err(_) => false,
     }
@@ -74,7 +74,7 @@ pub(crate) fn gives(alloc: Global, file: &[u8], bytes: &[u8]) -> bool {
 
 /// Whether a file is its own canonical form.
 fn is_own(alloc: Global, file: &[u8]) -> bool {
-    match told(alloc, file) {
+    match reported(alloc, file) {
         Ok(made) => made.as_slice() == file,
         Err(_) => false,
     }
@@ -82,7 +82,7 @@ fn is_own(alloc: Global, file: &[u8]) -> bool {
 
 /// Why there is no canonical form of a file.
 pub(crate) fn fault(alloc: Global, file: &[u8]) -> Option<(CompactCause, u32, u32)> {
-    match told(alloc, file) {
+    match reported(alloc, file) {
         Err(Some(fault)) => Some((fault.cause, fault.segment, fault.at)),
         Err(None) => None,
         Ok(_) => None,

@@ -90,24 +90,24 @@ static TWO: [u8; 16] = [
 ];
 
 /// What stands behind its data.
-static BEHIND: [u8; 17] = [
+static AFTER: [u8; 17] = [
     0xF5, 1, 0, 0xFD, 2, 0, 0, 0xF7, 4, 0, 0, 0, 0, 0x82, 0, 0xFE, 0,
 ];
 
 /// The records of $300 zeros, and these behind them.
-fn long_body(alloc: Global, size: u16, behind: &[u8]) -> Result<Vec<u8>, AllocError> {
+fn long_body(alloc: Global, size: u16, following: &[u8]) -> Result<Vec<u8>, AllocError> {
     let mut body = Vec::new(alloc);
     body.extend_from_slice(&[0xF2, 0, 0, 0, 0])?;
     put_all(&mut body, 1, &u32::from(size).to_le_bytes());
     body.resize(body.len().saturating_add(usize::from(size)), 0)?;
-    body.extend_from_slice(behind)?;
+    body.extend_from_slice(following)?;
     Ok(body)
 }
 
 #[test]
 fn a_shared_byte_in_the_third_page(rt: HostRuntime) -> Result<(), Fail> {
     let file = one(rt.alloc(), 0, 0x300, 0, &TWO)?;
-    let body = long_body(rt.alloc(), 0x300, &BEHIND)?;
+    let body = long_body(rt.alloc(), 0x300, &AFTER)?;
     let want = one(rt.alloc(), 0, 0x300, 0, &body)?;
     assert_eq!(rt; want.len(), 845);
     same(&rt, &"SUPERs", gives(rt.alloc(), &file, &want), true);
@@ -126,7 +126,7 @@ fn spaced(alloc: Global, zeros: u32) -> Result<Vec<u8>, AllocError> {
 #[test]
 fn the_longest_file(rt: HostRuntime) -> Result<(), Fail> {
     let file = spaced(rt.alloc(), 16_777_154)?;
-    match crate::files::told(rt.alloc(), &file) {
+    match crate::files::reported(rt.alloc(), &file) {
         Ok(made) => same(&rt, &"longest", made.len(), 0x100_0000),
         Err(_) => same(&rt, &"longest", 0, 0x100_0000),
     }

@@ -1,2 +1,2 @@
 pub mod Lists
-pub mod RingLaws
+pub mod CycleLaws

@@ -22,8 +22,8 @@ pub data Way (rows : List (List ℕ)) : ℕ → ℕ → Type 0 where
   Through : (from next to : ℕ) → IsIn (row_at rows from) next → Way rows next to → Way rows from to
 
 -- the vertex lies on a ring
-abbrev pub IsOnRing : List (List ℕ) → ℕ → Type 0
-IsOnRing rows k = Way rows k k
+abbrev pub IsOnCycle : List (List ℕ) → ℕ → Type 0
+IsOnCycle rows k = Way rows k k
 
 -- each edge goes to a vertex
 abbrev pub AreInside : List (List ℕ) → Type 0

@@ -1,6 +1,6 @@
 -- Ranks of a graph's vertices, and the search for a ring.
 use Rattle.std.specs.Prelude.{◌≡◌, ◌⊎◌, ◌+◌, ◌<◌, ◌≤◌, ℕ, Bool, true, false, List, [], ◌∷◌, length, Option, Some, None, slice_get}
-use Rattle.cycles.specs.Graphs.{IsIn, at_or, row_at, Way, IsOnRing}
+use Rattle.cycles.specs.Graphs.{IsIn, at_or, row_at, Way, IsOnCycle}
 
 -- the rank of a vertex; 0 where it has none
 abbrev pub rank_at : List ℕ → ℕ → ℕ
@@ -18,14 +18,14 @@ abbrev pub AreRanks : List (List ℕ) → List ℕ → Type 0
 AreRanks rows ranks = (from : ℕ) → Falls rows ranks from
 
 -- the answer tells whether the vertex lies on a ring
-abbrev pub TellsRing : List (List ℕ) → ℕ → Bool → Type 0
-TellsRing rows k true = IsOnRing rows k
-TellsRing rows k false = IsOnRing rows k → ⊥
+abbrev pub ReportsCycle : List (List ℕ) → ℕ → Bool → Type 0
+ReportsCycle rows k true = IsOnCycle rows k
+ReportsCycle rows k false = IsOnCycle rows k → ⊥
 
 -- the first vertex that lies on a ring, if there is one
-abbrev pub IsFirstRing : List (List ℕ) → Option ℕ → Type 0
-IsFirstRing rows None = (k : ℕ) → k < length rows → IsOnRing rows k → ⊥
-IsFirstRing rows (Some n) = (n < length rows) × IsOnRing rows n × ((k : ℕ) → k < n → IsOnRing rows k → ⊥)
+abbrev pub IsFirstCycle : List (List ℕ) → Option ℕ → Type 0
+IsFirstCycle rows None = (k : ℕ) → k < length rows → IsOnCycle rows k → ⊥
+IsFirstCycle rows (Some n) = (n < length rows) × IsOnCycle rows n × ((k : ℕ) → k < n → IsOnCycle rows k → ⊥)
 
 -- how many of these are false
 abbrev pub unseen : List Bool → ℕ

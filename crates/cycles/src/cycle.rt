@@ -3,7 +3,7 @@
 ghost use Rattle.std.specs.Prelude.{◌≡◌, ◌<◌, ◌≤◌, true, false, ℕ, IfOk, length, OnOk};
 ghost use Rattle.std.specs.Bool.{OnTrue};
 ghost use Rattle.cycles.specs.Graphs.{IsIn, AreInside, row_at};
-ghost use Rattle.cycles.specs.Ranks.{rank_at, AreRanks, FallsFrom, TellsRing, IsFirstRing, Visits};
+ghost use Rattle.cycles.specs.Ranks.{rank_at, AreRanks, FallsFrom, ReportsCycle, IsFirstCycle, Visits};
 
 use crate::graph::Edges;
 use std::alloc::{AllocError, Global};
@@ -82,7 +82,7 @@ fn visit(
 /// Whether a vertex leads back to itself.
 fn leads_back(alloc: Global, edges: &Edges, vertex: usize) -> Result<bool, AllocError>
     requires { AreInside edges.now }
-    ensures { IfOk result (λ back. TellsRing edges.now vertex back) }
+    ensures { IfOk result (λ back. ReportsCycle edges.now vertex back) }
 {
     let mut seen = vec![in alloc; false; edges.count()]?;
     let mut queue = Vec::new(alloc);
@@ -105,7 +105,7 @@ pub fn first_cycle(
     ranks: &[usize],
 ) -> Result<Option<usize>, AllocError>
     requires { AreInside edges.now }
-    ensures { IfOk result (λ found. IsFirstRing edges.now found) }
+    ensures { IfOk result (λ found. IsFirstCycle edges.now found) }
 {
     let ranked = are_ranks(edges, ranks);
     let mut vertex = 0;
@@ -123,7 +123,7 @@ pub fn first_cycle(
 /// Whether the ranks say of a vertex that it doesn't lead back to itself.
 fn passes(edges: &Edges, ranks: &[usize], ranked: bool, vertex: usize) -> bool
     requires { OnTrue ranked (AreRanks edges.now ranks.now) }
-    ensures { OnTrue result (TellsRing edges.now vertex false) }
+    ensures { OnTrue result (ReportsCycle edges.now vertex false) }
 {
     ranked && falls(edges.row(vertex), ranks, rank_of(ranks, vertex))
 }

@@ -33,7 +33,7 @@ struct Search {
     /// From 1; 0 for those whose ring isn't known.
     ranks: Vec<usize>,
     count: usize,
-    rings: usize,
+    cycle_order: usize,
 }
 
 fn get(numbers: &Vec<usize>, at: usize) -> usize {
@@ -62,7 +62,7 @@ impl Search {
             order: Vec::new(alloc),
             ranks,
             count: 0,
-            rings: 0,
+            cycle_order: 0,
         })
     }
 
@@ -82,12 +82,12 @@ impl Search {
 
     /// The vertices of a ring, or a vertex on none, have their rank.
     fn close(&mut self, vertex: usize) -> Result<(), AllocError> {
-        self.rings = self.rings.saturating_add(1);
+        self.cycle_order = self.cycle_order.saturating_add(1);
         for _ in 0..self.open.as_slice().len() {
             let Some(last) = self.open.pop() else {
                 return Ok(());
             };
-            set(&mut self.ranks, last, self.rings);
+            set(&mut self.ranks, last, self.cycle_order);
             self.order.push(last)?;
             if last == vertex {
                 return Ok(());

@@ -58,9 +58,9 @@ pub fn expand_text(alloc: Global, source: &[u8], macros: &Vec<Vec<u8>>) -> Resul
     ensures refused { IfErr result (λ fault. IsMacroFault source.now (texts_of_files macros.now.items) fault) }
 {
     let lines = expand(alloc, source, macros)?;
-    let told = text_of(alloc, &lines);
+    let reported = text_of(alloc, &lines);
     drop(lines);
-    match told {
+    match reported {
         Ok(text) => Ok(text),
         Err(_) => Err(no_memory()),
     }

@@ -52,8 +52,8 @@ module _ (banks : List ℕ) (slots plan : Slots) (h : Handle) (at : ℕ) (can : 
   pub stays_is : can.to ≡ at → slots ≡ slice_set slots h.slot (slot_at plan h.slot)
   stays_is same = sym (set_same slots h.slot (slot_at plan h.slot) carry_within (can.planned ∙ held_same (slot_at slots h.slot) can.block can.to (live_block slots h can.block can.was) (can.there ∙ ap (λ (n : ℕ). Some n) (sym same))))
 
-  pub moved_told : is_moved (slot_at slots h.slot) (slot_at plan h.slot) ≡ not (at == can.to)
-  moved_told = rw (can.planned, live_block slots h can.block can.was, can.there) refl
+  pub moved_reported : is_moved (slot_at slots h.slot) (slot_at plan h.slot) ≡ not (at == can.to)
+  moved_reported = rw (can.planned, live_block slots h can.block can.was, can.there) refl
 
   -- and where it is moved
   pub carried_shift : (next : Slots) (to : ℕ) → to ≡ can.to → Shifts banks slots h to next → next ≡ slice_set slots h.slot (slot_at plan h.slot)
@@ -62,10 +62,10 @@ module _ (banks : List ℕ) (slots plan : Slots) (h : Handle) (at : ℕ) (can : 
       shifts.next_is ∙ ap (λ (b : Block). with_value slots h (moved_to to b)) block ∙ ap (λ (n : ℕ). with_value slots h (moved_to n can.block)) same ∙ carried_is
 
   pub counts_one : can.to ≢ at → 1 ≡ cond {A = ℕ} (is_moved (slot_at slots h.slot) (slot_at plan h.slot)) 1 0
-  counts_one ne = let other : (at == can.to) ≡ false = grind (arith, nat_tests) in rw (moved_told, other) refl
+  counts_one ne = let other : (at == can.to) ≡ false = grind (arith, nat_tests) in rw (moved_reported, other) refl
 
   pub counts_none : can.to ≡ at → 0 ≡ cond {A = ℕ} (is_moved (slot_at slots h.slot) (slot_at plan h.slot)) 1 0
-  counts_none eq = let same : (at == can.to) ≡ true = grind (arith, nat_tests) in rw (moved_told, same) refl
+  counts_none eq = let same : (at == can.to) ≡ true = grind (arith, nat_tests) in rw (moved_reported, same) refl
 
   -- what is there once it is carried was there
   pub there_before : (place : ℕ) → IsSome (address_in (slot_at (slice_set slots h.slot (slot_at plan h.slot)) place)) → IsSome (address_in (slot_at slots place))
@@ -76,9 +76,9 @@ module _ (banks : List ℕ) (slots plan : Slots) (h : Handle) (at : ℕ) (can : 
 
   -- where the plan has it is what was looked up
   pub looked_up : (block : Block) → Some block ≡ get plan h → (to : ℕ) → to ≡ unwrap_or block.at at → to ≡ can.to
-  looked_up block is to told =
+  looked_up block is to reported =
       let same : block ≡ moved_to can.to can.block = same_Some block (moved_to can.to can.block) (is ∙ planned_block) in
-      told ∙ ap (λ (b : Block). unwrap_or b.at at) same
+      reported ∙ ap (λ (b : Block). unwrap_or b.at at) same
 
 isnt_locked : (block : Block) → can_move block ≡ true → block.locked ≡ false
 unfolding can_move

@@ -96,11 +96,11 @@ unfolding can_purge can_move
 left_empty slots room left h block was empty = go (left.each h.slot)
   where
     value : block_in (slot_at slots h.slot) ≡ Some block
-    value = told ((slot_at slots h.slot).generation == h.generation) (block_in (slot_at slots h.slot)) was
+    value = reported ((slot_at slots h.slot).generation == h.generation) (block_in (slot_at slots h.slot)) was
       where
-        told : (b : Bool) (o : Option Block) → cond b o None ≡ Some block → o ≡ Some block
-        told true o e = e
-        told false o e = absurd cc
+        reported : (b : Bool) (o : Option Block) → cond b o None ≡ Some block → o ≡ Some block
+        reported true o e = e
+        reported false o e = absurd cc
 
     none_there : (b : Block) → block_in (slot_at slots h.slot) ≡ Some b → b.at ≡ None
     none_there b is = ap (λ (x : Block). x.at) (sym (same_Some block b (sym value ∙ is))) ∙ empty

@@ -12,7 +12,7 @@ ghost use Rattle.iigs_meaning.specs.Slide.{AreSettled, AsksNoPlace, PurgesOrSlid
 ghost use Rattle.iigs_meaning.specs.Moves.{IsSlid};
 ghost use Rattle.iigs_meaning.specs.Blocks.{IsBlockRefusal, IsStale, AreApart, state_of};
 ghost use Rattle.iigs_meaning.specs.Banks.{IsBanksRefusal};
-ghost use Rattle.iigs_meaning.specs.Memory.{bytes_at, IsLent, KeepsBut, Changes, IsFreed, IsPurged, IsPlaced, AreAllPlaced, IsReplaced, IsNew};
+ghost use Rattle.iigs_meaning.specs.Memory.{bytes_at, IsBorrowed, KeepsBut, Changes, IsFreed, IsPurged, IsPlaced, AreAllPlaced, IsReplaced, IsNew};
 ghost use Rattle.iigs_meaning.specs.Room.{CountsBelow, IsRoom};
 ghost use Rattle.iigs_places.specs.Holder.{Has, IsHolder};
 ghost use Rattle.iigs_memory.specs.Overlay.{with_bytes_written};
@@ -101,7 +101,7 @@ impl CompactBanks {
 
     /// The bytes of a block.
     pub fn block(&self, h: Handle) -> Result<&[u8], BlockFault>
-        ensures lent { IfOk result (λ bytes. IsLent self.now h bytes.now) }
+        ensures loaned { IfOk result (λ bytes. IsBorrowed self.now h bytes.now) }
         ensures refused { IfErr result (IsBlockRefusal self.now.slots h) }
     {
         self.banks.block(h)
@@ -109,7 +109,7 @@ impl CompactBanks {
 
     /// The bytes of a block, to be written. Of the write itself `lend` says more.
     pub fn block_mut(&mut self, h: Handle) -> Result<&mut [u8], BlockFault>
-        ensures lent { IfOk result (λ bytes. IsLent self.old h bytes.now) }
+        ensures loaned { IfOk result (λ bytes. IsBorrowed self.old h bytes.now) }
         ensures refused { IfErr result (IsBlockRefusal self.old.slots h) }
     {
         match self.banks.state(h) {

@@ -71,8 +71,8 @@ module _ (banks buffer : List ℕ) (slots : List (Slot Block)) (bounded : All Is
   ]
 
   -- the memory after bytes were written from the block's start on
-  pub lent_memory : (ws : List ℕ) → memory_of banks slots (overlay (offset_of banks e.0) ws buffer) ≡ with_bytes_written (memory_of banks slots buffer) h ws
-  lent_memory ws =
+  pub borrowed_memory : (ws : List ℕ) → memory_of banks slots (overlay (offset_of banks e.0) ws buffer) ≡ with_bytes_written (memory_of banks slots buffer) h ws
+  borrowed_memory ws =
       let start : start_of banks (slot_at slots h.slot) ≡ offset_of banks e.0 = ap (offset_of banks) (start_extent (slot_at slots h.slot) e is) in
       ap (λ (bytes : List (List ℕ)). let m : Memory = record { banks = banks; slots = slots; bytes = bytes } in m)
       (map-slots (bytes_in banks (overlay (offset_of banks e.0) ws buffer)) (λ slot. written_over (start_of banks slot) (bytes_in banks buffer slot) (offset_of banks e.0) ws) slots
@@ -80,11 +80,11 @@ module _ (banks buffer : List ℕ) (slots : List (Slot Block)) (bounded : All Is
       ∙ sym (rw start (zip-map (bytes_in banks buffer) (λ pair. written_over (start_of banks pair.0) pair.1 (offset_of banks e.0) ws) slots)))
 
   -- as many bytes as the block has change that block alone
-  pub lent_alone : (ws : List ℕ) → length ws ≡ length (bytes_at (memory_of banks slots buffer) h.slot)
+  pub borrowed_alone : (ws : List ℕ) → length ws ≡ length (bytes_at (memory_of banks slots buffer) h.slot)
       → with_bytes_written (memory_of banks slots buffer) h ws ≡ record { banks = banks; slots = slots; bytes = set (map (bytes_in banks buffer) slots) h.slot ws }
-  lent_alone ws len =
+  borrowed_alone ws len =
       let size : length ws ≡ e.1 = len ∙ ap length (sym part_bytes) ∙ length-part (offset_of banks e.0) e.1 buffer (in_buffer banks buffer slots bounded sound room h.slot e is) in
-      sym (lent_memory ws) ∙ ap (λ (bytes : List (List ℕ)). let m : Memory = record { banks = banks; slots = slots; bytes = bytes } in m)
+      sym (borrowed_memory ws) ∙ ap (λ (bytes : List (List ℕ)). let m : Memory = record { banks = banks; slots = slots; bytes = bytes } in m)
       (map-set (bytes_in banks (overlay (offset_of banks e.0) ws buffer)) (bytes_in banks buffer) slots h.slot ws in_list
       (over_here banks buffer slots bounded sound room h.slot e is ws size)
       (over_other banks buffer slots bounded sound room h.slot e is ws size))
@@ -118,13 +118,13 @@ module _ (banks buffer : List ℕ) (slots : List (Slot Block)) (bounded : All Is
   pub memory_there : (ws : List ℕ) → memory_of banks slots (overlay start ws buffer) ≡ with_bytes_written (memory_of banks slots buffer) h ws
   memory_there ws =
       let e = part_extent (memory_of banks slots buffer) h start end is_part in
-      ap (λ n. memory_of banks slots (overlay n ws buffer)) e.2 ∙ lent_memory banks buffer slots bounded sound room h e.0 e.1 ws
+      ap (λ n. memory_of banks slots (overlay n ws buffer)) e.2 ∙ borrowed_memory banks buffer slots bounded sound room h e.0 e.1 ws
 
   pub alone_there : (ws : List ℕ) → length ws ≡ length (bytes_at (memory_of banks slots buffer) h.slot)
       → with_bytes_written (memory_of banks slots buffer) h ws ≡ record { banks = banks; slots = slots; bytes = set (map (bytes_in banks buffer) slots) h.slot ws }
   alone_there ws len =
       let e = part_extent (memory_of banks slots buffer) h start end is_part in
-      lent_alone banks buffer slots bounded sound room h e.0 e.1 ws len
+      borrowed_alone banks buffer slots bounded sound room h e.0 e.1 ws len
 
 -- what stands past a part doesn't matter for it
 part-refill : (start size n : ℕ) (xs ys : List ℕ) → start + size ≤ n → n ≤ length xs → part start size (take n (xs ++ ys)) ≡ part start size xs

@@ -11,7 +11,7 @@ ghost use Rattle.iigs_meaning.specs.Fits.{IsWant, HoldsByte};
 ghost use Rattle.iigs_meaning.specs.Puts.{Purges, IsPlaceRefusal, IsReplaceRefusal, IsPlaceAllRefusal, slots_for};
 ghost use Rattle.iigs_meaning.specs.Blocks.{IsBlockRefusal, IsStale, AreApart, new_slots, state_of};
 ghost use Rattle.iigs_meaning.specs.Banks.{IsBanksRefusal};
-ghost use Rattle.iigs_meaning.specs.Memory.{bytes_at, IsLent, KeepsBut, Changes, IsFreed, IsPurged, IsPlaced, AreAllPlaced, IsReplaced, IsNew};
+ghost use Rattle.iigs_meaning.specs.Memory.{bytes_at, IsBorrowed, KeepsBut, Changes, IsFreed, IsPurged, IsPlaced, AreAllPlaced, IsReplaced, IsNew};
 ghost use Rattle.iigs_meaning.specs.Placement.{slots_after_purges};
 ghost use Rattle.iigs_meaning.specs.Moves.{count_there, IsNth, IsEmptied, IsEmptyRefusal, IsShifted, IsShiftRefusal};
 ghost use Rattle.iigs_meaning.specs.Room.{CountsBelow, IsRoom};
@@ -144,7 +144,7 @@ impl Banks {
 
     /// The bytes of a block.
     pub fn block(&self, h: Handle) -> Result<&[u8], BlockFault>
-        ensures lent { IfOk result (λ bytes. IsLent self.now h bytes.now) }
+        ensures loaned { IfOk result (λ bytes. IsBorrowed self.now h bytes.now) }
         ensures refused { IfErr result (IsBlockRefusal self.now.slots h) }
     {
         self.places.know_arranged();
@@ -161,7 +161,7 @@ impl Banks {
 
     /// The bytes of a block, to be written. Of the write itself `lend` says more.
     pub fn block_mut(&mut self, h: Handle) -> Result<&mut [u8], BlockFault>
-        ensures lent { IfOk result (λ bytes. IsLent self.old h bytes.now) }
+        ensures loaned { IfOk result (λ bytes. IsBorrowed self.old h bytes.now) }
         ensures refused { IfErr result (IsBlockRefusal self.old.slots h) }
     {
         self.places.know_arranged();

@@ -35,7 +35,7 @@ pub none_beside : (spots : List BlockSpot) (limit size address place : ℕ) (d :
     → (get_or spots place d).at < address + size → address < (get_or spots place d).end → HasNoPlace spots limit size address
 none_beside spots limit size address place d inside kept begins ends beside = elim (beside place d inside kept) [
   | inl before ↦ absurd (omega (arith, before))
-  | inr behind ↦ absurd (omega (arith, behind))
+  | inr following ↦ absurd (omega (arith, following))
 ]
 
 module _ (banks : List ℕ) (want : Want) (spots : List BlockSpot) (limit from index place next : ℕ) where
@@ -66,7 +66,7 @@ module _ (banks : List ℕ) (want : Want) (spots : List BlockSpot) (limit from i
     | inl before ↦ past_later limit from end (get_or spots k d) (omega arith) (past k d before)
     | inr ge ↦ elim (cases_lt k next) [
       | inl before ↦ past_later limit place end (get_or spots k d) le' (passed k d ge before)
-      | inr behind ↦ run k d behind lt
+      | inr following ↦ run k d following lt
     ]
   ]
 

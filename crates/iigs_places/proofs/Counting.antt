@@ -164,11 +164,11 @@ count_all {X} (x ∷ xs) = omega (arith, count-cons (λ (x : X). true) x xs, cou
 
 pub count_is : (slots : List (Slot Block)) (marks : List BlockMark) → HaveMarks slots marks → length marks ≡ count_there slots
 count_is slots marks have = sym (count_all marks) ∙ count_marks slots marks have (λ at. true)
-    ∙ count-same (λ slot. option_map_or (λ at. true) (address_in slot) false) (λ slot. is_some (address_in slot)) slots (λ k d inside. told (address_in (get_or slots k d)))
+    ∙ count-same (λ slot. option_map_or (λ at. true) (address_in slot) false) (λ slot. is_some (address_in slot)) slots (λ k d inside. reported (address_in (get_or slots k d)))
   where
-    told : (o : Option ℕ) → option_map_or (λ at. true) o false ≡ is_some o
-    told None = refl
-    told (Some at) = refl
+    reported : (o : Option ℕ) → option_map_or (λ at. true) o false ≡ is_some o
+    reported None = refl
+    reported (Some at) = refl
 
 -- ---- those below an address
 
@@ -176,7 +176,7 @@ pub marks_apart : (slots : List (Slot Block)) (marks : List BlockMark) → IsMar
 marks_apart slots marks made have m o has has' ne = elim (cases_lt o.at m.at) [
   | inl below ↦ inl below
   | inr above ↦ elim (cases_lt o.at m.end) [
-    | inr behind ↦ inr behind
+    | inr following ↦ inr following
     | inl within ↦
         let one = have.are m has in
         absurd (made.apart m.slot one.0 o one.1 has' (λ eq. ne (sym eq)) (omega (arith, above, ap (λ (x : BlockMark). x.at) one.2), omega (arith, within, ap (λ (x : BlockMark). x.end) one.2)))
@@ -190,7 +190,7 @@ rising marks order once sized' apart i j d less inside =
     let two = Contains-get_or marks j d inside in
     elim (apart (get_or marks i d) (get_or marks j d) one two (once_apart marks once i j d (omega (arith, less)) (omega (arith, less, inside)) inside)) [
       | inl lower ↦ absurd (omega (arith, lower, order i j d (omega (arith, less)) inside))
-      | inr behind ↦ omega (arith, behind, (sized' i d (omega (arith, less, inside))).0)
+      | inr following ↦ omega (arith, following, (sized' i d (omega (arith, less, inside))).0)
     ]
 
 count_place : (marks : List BlockMark) (k : ℕ) (d : BlockMark) → k < length marks → ((i j : ℕ) → i < j → j < length marks → (get_or marks i d).at < (get_or marks j d).at)

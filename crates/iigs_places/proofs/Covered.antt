@@ -85,7 +85,7 @@ module _ (runs : List BlockSpot) (count at end turn : ℕ) (some : at < end) whe
   fresh_runs are stands ends =
       let moved : IsPermutation (fresh ∷ runs) (insert runs count fresh) = IsPermutation-insert runs count fresh in
       record {
-        order = IsNonDecreasingBy-insert (λ (run : BlockSpot). run.at) runs count fresh are.order stands.within stands.before stands.behind;
+        order = IsNonDecreasingBy-insert (λ (run : BlockSpot). run.at) runs count fresh are.order stands.within stands.before stands.following;
         some = All-permutation (λ (run : BlockSpot). run.at < run.end) (fresh ∷ runs) (insert runs count fresh) moved (All-cons (λ (run : BlockSpot). run.at < run.end) fresh runs some are.some);
         ends = All-permutation (λ (run : BlockSpot). run.end ≤ 2 ^ 24) (fresh ∷ runs) (insert runs count fresh) moved (All-cons (λ (run : BlockSpot). run.end ≤ 2 ^ 24) fresh runs ends are.ends);
       }
@@ -124,10 +124,10 @@ cover_none = record {
 -- the first so many marks are joined, and no run begins behind a later one
 pub record Joined (marks : List BlockMark) (count : ℕ) (runs : List BlockSpot) : Type 0 where
   pub cover : Cover (take count marks) runs
-  pub behind : (k : ℕ) (d : BlockMark) → count ≤ k → k < length marks → All (λ (run : BlockSpot). run.at ≤ (get_or marks k d).at) runs
+  pub following : (k : ℕ) (d : BlockMark) → count ≤ k → k < length marks → All (λ (run : BlockSpot). run.at ≤ (get_or marks k d).at) runs
 
 pub joined_none : (marks : List BlockMark) → Joined marks 0 []
-joined_none marks = record { cover = cover_none; behind = λ k d le lt. λ j e no_run. absurd (omega (arith, no_run)) }
+joined_none marks = record { cover = cover_none; following = λ k d le lt. λ j e no_run. absurd (omega (arith, no_run)) }
 
 -- one block alone
 pub stretch_one : (marks : List BlockMark) (first : ℕ) (d : BlockMark) → first < length marks → All IsSized marks → IsStretch marks first (record { end = (get_or marks first d).end; next = first + 1 })
@@ -198,8 +198,8 @@ joined_more marks first turn d s runs inside order stretch joined = rw (← inse
           (get_or marks k.0 d, has_front marks s.next k.0 d k.2 (omega (arith, k.2, stretch.within)), k.3, k.4))
     ];
   };
-  behind = λ k e le lt. fresh_begin runs (length runs) (get_or marks first d).at s.end turn (stretch.some d) (get_or marks k e).at
-      (omega (arith, same e, order first k e (omega (arith, le, stretch.after)) lt)) (joined.behind k e (omega (arith, le, stretch.after)) lt);
+  following = λ k e le lt. fresh_begin runs (length runs) (get_or marks first d).at s.end turn (stretch.some d) (get_or marks k e).at
+      (omega (arith, same e, order first k e (omega (arith, le, stretch.after)) lt)) (joined.following k e (omega (arith, le, stretch.after)) lt);
 })
   where
     same : (e : BlockMark) → (get_or marks first d).at ≡ (get_or marks first e).at
@@ -208,8 +208,8 @@ joined_more marks first turn d s runs inside order stretch joined = rw (← inse
     stands : StandsAt runs (length runs) (get_or marks first d).at
     stands = record {
       within = omega arith;
-      before = λ k e lt. joined.behind first d (omega arith) inside k e lt;
-      behind = λ k e le lt. absurd (omega (arith, le, lt));
+      before = λ k e lt. joined.following first d (omega arith) inside k e lt;
+      following = λ k e le lt. absurd (omega (arith, le, lt));
     }
 
     adds : RunsAdd runs (get_or marks first d).at s.end (insert runs (length runs) (record { at = (get_or marks first d).at; end = s.end; turn = turn }))

@@ -20,9 +20,9 @@ count_all : {X : Type 0} (xs : List X) → count_by (λ (x : X). true) xs ≡ le
 count_all [] = refl
 count_all {X} (x ∷ xs) = omega (arith, sum_by-cons (λ (x : X). cond {A = ℕ} true 1 0) x xs, count_all xs)
 
-told : {X : Type 0} (o : Option X) → option_map_or (λ (x : X). true) o false ≡ is_some o
-told None = refl
-told (Some x) = refl
+reported : {X : Type 0} (o : Option X) → option_map_or (λ (x : X). true) o false ≡ is_some o
+reported None = refl
+reported (Some x) = refl
 
 kept_turn : (spot : BlockSpot) → is_some (turn_in spot) ≡ nat_lt spot.turn turn_of_unpurgeable
 kept_turn spot = go (nat_lt spot.turn turn_of_unpurgeable)
@@ -63,7 +63,7 @@ module _ (slots : List (Slot Block)) (spots : List BlockSpot) (turns : List ℕ)
   turns_count = length_permutation (turns_of spots) turns survey.counted
       ∙ sym (count_all (turns_of spots))
       ∙ count-gathered turn_in (λ turn. true) spots
-      ∙ count-same (λ spot. option_map_or (λ turn. true) (turn_in spot) false) (λ spot. nat_lt spot.turn turn_of_unpurgeable) spots (λ k d inside. told (turn_in (get_or spots k d)) ∙ kept_turn (get_or spots k d))
+      ∙ count-same (λ spot. option_map_or (λ turn. true) (turn_in spot) false) (λ spot. nat_lt spot.turn turn_of_unpurgeable) spots (λ k d inside. reported (turn_in (get_or spots k d)) ∙ kept_turn (get_or spots k d))
       ∙ sum_by-IsPermutation (λ spot. cond (nat_lt spot.turn turn_of_unpurgeable) 1 0) (spots_of slots) spots survey.blocks
       ∙ count-gathered spot_in (λ spot. nat_lt spot.turn turn_of_unpurgeable) slots
       ∙ count-same (λ slot. option_map_or (λ spot. nat_lt spot.turn turn_of_unpurgeable) (spot_in slot) false) (λ slot. option_map_or can_purge (block_in slot) false) slots

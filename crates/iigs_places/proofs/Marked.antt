@@ -84,7 +84,7 @@ pub gathered_all : (slots : List (Slot Block)) (count : ℕ) (marks : List Block
 gathered_all slots count marks g unused le = record {
   each = λ place e lt is. elim (cases_lt place count) [
     | inl before ↦ g.each place e before is
-    | inr behind ↦ (let no : None ≡ Some e = ap extent (sym (unused place behind)) ∙ is in absurd cc)
+    | inr following ↦ (let no : None ≡ Some e = ap extent (sym (unused place following)) ∙ is in absurd cc)
   ];
   are = λ m has. (omega (arith, (g.are m has).0, le), (g.are m has).1, (g.are m has).2, (g.are m has).3);
   once = g.once;
@@ -201,15 +201,15 @@ marks_at slots h block marks was have = λ k d inside same.
     ap (λ (x : BlockMark). x.at) one.2 ∙ sym (rw there at start)
 
 -- behind a mark behind the address no mark is at it
-pub none_behind : (marks : List BlockMark) (slot address count place : ℕ) (d : BlockMark) → IsNonDecreasingBy (λ m. m.at) marks → All (λ m. m.slot ≡ slot → m.at ≡ address) marks
+pub none_after : (marks : List BlockMark) (slot address count place : ℕ) (d : BlockMark) → IsNonDecreasingBy (λ m. m.at) marks → All (λ m. m.slot ≡ slot → m.at ≡ address) marks
     → CountsBefore marks address count → count ≤ place → place < length marks → (get_or marks place d).at ≢ address
     → ((k : ℕ) (e : BlockMark) → k < place → (get_or marks k e).slot ≢ slot) → All (λ m. m.slot ≢ slot) marks
-none_behind marks slot address count place d order same counts from inside ne before = λ k e lt. elim (cases_lt k place) [
+none_after marks slot address count place d order same counts from inside ne before = λ k e lt. elim (cases_lt k place) [
   | inl lt' ↦ before k e lt'
   | inr ge ↦ λ is.
       let up : (get_or marks place e).at ≤ (get_or marks k e).at = order place k e ge lt in
       let one : (get_or marks place d).at ≡ (get_or marks place e).at = ap (λ (m : BlockMark). m.at) (get_or_default marks place d e inside) in
-      let low : address ≤ (get_or marks place d).at = counts.behind place d from inside in
+      let low : address ≤ (get_or marks place d).at = counts.following place d from inside in
       ne (omega (arith, up, one, low, same k e lt is))
 ]
 
@@ -219,9 +219,9 @@ order_remove n xs i inside up a b d le lt =
     let lt' : b + 1 < length xs = omega (arith, length-remove xs i inside, lt) in
     elim (cases_lt b i) [
       | inl before ↦ rw (get_or-remove_below xs i d a (omega (arith, le, before)) inside, get_or-remove_below xs i d b before inside) (up a b d le (omega (arith, lt')))
-      | inr behind ↦ elim (cases_lt a i) [
-        | inl before ↦ rw (get_or-remove_below xs i d a before inside, get_or-remove_above xs i d b behind inside) (up a (b + 1) d (omega (arith, le)) lt')
-        | inr behind' ↦ rw (get_or-remove_above xs i d a behind' inside, get_or-remove_above xs i d b behind inside) (up (a + 1) (b + 1) d (omega (arith, le)) lt')
+      | inr following ↦ elim (cases_lt a i) [
+        | inl before ↦ rw (get_or-remove_below xs i d a before inside, get_or-remove_above xs i d b following inside) (up a (b + 1) d (omega (arith, le)) lt')
+        | inr following' ↦ rw (get_or-remove_above xs i d a following' inside, get_or-remove_above xs i d b following inside) (up (a + 1) (b + 1) d (omega (arith, le)) lt')
       ]
     ]
 
@@ -280,14 +280,14 @@ pub counted : (marks : List BlockMark) (address count : ℕ) → IsPartitionPoin
     → CountsUpTo marks address count
 counted marks address count point within = record {
   before = λ i d lt. leb-true (get_or marks i d).at address (point.0 i d (omega (arith, lt, within)) lt);
-  behind = λ i d le inside. leb-false (get_or marks i d).at address (point.1 i d le inside);
+  following = λ i d le inside. leb-false (get_or marks i d).at address (point.1 i d le inside);
 }
 
 module _ (marks : List BlockMark) (address count : ℕ) (c : CountsUpTo marks address count) where
   before_it : (m : BlockMark) → (has : Contains marks m) → m.at ≤ address → has.0 < count
   before_it m has le = elim (cases_lt has.0 count) [
     | inl lt ↦ lt
-    | inr behind ↦ absurd (omega (arith, c.behind has.0 m behind has.1, ap (λ (x : BlockMark). x.at) has.2, le))
+    | inr following ↦ absurd (omega (arith, c.following has.0 m following has.1, ap (λ (x : BlockMark). x.at) has.2, le))
   ]
 
   pub last_at : (d : BlockMark) → 0 < count → count ≤ length marks → IsNonDecreasingBy (λ m. m.at) marks → IsLast marks address (get_or marks (count - 1) d)
@@ -331,9 +331,9 @@ extent_in i slot spans = go (extent slot) refl spans
 
 module _ (slots : List (Slot Block)) (marks : List BlockMark) (made : IsMarked slots marks) (address : ℕ) where
   pub no_block : ((m : BlockMark) → Contains marks m → address < m.at) → (place : ℕ) → ¬ HoldsByte address (slot_at slots place)
-  no_block behind place holds =
+  no_block following place holds =
       let e = extent_in address (slot_at slots place) (holds_to address (slot_at slots place) holds) in
-      absurd (omega (arith, behind (mark place e.0) (made.each place e.0 e.1), e.2.0))
+      absurd (omega (arith, following (mark place e.0) (made.each place e.0 e.1), e.2.0))
 
   pub last_block : (last : BlockMark) → IsLast marks address last → (place : ℕ) → HoldsByte address (slot_at slots place) → place ≡ last.slot
   last_block last is place holds = go (last.slot == place) refl
@@ -373,7 +373,7 @@ module _ (slots : List (Slot Block)) (address : ℕ) where
 
 module _ (slots : List (Slot Block)) (marks : List BlockMark) (made : IsMarked slots marks) (address : ℕ) where
   pub no_holder : ((m : BlockMark) → Contains marks m → address < m.at) → (h : Handle) → ¬ Has slots address h
-  no_holder behind h has = no_block slots marks made address behind h.slot (has_byte slots address h has).1
+  no_holder following h has = no_block slots marks made address following h.slot (has_byte slots address h has).1
 
   -- what the last mark's slot tells is so of all
   pub held_is : (last : BlockMark) → IsLast marks address last → (result : Option Handle)

@@ -41,7 +41,7 @@ module _ (slots : List (Slot Block)) (marks : List BlockMark) (have : HaveMarks 
       let e = extent_in i (slot_at slots place) (holds_to i (slot_at slots place) holds) in
       elim (beside (mark place e.0) (have.each place e.0 e.1) ne) [
         | inl before ↦ omega (arith, before, e.2.0, to)
-        | inr behind ↦ omega (arith, behind, e.2.1, from)
+        | inr following ↦ omega (arith, following, e.2.1, from)
       ]
 
   pub shares_byte : 0 < size → All IsSized marks → SharesByte marks slot address size → (place : ℕ) × (place ≢ slot) × ¬ IsApart address size (slot_at slots place)
@@ -52,7 +52,7 @@ module _ (slots : List (Slot Block)) (marks : List BlockMark) (have : HaveMarks 
       let end_is : s.mark.end ≡ one.0.0 + one.0.1 = ap (λ (x : BlockMark). x.end) one.2 in
       let some' : s.mark.at < s.mark.end = omega (arith, its.0, ap (λ (x : BlockMark). x.at) s.is.2, ap (λ (x : BlockMark). x.end) s.is.2) in
       let i : ℕ = max address s.mark.at in
-      let holds : HoldsByte i (slot_at slots s.mark.slot) = holds_from i (slot_at slots s.mark.slot) (rw one.1 (omega (arith, at_is), omega (arith, end_is, s.behind, some'))) in
+      let holds : HoldsByte i (slot_at slots s.mark.slot) = holds_from i (slot_at slots s.mark.slot) (rw one.1 (omega (arith, at_is), omega (arith, end_is, s.following, some'))) in
       (s.mark.slot, s.other, λ apart. apart i (omega arith) (omega (arith, s.before, some)) holds)
 
 -- ---- a live handle's block

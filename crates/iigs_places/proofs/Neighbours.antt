@@ -13,7 +13,7 @@ module _ (marks : List BlockMark) (address count : ℕ) (c : CountsBefore marks 
   among : (m : BlockMark) (d : BlockMark) → (has : Contains marks m) → m.at < address → has.0 < count
   among m d has below = elim (cases_lt has.0 count) [
     | inl less ↦ less
-    | inr ge ↦ absurd (omega (arith, c.behind has.0 m ge has.1, ap (λ (x : BlockMark). x.at) has.2, below))
+    | inr ge ↦ absurd (omega (arith, c.following has.0 m ge has.1, ap (λ (x : BlockMark). x.at) has.2, below))
   ]
 
   at_place : (m : BlockMark) (d : BlockMark) → (has : Contains marks m) → get_or marks has.0 d ≡ m
@@ -25,7 +25,7 @@ module _ (marks : List BlockMark) (address count : ℕ) (c : CountsBefore marks 
   pub first_is : (d : BlockMark) → count < length marks → IsFirstFrom marks address (get_or marks count d)
   first_is d inside = record {
     is = Contains-get_or marks count d inside;
-    from = c.behind count d (omega arith) inside;
+    from = c.following count d (omega arith) inside;
     least = λ m has from. elim (cases_lt has.0 count) [
       | inl less ↦ absurd (omega (arith, c.before has.0 m less, ap (λ (x : BlockMark). x.at) has.2, from))
       | inr ge ↦ omega (arith, order count has.0 d ge has.1, ap (λ (x : BlockMark). x.at) (at_place m d has))
@@ -36,7 +36,7 @@ module _ (marks : List BlockMark) (address count : ℕ) (c : CountsBefore marks 
 
   module _ (slot : ℕ) (once : AreOnce marks) where
     pub other_none : count ≡ 0 → (m : BlockMark) → Contains marks m → m.slot ≢ slot → address ≤ m.at
-    other_none none m has ne = omega (arith, c.behind has.0 m (omega (arith, none)) has.1, ap (λ (x : BlockMark). x.at) has.2)
+    other_none none m has ne = omega (arith, c.following has.0 m (omega (arith, none)) has.1, ap (λ (x : BlockMark). x.at) has.2)
 
     pub other_first : (d : BlockMark) → 0 < count → (get_or marks (count - 1) d).slot ≢ slot → IsLastOther marks address slot (get_or marks (count - 1) d)
     other_first d some ne = record {
@@ -75,21 +75,21 @@ module _ (marks : List BlockMark) (once : AreOnce marks) (sized : All IsSized ma
   size_of m has = omega (arith, (sized has.0 m has.1).0, ap (λ (x : BlockMark). x.at) has.2, ap (λ (x : BlockMark). x.end) has.2)
 
   pub beside_none : ((m : BlockMark) → Contains marks m → m.slot ≢ slot → address + size ≤ m.at) → LiesBeside marks slot address size
-  beside_none behind m has ne = inl (behind m has ne)
+  beside_none following m has ne = inl (following m has ne)
 
   pub beside_last : (last : BlockMark) → IsLastOther marks (address + size) slot last → last.end ≤ address → LiesBeside marks slot address size
   beside_last last is ends m has ne = elim (cases_lt m.at (address + size)) [
-    | inr behind ↦ inl behind
+    | inr following ↦ inl following
     | inl before ↦
         let most = is.most m has ne before in
         elim (cases_eq m.slot last.slot) [
           | inl same ↦ inr (omega (arith, ap (λ (x : BlockMark). x.end) (once_same marks once m last has is.is same), ends))
           | inr other ↦ elim (apart m last has is.is other) [
             | inl lower ↦ absurd (omega (arith, lower, most))
-            | inr behind ↦ inr (omega (arith, behind, size_of last is.is, ends))
+            | inr following ↦ inr (omega (arith, following, size_of last is.is, ends))
           ]
         ]
   ]
 
   pub shares_last : (last : BlockMark) → IsLastOther marks (address + size) slot last → address < last.end → SharesByte marks slot address size
-  shares_last last is ends = record { mark = last; is = is.is; other = is.other; before = is.before; behind = ends }
+  shares_last last is ends = record { mark = last; is = is.is; other = is.other; before = is.before; following = ends }

@@ -85,19 +85,19 @@ module _ (slots : List (Slot Block)) (marks : List BlockMark) (have : HaveMarks 
         let r = held i place holds in
         elim (All-contains (λ (run : BlockSpot). 0 ≤ run.turn → (address + want.size ≤ run.at) ⊎ (run.end ≤ address)) runs r.0 among.beside r.1 (omega arith)) [
           | inl before ↦ absurd (omega (arith, before, r.2, to))
-          | inr behind ↦ absurd (omega (arith, behind, r.3, from))
+          | inr following ↦ absurd (omega (arith, following, r.3, from))
         ]))
 
     -- so a search among runs tells whether the want fits anywhere
     pub has_yes : (o : Option ℕ) (b : Bool) → b ≡ is_some o → MatchOption o ((address : ℕ) → ¬ FitsAmong banks want runs 0 address) (IsLeastAmong banks want runs 0) → b ≡ true
         → (address : ℕ) × Fits banks slots want address
-    has_yes None b is told e = let clash : true ≡ false = sym e ∙ is in absurd cc
-    has_yes (Some at) b is told e = (at, runs_fit at told.fits)
+    has_yes None b is reported e = let clash : true ≡ false = sym e ∙ is in absurd cc
+    has_yes (Some at) b is reported e = (at, runs_fit at reported.fits)
 
     pub has_no : (o : Option ℕ) (b : Bool) → b ≡ is_some o → MatchOption o ((address : ℕ) → ¬ FitsAmong banks want runs 0 address) (IsLeastAmong banks want runs 0) → b ≡ false
         → (address : ℕ) → ¬ Fits banks slots want address
-    has_no None b is told e = λ address fits. told address (fits_runs address fits)
-    has_no (Some at) b is told e = let clash : true ≡ false = sym is ∙ e in absurd cc
+    has_no None b is reported e = λ address fits. reported address (fits_runs address fits)
+    has_no (Some at) b is reported e = let clash : true ≡ false = sym is ∙ e in absurd cc
 
     -- the least such address is where the want goes, and no block is purged
     pub quick_found : (address : ℕ) → IsLeastAmong banks want runs 0 address → IsFound banks slots want (record { limit = 0; at = address })

@@ -75,9 +75,9 @@ one_start banks slots arranged place other e f is is' same =
     arranged.sound.apart place other e.0 (holds_from e.0 (slot_at slots place) (rw is (omega arith, omega (arith, size.0)))) (holds_from e.0 (slot_at slots other) (rw is' (omega (arith, same), omega (arith, same, size'.0))))
 
 -- and of two others the upper one begins behind the lower one
-pub starts_behind : (banks : List ℕ) (slots : Slots) → IsArranged banks slots → (place other : ℕ) (e f : ℕ × ℕ) → extent (slot_at slots place) ≡ Some e → extent (slot_at slots other) ≡ Some f → place ≢ other → e.0 ≤ f.0 → e.0 + e.1 ≤ f.0
-starts_behind banks slots arranged place other e f is is' ne le = elim (cases_lt f.0 (e.0 + e.1)) [
-  | inr behind ↦ behind
+pub starts_after : (banks : List ℕ) (slots : Slots) → IsArranged banks slots → (place other : ℕ) (e f : ℕ × ℕ) → extent (slot_at slots place) ≡ Some e → extent (slot_at slots other) ≡ Some f → place ≢ other → e.0 ≤ f.0 → e.0 + e.1 ≤ f.0
+starts_after banks slots arranged place other e f is is' ne le = elim (cases_lt f.0 (e.0 + e.1)) [
+  | inr following ↦ following
   | inl within ↦
       let size' : (0 < f.1) × (f.0 + f.1 ≤ 2 ^ 24) = rw is' at (bounded_extent (slot_at slots other) (each_slot IsBoundedSlot slots tt arranged.bounded other)) in
       absurd (ne (arranged.sound.apart place other f.0 (holds_from f.0 (slot_at slots place) (rw is (le, within))) (holds_from f.0 (slot_at slots other) (rw is' (omega arith, omega (arith, size'.0))))))
@@ -286,8 +286,8 @@ below_more : (limit more : ℕ) (o : Option ℕ) → limit ≤ more → option_m
 below_more limit more None le is = is
 below_more limit more (Some at) le is = grind (arith, nat_tests)
 
-address_told : (slot : Slot Block) (e : ℕ × ℕ) → extent slot ≡ Some e → address_in slot ≡ Some e.0
-address_told slot e is = address_extent slot ∙ ap (option_map (λ (x : ℕ × ℕ). x.0)) is
+address_reported : (slot : Slot Block) (e : ℕ × ℕ) → extent slot ≡ Some e → address_in slot ≡ Some e.0
+address_reported slot e is = address_extent slot ∙ ap (option_map (λ (x : ℕ × ℕ). x.0)) is
 
 pub passed_count : (banks : List ℕ) (slots next : Slots) (place address size to limit : ℕ) (there : extent (slot_at slots place) ≡ Some (address, size)) (arranged : IsArranged banks slots)
     → (s : Sinks banks slots place address to next) → length next ≡ length slots → limit ≤ address → to ≤ address
@@ -296,10 +296,10 @@ passed_count banks slots next place address size to limit there arranged s len l
     (past_none slots place (address, size) there) each not_below now_below
   where
     not_below : lies_below limit (slot_at slots place) ≡ false
-    not_below = rw (address_told (slot_at slots place) (address, size) there) (grind (arith, nat_tests))
+    not_below = rw (address_reported (slot_at slots place) (address, size) there) (grind (arith, nat_tests))
 
     now_below : lies_below (suc address) (slot_at next place) ≡ true
-    now_below = rw (address_told (slot_at next place) (to, size) (next_extent banks slots arranged place address size to there next s)) (grind (arith, nat_tests))
+    now_below = rw (address_reported (slot_at next place) (to, size) (next_extent banks slots arranged place address size to there next s)) (grind (arith, nat_tests))
 
     each : (k : ℕ) → lies_below limit (slot_at slots k) ≡ true → lies_below (suc address) (slot_at next k) ≡ true
     each k is = elim (cases_eq k place) [
@@ -373,11 +373,11 @@ module _ (banks : List ℕ) (slots : Slots) (arranged : IsArranged banks slots) 
               let r = passed.to i (record { place = p; at = e.0; is = e.1; before = lower; spans = e.2 }) in
               elim (All-contains (λ (run : BlockSpot). 0 ≤ run.turn → IsBeside to block.want.size run) runs r.0 least.fits.beside r.1 (omega arith)) [
                 | inl ends ↦ absurd (omega (arith, ends, r.2, before))
-                | inr behind ↦ absurd (omega (arith, behind, r.3, from))
+                | inr following ↦ absurd (omega (arith, following, r.3, from))
               ]
           | inr upper ↦
-              let behind = starts_behind banks slots arranged place p (address, size) e.0 there e.1 (λ same. ne (sym same)) upper in
-              absurd (omega (arith, behind, e.2.0, before, its_size, goes_low))
+              let following = starts_after banks slots arranged place p (address, size) e.0 there e.1 (λ same. ne (sym same)) upper in
+              absurd (omega (arith, following, e.2.0, before, its_size, goes_low))
         ]
 
     each : (p : ℕ) → IsApart to block.want.size (slot_at (without slots place block) p)

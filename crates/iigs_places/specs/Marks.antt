@@ -49,13 +49,13 @@ pub record IsMarked (slots : List (Slot Block)) (marks : List BlockMark) : Type 
 -- so many first marks are at the address or before it, and the others behind it
 pub record CountsUpTo (marks : List BlockMark) (address count : ℕ) : Type 0 where
   pub before : (i : ℕ) (d : BlockMark) → i < count → (slice_index_or marks i d).at ≤ address
-  pub behind : (i : ℕ) (d : BlockMark) → count ≤ i → i < length marks → address < (slice_index_or marks i d).at
+  pub following : (i : ℕ) (d : BlockMark) → count ≤ i → i < length marks → address < (slice_index_or marks i d).at
 
 -- so many first marks are before the address, and the others at it or behind it
 pub record CountsBefore (marks : List BlockMark) (address count : ℕ) : Type 0 where
   pub within : count ≤ length marks
   pub before : (i : ℕ) (d : BlockMark) → i < count → (slice_index_or marks i d).at < address
-  pub behind : (i : ℕ) (d : BlockMark) → count ≤ i → i < length marks → address ≤ (slice_index_or marks i d).at
+  pub following : (i : ℕ) (d : BlockMark) → count ≤ i → i < length marks → address ≤ (slice_index_or marks i d).at
 
 -- the first mark that is at the address or behind it
 pub record IsFirstFrom (marks : List BlockMark) (address : ℕ) (first : BlockMark) : Type 0 where
@@ -84,7 +84,7 @@ pub record SharesByte (marks : List BlockMark) (slot address size : ℕ) : Type 
   pub is : Contains marks mark
   pub other : mark.slot ≢ slot
   pub before : mark.at < address + size
-  pub behind : address < mark.end
+  pub following : address < mark.end
 
 -- the last mark that is at the address or before it
 pub record IsLast (marks : List BlockMark) (address : ℕ) (last : BlockMark) : Type 0 where

@@ -23,7 +23,7 @@ pub record AreRuns (runs : List BlockSpot) : Type 0 where
 pub record StandsAt (runs : List BlockSpot) (count address : ℕ) : Type 0 where
   pub within : count ≤ length runs
   pub before : (k : ℕ) (d : BlockSpot) → k < count → (slice_index_or runs k d).at ≤ address
-  pub behind : (k : ℕ) (d : BlockSpot) → count ≤ k → k < length runs → address ≤ (slice_index_or runs k d).at
+  pub following : (k : ℕ) (d : BlockSpot) → count ≤ k → k < length runs → address ≤ (slice_index_or runs k d).at
 
 -- runs with the bytes from one address up to another added
 pub record RunsAdd (old : List BlockSpot) (at end : ℕ) (new : List BlockSpot) : Type 0 where

@@ -16,7 +16,7 @@ use Rattle.omf_format.specs.File.{Segment, segment_at}
 use Rattle.link_meaning.specs.First.{IsIn}
 use Rattle.link_meaning.specs.Member.{Row}
 use Rattle.object_meaning.specs.Defines.{Scope, ForSegment, ForUnit, ForAll, Definition, title_of, defined_in}
-use Rattle.lib_dict.specs.Library.{LibraryRow, told_row, name_in, outer_name, outer_names, segment_rows, LibraryFile, rows_from, files_text, names_text, row_text, rows_text, is_dictionary}
+use Rattle.lib_dict.specs.Library.{LibraryRow, row_view, name_in, outer_name, outer_names, segment_rows, LibraryFile, rows_from, files_text, names_text, row_text, rows_text, is_dictionary}
 use Rattle.lib_dict.specs.DictionaryLayout.{counted_name, AreFileNumbers, DefinesSo, IsRow, AreRows}
 use Rattle.lib_dict.specs.View.{outer_of}
 use Rattle.lib_dict.proofs.Outers.{names-parts}
@@ -94,7 +94,7 @@ pub record IsBorne (segments : List Segment) (numbers : List ℕ) (row : Library
   pub place : ℕ
   pub segment : Segment
   pub here : segment_at segments place ≡ Some segment
-  pub behind : 1 < place
+  pub following : 1 < place
   pub start : segment.start ≡ row.at
   pub other : form_of segment.fields.kind ≡ 0x08 → ⊥
   pub defines : DefinesSo segment row.name row.private
@@ -104,7 +104,7 @@ pub record IsBorne (segments : List Segment) (numbers : List ℕ) (row : Library
 -- the file with that number has a segment there
 record Holds (segments : List Segment) (numbers : List ℕ) (place : ℕ) (s : Segment) (file : ℕ) : Type 0 where
   here : segment_at segments place ≡ Some s
-  behind : 1 < place
+  following : 1 < place
   other : form_of s.fields.kind ≡ 0x08 → ⊥
   known : IsIn numbers file
   few : file < 65536
@@ -113,7 +113,7 @@ borne_names : (segments : List Segment) (numbers : List ℕ) (place : ℕ) (s : 
     → AllByRecursion (IsBorne segments numbers) (map (λ n. record { name = n.0; file = file; private = n.1; at = s.start }) names)
 borne_names segments numbers place s file [] h all = tt
 borne_names segments numbers place s file (n ∷ names) h all = (
-  record { place = place; segment = s; here = h.here; behind = h.behind; start = refl; other = h.other; defines = all.0; known = h.known; few = h.few },
+  record { place = place; segment = s; here = h.here; following = h.following; start = refl; other = h.other; defines = all.0; known = h.known; few = h.few },
   borne_names segments numbers place s file names h all.1,
 )
 
@@ -123,16 +123,16 @@ borne_segment segments numbers place file front s h =
     let m = moved_segment front s in
     borne_names segments numbers place m file (outer_names s) h (subst (AllByRecursion (Defined m)) (names_up front s) (defined_all m))
 
-borne_segments : (segments : List Segment) (numbers : List ℕ) (file front : ℕ) (before list behind : List Segment) → segments ≡ before ++ (map (moved_segment front) list ++ behind) → 1 ≤ length before
+borne_segments : (segments : List Segment) (numbers : List ℕ) (file front : ℕ) (before list following : List Segment) → segments ≡ before ++ (map (moved_segment front) list ++ following) → 1 ≤ length before
     → list_any is_dictionary list ≡ false → IsIn numbers file → file < 65536 → AllByRecursion (IsBorne segments numbers) (flat_map (segment_rows file front) list)
-borne_segments segments numbers file front before [] behind is some none known few = tt
-borne_segments segments numbers file front before (s ∷ list) behind is some none known few =
+borne_segments segments numbers file front before [] following is some none known few = tt
+borne_segments segments numbers file front before (s ∷ list) following is some none known few =
     let m = moved_segment front s in
     let others = neither (is_dictionary s) (list_any is_dictionary list) none in
-    let rest = map (moved_segment front) list ++ behind in
+    let rest = map (moved_segment front) list ++ following in
     let holds : Holds segments numbers (suc (length before)) m file = record {
       here = ap (λ (l : List Segment). slice_get l (length before)) is ∙ get_middle before m rest;
-      behind = omega arith;
+      following = omega arith;
       other = λ e. differ (sym others.0 ∙ eq-eqb (form_of s.fields.kind) 8 e);
       known = known;
       few = few;
@@ -141,7 +141,7 @@ borne_segments segments numbers file front before (s ∷ list) behind is some no
     let some' : 1 ≤ length (before ++ m ∷ []) = omega (arith, length-append before (m ∷ [])) in
     subst (AllByRecursion (IsBorne segments numbers)) (sym (flat_map-cons (segment_rows file front) s list))
     (all-append (IsBorne segments numbers) (segment_rows file front s) (flat_map (segment_rows file front) list) (borne_segment segments numbers (suc (length before)) file front s holds)
-    (borne_segments segments numbers file front (before ++ m ∷ []) list behind next some' others.1 known few))
+    (borne_segments segments numbers file front (before ++ m ∷ []) list following next some' others.1 known few))
   where
     differ : false ≡ true → ⊥
     differ e = cc
@@ -229,13 +229,13 @@ abbrev pub linked : (segments : List Segment) (numbers : List ℕ) (rows : List 
 linked segments numbers [] all = []
 linked segments numbers (row ∷ rows) all = record { name = row.name; from = row.file; private = row.private; segment = all.0.place } ∷ linked segments numbers rows all.1
 
-pub told_is : (segments : List Segment) (numbers : List ℕ) (rows : List LibraryRow) (all : AllByRecursion (IsBorne segments numbers) rows) → rows ≡ map (told_row segments) (linked segments numbers rows all)
-told_is segments numbers [] all = refl
-told_is segments numbers (row ∷ rows) all =
+pub reported_is : (segments : List Segment) (numbers : List ℕ) (rows : List LibraryRow) (all : AllByRecursion (IsBorne segments numbers) rows) → rows ≡ map (row_view segments) (linked segments numbers rows all)
+reported_is segments numbers [] all = refl
+reported_is segments numbers (row ∷ rows) all =
     let one = all.0 in
     let place : row.at ≡ option_map_or (λ (s : Segment). s.start) (segment_at segments one.place) 0 = sym (ap (λ (o : Option Segment). option_map_or (λ (s : Segment). s.start) o 0) one.here ∙ one.start) in
     ap (λ (n : ℕ). record { name = row.name; file = row.file; private = row.private; at = n } ∷ rows) place
-    ∙ ap (λ (l : List LibraryRow). record { name = row.name; file = row.file; private = row.private; at = option_map_or (λ (s : Segment). s.start) (segment_at segments one.place) 0 } ∷ l) (told_is segments numbers rows all.1)
+    ∙ ap (λ (l : List LibraryRow). record { name = row.name; file = row.file; private = row.private; at = option_map_or (λ (s : Segment). s.start) (segment_at segments one.place) 0 } ∷ l) (reported_is segments numbers rows all.1)
 
 abbrev pub StartsLow : LibraryRow → Type 0
 StartsLow row = row.at < 4294967296
@@ -243,13 +243,13 @@ StartsLow row = row.at < 4294967296
 row_is : (segments : List Segment) (numbers : List ℕ) (done rows : List LibraryRow) (row : LibraryRow) (at : ℕ) (b : IsBorne segments numbers row) → at ≡ length (flat_map counted_name (map row_name done)) → at < 4294967296
     → StartsLow row → IsRow segments numbers (map row_name done ++ row.name ∷ map row_name rows) (row_text at row) (record { name = row.name; from = row.file; private = row.private; segment = b.place })
 row_is segments numbers done rows row at b place small low = record {
-  name = record { before = map row_name done; behind = map row_name rows; parts = refl; place = number_in at row 0 4 at refl (omega arith) ∙ place };
+  name = record { before = map row_name done; following = map row_name rows; parts = refl; place = number_in at row 0 4 at refl (omega arith) ∙ place };
   from = sym (number_in at row 1 2 row.file refl (omega (arith, b.few)));
   known = b.known;
   private = sym (ap (λ (n : ℕ). not (n == 0)) (number_in at row 2 2 (flag_of row.private) refl (omega (arith, flag_small row.private))) ∙ flag_back row.private);
   segment = b.segment;
   here = b.here;
-  behind = b.behind;
+  following = b.following;
   start = b.start ∙ sym (number_in at row 3 4 row.at refl (omega arith));
   other = b.other;
   defines = b.defines;

@@ -214,7 +214,7 @@ are_named (suc n) at (b ∷ bytes) placed e =
 
 -- a name that is found starts there
 starts : (names : List (List ℕ)) (at d : ℕ) (x : ℕ × List ℕ) → first_pair (λ y. y.0 == d) (placed_from at names) ≡ Some x
-    → (before : List (List ℕ)) × (behind : List (List ℕ)) × (names ≡ before ++ x.1 ∷ behind) × (d ≡ at + length (flat_map counted_name before))
+    → (before : List (List ℕ)) × (following : List (List ℕ)) × (names ≡ before ++ x.1 ∷ following) × (d ≡ at + length (flat_map counted_name before))
 starts [] at d x e = absurd cc
 starts (name ∷ names) at d x e = by (at == d) refl e (starts names (at + 1 + length name) d x)
   where
@@ -226,8 +226,8 @@ starts (name ∷ names) at d x e = by (at == d) refl e (starts names (at + 1 + l
 
     by : (t : Bool) → t ≡ (at == d) → (if t then Some (at, name) else first_pair (λ y. y.0 == d) (placed_from (at + 1 + length name) names)) ≡ Some x
         → (first_pair (λ y. y.0 == d) (placed_from (at + 1 + length name) names) ≡ Some x
-        → (before : List (List ℕ)) × (behind : List (List ℕ)) × (names ≡ before ++ x.1 ∷ behind) × (d ≡ at + 1 + length name + length (flat_map counted_name before)))
-        → (before : List (List ℕ)) × (behind : List (List ℕ)) × (name ∷ names ≡ before ++ x.1 ∷ behind) × (d ≡ at + length (flat_map counted_name before))
+        → (before : List (List ℕ)) × (following : List (List ℕ)) × (names ≡ before ++ x.1 ∷ following) × (d ≡ at + 1 + length name + length (flat_map counted_name before)))
+        → (before : List (List ℕ)) × (following : List (List ℕ)) × (name ∷ names ≡ before ++ x.1 ∷ following) × (d ≡ at + length (flat_map counted_name before))
     by true is e go =
         let same = some_same (at, name) x e in
         ([], names, ap (λ (y : ℕ × List ℕ). y.1 ∷ names) same, omega (arith, eqb-true at d (sym is)))
@@ -368,13 +368,13 @@ is_row s others numbers names at bytes row e =
     let d = defined p.name.1 (not (number_at 2 6 bytes == 0)) (defined_in p.member.1) p.defines in
     let place : p.member.0 ≡ suc (suc f.place) = omega (arith, f.number') in
     subst (IsRow (s ∷ others) numbers names bytes) (sym p.is) record {
-      name = record { before = st.0; behind = st.1; parts = st.2; place = omega (arith, st.3) };
+      name = record { before = st.0; following = st.1; parts = st.2; place = omega (arith, st.3) };
       from = refl;
       known = is_in (number_at 2 4 bytes) numbers p.number;
       private = refl;
       segment = p.member.1;
       here = ap (segment_at (s ∷ others)) place ∙ f.here;
-      behind = omega (arith, place);
+      following = omega (arith, place);
       start = f.start;
       other = eqb-false (form_of p.member.1.fields.kind) 8 f.other;
       defines = record { by = d.0; among = d.1; name' = d.2; scope = d.3 };

@@ -87,23 +87,23 @@ read_names (name ∷ names) n at le =
 
 -- ---- what is found
 
-name_found : (before : List (List ℕ)) (name : List ℕ) (behind : List (List ℕ)) (at d : ℕ) → d ≡ at + length (flat_map counted_name before)
-    → first_pair (λ x. x.0 == d) (placed_from at (before ++ name ∷ behind)) ≡ Some (d, name)
-name_found [] name behind at d place = by (at == d) (eq-eqb at d (omega arith))
+name_found : (before : List (List ℕ)) (name : List ℕ) (following : List (List ℕ)) (at d : ℕ) → d ≡ at + length (flat_map counted_name before)
+    → first_pair (λ x. x.0 == d) (placed_from at (before ++ name ∷ following)) ≡ Some (d, name)
+name_found [] name following at d place = by (at == d) (eq-eqb at d (omega arith))
   where
     some : ℕ × List ℕ → Option (ℕ × List ℕ)
     some x = Some x
 
-    by : (t : Bool) → t ≡ true → (if t then Some (at, name) else first_pair (λ x. x.0 == d) (placed_from (at + 1 + length name) behind)) ≡ Some (d, name)
+    by : (t : Bool) → t ≡ true → (if t then Some (at, name) else first_pair (λ x. x.0 == d) (placed_from (at + 1 + length name) following)) ≡ Some (d, name)
     by true e = let same : at ≡ d = omega arith in ap (λ (k : ℕ). some (k, name)) same
     by false e = absurd cc
-name_found (b ∷ before) name behind at d place =
+name_found (b ∷ before) name following at d place =
     let size = ap length (flat_map-cons counted_name b before) in
     let len : d ≡ at + 1 + length b + length (flat_map counted_name before) = omega (arith, size, length-append (counted_name b) (flat_map counted_name before)) in
-    by (at == d) (ne_eqb at d (λ e. absurd (omega arith))) (name_found before name behind (at + 1 + length b) d len)
+    by (at == d) (ne_eqb at d (λ e. absurd (omega arith))) (name_found before name following (at + 1 + length b) d len)
   where
-    by : (t : Bool) → t ≡ false → first_pair (λ x. x.0 == d) (placed_from (at + 1 + length b) (before ++ name ∷ behind)) ≡ Some (d, name)
-        → (if t then Some (at, b) else first_pair (λ x. x.0 == d) (placed_from (at + 1 + length b) (before ++ name ∷ behind))) ≡ Some (d, name)
+    by : (t : Bool) → t ≡ false → first_pair (λ x. x.0 == d) (placed_from (at + 1 + length b) (before ++ name ∷ following)) ≡ Some (d, name)
+        → (if t then Some (at, b) else first_pair (λ x. x.0 == d) (placed_from (at + 1 + length b) (before ++ name ∷ following))) ≡ Some (d, name)
     by true e go = absurd cc
     by false e go = go
 
@@ -190,8 +190,8 @@ read_row s others file numbers names at bytes row are is =
     let st = is.name in
     let d = number_at 4 0 bytes in
     let named : first_pair (λ x. x.0 == d) (placed_from 0 names) ≡ Some (d, row.name) =
-    ap (λ (l : List (List ℕ)). first_pair (λ x. x.0 == d) (placed_from 0 l)) st.parts ∙ name_found st.before row.name st.behind 0 d (omega (arith, st.place)) in
-    let place = two_more row.segment is.behind in
+    ap (λ (l : List (List ℕ)). first_pair (λ x. x.0 == d) (placed_from 0 l)) st.parts ∙ name_found st.before row.name st.following 0 d (omega (arith, st.place)) in
+    let place = two_more row.segment is.following in
     let here : slice_get others place.0 ≡ Some is.segment = ap (segment_at (s ∷ others)) (sym place.1) ∙ is.here in
     let found = segment_found others (0 + s.fields.byte_count) file (length file) 2 place.0 (number_at 4 8 bytes) is.segment are.3 here is.start is.other in
     let known : list_any (λ x. x == number_at 2 4 bytes) numbers ≡ true = ap (λ (k : ℕ). list_any (λ x. x == k) numbers) (sym is.from) ∙ any_in row.from numbers is.known in

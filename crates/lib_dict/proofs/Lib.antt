@@ -1,7 +1,7 @@
 pub mod Outers
 pub mod Sets
 pub mod Forms
-pub mod Behind
+pub mod After
 pub mod PartLaws
 pub mod RowLaws
 pub mod RowLoops

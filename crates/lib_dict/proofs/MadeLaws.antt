@@ -19,7 +19,7 @@ use Rattle.link_meaning.specs.Member.{Row, is_library}
 use Rattle.link_meaning.specs.Dictionary.{rows_of}
 use Rattle.lib_dict.specs.declared.fault.DictFault.{DictFault}
 use Rattle.lib_dict.specs.declared.fault.DictFault.TheVariants as dict
-use Rattle.lib_dict.specs.Library.{LibraryRow, told_row, HasRows, LibraryInput, LibraryFile, AreMembers, IsLibraryOf, files_text, names_text, rows_text, rows_from, dictionary_fields, dictionary_body, dictionary_text, dictionary_size, library_rows, library_bytes, most_bytes}
+use Rattle.lib_dict.specs.Library.{LibraryRow, row_view, HasRows, LibraryInput, LibraryFile, AreMembers, IsLibraryOf, files_text, names_text, rows_text, rows_from, dictionary_fields, dictionary_body, dictionary_text, dictionary_size, library_rows, library_bytes, most_bytes}
 use Rattle.lib_dict.specs.Rows.{HasNoRows}
 use Rattle.lib_dict.specs.Sizes.{IsReadFile, total_bytes}
 use Rattle.lib_dict.specs.DictionaryLayout.{counted_name, AreFileNumbers, AreRows, IsDictionary}
@@ -27,7 +27,7 @@ use Rattle.lib_dict.specs.MadeReads.{IsReadBack}
 use Rattle.lib_dict.proofs.LayoutReads.{laid_out_is_read}
 use Rattle.lib_dict.proofs.SizeLaws.{length-rows, length-body, length-dictionary, length-library, size_is, library_moved, names_moved, rows_before}
 use Rattle.lib_dict.proofs.MovedLaws.{bytes_of, IsWhole, members_of, members_are}
-use Rattle.lib_dict.proofs.BorneLaws.{IsBorne, IsOther, numbers_of, borne_files, file_numbers_are, row_name, names_are, linked, told_is, StartsLow, rows_are}
+use Rattle.lib_dict.proofs.BorneLaws.{IsBorne, IsOther, numbers_of, borne_files, file_numbers_are, row_name, names_are, linked, reported_is, StartsLow, rows_are}
 
 -- ---- the dictionary's segment
 
@@ -141,8 +141,8 @@ members_whole (g ∷ given) [] are fit = absurd are
 members_whole (g ∷ given) (file ∷ files) are fit =
     let rest = flat_map bytes_of files in
     let parts : flat_map bytes_of (file ∷ files) ≡ file.bytes ++ rest = flat_map-cons bytes_of file files in
-    let behind : IsBytes rest = subst IsBytes (ap (drop (length file.bytes)) parts ∙ drop_at file.bytes rest (length file.bytes) refl) (IsBytes-drop (length file.bytes) (flat_map bytes_of (file ∷ files)) fit) in
-    (record { segments = are.0.segments; fits = IsBytes-front (flat_map bytes_of (file ∷ files)) file.bytes rest fit parts }, members_whole given files are.1 behind)
+    let following : IsBytes rest = subst IsBytes (ap (drop (length file.bytes)) parts ∙ drop_at file.bytes rest (length file.bytes) refl) (IsBytes-drop (length file.bytes) (flat_map bytes_of (file ∷ files)) fit) in
+    (record { segments = are.0.segments; fits = IsBytes-front (flat_map bytes_of (file ∷ files)) file.bytes rest fit parts }, members_whole given files are.1 following)
 
 members_other : (given : List LibraryInput) (files : List LibraryFile) → AreMembers given files → AllByRecursion IsOther files
 members_other [] [] are = tt
@@ -292,7 +292,7 @@ made_rows files short few whole other read =
       library = refl;
       found = found;
       read = laid_out_is_read (library_bytes files) segments found is (made_is_dictionary files m few (made_low files m read) b);
-      told = told_is segments (numbers_of 1 files) (library_rows files) b;
+      reported = reported_is segments (numbers_of 1 files) (library_rows files) b;
     }
 
 -- ---- read in one way alone
@@ -307,7 +307,7 @@ one_reading : (bytes : List ℕ) (a b : List LibraryRow) → HasRows bytes a →
 one_reading bytes a b p q =
     let segments : p.segments ≡ q.segments = file_same p.segments q.segments bytes p.is_file q.is_file in
     let found : p.found ≡ q.found = rows_same p.found q.found (sym p.read ∙ ap rows_of segments ∙ q.read) in
-    p.told ∙ ap (λ (s : List Segment). map (told_row s) p.found) segments ∙ ap (map (told_row q.segments)) found ∙ sym q.told
+    p.reported ∙ ap (λ (s : List Segment). map (row_view s) p.found) segments ∙ ap (map (row_view q.segments)) found ∙ sym q.reported
 
 never_refused : (bytes : List ℕ) (rows : List LibraryRow) (fault : DictFault) → HasRows bytes rows → HasNoRows fault bytes → fault ≡ dict.Memory
 never_refused bytes rows (dict.File fault) h why = absurd (no_file bytes fault h.segments why h.is_file)
@@ -346,5 +346,5 @@ made_is_read given bytes fit few made =
       rows = rows;
       no_others = λ others h. one_reading bytes others (library_rows files) h rows;
       no_fault = λ fault why. never_refused bytes (library_rows files) fault rows why;
-      behind = dropped ∙ given_bytes given files made.members;
+      following = dropped ∙ given_bytes given files made.members;
     }

@@ -28,15 +28,15 @@ members_same (g ∷ given) [] b p q = absurd p
 members_same (g ∷ given) (x ∷ a) [] p q = absurd q
 members_same (g ∷ given) (x ∷ a) (y ∷ b) p q = ap (λ (f : LibraryFile). f ∷ a) (member_same g x y p.0 q.0) ∙ ap (λ (l : List LibraryFile). y ∷ l) (members_same given a b p.1 q.1)
 
-member_in : (before : List LibraryInput) (g : LibraryInput) (behind : List LibraryInput) (files : List LibraryFile) → AreMembers (before ++ g ∷ behind) files → (f : LibraryFile) × IsMember g f
-member_in [] g behind [] are = absurd are
-member_in [] g behind (f ∷ files) are = (f, are.0)
-member_in (x ∷ before) g behind [] are = absurd are
-member_in (x ∷ before) g behind (f ∷ files) are = member_in before g behind files are.1
+member_in : (before : List LibraryInput) (g : LibraryInput) (following : List LibraryInput) (files : List LibraryFile) → AreMembers (before ++ g ∷ following) files → (f : LibraryFile) × IsMember g f
+member_in [] g following [] are = absurd are
+member_in [] g following (f ∷ files) are = (f, are.0)
+member_in (x ∷ before) g following [] are = absurd are
+member_in (x ∷ before) g following (f ∷ files) are = member_in before g following files are.1
 
-any_in : (before : List Segment) (d : Segment) (behind : List Segment) → is_dictionary d ≡ true → list_any is_dictionary (before ++ d ∷ behind) ≡ true
-any_in [] d behind is = ap (λ (b : Bool). b || list_any is_dictionary behind) is
-any_in (s ∷ before) d behind is = or_true (is_dictionary s) (list_any is_dictionary (before ++ d ∷ behind)) (any_in before d behind is)
+any_in : (before : List Segment) (d : Segment) (following : List Segment) → is_dictionary d ≡ true → list_any is_dictionary (before ++ d ∷ following) ≡ true
+any_in [] d following is = ap (λ (b : Bool). b || list_any is_dictionary following) is
+any_in (s ∷ before) d following is = or_true (is_dictionary s) (list_any is_dictionary (before ++ d ∷ following)) (any_in before d following is)
   where
     or_true : (a b : Bool) → b ≡ true → (a || b) ≡ true
     or_true true b e = refl
@@ -48,12 +48,12 @@ differ e = cc
 no_fault : (g : LibraryInput) (f : LibraryFile) (cause : LibCause) (segment at : ℕ) → IsMember g f → HasMemberFault g.bytes cause segment at → ⊥
 no_fault g f cause segment at is (InFile of first same number place) = no_file g.bytes of f.segments first (subst (IsFile f.segments) is.bytes is.segments)
 no_fault g f cause segment at is (OfDictionary d same) =
-    let all = file_same f.segments (d.before ++ d.dictionary ∷ d.behind) g.bytes (subst (IsFile f.segments) is.bytes is.segments) d.is_file in
-    differ (sym is.others ∙ ap (list_any is_dictionary) all ∙ any_in d.before d.dictionary d.behind d.is)
+    let all = file_same f.segments (d.before ++ d.dictionary ∷ d.following) g.bytes (subst (IsFile f.segments) is.bytes is.segments) d.is_file in
+    differ (sym is.others ∙ ap (list_any is_dictionary) all ∙ any_in d.before d.dictionary d.following d.is)
 
 no_member_fault : (given : List LibraryInput) (bytes : List ℕ) (fault : LibFault) → IsLibraryOf given bytes → IsFirstMemberFault given fault → ⊥
 no_member_fault given bytes fault made first =
-    let found = member_in first.before first.file first.behind made.files (subst (λ (l : List LibraryInput). AreMembers l made.files) first.parts made.members) in
+    let found = member_in first.before first.file first.following made.files (subst (λ (l : List LibraryInput). AreMembers l made.files) first.parts made.members) in
     no_fault first.file found.0 fault.cause fault.spot.segment fault.spot.at found.1 first.here
 
 not_too_long : (given : List LibraryInput) (bytes : List ℕ) → IsLibraryOf given bytes → IsTooLong given → ⊥

@@ -199,16 +199,16 @@ run_up k r (found ∷ founds) last fits le run =
 
 -- ---- segments further on
 
-reader_up : (before file behind : List ℕ) (start : ℕ) (f : Fields) → f.disp_data ≤ f.byte_count → start + f.byte_count ≤ length file
-    → body_reader (length before + start) f (before ++ (file ++ behind)) ≡ up (length before) (body_reader start f file)
+reader_up : (before file following : List ℕ) (start : ℕ) (f : Fields) → f.disp_data ≤ f.byte_count → start + f.byte_count ≤ length file
+    → body_reader (length before + start) f (before ++ (file ++ following)) ≡ up (length before) (body_reader start f file)
 unfolding body_reader
-reader_up before file behind start f ordered within =
+reader_up before file following start f ordered within =
     let p = length before in
-    let whole = before ++ (file ++ behind) in
+    let whole = before ++ (file ++ following) in
     let count : p + start + f.byte_count ≡ p + (start + f.byte_count) = omega arith in
     let place : p + start + f.disp_data ≡ p + (start + f.disp_data) = omega arith in
     let front' : take (p + start + f.byte_count) whole ≡ before ++ take (start + f.byte_count) file =
-    ap (λ (n : ℕ). take n whole) count ∙ take-append-add before (file ++ behind) (start + f.byte_count) ∙ ap (λ (l : List ℕ). before ++ l) (take-append-le (start + f.byte_count) file behind within) in
+    ap (λ (n : ℕ). take n whole) count ∙ take-append-add before (file ++ following) (start + f.byte_count) ∙ ap (λ (l : List ℕ). before ++ l) (take-append-le (start + f.byte_count) file following within) in
     let left : drop (p + start + f.disp_data) (take (p + start + f.byte_count) whole) ≡ drop (start + f.disp_data) (take (start + f.byte_count) file) =
     ap (λ (n : ℕ). drop n (take (p + start + f.byte_count) whole)) place ∙ ap (drop (p + (start + f.disp_data))) front' ∙ drop-append-add before (take (start + f.byte_count) file) (start + f.disp_data) in
     ap (λ (n : ℕ). at n (drop (p + start + f.disp_data) (take (p + start + f.byte_count) whole))) count ∙ ap (at (p + (start + f.byte_count))) left
@@ -220,14 +220,14 @@ left_within : (start : ℕ) (f : Fields) (file : List ℕ) → length (body_read
 unfolding body_reader
 left_within start f file = omega (arith, length-drop (start + f.disp_data) (take (start + f.byte_count) file), length-take (start + f.byte_count) file)
 
-segment_up : (before file behind : List ℕ) (s : Segment) → IsBytes file → s.start < length file → IsSegment s file → IsSegment (moved_segment (length before) s) (before ++ (file ++ behind))
-segment_up before file behind s fits lt is =
+segment_up : (before file following : List ℕ) (s : Segment) → IsBytes file → s.start < length file → IsSegment s file → IsSegment (moved_segment (length before) s) (before ++ (file ++ following))
+segment_up before file following s fits lt is =
     let p = length before in
-    let whole = before ++ (file ++ behind) in
+    let whole = before ++ (file ++ following) in
     let lies = header_lies s.start s.fields file is.header in
-    let here : drop (p + s.start) whole ≡ drop s.start file ++ behind = drop-append-add before (file ++ behind) s.start ∙ drop-append-le s.start file behind (omega arith) in
-    let more = passes_more (drop s.start file) behind is.header.passes in
-    let reader = reader_up before file behind s.start s.fields lies.ordered lies.within in
+    let here : drop (p + s.start) whole ≡ drop s.start file ++ following = drop-append-add before (file ++ following) s.start ∙ drop-append-le s.start file following (omega arith) in
+    let more = passes_more (drop s.start file) following is.header.passes in
+    let reader = reader_up before file following s.start s.fields lies.ordered lies.within in
     record {
       header = record { passes = ap header_fault here ∙ more.0; fields = is.header.fields ∙ sym (ap fields_of here ∙ more.1) };
       last = up p is.last;
@@ -237,19 +237,19 @@ segment_up before file behind s fits lt is =
       ended = is.ended;
     }
 
-segments_up : (before file behind : List ℕ) (segments : List Segment) (at next : ℕ) → IsBytes file → AreSegments segments at file next
-    → AreSegments (map (moved_segment (length before)) segments) (length before + at) (before ++ (file ++ behind)) (length before + next)
-segments_up before file behind [] at next fits are = ap (λ (n : ℕ). length before + n) are
-segments_up before file behind (s ∷ segments) at next fits are =
+segments_up : (before file following : List ℕ) (segments : List Segment) (at next : ℕ) → IsBytes file → AreSegments segments at file next
+    → AreSegments (map (moved_segment (length before)) segments) (length before + at) (before ++ (file ++ following)) (length before + next)
+segments_up before file following [] at next fits are = ap (λ (n : ℕ). length before + n) are
+segments_up before file following (s ∷ segments) at next fits are =
     let p = length before in
-    let whole = before ++ (file ++ behind) in
-    let size : length whole ≡ p + (length file + length behind) = omega (arith, length-append before (file ++ behind), length-append file behind) in
+    let whole = before ++ (file ++ following) in
+    let size : length whole ≡ p + (length file + length following) = omega (arith, length-append before (file ++ following), length-append file following) in
     let starts : s.start < length file = omega (arith, are.0, are.1) in
-    let rest = segments_up before file behind segments (at + s.fields.byte_count) next fits are.3 in
+    let rest = segments_up before file following segments (at + s.fields.byte_count) next fits are.3 in
     let place : p + (at + s.fields.byte_count) ≡ p + at + s.fields.byte_count = omega arith in (
       ap (λ (n : ℕ). p + n) are.0,
       omega (arith, are.1, size),
-      segment_up before file behind s fits starts are.2,
+      segment_up before file following s fits starts are.2,
       subst (λ (n : ℕ). AreSegments (map (moved_segment p) segments) n whole (p + next)) place rest,
     )
 

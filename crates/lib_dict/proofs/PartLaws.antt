@@ -125,9 +125,9 @@ long_size l (Equate global name size form private expr) bytes is = absurd cc
 long_size l (Formula code count n expr) bytes is = absurd cc
 long_size l (Entry segment offset name) bytes is = absurd cc
 
-told_place : (r : Reader) (found : ℕ × Record) → next_answer r ≡ Ok (Some found) → found.0 ≡ place_of r
+reported_place : (r : Reader) (found : ℕ × Record) → next_answer r ≡ Ok (Some found) → found.0 ≡ place_of r
 unfolding next_answer
-told_place r found e = by_end r.ended e
+reported_place r found e = by_end r.ended e
   where
     by_answer : (answer : Result (Record × List ℕ) Flaw) → answer_of_reader r answer ≡ Ok (Some found) → found.0 ≡ place_of r
     by_answer (Ok f) is = let same : (place_of r, f.0) ≡ found = same_found (place_of r, f.0) found is in sym (ap (λ (x : ℕ × Record). x.0) same)
@@ -176,6 +176,6 @@ second_fits r last parts founds has run fits within =
     let three = steps r2 has.c two.bytes h.1.1.0 in
     let size = long_size r1.layout has.b.1 parts.second has.second in
     let size3 = long_size r2.layout has.c.1 parts.third has.third in
-    let place = told_place r1 has.b h.1.0 in
+    let place = reported_place r1 has.b h.1.0 in
     let end = same_end r in
     (omega (arith, one.size, two.size, size, place, end, has.at), omega (arith, one.size, two.size, three.size, size3))

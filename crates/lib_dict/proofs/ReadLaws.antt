@@ -134,15 +134,15 @@ false_first list file s is here form none = record {
 }
 
 -- its rows are told
-pub told_rows : (list : List Segment) (file : List ℕ) (s : Segment) (parts : Texts) (rows : List declared.Row) → IsFile list file → Some s ≡ segment_at list 1 → form_of s.fields.kind ≡ 0x08
+pub row_views : (list : List Segment) (file : List ℕ) (s : Segment) (parts : Texts) (rows : List declared.Row) → IsFile list file → Some s ≡ segment_at list 1 → form_of s.fields.kind ≡ 0x08
     → HasParts parts s.records → AreRowsIn list (rows_in s.start parts.at parts.first parts.second parts.third (drop 1 list)) rows → HasRows file (map seen_row rows)
-told_rows list file s parts rows is here form has are = record {
+row_views list file s parts rows is here form has are = record {
   segments = list;
   is_file = is;
   library = library_is list s here ∙ eq-eqb (form_of s.fields.kind) 8 form;
   found = are.found;
   read = rows_are list s here ∙ with_parts s.start s.records (drop 1 list) parts has ∙ are.read;
-  told = are.told;
+  reported = are.reported;
 }
 
 -- or it is false there

@@ -8,7 +8,7 @@ use Rattle.omf_format.specs.laws.BodyLaws.{body_fits}
 use Rattle.link_meaning.specs.Member.{Row}
 use Rattle.link_meaning.specs.Dictionary.{rows_in}
 use Rattle.lib_dict.specs.declared.dictionary.Row as declared
-use Rattle.lib_dict.specs.Library.{told_row}
+use Rattle.lib_dict.specs.Library.{row_view}
 use Rattle.lib_dict.specs.Rows.{seen_row}
 use Rattle.lib_dict.specs.Parts.{Texts, HasParts}
 use Rattle.lib_dict.specs.Tables.{AreRowsIn}
@@ -33,5 +33,5 @@ few_rows list file s parts rows bytes is here has read =
     let end = end_is s.start s.fields file in
     let p = in_parts s (drop 1 list) parts.at parts.first parts.second parts.third read.found read.read in
     let size = rows_size (s ∷ drop 1 list) p.numbers p.names read.found parts.second p.rows' in
-    let count = length-map read.found (told_row list) in
-    omega (arith, fits.0, end, lies.within, size, count, ap length read.told)
+    let count = length-map read.found (row_view list) in
+    omega (arith, fits.0, end, lies.within, size, count, ap length read.reported)

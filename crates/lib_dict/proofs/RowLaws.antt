@@ -19,7 +19,7 @@ use Rattle.link_meaning.specs.Dictionary.{names_from, numbered_from, has_scope, 
 use Rattle.lib_dict.specs.declared.rows.Tables.{Tables}
 use Rattle.lib_dict.specs.Library.{LibraryRow, name_in, outer_name, outer_names, segment_rows, is_dictionary}
 use Rattle.lib_dict.specs.View.{outer_row}
-use Rattle.lib_dict.specs.Tables.{same_row, starts_of, other_rows, behind_rows, numbers_in, names_in, FitsTables, IsNameAt, row_in, IsRowAnswer}
+use Rattle.lib_dict.specs.Tables.{same_row, starts_of, other_rows, following_rows, numbers_in, names_in, FitsTables, IsNameAt, row_in, IsRowAnswer}
 use Rattle.lib_dict.proofs.Sets.{or_false as or_none, list_any-append, list_any-map}
 
 -- a row
@@ -410,10 +410,10 @@ abbrev pub text_at : Tables → List ℕ → List ℕ
 text_at t bytes = let d = number_at 4 0 bytes in take (number_at 1 d t.third.now) (drop (d + 1) t.third.now)
 
 -- what the segments define
-rows_behind : (t : Tables) (name : List ℕ) (private : Bool) (at : ℕ) → FitsTables t
+rows_after : (t : Tables) (name : List ℕ) (private : Bool) (at : ℕ) → FitsTables t
     → list_any (same_row (wanted_row name private at)) (map outer_row t.known.keys) ≡ found_defines name private (first_pair (may_be at) (numbered_from 2 (drop 1 t.list.now)))
-unfolding behind_rows
-rows_behind t name private at fits = fits.known.each (wanted_row name private at) ∙ by t.list.now fits.file.is_file
+unfolding following_rows
+rows_after t name private at fits = fits.known.each (wanted_row name private at) ∙ by t.list.now fits.file.is_file
   where
     by : (segments : List Segment) → IsFile segments fits.file.file
         → list_any (same_row (wanted_row name private at)) (flat_map other_rows (drop 1 segments)) ≡ found_defines name private (first_pair (may_be at) (numbered_from 2 (drop 1 segments)))
@@ -431,7 +431,7 @@ row_unknown t bytes fits any none at =
     let has = row_name t (number_at 4 0 bytes) fits any in
     let numbers = list_any (λ k. k == number_at 2 4 bytes) (numbers_in t.first.now) in
     let member = first_pair (may_be (number_at 4 8 bytes)) members in
-    let other : found_defines text private member ≡ false = sym (rows_behind t text private (number_at 4 8 bytes) fits) ∙ none in
+    let other : found_defines text private member ≡ false = sym (rows_after t text private (number_at 4 8 bytes) fits) ∙ none in
     row_is (numbers_in t.first.now) names members at bytes
     ∙ ap (λ (o : Option (ℕ × List ℕ)). answered at (number_at 2 4 bytes) private o member numbers) has.first
     ∙ by text private member numbers other
@@ -453,7 +453,7 @@ row_known t bytes fits any number known =
     let text = text_at t bytes in
     let private = private_of bytes in
     let member = first_pair (may_be (number_at 4 8 bytes)) (numbered_from 2 (drop 1 t.list.now)) in
-    let found' : found_defines text private member ≡ true = sym (rows_behind t text private (number_at 4 8 bytes) fits) ∙ known in
+    let found' : found_defines text private member ≡ true = sym (rows_after t text private (number_at 4 8 bytes) fits) ∙ known in
     let has = row_name t (number_at 4 0 bytes) fits any in
     let numbers : list_any (λ k. k == number_at 2 4 bytes) (numbers_in t.first.now) ≡ true = any-flip (number_at 2 4 bytes) (numbers_in t.first.now) ∙ sym (fits.numbers.each (number_at 2 4 bytes)) ∙ number in
     by member refl found' has.first numbers
@@ -461,12 +461,12 @@ row_known t bytes fits any number known =
     a : ℕ
     a = number_at 4 8 bytes
 
-    told : (segments : List Segment) (x : ℕ × Segment) → IsFound a 2 (drop 1 segments) x → option_map_or (λ s. s.start) (segment_at segments x.0) 0 ≡ a
-    told [] x f = absurd (no_item f.place f.here)
+    reported : (segments : List Segment) (x : ℕ × Segment) → IsFound a 2 (drop 1 segments) x → option_map_or (λ s. s.start) (segment_at segments x.0) 0 ≡ a
+    reported [] x f = absurd (no_item f.place f.here)
       where
         no_item : (k : ℕ) → slice_get {X = Segment} [] k ≡ Some x.1 → ⊥
         no_item k e = cc
-    told (s ∷ segments) x f =
+    reported (s ∷ segments) x f =
         let place : x.0 ≡ suc (suc f.place) = omega (arith, f.number') in
         ap (λ (n : ℕ). option_map_or (λ (u : Segment). u.start) (segment_at (s ∷ segments) n) 0) place
         ∙ ap (λ (o : Option Segment). option_map_or (λ (u : Segment). u.start) o 0) f.here
@@ -486,7 +486,7 @@ row_known t bytes fits any number known =
               ∙ ap (λ (o : Option (ℕ × Segment)). answered at (number_at 2 4 bytes) (private_of bytes) (Some (number_at 4 0 bytes, text_at t bytes)) o (list_any (λ k. k == number_at 2 4 bytes) (numbers_in t.first.now))) (sym is)
               ∙ ap (answered at (number_at 2 4 bytes) (private_of bytes) (Some (number_at 4 0 bytes, text_at t bytes)) (Some x)) numbers
               ∙ ap (λ (b : Bool). if b then Ok found else Err at) found',
-          ap (λ (n : ℕ). at_row n) (sym (told t.list.now x f)),
+          ap (λ (n : ℕ). at_row n) (sym (reported t.list.now x f)),
         )
       where
         at_row : ℕ → LibraryRow
@@ -499,5 +499,5 @@ pub rows_equal : (name name' : List ℕ) (file file' : ℕ) (private private' : 
 rows_equal name name' file file' private private' at at' p q r s =
     ap (λ (x : List ℕ). made x file private at) p ∙ ap (λ (x : ℕ). made name' x private at) q ∙ ap (λ (x : Bool). made name' file' x at) r ∙ ap (made name' file' private') s
 
-pub told_so : (t : Tables) (bytes : List ℕ) (row other : LibraryRow) → IsRowAnswer t bytes (Some row) → other ≡ row → IsRowAnswer t bytes (Some other)
-told_so t bytes row other answer same = (answer.0, answer.1, same ∙ answer.2)
+pub reported_so : (t : Tables) (bytes : List ℕ) (row other : LibraryRow) → IsRowAnswer t bytes (Some row) → other ≡ row → IsRowAnswer t bytes (Some other)
+reported_so t bytes row other answer same = (answer.0, answer.1, same ∙ answer.2)

@@ -6,7 +6,7 @@ use Rattle.link_meaning.specs.Member.{Row}
 use Rattle.link_meaning.specs.Dictionary.{numbered_from, rows_from}
 use Rattle.lib_dict.specs.declared.dictionary.Row as declared
 use Rattle.lib_dict.specs.declared.rows.Tables.{Tables}
-use Rattle.lib_dict.specs.Library.{LibraryRow, told_row}
+use Rattle.lib_dict.specs.Library.{LibraryRow, row_view}
 use Rattle.lib_dict.specs.Rows.{seen_row}
 use Rattle.lib_dict.specs.Tables.{numbers_in, names_in, row_in, rows_at, IsRowAnswer, AreRowsIn}
 
@@ -29,7 +29,7 @@ pub record ReadRows (t : Tables) (start : ℕ) (second : List ℕ) (place : ℕ)
   pub count : 12 * length rows + length rest ≡ length second
   pub found : List Row
   pub whole : rows_at t start second ≡ after_rows found (rows_left t n place rest)
-  pub told : map seen_row rows ≡ map (told_row t.list.now) found
+  pub reported : map seen_row rows ≡ map (row_view t.list.now) found
 
 rows_step : (t : Tables) (n at : ℕ) (rest : List ℕ) → rows_left t (suc n) at rest ≡ (row_in t at (take 12 rest) >>= λ row. rows_left t n (at + 12) (drop 12 rest) >>= λ rows. Ok (row ∷ rows))
 unfolding rows_from
@@ -60,12 +60,12 @@ rows_next t start second place rest next rows new row r long answer is_new is_ne
       count = omega (arith, ap length is_next, length-drop 12 rest, r.count, ap length is_new, length-append rows (row ∷ []));
       found = r.found ++ answer.0 ∷ [];
       whole = r.whole ∙ ap (after_rows r.found) goes ∙ regroup answer.0 (rows_left t m.0 (place + 12) left) ∙ ap (λ (l : List ℕ). after_rows (r.found ++ answer.0 ∷ []) (rows_left t m.0 (place + 12) l)) (sym is_next);
-      told =
+      reported =
           ap (map seen_row) is_new
           ∙ map-append seen_row rows (row ∷ [])
-          ∙ ap (λ (l : List LibraryRow). l ++ seen_row row ∷ []) r.told
-          ∙ ap (λ (x : LibraryRow). map (told_row t.list.now) r.found ++ x ∷ []) answer.2
-          ∙ sym (map-append (told_row t.list.now) r.found (answer.0 ∷ []));
+          ∙ ap (λ (l : List LibraryRow). l ++ seen_row row ∷ []) r.reported
+          ∙ ap (λ (x : LibraryRow). map (row_view t.list.now) r.found ++ x ∷ []) answer.2
+          ∙ sym (map-append (row_view t.list.now) r.found (answer.0 ∷ []));
     }
   where
     regroup : (one : Row) (a : Answer) → after_rows r.found (a >>= λ more. Ok (one ∷ more)) ≡ after_rows (r.found ++ one ∷ []) a
@@ -97,7 +97,7 @@ rows_all t start second place rest rows r short =
           ∙ ap (λ (n : ℕ). after_rows r.found (rows_left t n place rest)) none
           ∙ ap (after_rows r.found) (rows_stop t place rest)
           ∙ ap (λ (l : List Row). done l) (append-nil r.found);
-      told = r.told;
+      reported = r.reported;
     }
   where
     done : List Row → Answer

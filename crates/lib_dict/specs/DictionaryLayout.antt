@@ -29,8 +29,8 @@ AreNames names bytes = bytes ≡ flat_map counted_name names
 -- one of the names starts there
 pub record StartsAt (names : List (List ℕ)) (name : List ℕ) (at : ℕ) : Type 0 where
   pub before : List (List ℕ)
-  pub behind : List (List ℕ)
-  pub parts : names ≡ before ++ name ∷ behind
+  pub following : List (List ℕ)
+  pub parts : names ≡ before ++ name ∷ following
   pub place : at ≡ length (flat_map counted_name before)
 
 -- the segment defines the name by SEGNAME, GLOBAL or GEQU, private or not
@@ -49,7 +49,7 @@ pub record IsRow (segments : List Segment) (numbers : List ℕ) (names : List (L
   pub private : row.private ≡ not (number_at 2 6 bytes == 0)
   pub segment : Segment
   pub here : segment_at segments row.segment ≡ Some segment
-  pub behind : 1 < row.segment
+  pub following : 1 < row.segment
   pub start : segment.start ≡ number_at 4 8 bytes
   pub other : form_of segment.fields.kind ≢ 0x08
   pub defines : DefinesSo segment row.name row.private

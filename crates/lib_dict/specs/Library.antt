@@ -23,8 +23,8 @@ pub record LibraryRow : Type 0 where
 -- ---- a dictionary that is read
 
 -- a row as it is told, with the start of its segment
-abbrev pub told_row : List Segment → Row → LibraryRow
-told_row segments row = record {
+abbrev pub row_view : List Segment → Row → LibraryRow
+row_view segments row = record {
   name = row.name;
   file = row.from;
   private = row.private;
@@ -38,7 +38,7 @@ pub record HasRows (file : List ℕ) (rows : List LibraryRow) : Type 0 where
   pub library : is_library segments ≡ true
   pub found : List Row
   pub read : rows_of segments ≡ Ok found
-  pub told : rows ≡ map (told_row segments) found
+  pub reported : rows ≡ map (row_view segments) found
 
 -- the file is sound, and doesn't begin with a dictionary
 pub record IsNoLibrary (file : List ℕ) : Type 0 where
@@ -194,8 +194,8 @@ pub record IsTooLong (given : List LibraryInput) : Type 0 where
 pub record HasDictionary (bytes : List ℕ) (number at : ℕ) : Type 0 where
   pub before : List Segment
   pub dictionary : Segment
-  pub behind : List Segment
-  pub is_file : IsFile (before ++ dictionary ∷ behind) bytes
+  pub following : List Segment
+  pub is_file : IsFile (before ++ dictionary ∷ following) bytes
   pub none_before : list_any is_dictionary before ≡ false
   pub is : is_dictionary dictionary ≡ true
   pub number' : number ≡ length before + 1

@@ -45,8 +45,8 @@ pub data HasMemberFault (bytes : List ℕ) (cause : LibCause) (segment at : ℕ)
 pub record IsFirstMemberFault (given : List LibraryInput) (fault : LibFault) : Type 0 where
   pub before : List LibraryInput
   pub file : LibraryInput
-  pub behind : List LibraryInput
-  pub parts : given ≡ before ++ file ∷ behind
+  pub following : List LibraryInput
+  pub parts : given ≡ before ++ file ∷ following
   pub files : List LibraryFile
   pub sound : AreMembers before files
   pub number : fault.spot.file ≡ length before + 1
@@ -78,13 +78,13 @@ IsMemberRefused fault file bytes =
     ByCause fault.cause ((fault.spot.file ≡ file) × HasMemberFault bytes fault.cause fault.spot.segment fault.spot.at) ⊥ (IsNowhere fault.spot)
 
 abbrev pub FaultIn : FileFault → ℕ → LibFault → Type 0
-FaultIn fault file told = (bytes : List ℕ) → IsRefused fault bytes → IsMemberRefused told file bytes
+FaultIn fault file reported = (bytes : List ℕ) → IsRefused fault bytes → IsMemberRefused reported file bytes
 
 -- the first segment that is a dictionary, by its number and its start
 abbrev pub FirstDictionary : List Segment → Option (ℕ × ℕ) → Type 0
 FirstDictionary segments None = list_any is_dictionary segments ≡ false
 FirstDictionary segments (Some found) =
-    (before : List Segment) × (d : Segment) × (behind : List Segment) × (segments ≡ before ++ d ∷ behind) × (list_any is_dictionary before ≡ false)
+    (before : List Segment) × (d : Segment) × (following : List Segment) × (segments ≡ before ++ d ∷ following) × (list_any is_dictionary before ≡ false)
     × (is_dictionary d ≡ true) × (found.0 ≡ length before + 1) × (found.1 ≡ d.start)
 
 -- the library of these files would be too long, or memory ran out

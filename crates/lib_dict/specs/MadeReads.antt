@@ -13,7 +13,7 @@ pub record IsReadBack (given : List LibraryInput) (files : List LibraryFile) (by
   pub rows : HasRows bytes (library_rows files)
   pub no_others : (others : List LibraryRow) → HasRows bytes others → others ≡ library_rows files
   pub no_fault : (fault : DictFault) → HasNoRows fault bytes → fault ≡ dict.Memory
-  pub behind : drop (dictionary_size files) bytes ≡ flat_map (λ file. file.bytes) given
+  pub following : drop (dictionary_size files) bytes ≡ flat_map (λ file. file.bytes) given
 
 -- what is made of at most 65,535 files is read so
 abbrev pub MadeIsRead : Type 0

@@ -13,7 +13,7 @@ use Rattle.lib_dict.specs.declared.fault.DictFault.{DictFault}
 use Rattle.lib_dict.specs.declared.fault.DictFault.TheVariants as dict
 use Rattle.lib_dict.specs.declared.dictionary.Row as declared
 use Rattle.lib_dict.specs.declared.rows.Tables.{Tables}
-use Rattle.lib_dict.specs.Library.{LibraryRow, told_row, segment_rows, is_dictionary}
+use Rattle.lib_dict.specs.Library.{LibraryRow, row_view, segment_rows, is_dictionary}
 use Rattle.lib_dict.specs.View.{outer_row}
 use Rattle.lib_dict.specs.Rows.{seen_row, HasNoRows}
 
@@ -49,8 +49,8 @@ abbrev pub other_rows : Segment → List LibraryRow
 other_rows s = if is_dictionary s then [] else segment_rows 0 0 s
 
 -- the rows of the segments behind the first
-unfoldable pub behind_rows : List Segment → List LibraryRow
-behind_rows segments = flat_map other_rows (drop 1 segments)
+unfoldable pub following_rows : List Segment → List LibraryRow
+following_rows segments = flat_map other_rows (drop 1 segments)
 
 unfoldable pub numbers_in : List ℕ → List ℕ
 numbers_in first = unwrap_or (file_numbers (length first) first) []
@@ -69,7 +69,7 @@ pub record FitsTables (t : Tables) : Type 0 where
   pub numbers : SameNumbers t.numbers.keys (numbers_in t.first.now)
   pub starts : SameNumbers t.starts.keys (starts_of (names_in t.third.now))
   pub named : names_from (length t.third.now) 0 t.third.now ≡ Some (names_in t.third.now)
-  pub known : HoldsRows (map outer_row t.known.keys) (behind_rows t.list.now)
+  pub known : HoldsRows (map outer_row t.known.keys) (following_rows t.list.now)
   pub file : IsInFile t.list.now
 
 -- a name's length stands there, and the whole name behind it
@@ -83,7 +83,7 @@ row_in t at bytes = row_at (numbers_in t.first.now) (names_in t.third.now) (numb
 
 abbrev pub IsRowAnswer : Tables → List ℕ → Option LibraryRow → Type 0
 IsRowAnswer t bytes None = (at : ℕ) → row_in t at bytes ≡ Err at
-IsRowAnswer t bytes (Some row) = (found : Row) × ((at : ℕ) → row_in t at bytes ≡ Ok found) × (row ≡ told_row t.list.now found)
+IsRowAnswer t bytes (Some row) = (found : Row) × ((at : ℕ) → row_in t at bytes ≡ Ok found) × (row ≡ row_view t.list.now found)
 
 -- the rows of the second record, which stands there
 abbrev pub rows_at : Tables → ℕ → List ℕ → Result (List Row) ℕ
@@ -93,7 +93,7 @@ rows_at t at second = rows_from (length second / 12) (numbers_in t.first.now) (n
 pub record AreRowsIn (segments : List Segment) (answer : Result (List Row) ℕ) (rows : List declared.Row) : Type 0 where
   pub found : List Row
   pub read : answer ≡ Ok found
-  pub told : map seen_row rows ≡ map (told_row segments) found
+  pub reported : map seen_row rows ≡ map (row_view segments) found
 
 -- the dictionary is false there, or memory ran out
 abbrev pub IsRowFault : DictFault → Result (List Row) ℕ → Type 0
@@ -104,4 +104,4 @@ IsRowFault dict.Memory answer = Unit {0}
 
 -- a file's fault as it is told of its dictionary
 abbrev pub FaultOf : FileFault → DictFault → Type 0
-FaultOf fault told = (file : List ℕ) → IsRefused fault file → HasNoRows told file
+FaultOf fault reported = (file : List ℕ) → IsRefused fault file → HasNoRows reported file

@@ -3,10 +3,10 @@
 ghost use Rattle.std.specs.Prelude.{◌≡◌, ◌+◌, ◌<◌, ◌^◌, length, map, IfOk};
 ghost use Rattle.std.specs.List.{list_any};
 ghost use Rattle.lib_dict.specs.View.{outer_row};
-ghost use Rattle.lib_dict.specs.Tables.{same_row, HoldsRows, behind_rows};
+ghost use Rattle.lib_dict.specs.Tables.{same_row, HoldsRows, following_rows};
 
 use crate::listed::Outer;
-use crate::names_behind::names_behind;
+use crate::names_following::names_following;
 use indexmap::IndexSet;
 use omf_records::SegmentList;
 use std::alloc::{AllocError, Global};
@@ -28,9 +28,9 @@ pub fn known_in<'a>(
     list: &'a SegmentList<'a>,
 ) -> Result<IndexSet<Outer<'a>>, AllocError>
     requires { length list.now + 2 < 2 ^ 32 }
-    ensures { IfOk result (λ known. HoldsRows (map outer_row known.keys) (behind_rows list.now)) }
+    ensures { IfOk result (λ known. HoldsRows (map outer_row known.keys) (following_rows list.now)) }
 {
-    let rows = names_behind(alloc, list)?;
+    let rows = names_following(alloc, list)?;
     let known = known_rows(alloc, &rows);
     drop(rows);
     known

@@ -11,7 +11,7 @@ mod listed;
 mod making;
 mod member;
 mod members;
-mod names_behind;
+mod names_following;
 mod outer;
 mod parts;
 mod reading;

@@ -15,7 +15,7 @@ use crate::fault::{LibCause, LibFault, NOWHERE};
 use crate::files::{rows_of_files, total_bytes};
 use crate::member::Member;
 use crate::members::{MemberRead, read_members};
-use crate::names_behind::DICTIONARY;
+use crate::names_following::DICTIONARY;
 use crate::texts::{files_record, names_record, put_files, rows_record};
 use omf_base::Name;
 use omf_header::{Header, Kind, WriteHeaderFault, write_header};

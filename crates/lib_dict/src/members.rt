@@ -6,7 +6,7 @@ ghost use Rattle.lib_dict.specs.Made.{given_file, library_file, FirstDictionary,
 
 use crate::fault::{LibCause, LibFault, NOWHERE};
 use crate::member::Member;
-use crate::names_behind::DICTIONARY;
+use crate::names_following::DICTIONARY;
 use omf_base::Spot;
 use omf_format::{FileCause, FileFault};
 use omf_records::{SegmentList, segments};
@@ -53,7 +53,7 @@ fn fault_in(cause: LibCause, file: u32, fault: FileFault) -> LibFault
 
 /// A file's fault as one of the library's, in the file with this number.
 fn file_fault(fault: FileFault, file: u32) -> LibFault
-    ensures told { FaultIn fault file result }
+    ensures reported { FaultIn fault file result }
     ensures memory { result.cause ≡ LibCause.Memory → fault.cause ≡ FileCause.Memory }
 {
     match fault.cause {

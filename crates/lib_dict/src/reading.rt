@@ -12,7 +12,7 @@ ghost use Rattle.lib_dict.specs.Tables.{IsInFile, AreRowsIn, IsRowFault, FaultOf
 use crate::dictionary::{Dictionary, Row};
 use crate::fault::DictFault;
 use crate::known::known_in;
-use crate::names_behind::DICTIONARY;
+use crate::names_following::DICTIONARY;
 use crate::parts::{Parts, parts_of};
 use crate::record_forms::{file_numbers, name_starts};
 use crate::rows::{ROW, Tables, rows_of};
@@ -22,7 +22,7 @@ use std::alloc::Global;
 
 /// A file's fault as one of its dictionary.
 fn file_fault(fault: FileFault) -> DictFault
-    ensures told { FaultOf fault result }
+    ensures reported { FaultOf fault result }
     ensures memory { result ≡ DictFault.Memory → fault.cause ≡ FileCause.Memory }
 {
     match fault.cause {

@@ -167,13 +167,13 @@ pub grow_place : {A E : Type 0} → (r : Result A E) (old new : Holding) (at cou
     → OnOk r ((cells : List Cell) → HoldsCells cells old → HoldsCells (cells ++ parts count segment offset shift) new)
 grow_place (Ok x) old new at count segment offset shift counts place more added = λ cells holds.
     let p : kept.Patch = record { at = at; count = count; shift = shift; segment = segment; offset = offset } in
-    let behind : at ≡ length cells = place ∙ ap length holds.bytes' ∙ length-map cells byte_under in
+    let following : at ≡ length cells = place ∙ ap length holds.bytes' ∙ length-map cells byte_under in
     record {
       bytes' = more ∙ ap (λ (l : List ℕ). l ++ replicate count 0) holds.bytes' ∙ sym (place_under cells count segment offset shift);
       patches' = ap (map seen) added
           ∙ map-append seen old.patches (p ∷ [])
           ∙ ap (λ (l : List Patch). l ++ sized at 1 segment offset shift count ∷ []) holds.patches'
-          ∙ ap (λ (n : ℕ). patches_of_cells cells ++ sized n 1 segment offset shift count ∷ []) behind
+          ∙ ap (λ (n : ℕ). patches_of_cells cells ++ sized n 1 segment offset shift count ∷ []) following
           ∙ sym (place_patches cells count segment offset shift counts);
     }
 grow_place (Err e) old new at count segment offset shift counts place more added = tt

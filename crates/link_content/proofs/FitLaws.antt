@@ -11,15 +11,15 @@ use Rattle.link_content.specs.declared.fit.Fit.TheVariants.{Number, Place, Entry
 use Rattle.link_content.specs.Fits.{to_fit, fit_with_room}
 
 -- what needs no entry needs no room
-pub told_answer : (targets : List Target) (r : Result Fit LinkCause) (o : Option meaning.Fit) → to_fit r ≡ or_does_not_fit o → ((t : Target) → o ≡ Some (meaning.Entry t) → ⊥) → fit_with_room targets r ≡ or_does_not_fit o
-told_answer targets (Ok (Number n)) o e plain = e
-told_answer targets (Ok (Place segment offset shift)) o e plain = e
-told_answer targets (Ok (Entry t)) o e plain = by_fit o e plain
+pub reported_answer : (targets : List Target) (r : Result Fit LinkCause) (o : Option meaning.Fit) → to_fit r ≡ or_does_not_fit o → ((t : Target) → o ≡ Some (meaning.Entry t) → ⊥) → fit_with_room targets r ≡ or_does_not_fit o
+reported_answer targets (Ok (Number n)) o e plain = e
+reported_answer targets (Ok (Place segment offset shift)) o e plain = e
+reported_answer targets (Ok (Entry t)) o e plain = by_fit o e plain
   where
     by_fit : (x : Option meaning.Fit) → to_fit (Ok (Entry t)) ≡ or_does_not_fit x → ((u : Target) → x ≡ Some (meaning.Entry u) → ⊥) → fit_with_room targets (Ok (Entry t)) ≡ or_does_not_fit x
     by_fit None e plain = absurd cc
     by_fit (Some f) e plain = absurd (plain t cc)
-told_answer targets (Err cause) o e plain = e
+reported_answer targets (Err cause) o e plain = e
 
 -- a place that isn't far needs none
 pub place_plain : (f : meaning.PatchPlace) (code count n segment offset : ℕ) (shift : ℤ) (t : Target) → place_fit f code count n segment offset shift ≡ Some (meaning.Entry t) → ⊥

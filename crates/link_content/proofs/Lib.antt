@@ -1,7 +1,7 @@
 pub mod FitLaws
 pub mod ContentLaws
 pub mod ContentBytes
-pub mod ZerosBehind
+pub mod ZerosAfter
 pub mod OutsideLengths
 pub mod PutLaws
 pub mod RecordLaws

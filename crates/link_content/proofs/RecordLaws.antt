@@ -6,10 +6,10 @@ use Rattle.omf_format.specs.Record.{Formula}
 use Rattle.load_meaning.specs.Cells.{Cell, Byte, Part}
 use Rattle.link_meaning.specs.declared.fault.LinkCause.{LinkCause}
 use Rattle.load_meaning.specs.declared.table.Target.{Target}
-use Rattle.link_meaning.specs.Fitting.{Fit, PatchPlace, is_jsl_byte, ends_in_jsl, fit_value, fit_cells, targets_behind}
+use Rattle.link_meaning.specs.Fitting.{Fit, PatchPlace, is_jsl_byte, ends_in_jsl, fit_value, fit_cells, targets_after}
 use Rattle.link_meaning.specs.Member.{LinkSetting, Member, setting_in}
 use Rattle.link_meaning.specs.Layout.{load_headers, load_of, offset_of}
-use Rattle.link_meaning.specs.LinkValues.{Told, value_in}
+use Rattle.link_meaning.specs.LinkValues.{EquateAnswer, value_in}
 use Rattle.link_meaning.specs.LinkedCells.{LinkState, Item, bank_of, table_number, frame_of, cells_before, made_by}
 use Rattle.link_meaning.specs.LinkWritten.{byte_under}
 use Rattle.link_content.specs.Holding.{Holding, last_of}
@@ -48,10 +48,10 @@ jsl_there front (c ∷ cells) bytes is more =
 
 -- ---- expressions
 
-pub formula_gives : (list : List Member) (told : List Told) (state : LinkState) (i : Item) (code count n : ℕ) (expr : List ℕ) (v : Value) (fit : Fit) → value_in list told i.place i.member i.here.location expr ≡ Ok v
+pub formula_gives : (list : List Member) (reported : List EquateAnswer) (state : LinkState) (i : Item) (code count n : ℕ) (expr : List ℕ) (v : Value) (fit : Fit) → value_in list reported i.place i.member i.here.location expr ≡ Ok v
     → fit_value (load_headers list) (frame_of list i) state.targets (cells_before state i) code count n v ≡ Ok fit
-    → made_by list told state i (Formula code count n expr) ≡ Ok (fit_cells (table_number list) count (targets_behind state.targets fit) fit, targets_behind state.targets fit)
-formula_gives list told state i code count n expr v fit value fits = rw (value, fits) refl
+    → made_by list reported state i (Formula code count n expr) ≡ Ok (fit_cells (table_number list) count (targets_after state.targets fit) fit, targets_after state.targets fit)
+formula_gives list reported state i code count n expr v fit value fits = rw (value, fits) refl
 
 -- ---- what was put is what the record gives
 
@@ -66,8 +66,8 @@ frame_is list i site location is here =
     ∙ ap (λ (n : ℕ). frame (load_of list i.member) (bank_of (load_headers list) (load_of list i.member)) (n + location) setting) is.offset'
     ∙ ap (λ (n : ℕ). frame (load_of list i.member) (bank_of (load_headers list) (load_of list i.member)) (offset_of list i.place i.member + n) setting) (sym here)
 
-module _ (list : List Member) (told : List Told) (state : LinkState) (i : Item) (site : MemberTarget) (setting : LinkSetting) (loads : List LoadLimits) (targets new : List Target) (front : List Cell) (location : ℕ) (before after : Holding)
-    (stands : StandsAt list told state i site setting loads targets front location before) (formula : kept.FormulaRecord) (expr : List ℕ) (v : Value) (value : value_in list told i.place i.member i.here.location expr ≡ Ok v) where
+module _ (list : List Member) (reported : List EquateAnswer) (state : LinkState) (i : Item) (site : MemberTarget) (setting : LinkSetting) (loads : List LoadLimits) (targets new : List Target) (front : List Cell) (location : ℕ) (before after : Holding)
+    (stands : StandsAt list reported state i site setting loads targets front location before) (formula : kept.FormulaRecord) (expr : List ℕ) (v : Value) (value : value_in list reported i.place i.member i.here.location expr ≡ Ok v) where
   here : frame site.own site.bank_size (site.offset + location) setting ≡ frame_of list i
   here =
       ap (frame site.own site.bank_size (site.offset + location)) (sym stands.setting')
@@ -82,14 +82,14 @@ module _ (list : List Member) (told : List Told) (state : LinkState) (i : Item) 
       ∙ is
 
   pub value_put : PutsValue (load_headers list) (frame site.own site.bank_size (site.offset + location) setting) (cells_before state i) formula v site.table targets new before after
-      → PutsMade (made_by list told state i (Formula formula.code formula.count formula.n expr)) (front ++ cells_before state i) new after
+      → PutsMade (made_by list reported state i (Formula formula.code formula.count formula.n expr)) (front ++ cells_before state i) new after
   value_put puts =
-      let behind : new ≡ targets_behind state.targets puts.fit = puts.targets' ∙ ap (λ (ts : List Target). targets_behind ts puts.fit) (sym stands.targets') in
-      let cells : fit_cells site.table formula.count new puts.fit ≡ fit_cells (table_number list) formula.count (targets_behind state.targets puts.fit) puts.fit =
-      ap (λ (n : ℕ). fit_cells n formula.count new puts.fit) stands.site'.table' ∙ ap (λ (ts : List Target). fit_cells (table_number list) formula.count ts puts.fit) behind in
+      let following : new ≡ targets_after state.targets puts.fit = puts.targets' ∙ ap (λ (ts : List Target). targets_after ts puts.fit) (sym stands.targets') in
+      let cells : fit_cells site.table formula.count new puts.fit ≡ fit_cells (table_number list) formula.count (targets_after state.targets puts.fit) puts.fit =
+      ap (λ (n : ℕ). fit_cells n formula.count new puts.fit) stands.site'.table' ∙ ap (λ (ts : List Target). fit_cells (table_number list) formula.count ts puts.fit) following in
       record {
-        gives = (fit_cells (table_number list) formula.count (targets_behind state.targets puts.fit) puts.fit, targets_behind state.targets puts.fit);
-        is = formula_gives list told state i formula.code formula.count formula.n expr v puts.fit value (same_fit (Ok puts.fit) puts.fits);
-        targets' = behind;
+        gives = (fit_cells (table_number list) formula.count (targets_after state.targets puts.fit) puts.fit, targets_after state.targets puts.fit);
+        is = formula_gives list reported state i formula.code formula.count formula.n expr v puts.fit value (same_fit (Ok puts.fit) puts.fits);
+        targets' = following;
         holds = subst (λ (l : List Cell). HoldsCells ((front ++ cells_before state i) ++ l) after) cells (puts.cells' (front ++ cells_before state i) stands.holds);
       }

@@ -5,7 +5,7 @@ use Rattle.link_meaning.specs.LinkWritten.{byte_under, patches_of_cells}
 use Rattle.load_writer.specs.Joined.{joined}
 use Rattle.load_writer.specs.WrittenParts.{seen}
 use Rattle.link_content.specs.declared.content.ByteStorage.{ByteStorage}
-use Rattle.link_content.specs.declared.content.ByteStorage.TheVariants.{Lent, Own}
+use Rattle.link_content.specs.declared.content.ByteStorage.TheVariants.{Borrowed, Own}
 use Rattle.link_content.specs.Holding.{Holding, AreInside}
 
 -- these are the cells: the bytes under the patches, and the patches
@@ -15,5 +15,5 @@ pub record HoldsCells (cells : List Cell) (content : Holding) : Type 0 where
 
 -- its bytes stand there, but for so many zeros behind them, under which no patch lies; where they are lent, there is no patch
 abbrev pub IsPlaced : ByteStorage → ℕ → Holding → Type 0
-IsPlaced (Lent pieces) behind content = (content.bytes ≡ joined pieces.now ++ replicate behind 0) × (content.patches ≡ [])
-IsPlaced (Own bytes) behind content = (content.bytes ≡ bytes.now ++ replicate behind 0) × AreInside (length bytes.now) content.patches
+IsPlaced (Borrowed pieces) following content = (content.bytes ≡ joined pieces.now ++ replicate following 0) × (content.patches ≡ [])
+IsPlaced (Own bytes) following content = (content.bytes ≡ bytes.now ++ replicate following 0) × AreInside (length bytes.now) content.patches

@@ -12,9 +12,9 @@ abbrev pub AreInside : ℕ → List Patch → Type 0
 AreInside size patches = AllByRecursion (λ p. p.at + p.count ≤ size) patches
 
 -- bytes of one's own, or what is lent where there are none
-abbrev pub or_lent : List ℕ → List ℕ → List ℕ
-or_lent [] lent = lent
-or_lent (byte ∷ own) lent = byte ∷ own
+abbrev pub or_borrowed : List ℕ → List ℕ → List ℕ
+or_borrowed [] loaned = loaned
+or_borrowed (byte ∷ own) loaned = byte ∷ own
 
 -- the last byte, if there is one
 abbrev pub last_of : List ℕ → Option ℕ

@@ -7,7 +7,7 @@ use Rattle.load_meaning.specs.declared.table.Target.{Target}
 use Rattle.load_meaning.specs.Table.{entry_place, with_target}
 use Rattle.link_meaning.specs.declared.fault.LinkCause.{LinkCause}
 use Rattle.link_meaning.specs.Fitting as meaning
-use Rattle.link_meaning.specs.Fitting.{entry_of, fit_value, fit_cells, targets_behind}
+use Rattle.link_meaning.specs.Fitting.{entry_of, fit_value, fit_cells, targets_after}
 use Rattle.link_content.specs.Holding.{Holding}
 use Rattle.link_content.specs.declared.fit.FormulaRecord.{FormulaRecord}
 use Rattle.link_content.specs.Contents.{HoldsCells}
@@ -26,12 +26,12 @@ LacksRoom targets target cause = with_room targets (meaning.Entry target) ≡ Er
 -- a fit's bytes were put, where the table is the load segment with this number
 pub record PutsFit (number count : ℕ) (old new : List Target) (fit : meaning.Fit) (before after : Holding) : Type 0 where
   pub room : with_room old fit ≡ Ok fit
-  pub targets' : new ≡ targets_behind old fit
+  pub targets' : new ≡ targets_after old fit
   pub cells' : (cells : List Cell) → HoldsCells cells before → HoldsCells (cells ++ fit_cells number count new fit) after
 
 -- those of what the value became in the record
-pub record PutsValue (headers : List Fields) (frame : meaning.PatchPlace) (behind : List Cell) (formula : FormulaRecord) (value : Value) (number : ℕ) (old new : List Target) (before after : Holding) : Type 0 where
+pub record PutsValue (headers : List Fields) (frame : meaning.PatchPlace) (following : List Cell) (formula : FormulaRecord) (value : Value) (number : ℕ) (old new : List Target) (before after : Holding) : Type 0 where
   pub fit : meaning.Fit
-  pub fits : fit_value headers frame old behind formula.code formula.count formula.n value ≡ Ok fit
-  pub targets' : new ≡ targets_behind old fit
+  pub fits : fit_value headers frame old following formula.code formula.count formula.n value ≡ Ok fit
+  pub targets' : new ≡ targets_after old fit
   pub cells' : (cells : List Cell) → HoldsCells cells before → HoldsCells (cells ++ fit_cells number formula.count new fit) after

@@ -9,7 +9,7 @@ use Rattle.link_meaning.specs.Member.{LinkSetting, Member, setting_in}
 use Rattle.link_meaning.specs.Layout.{load_headers, load_of, offset_of}
 use Rattle.omf_format.specs.declared.value.Value.{Value}
 use Rattle.omf_format.specs.declared.value.ValueFault.{ValueFault}
-use Rattle.link_meaning.specs.LinkValues.{Told, value_in}
+use Rattle.link_meaning.specs.LinkValues.{EquateAnswer, value_in}
 use Rattle.link_meaning.specs.LinkedCells.{LinkState, Item, Made, bank_of, table_number, cells_before}
 use Rattle.link_content.specs.Holding.{Holding}
 use Rattle.link_content.specs.declared.fit.LoadLimits.{LoadLimits}
@@ -23,9 +23,9 @@ IsCounted (Formula code count n expr) = is_count count ≡ true
 IsCounted _ = Unit {0}
 
 -- this is what the record's expression stands for, if it has one
-abbrev pub IsWorth : List Member → List Told → Item → Record → Result Value ValueFault → Type 0
-IsWorth list told i (Equate global name size form private expr) worth = value_in list told i.place i.member i.here.location expr ≡ worth
-IsWorth list told i (Formula code count n expr) worth = value_in list told i.place i.member i.here.location expr ≡ worth
+abbrev pub IsWorth : List Member → List EquateAnswer → Item → Record → Result Value ValueFault → Type 0
+IsWorth list reported i (Equate global name size form private expr) worth = value_in list reported i.place i.member i.here.location expr ≡ worth
+IsWorth list reported i (Formula code count n expr) worth = value_in list reported i.place i.member i.here.location expr ≡ worth
 IsWorth _ _ _ _ _ = Unit {0}
 
 -- the member's records go there
@@ -37,7 +37,7 @@ pub record IsSite (list : List Member) (place : ℕ) (m : Member) (site : Member
 
 -- a record of the member at a site stands at this location, behind what the records before it left: their targets, and the cells of
 -- the load segment, of which so many are in front of the member
-pub record StandsAt (list : List Member) (told : List Told) (state : LinkState) (i : Item) (site : MemberTarget) (setting : LinkSetting) (loads : List LoadLimits) (targets : List Target) (front : List Cell) (location : ℕ) (content : Holding) : Type 0 where
+pub record StandsAt (list : List Member) (reported : List EquateAnswer) (state : LinkState) (i : Item) (site : MemberTarget) (setting : LinkSetting) (loads : List LoadLimits) (targets : List Target) (front : List Cell) (location : ℕ) (content : Holding) : Type 0 where
   pub setting' : setting_in list ≡ setting
   pub loads' : loads ≡ map to_load_limits (load_headers list)
   pub site' : IsSite list i.place i.member site

@@ -7,7 +7,7 @@ ghost use Rattle.link_meaning.specs.Fitting.{parts};
 ghost use Rattle.link_meaning.specs.LinkedCells.{zeros};
 ghost use Rattle.load_writer.specs.Joined.{joined};
 ghost use Rattle.link_content.specs.Contents.{HoldsCells, IsPlaced};
-ghost use Rattle.link_content.specs.Holding.{Holding, or_lent, or_before, last_of};
+ghost use Rattle.link_content.specs.Holding.{Holding, or_borrowed, or_before, last_of};
 
 use load_writer::Patch;
 use std::alloc::{AllocError, Global};
@@ -31,11 +31,11 @@ pub struct LoadContent<'a> {
 impl<'a> Model for LoadContent<'a> {
     ghost use Rattle.std.specs.Prelude.{◌≡◌, ◌++◌, ◌<◌, ◌^◌, [], length, replicate};
     ghost use Rattle.load_writer.specs.Joined.{joined};
-    ghost use Rattle.link_content.specs.Holding.{Holding, AreInside, or_lent};
+    ghost use Rattle.link_content.specs.Holding.{Holding, AreInside, or_borrowed};
 
     ghost Value = { Holding };
 
-    ghost view = { λ content. record { bytes = or_lent content.own.items (joined content.borrowed.items) ++ replicate content.trailing_zeros 0; patches = content.patches.items } };
+    ghost view = { λ content. record { bytes = or_borrowed content.own.items (joined content.borrowed.items) ++ replicate content.trailing_zeros 0; patches = content.patches.items } };
 
     ghost invariant = { λ content. (content.borrowed_size ≡ length (joined content.borrowed.items)) × (content.own.items ≡ [] → content.patches.items ≡ [])
         × AreInside (length content.own.items) content.patches.items × (content.borrowed_size < 2 ^ 33) × (content.trailing_zeros < 2 ^ 33) };
@@ -44,7 +44,7 @@ impl<'a> Model for LoadContent<'a> {
 /// Where the bytes of a content stand.
 pub enum ByteStorage<'h, 'a> {
     /// In inputs, piece by piece.
-    Lent(&'h [&'a [u8]]),
+    Borrowed(&'h [&'a [u8]]),
     /// Side by side.
     Own(&'h [u8]),
 }
@@ -78,23 +78,23 @@ fn append_zeros(out: &mut Vec<u8>, count: usize) -> Result<(), AllocError>
 }
 
 /// Copies what is lent, unless there are bytes of one's own.
-fn take_in(own: &mut Vec<u8>, lent: &[&[u8]]) -> Result<(), AllocError>
-    ensures ok { OnOk result (own.new.items ≡ or_lent own.old.items (joined lent.now)) }
+fn take_in(own: &mut Vec<u8>, loaned: &[&[u8]]) -> Result<(), AllocError>
+    ensures ok { OnOk result (own.new.items ≡ or_borrowed own.old.items (joined loaned.now)) }
     ensures err { OnErr result (own.old.items ≡ []) }
 {
     if own.is_empty() {
-        return append_all(own, lent);
+        return append_all(own, loaned);
     }
     Ok(())
 }
 
 /// Copies what is lent, unless there are bytes of one's own, and appends so many zeros.
-fn own_bytes(own: &mut Vec<u8>, lent: &[&[u8]], zeros: usize) -> Result<(), AllocError>
+fn own_bytes(own: &mut Vec<u8>, loaned: &[&[u8]], zeros: usize) -> Result<(), AllocError>
     requires { zeros < 2 ^ 34 }
-    ensures ok { OnOk result (own.new.items ≡ or_lent own.old.items (joined lent.now) ++ replicate zeros 0) }
+    ensures ok { OnOk result (own.new.items ≡ or_borrowed own.old.items (joined loaned.now) ++ replicate zeros 0) }
     ensures longer { own.old.items ≢ [] → length own.old.items ≤ length own.new.items }
 {
-    take_in(own, lent)?;
+    take_in(own, loaned)?;
     append_zeros(own, zeros)
 }
 
@@ -204,7 +204,7 @@ impl<'a> LoadContent<'a> {
     {
         if self.own.is_empty() {
             return (
-                ByteStorage::Lent(self.borrowed.as_slice()),
+                ByteStorage::Borrowed(self.borrowed.as_slice()),
                 self.trailing_zeros,
             );
         }
@@ -241,7 +241,7 @@ impl<'a> LoadContent<'a> {
     }
 
     /// Appends bytes of an input, which aren't copied as long as there are no others.
-    fn append_lent(&mut self, bytes: &'a [u8]) -> Result<(), AllocError>
+    fn append_borrowed(&mut self, bytes: &'a [u8]) -> Result<(), AllocError>
         requires { length (self.old).bytes + length bytes.now < 2 ^ 33 }
         ensures bytes { OnOk result ((self.new).bytes ≡ (self.old).bytes ++ bytes.now) }
         ensures patches { (self.new).patches ≡ (self.old).patches }
@@ -283,7 +283,7 @@ impl<'a> LoadContent<'a> {
         requires { length (self.old).bytes + length bytes.now < 2 ^ 32 }
         ensures { OnOk result ((cells : List Cell) → HoldsCells cells self.old → HoldsCells (cells ++ map Byte bytes.now) self.new) }
     {
-        self.append_lent(bytes)
+        self.append_borrowed(bytes)
     }
 
     /// So many zeros more, which take no memory.

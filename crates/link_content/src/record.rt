@@ -7,7 +7,7 @@ ghost use Rattle.link_meaning.specs.Fitting.{ends_in_jsl, value_cause};
 ghost use Rattle.omf_format.specs.Record as format;
 ghost use Rattle.object_meaning.specs.Sizes.{size_at};
 ghost use Rattle.link_meaning.specs.Member.{Member, setting_in};
-ghost use Rattle.link_meaning.specs.LinkValues.{Told, value_in};
+ghost use Rattle.link_meaning.specs.LinkValues.{EquateAnswer, value_in};
 ghost use Rattle.link_meaning.specs.LinkedCells.{LinkState, Item, cells_before, made_by};
 ghost use Rattle.omf_records.specs.View.{view};
 ghost use Rattle.link_content.specs.Contents.{HoldsCells};
@@ -73,12 +73,12 @@ fn put_value(
 ) -> Result<(), LinkCause>
     requires small { length (content.old).bytes + 4 < 2 ^ 32 }
     requires near { site.offset + location < 2 ^ 32 }
-    ensures ok { OnOk result ((list : List Member) (told : List Told) (state : LinkState) (i : Item) (front : List Cell) (expr : List ℕ)
-        → StandsAt list told state i site (setting_in program.now) loads.now table.old front location content.old → value_in list told i.place i.member i.here.location expr ≡ Ok value
-        → PutsMade (made_by list told state i (format.Formula formula.code formula.count formula.n expr)) (front ++ cells_before state i) table.new content.new) }
-    ensures err { IfErr result (λ cause. (list : List Member) (told : List Told) (state : LinkState) (i : Item) (front : List Cell) (expr : List ℕ)
-        → StandsAt list told state i site (setting_in program.now) loads.now table.old front location content.old → value_in list told i.place i.member i.here.location expr ≡ Ok value
-        → (cause ≡ causes.Memory) ⊎ (made_by list told state i (format.Formula formula.code formula.count formula.n expr) ≡ Err cause)) }
+    ensures ok { OnOk result ((list : List Member) (reported : List EquateAnswer) (state : LinkState) (i : Item) (front : List Cell) (expr : List ℕ)
+        → StandsAt list reported state i site (setting_in program.now) loads.now table.old front location content.old → value_in list reported i.place i.member i.here.location expr ≡ Ok value
+        → PutsMade (made_by list reported state i (format.Formula formula.code formula.count formula.n expr)) (front ++ cells_before state i) table.new content.new) }
+    ensures err { IfErr result (λ cause. (list : List Member) (reported : List EquateAnswer) (state : LinkState) (i : Item) (front : List Cell) (expr : List ℕ)
+        → StandsAt list reported state i site (setting_in program.now) loads.now table.old front location content.old → value_in list reported i.place i.member i.here.location expr ≡ Ok value
+        → (cause ≡ causes.Memory) ⊎ (made_by list reported state i (format.Formula formula.code formula.count formula.n expr) ≡ Err cause)) }
 {
     let frame = PatchPlace {
         own: site.own,
@@ -106,12 +106,12 @@ pub fn put_record<'a>(
     requires counted { IsCounted (view rec.now) }
     requires small { length (content.old).bytes + size_at location (view rec.now) + 4 < 2 ^ 32 }
     requires near { site.offset + location < 2 ^ 32 }
-    ensures ok { OnOk result ((list : List Member) (told : List Told) (state : LinkState) (i : Item) (front : List Cell)
-        → StandsAt list told state i site (setting_in program.now) loads.now table.old front location content.old → IsWorth list told i (view rec.now) value
-        → PutsMade (made_by list told state i (view rec.now)) (front ++ cells_before state i) table.new content.new) }
-    ensures err { IfErr result (λ cause. (list : List Member) (told : List Told) (state : LinkState) (i : Item) (front : List Cell)
-        → StandsAt list told state i site (setting_in program.now) loads.now table.old front location content.old → IsWorth list told i (view rec.now) value
-        → (cause ≡ causes.Memory) ⊎ (made_by list told state i (view rec.now) ≡ Err cause)) }
+    ensures ok { OnOk result ((list : List Member) (reported : List EquateAnswer) (state : LinkState) (i : Item) (front : List Cell)
+        → StandsAt list reported state i site (setting_in program.now) loads.now table.old front location content.old → IsWorth list reported i (view rec.now) value
+        → PutsMade (made_by list reported state i (view rec.now)) (front ++ cells_before state i) table.new content.new) }
+    ensures err { IfErr result (λ cause. (list : List Member) (reported : List EquateAnswer) (state : LinkState) (i : Item) (front : List Cell)
+        → StandsAt list reported state i site (setting_in program.now) loads.now table.old front location content.old → IsWorth list reported i (view rec.now) value
+        → (cause ≡ causes.Memory) ⊎ (made_by list reported state i (view rec.now) ≡ Err cause)) }
 {
     match rec {
         Rec::Formula { code, count, n, .. } => match value {

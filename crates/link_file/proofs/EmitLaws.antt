@@ -6,70 +6,70 @@ use Rattle.link_meaning.specs.First.{IsIn, IsFirst}
 use Rattle.link_meaning.specs.laws.FirstLaws.{none_yet, none_more}
 use Rattle.link_meaning.specs.Member.{Member}
 use Rattle.link_meaning.specs.Search.{FoundDefinition}
-use Rattle.link_meaning.specs.Rings.{equates}
-use Rattle.link_meaning.specs.LinkValues.{Told, IsTable}
+use Rattle.link_meaning.specs.Cycles.{equates}
+use Rattle.link_meaning.specs.LinkValues.{EquateAnswer, IsTable}
 use Rattle.link_meaning.specs.laws.TableLaws.{one_table}
 use Rattle.link_meaning.specs.LinkedCells.{items}
 use Rattle.link_meaning.specs.LinkFaults.{no_spot}
 use Rattle.link_meaning.specs.LinkWritten.{AreMade, start, written_file}
-use Rattle.link_meaning.specs.EmitFaults.{HasRingFault, HasValueFault, most_bytes, Rings, Values, Size, HasEmitFault, IsEmitAnswer}
+use Rattle.link_meaning.specs.EmitFaults.{HasCycleFault, HasValueFault, most_bytes, Cycles, Values, Size, HasEmitFault, IsEmitAnswer}
 use Rattle.link_meaning.specs.laws.EmitFaultLaws.{made_sound}
 use Rattle.link_file.specs.Answers.{IsEmitRefused}
-use Rattle.link_values.specs.Equates.{IsRingRefused}
+use Rattle.link_values.specs.Equates.{IsCycleRefused}
 use Rattle.link_file.specs.Walks.{IsValueRefused}
 
 in_middle : (front : List FoundDefinition) (e : FoundDefinition) (back : List FoundDefinition) → IsIn (front ++ e ∷ back) e
 in_middle [] e back = inl refl
 in_middle (x ∷ front) e back = inr (in_middle front e back)
 
-module _ (list : List Member) (told : List Told) (is : IsTable list told) where
-  no_ring : (its : LinkFault) → IsFirst (HasRingFault list) (equates list) its → ⊥
-  no_ring its first = is.straight first.item (subst (λ (l : List FoundDefinition). IsIn l first.item) (sym first.parts) (in_middle first.before first.item first.after)) first.here.ring
+module _ (list : List Member) (reported : List EquateAnswer) (is : IsTable list reported) where
+  no_cycle : (its : LinkFault) → IsFirst (HasCycleFault list) (equates list) its → ⊥
+  no_cycle its first = is.straight first.item (subst (λ (l : List FoundDefinition). IsIn l first.item) (sym first.parts) (in_middle first.before first.item first.after)) first.here.cycle
 
-  pub refused_value : (fault : LinkFault) → IsValueRefused list told fault → IsEmitRefused list fault
+  pub refused_value : (fault : LinkFault) → IsValueRefused list reported fault → IsEmitRefused list fault
   refused_value fault (inl memory) = inl memory
   refused_value fault (inr first) = inr (record {
-    before = Rings ∷ [];
+    before = Cycles ∷ [];
     item = Values;
     after = Size ∷ [];
     parts = refl;
-    none = none_more (HasEmitFault list) [] Rings (none_yet (HasEmitFault list)) no_ring;
-    here = (told, is, first);
+    none = none_more (HasEmitFault list) [] Cycles (none_yet (HasEmitFault list)) no_cycle;
+    here = (reported, is, first);
   })
 
-  module _ (are : AreMade list told start (items list)) where
-    no_value : (its : LinkFault) → HasEmitFault list (Rings ∷ []) Values its → ⊥
+  module _ (are : AreMade list reported start (items list)) where
+    no_value : (its : LinkFault) → HasEmitFault list (Cycles ∷ []) Values its → ⊥
     no_value its has =
-        let same = one_table list has.0 told has.1 is in
-        let first = subst (λ (t : List Told). IsFirst (HasValueFault list t) (items list) its) same has.2 in
-        made_sound list told are first.before first.item first.after its first.parts first.here
+        let same = one_table list has.0 reported has.1 is in
+        let first = subst (λ (t : List EquateAnswer). IsFirst (HasValueFault list t) (items list) its) same has.2 in
+        made_sound list reported are first.before first.item first.after its first.parts first.here
 
-    pub refused_size : most_bytes < length (written_file list told) → IsEmitRefused list (record { cause = FileTooLong; name = None; spot = no_spot })
+    pub refused_size : most_bytes < length (written_file list reported) → IsEmitRefused list (record { cause = FileTooLong; name = None; spot = no_spot })
     refused_size long = inr (record {
-      before = Rings ∷ Values ∷ [];
+      before = Cycles ∷ Values ∷ [];
       item = Size;
       after = [];
       parts = refl;
-      none = none_more (HasEmitFault list) (Rings ∷ []) Values (none_more (HasEmitFault list) [] Rings (none_yet (HasEmitFault list)) no_ring) no_value;
-      here = (told, is, record { long = long; told = refl });
+      none = none_more (HasEmitFault list) (Cycles ∷ []) Values (none_more (HasEmitFault list) [] Cycles (none_yet (HasEmitFault list)) no_cycle) no_value;
+      here = (reported, is, record { long = long; reported = refl });
     })
 
-    no_size : (its : LinkFault) → length (written_file list told) ≤ most_bytes → HasEmitFault list (Rings ∷ Values ∷ []) Size its → ⊥
+    no_size : (its : LinkFault) → length (written_file list reported) ≤ most_bytes → HasEmitFault list (Cycles ∷ Values ∷ []) Size its → ⊥
     no_size its short has =
-        let same = one_table list has.0 told has.1 is in
-        omega (arith, has.2.long, ap (λ (t : List Told). length (written_file list t)) same, short)
+        let same = one_table list has.0 reported has.1 is in
+        omega (arith, has.2.long, ap (λ (t : List EquateAnswer). length (written_file list t)) same, short)
 
-    pub written_is : (output : List ℕ) → output ≡ written_file list told → length output ≤ most_bytes → IsEmitAnswer list (Ok output)
+    pub written_is : (output : List ℕ) → output ≡ written_file list reported → length output ≤ most_bytes → IsEmitAnswer list (Ok output)
     written_is output same short = (
-      told,
+      reported,
       record {
         valued = is;
-        sound = none_more (HasEmitFault list) (Rings ∷ Values ∷ []) Size (none_more (HasEmitFault list) (Rings ∷ []) Values (none_more (HasEmitFault list) [] Rings (none_yet (HasEmitFault list)) no_ring) no_value)
+        sound = none_more (HasEmitFault list) (Cycles ∷ Values ∷ []) Size (none_more (HasEmitFault list) (Cycles ∷ []) Values (none_more (HasEmitFault list) [] Cycles (none_yet (HasEmitFault list)) no_cycle) no_value)
             (λ its has. no_size its (subst (λ (l : List ℕ). length l ≤ most_bytes) same short) has);
       },
       same,
     )
 
-pub refused_ring : (list : List Member) (fault : LinkFault) → IsRingRefused list fault → IsEmitRefused list fault
-refused_ring list fault (inl memory) = inl memory
-refused_ring list fault (inr first) = inr (record { before = []; item = Rings; after = Values ∷ Size ∷ []; parts = refl; none = none_yet (HasEmitFault list); here = first })
+pub refused_cycle : (list : List Member) (fault : LinkFault) → IsCycleRefused list fault → IsEmitRefused list fault
+refused_cycle list fault (inl memory) = inl memory
+refused_cycle list fault (inr first) = inr (record { before = []; item = Cycles; after = Values ∷ Size ∷ []; parts = refl; none = none_yet (HasEmitFault list); here = first })

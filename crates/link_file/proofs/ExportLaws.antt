@@ -16,14 +16,14 @@ use Rattle.omf_format.specs.File.{Segment}
 use Rattle.link_meaning.specs.Member.{Member, setting_in, form_in}
 use Rattle.link_meaning.specs.declared.form.LinkForm.{LinkForm}
 use Rattle.link_meaning.specs.declared.form.LinkForm.TheVariants.{Runtime as LibraryForm}
-use Rattle.object_meaning.specs.Sizes.{size_at, located_from, place_behind}
+use Rattle.object_meaning.specs.Sizes.{size_at, located_from, place_after}
 use Rattle.object_meaning.specs.Defines.{Scope, ForSegment, ForUnit, ForAll, Definition, outer_scope, scope_of, title_of, defined_by, defined_in}
 use Rattle.link_meaning.specs.Search.{FoundDefinition, entries_from, entries, outside}
 use Rattle.link_program.specs.Outside.{all_found}
 use Rattle.link_values.specs.declared.slots.ValueSlot.{ValueSlot}
 use Rattle.link_values.specs.Slots.{AreSlots}
 use Rattle.link_meaning.specs.Layout.{load_headers}
-use Rattle.link_meaning.specs.LinkValues.{Told, found_value, if_ok}
+use Rattle.link_meaning.specs.LinkValues.{EquateAnswer, found_value, if_ok}
 use Rattle.link_meaning.specs.LinkWritten.{export_at, export_of, exports, exports_for}
 use Rattle.link_tables.specs.Coming.{Coming}
 use Rattle.link_program.specs.Linked.{member_at}
@@ -62,18 +62,18 @@ title_named s b some is = by_name s.fields.name some
 
 -- ---- what a value exports
 
-pub value_told : (r : Result Value ValueFault) (v : Value) → Some v ≡ if_ok r → r ≡ Ok v
-value_told (Ok x) v e = let same : v ≡ x = cc in ap ok (sym same)
+pub value_reported : (r : Result Value ValueFault) (v : Value) → Some v ≡ if_ok r → r ≡ Ok v
+value_reported (Ok x) v e = let same : v ≡ x = cc in ap ok (sym same)
   where
     ok : Value → Result Value ValueFault
     ok y = Ok y
-value_told (Err fault) v e = absurd cc
+value_reported (Err fault) v e = absurd cc
 
-pub none_told : (headers : List Fields) (name : List ℕ) (r : Result Value ValueFault) → None ≡ if_ok r → export_at headers name r ≡ []
-none_told headers name (Ok x) e = absurd cc
-none_told headers name (Err fault) e = refl
+pub none_reported : (headers : List Fields) (name : List ℕ) (r : Result Value ValueFault) → None ≡ if_ok r → export_at headers name r ≡ []
+none_reported headers name (Ok x) e = absurd cc
+none_reported headers name (Err fault) e = refl
 
-pub export_public : (list : List Member) (table : List Told) (f : FoundDefinition) → is_public f.definition.scope ≡ true → export_of list table f ≡ export_at (load_headers list) f.definition.name (found_value list table f)
+pub export_public : (list : List Member) (table : List EquateAnswer) (f : FoundDefinition) → is_public f.definition.scope ≡ true → export_of list table f ≡ export_at (load_headers list) f.definition.name (found_value list table f)
 export_public list table f is = by_scope f.definition.scope is
   where
     all : List Record
@@ -84,7 +84,7 @@ export_public list table f is = by_scope f.definition.scope is
     by_scope ForUnit e = absurd (false≢true e)
     by_scope ForAll e = refl
 
-pub export_other : (list : List Member) (table : List Told) (f : FoundDefinition) → is_public f.definition.scope ≡ false → export_of list table f ≡ []
+pub export_other : (list : List Member) (table : List EquateAnswer) (f : FoundDefinition) → is_public f.definition.scope ≡ false → export_of list table f ≡ []
 export_other list table f is = by_scope f.definition.scope is
   where
     all : List Record
@@ -102,18 +102,18 @@ take_next [] k x e = absurd cc
 take_next (y ∷ xs) zero x e = let same : y ≡ x = cc in ap (λ (z : FoundDefinition). z ∷ []) same
 take_next (y ∷ xs) (suc k) x e = let next : suc k + 1 ≡ suc (k + 1) = omega arith in ap (λ (n : ℕ). take n (y ∷ xs)) next ∙ ap (λ (l : List FoundDefinition). y ∷ l) (take_next xs k x e)
 
-pub exported_more : (list : List Member) (told : List Told) (number : ℕ) (f : FoundDefinition) (out new : List ℕ) → slice_get (entries list) number ≡ Some f → IsExported list told number out → new ≡ out ++ spelled_records (export_of list told f)
-    → IsExported list told (number + 1) new
-exported_more list told number f out new at is more =
+pub exported_more : (list : List Member) (reported : List EquateAnswer) (number : ℕ) (f : FoundDefinition) (out new : List ℕ) → slice_get (entries list) number ≡ Some f → IsExported list reported number out → new ≡ out ++ spelled_records (export_of list reported f)
+    → IsExported list reported (number + 1) new
+exported_more list reported number f out new at is more =
     let first = take number (entries list) in
-    let own = export_of list told f in
-    let parts : flat_map (export_of list told) (take (number + 1) (entries list)) ≡ flat_map (export_of list told) first ++ own =
-    ap (flat_map (export_of list told)) (take_next (entries list) number f at)
-    ∙ flat_map-append (export_of list told) first (f ∷ [])
-    ∙ ap (λ (l : List Record). flat_map (export_of list told) first ++ l) (flat_map-cons (export_of list told) f [] ∙ append-nil own) in
+    let own = export_of list reported f in
+    let parts : flat_map (export_of list reported) (take (number + 1) (entries list)) ≡ flat_map (export_of list reported) first ++ own =
+    ap (flat_map (export_of list reported)) (take_next (entries list) number f at)
+    ∙ flat_map-append (export_of list reported) first (f ∷ [])
+    ∙ ap (λ (l : List Record). flat_map (export_of list reported) first ++ l) (flat_map-cons (export_of list reported) f [] ∙ append-nil own) in
     more
     ∙ ap (λ (l : List ℕ). l ++ spelled_records own) is
-    ∙ sym (flat_map-append (spelling written_layout) (flat_map (export_of list told) first) own)
+    ∙ sym (flat_map-append (spelling written_layout) (flat_map (export_of list reported) first) own)
     ∙ ap spelled_records (sym parts)
 
 -- ---- definitions of a member
@@ -126,10 +126,10 @@ number_there list s first k d b at =
     (_, counts_there list (first + k) (length b.front) k c b.m b.back d refl own, refl)
 
 -- the first definition behind some records
-pub next_there : (s : Segment) (done back : List (ℕ × Record)) (found : ℕ × Record) (d : Definition) → s.records ≡ done ++ found ∷ back → defined_by found.0 (place_behind 0 done) found.1 ≡ d ∷ []
+pub next_there : (s : Segment) (done back : List (ℕ × Record)) (found : ℕ × Record) (d : Definition) → s.records ≡ done ++ found ∷ back → defined_by found.0 (place_after 0 done) found.1 ≡ d ∷ []
     → slice_get (defined_in s) (length (defined_so_far s done)) ≡ Some d
 next_there s done back found d parts own =
-    let loc = place_behind 0 done in
+    let loc = place_after 0 done in
     let rest = flat_map of_located (located_from (loc + size_at loc found.1) back) in
     let whole : defined_in s ≡ defined_so_far s done ++ d ∷ rest =
     so_far-all s done (found ∷ back) parts
@@ -198,46 +198,46 @@ name_fits l (Entry segment offset name) d at place small is e = absurd cc
 -- ---- a segment
 
 -- behind the name
-pub exporting_all : (list : List Member) (told : List Told) (s : Segment) (first number : ℕ) (at : Reader) (out : List ℕ) → Coming at s.records → number ≡ first + length (title_of s) → IsExported list told number out → Exporting list told s first number at out
-exporting_all list told s first number at out coming is exported =
+pub exporting_all : (list : List Member) (reported : List EquateAnswer) (s : Segment) (first number : ℕ) (at : Reader) (out : List ℕ) → Coming at s.records → number ≡ first + length (title_of s) → IsExported list reported number out → Exporting list reported s first number at out
+exporting_all list reported s first number at out coming is exported =
     record { done = []; back = s.records; parts = refl; coming = coming; count = omega (arith, is, length-append (title_of s) []); exported = exported }
 
 -- behind a record that defines nothing
-pub exporting_more : (list : List Member) (told : List Told) (s : Segment) (first number : ℕ) (at after : Reader) (found : ℕ × Record) (more : List (ℕ × Record)) (out : List ℕ) (e : Exporting list told s first number at out) → e.back ≡ found ∷ more → Coming after more
-    → ((loc : ℕ) → DefinesSeen (defined_by found.0 loc found.1) None) → Exporting list told s first number after out
-exporting_more list told s first number at after found more out e back coming none = record {
+pub exporting_more : (list : List Member) (reported : List EquateAnswer) (s : Segment) (first number : ℕ) (at after : Reader) (found : ℕ × Record) (more : List (ℕ × Record)) (out : List ℕ) (e : Exporting list reported s first number at out) → e.back ≡ found ∷ more → Coming after more
+    → ((loc : ℕ) → DefinesSeen (defined_by found.0 loc found.1) None) → Exporting list reported s first number after out
+exporting_more list reported s first number at after found more out e back coming none = record {
   done = e.done ++ found ∷ [];
   back = more;
   parts = e.parts ∙ ap (λ (l : List (ℕ × Record)). e.done ++ l) back ∙ sym (append_assoc e.done (found ∷ []) more);
   coming = coming;
-  count = omega (arith, e.count, ap length (so_far-more s e.done found), length-append (defined_so_far s e.done) (defined_by found.0 (place_behind 0 e.done) found.1), ap length (none (place_behind 0 e.done)));
+  count = omega (arith, e.count, ap length (so_far-more s e.done found), length-append (defined_so_far s e.done) (defined_by found.0 (place_after 0 e.done) found.1), ap length (none (place_after 0 e.done)));
   exported = e.exported;
 }
 
 -- behind one that defines a name
-pub exporting_named : (list : List Member) (told : List Told) (s : Segment) (first number : ℕ) (at after : Reader) (found : ℕ × Record) (more : List (ℕ × Record)) (seen : SeenName) (out new : List ℕ) (e : Exporting list told s first number at out) → e.back ≡ found ∷ more
-    → Coming after more → ((loc : ℕ) → DefinesSeen (defined_by found.0 loc found.1) (Some seen)) → IsExported list told (number + 1) new → Exporting list told s first (number + 1) after new
-exporting_named list told s first number at after found more seen out new e back coming some exported = record {
+pub exporting_named : (list : List Member) (reported : List EquateAnswer) (s : Segment) (first number : ℕ) (at after : Reader) (found : ℕ × Record) (more : List (ℕ × Record)) (seen : SeenName) (out new : List ℕ) (e : Exporting list reported s first number at out) → e.back ≡ found ∷ more
+    → Coming after more → ((loc : ℕ) → DefinesSeen (defined_by found.0 loc found.1) (Some seen)) → IsExported list reported (number + 1) new → Exporting list reported s first (number + 1) after new
+exporting_named list reported s first number at after found more seen out new e back coming some exported = record {
   done = e.done ++ found ∷ [];
   back = more;
   parts = e.parts ∙ ap (λ (l : List (ℕ × Record)). e.done ++ l) back ∙ sym (append_assoc e.done (found ∷ []) more);
   coming = coming;
-  count = omega (arith, e.count, ap length (so_far-more s e.done found), length-append (defined_so_far s e.done) (defined_by found.0 (place_behind 0 e.done) found.1), ap length (some (place_behind 0 e.done)).1);
+  count = omega (arith, e.count, ap length (so_far-more s e.done found), length-append (defined_so_far s e.done) (defined_by found.0 (place_after 0 e.done) found.1), ap length (some (place_after 0 e.done)).1);
   exported = exported;
 }
 
 -- the definition that the record has among all
-pub exporting_there : (list : List Member) (told : List Told) (s : Segment) (first number : ℕ) (at : Reader) (found : ℕ × Record) (more : List (ℕ × Record)) (seen : SeenName) (out : List ℕ) (e : Exporting list told s first number at out) → StandsBefore list s first
+pub exporting_there : (list : List Member) (reported : List EquateAnswer) (s : Segment) (first number : ℕ) (at : Reader) (found : ℕ × Record) (more : List (ℕ × Record)) (seen : SeenName) (out : List ℕ) (e : Exporting list reported s first number at out) → StandsBefore list s first
     → e.back ≡ found ∷ more → ((loc : ℕ) → DefinesSeen (defined_by found.0 loc found.1) (Some seen)) → (f : FoundDefinition) × (slice_get (entries list) number ≡ Some f) × IsSeen f.definition seen
-exporting_there list told s first number at found more seen out e b back some =
-    let own = some (place_behind 0 e.done) in
+exporting_there list reported s first number at found more seen out e b back some =
+    let own = some (place_after 0 e.done) in
     let there = next_there s e.done more found own.0 (e.parts ∙ ap (λ (l : List (ℕ × Record)). e.done ++ l) back) own.1 in
     let f = number_there list s first (length (defined_so_far s e.done)) own.0 b there in
     (f.0, ap (slice_get (entries list)) e.count ∙ f.1, subst (λ (d : Definition). IsSeen d seen) (sym f.2) own.2)
 
 -- behind the last
-pub exporting_end : (list : List Member) (told : List Told) (s : Segment) (first number : ℕ) (at : Reader) (out : List ℕ) (e : Exporting list told s first number at out) → e.back ≡ [] → number ≡ first + length (defined_in s)
-exporting_end list told s first number at out e none =
+pub exporting_end : (list : List Member) (reported : List EquateAnswer) (s : Segment) (first number : ℕ) (at : Reader) (out : List ℕ) (e : Exporting list reported s first number at out) → e.back ≡ [] → number ≡ first + length (defined_in s)
+exporting_end list reported s first number at out e none =
     let whole = so_far-all s e.done [] (e.parts ∙ ap (λ (l : List (ℕ × Record)). e.done ++ l) none) in
     omega (arith, e.count, ap length whole, length-append (defined_so_far s e.done) [])
 
@@ -250,19 +250,19 @@ title_number list s first seen b own =
 
 -- ---- members
 
-pub exports_none : (list : List Member) (told : List Told) → ExportsTo list told 0 0 []
-exports_none list told = record { front = []; back = list; parts = refl; place' = refl; count = refl; exported = refl }
+pub exports_none : (list : List Member) (reported : List EquateAnswer) → ExportsTo list reported 0 0 []
+exports_none list reported = record { front = []; back = list; parts = refl; place' = refl; count = refl; exported = refl }
 
-next_of : (list : List Member) (told : List Told) (place number : ℕ) (out : List ℕ) (e : ExportsTo list told place number out) → place < length list → (m : Member) × (back : List Member) × (e.back ≡ m ∷ back)
-next_of list told place number out e less = some e.back (omega (arith, ap length e.parts, length-append e.front e.back, e.place', less))
+next_of : (list : List Member) (reported : List EquateAnswer) (place number : ℕ) (out : List ℕ) (e : ExportsTo list reported place number out) → place < length list → (m : Member) × (back : List Member) × (e.back ≡ m ∷ back)
+next_of list reported place number out e less = some e.back (omega (arith, ap length e.parts, length-append e.front e.back, e.place', less))
   where
     some : (l : List Member) → 0 < length l → (m : Member) × (back : List Member) × (l ≡ m ∷ back)
     some [] lt = absurd (omega (arith, lt))
     some (m ∷ back) lt = (m, back, refl)
 
-module _ (list : List Member) (told : List Told) (place number : ℕ) (out : List ℕ) (e : ExportsTo list told place number out) (less : place < length list) where
+module _ (list : List Member) (reported : List EquateAnswer) (place number : ℕ) (out : List ℕ) (e : ExportsTo list reported place number out) (less : place < length list) where
   next : (m : Member) × (back : List Member) × (e.back ≡ m ∷ back)
-  next = next_of list told place number out e less
+  next = next_of list reported place number out e less
 
   parts : list ≡ e.front ++ next.0 ∷ next.1
   parts = e.parts ∙ ap (λ (l : List Member). e.front ++ l) next.2
@@ -280,7 +280,7 @@ module _ (list : List Member) (told : List Told) (place number : ℕ) (out : Lis
     count = e.count;
   }
 
-  pub exports_more : (s : Segment) (last : ℕ) (new : List ℕ) → Some s ≡ option_map (λ (o : Member). o.segment) (member_at list (place + 1)) → last ≡ number + length (defined_in s) → IsExported list told last new → ExportsTo list told (place + 1) last new
+  pub exports_more : (s : Segment) (last : ℕ) (new : List ℕ) → Some s ≡ option_map (λ (o : Member). o.segment) (member_at list (place + 1)) → last ≡ number + length (defined_in s) → IsExported list reported last new → ExportsTo list reported (place + 1) last new
   exports_more s last new is size exported =
       let same = segment_is list (place + 1) next.0 s there is in
       record {
@@ -293,15 +293,15 @@ module _ (list : List Member) (told : List Told) (place number : ℕ) (out : Lis
       }
 
 -- behind the last member
-pub exports_all : (list : List Member) (told : List Told) (place number : ℕ) (out : List ℕ) → ExportsTo list told place number out → length list ≤ place → form_in list ≡ LibraryForm → out ≡ spelled_records (exports_for (form_in list) 1 (exports list told))
+pub exports_all : (list : List Member) (reported : List EquateAnswer) (place number : ℕ) (out : List ℕ) → ExportsTo list reported place number out → length list ≤ place → form_in list ≡ LibraryForm → out ≡ spelled_records (exports_for (form_in list) 1 (exports list reported))
 unfolding exports entries
-exports_all list told place number out e past form =
+exports_all list reported place number out e past form =
     let none : e.back ≡ [] = empty e.back (omega (arith, ap length e.parts, length-append e.front e.back, e.place', past)) in
     let whole : list ≡ e.front = e.parts ∙ ap (λ (l : List Member). e.front ++ l) none ∙ append-nil e.front in
     let size : number ≡ length (entries_from defined_in 1 list) = e.count ∙ ap (λ (l : List Member). length (entries_from defined_in 1 l)) (sym whole) in
     e.exported
-    ∙ ap (λ (l : List FoundDefinition). spelled_records (flat_map (export_of list told) l)) (all (entries_from defined_in 1 list) number size)
-    ∙ ap (λ (f : LinkForm). spelled_records (exports_for f 1 (flat_map (export_of list told) (entries_from defined_in 1 list)))) (sym form)
+    ∙ ap (λ (l : List FoundDefinition). spelled_records (flat_map (export_of list reported) l)) (all (entries_from defined_in 1 list) number size)
+    ∙ ap (λ (f : LinkForm). spelled_records (exports_for f 1 (flat_map (export_of list reported) (entries_from defined_in 1 list)))) (sym form)
   where
     empty : (l : List Member) → length l ≡ 0 → l ≡ []
     empty [] e = refl

@@ -16,7 +16,7 @@ use Rattle.link_meaning.specs.LinkWritten.{byte_under, patches_of_cells, table_i
 use Rattle.load_writer.specs.WrittenParts.{seen}
 use Rattle.link_content.specs.Holding.{Holding}
 use Rattle.link_content.specs.Contents.{HoldsCells}
-use Rattle.link_file.specs.Images.{with_space, image_in, images_behind, IsReady}
+use Rattle.link_file.specs.Images.{with_space, image_in, images_after, IsReady}
 use Rattle.link_content.proofs.ContentLaws.{bytes_under, bytes_patches}
 use Rattle.link_file.proofs.ImageLaws.{image}
 
@@ -132,36 +132,36 @@ tables_some number (t ∷ ts) some = omega arith
 
 -- the table, and the pathnames behind it
 pub rest_text : (number paths : ℕ) (ts : List Target) (rs : List RuntimeFile) (old mid new : List ℕ) → mid ≡ old ++ file_text (table_images number ts) → paths ≡ number + length (table_images number ts)
-    → new ≡ mid ++ file_text (path_images paths rs) → new ≡ old ++ file_text (images_behind number ts rs)
+    → new ≡ mid ++ file_text (path_images paths rs) → new ≡ old ++ file_text (images_after number ts rs)
 rest_text number paths ts rs old mid new first at more =
     let tables = table_images number ts in
-    let behind = path_images (number + length tables) rs in
+    let following = path_images (number + length tables) rs in
     more
     ∙ ap (λ (l : List ℕ). l ++ file_text (path_images paths rs)) first
     ∙ append_assoc old (file_text tables) (file_text (path_images paths rs))
     ∙ ap (λ (n : ℕ). old ++ (file_text tables ++ file_text (path_images n rs))) at
-    ∙ ap (λ (l : List ℕ). old ++ l) (sym (text_both tables behind))
+    ∙ ap (λ (l : List ℕ). old ++ l) (sym (text_both tables following))
 
 pub rest_long : (n number paths : ℕ) (ts : List Target) (rs : List RuntimeFile) (old mid : List ℕ) → mid ≡ old ++ file_text (table_images number ts) → paths ≡ number + length (table_images number ts)
-    → n < length mid + length (file_text (path_images paths rs)) → n < length old + length (file_text (images_behind number ts rs))
+    → n < length mid + length (file_text (path_images paths rs)) → n < length old + length (file_text (images_after number ts rs))
 rest_long n number paths ts rs old mid first at long =
     let tables = table_images number ts in
-    let behind = path_images (number + length tables) rs in
+    let following = path_images (number + length tables) rs in
     omega (
       arith,
       long,
       ap length first,
       length-append old (file_text tables),
       ap (λ (k : ℕ). length (file_text (path_images k rs))) at,
-      ap length (text_both tables behind),
-      length-append (file_text tables) (file_text behind),
+      ap length (text_both tables following),
+      length-append (file_text tables) (file_text following),
     )
 
-pub rest_first : (n number : ℕ) (ts : List Target) (rs : List RuntimeFile) (old : List ℕ) → n < length old + length (file_text (table_images number ts)) → n < length old + length (file_text (images_behind number ts rs))
+pub rest_first : (n number : ℕ) (ts : List Target) (rs : List RuntimeFile) (old : List ℕ) → n < length old + length (file_text (table_images number ts)) → n < length old + length (file_text (images_after number ts rs))
 rest_first n number ts rs old long =
     let tables = table_images number ts in
-    let behind = path_images (number + length tables) rs in
-    omega (arith, long, ap length (text_both tables behind), length-append (file_text tables) (file_text behind))
+    let following = path_images (number + length tables) rs in
+    omega (arith, long, ap length (text_both tables following), length-append (file_text tables) (file_text following))
 
 -- ---- both
 

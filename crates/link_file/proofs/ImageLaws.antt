@@ -11,7 +11,7 @@ use Rattle.omf_format.specs.laws.WrittenHeaderLaws.{length-header}
 use Rattle.omf_format.specs.Field.{written_layout}
 use Rattle.omf_format.specs.Record.{Record, spelling}
 use Rattle.load_meaning.specs.Cells.{Patch}
-use Rattle.load_meaning.specs.WrittenBody.{AreWritten, zeros_behind, written_cells, body_records, body_text}
+use Rattle.load_meaning.specs.WrittenBody.{AreWritten, zeros_after, written_cells, body_records, body_text}
 use Rattle.load_meaning.specs.laws.StoredLaws.{zeros-le, cells_size}
 use Rattle.load_meaning.specs.WrittenFile.{Image, image_records, image_body, image_text, file_text}
 use Rattle.omf_header.specs.View.{fields}
@@ -19,7 +19,7 @@ use Rattle.omf_header.specs.declared.header.Header.{Header}
 use Rattle.link_content.specs.Holding.{Holding}
 use Rattle.link_file.specs.Images.{with_space, spelled_records, image_in, images_in, left_from, IsReady, AreReady}
 
-pub zeros_fit : (content : List ℕ) (patches : List Patch) → AreWritten (length content) 0 patches → zeros_behind (written_cells content patches) ≤ length content
+pub zeros_fit : (content : List ℕ) (patches : List Patch) → AreWritten (length content) 0 patches → zeros_after (written_cells content patches) ≤ length content
 unfolding written_cells
 zeros_fit content patches are = omega (arith, zeros-le (written_cells content patches), cells_size content patches are)
 
@@ -37,10 +37,10 @@ unfolding image_body image_records spelling
 body_is f content patches exports body b = ap (λ (l : List ℕ). l ++ 0 ∷ []) (b ∙ body_whole f.seg_num content patches exports)
 
 pub text_is : (f : Fields) (content : List ℕ) (patches : List Patch) (exports : List Record) (front body : List ℕ) → body ≡ body_text f.seg_num content patches ++ spelled_records exports
-    → front ≡ header_bytes (with_space f (zeros_behind (written_cells content patches))) (length body + 1) → front ++ (body ++ 0 ∷ []) ≡ image_text (image f content patches exports)
+    → front ≡ header_bytes (with_space f (zeros_after (written_cells content patches))) (length body + 1) → front ++ (body ++ 0 ∷ []) ≡ image_text (image f content patches exports)
 unfolding image_text
 text_is f content patches exports front body b h =
-    let g = with_space f (zeros_behind (written_cells content patches)) in
+    let g = with_space f (zeros_after (written_cells content patches)) in
     let whole = body_is f content patches exports body b in
     let size : length body + 1 ≡ length (image_body (image f content patches exports)) = sym (length-append body (0 ∷ [])) ∙ ap length whole in
     ap (λ (l : List ℕ). l ++ (body ++ 0 ∷ [])) (h ∙ ap (header_bytes g) size)
@@ -51,7 +51,7 @@ pub text_size : (f : Fields) (content : List ℕ) (patches : List Patch) (export
     → length (image_text (image f content patches exports)) ≡ 0x37 + length f.name + (length body + 1)
 unfolding image_text
 text_size f content patches exports body ten b =
-    let g = with_space f (zeros_behind (written_cells content patches)) in
+    let g = with_space f (zeros_after (written_cells content patches)) in
     let all = image_body (image f content patches exports) in
     omega (arith, length-append (header_bytes g (length all)) all, length-header g (length all) ten, length-append body (0 ∷ []), ap length (body_is f content patches exports body b))
 
@@ -118,8 +118,8 @@ none_left exports out all headers contents k none whole =
     all_dropped (h ∷ l) (suc k) le = all_dropped l k (omega (arith, le))
 
 -- behind the first place no ENTRY records are left
-pub none_behind : (k : ℕ) (exports : List Record) → left_from (k + 1) exports ≡ []
-none_behind k exports = let next : k + 1 ≡ suc k = omega arith in ap (λ (n : ℕ). left_from n exports) next
+pub none_after : (k : ℕ) (exports : List Record) → left_from (k + 1) exports ≡ []
+none_after k exports = let next : k + 1 ≡ suc k = omega arith in ap (λ (n : ℕ). left_from n exports) next
 
 -- what stands from a place on
 pub drop_next : {A : Type 0} (l : List A) (i : ℕ) (x : A) → slice_get l i ≡ Some x → drop i l ≡ x ∷ drop (i + 1) l
@@ -141,8 +141,8 @@ ready_size (h ∷ headers) (c ∷ contents) (suc k) ready less le = ready_size h
 
 -- ---- a header is written into the room before a body
 
-pub behind_size : (old body mid at whole : List ℕ) (n : ℕ) → at ≡ old → whole ≡ mid → mid ≡ old ++ replicate n 0 ++ body → length whole ≡ length at + n + length body
-behind_size old body mid at whole n at_is whole_is is =
+pub after_size : (old body mid at whole : List ℕ) (n : ℕ) → at ≡ old → whole ≡ mid → mid ≡ old ++ replicate n 0 ++ body → length whole ≡ length at + n + length body
+after_size old body mid at whole n at_is whole_is is =
     omega (arith, ap length at_is, ap length whole_is, ap length is, length-append (old ++ replicate n 0) body, length-append old (replicate n 0), length-replicate {A = ℕ} n 0)
 
 pub closed : (old front body mid at new : List ℕ) (n : ℕ) → at ≡ old → mid ≡ old ++ replicate n 0 ++ body → length front ≡ n

@@ -16,7 +16,7 @@ use Rattle.link_meaning.specs.declared.form.LinkForm.{LinkForm}
 use Rattle.link_meaning.specs.declared.form.LinkForm.TheVariants.{Program, Runtime as LibraryForm}
 use Rattle.link_meaning.specs.Member.{Member, setting_in, form_in}
 use Rattle.link_meaning.specs.Layout.{load_length, load_names, load_fields, headers_from, load_headers}
-use Rattle.link_meaning.specs.LinkValues.{Told, IsTable}
+use Rattle.link_meaning.specs.LinkValues.{EquateAnswer, IsTable}
 use Rattle.link_meaning.specs.LinkedCells.{items, table_number, targets, linked}
 use Rattle.link_meaning.specs.LinkWritten.{byte_under, image_of, exports, exports_for, load_images, images, written_file, AreMade, start}
 use Rattle.link_meaning.specs.LinkFaults.{LinkInput, HasBytes, is_too_long, IsResolved}
@@ -28,7 +28,7 @@ use Rattle.link_meaning.specs.laws.ValueFits.{all_sound}
 use Rattle.load_writer.specs.WrittenParts.{seen}
 use Rattle.link_content.specs.Holding.{Holding}
 use Rattle.link_content.specs.Contents.{HoldsCells}
-use Rattle.link_file.specs.Images.{image_in, images_in, images_behind, IsReady, AreReady, HoldLinked, AreLoads}
+use Rattle.link_file.specs.Images.{image_in, images_in, images_after, IsReady, AreReady, HoldLinked, AreLoads}
 
 -- ---- the file
 
@@ -51,7 +51,7 @@ heads f g fs gs e = cc
 tails : (f g : Fields) (fs gs : List Fields) → f ∷ fs ≡ g ∷ gs → fs ≡ gs
 tails f g fs gs e = cc
 
-images_same : (list : List Member) (table : List Told) (number : ℕ) (xs : List (List ℕ)) (headers : List Header) (contents : List Holding) → 1 ≤ number
+images_same : (list : List Member) (table : List EquateAnswer) (number : ℕ) (xs : List (List ℕ)) (headers : List Header) (contents : List Holding) → 1 ≤ number
     → map fields headers ≡ headers_from list number xs → HoldLinked list table xs contents → images_in (exports_for (form_in list) number (exports list table)) headers contents ≡ load_images list table number xs
 images_same list table number [] [] contents some same hold = refl
 images_same list table number [] (h ∷ headers) contents some same hold = absurd cc
@@ -79,14 +79,14 @@ pub headers_size : (list : List Member) (headers : List Header) → map fields h
 unfolding load_headers
 headers_size list headers same = sym (length-map headers (λ (h : Header). fields h)) ∙ ap length same ∙ length-headers_from list 1 (load_names list)
 
-pub written_same : (list : List Member) (table : List Told) (headers : List Header) (contents : List Holding) (ts : List Target) → AreLoads list table headers contents → ts ≡ targets list table
-    → file_text (images_in (exports_for (form_in list) 1 (exports list table)) headers contents ++ images_behind (length headers + 1) ts (setting_in list).runtimes) ≡ written_file list table
+pub written_same : (list : List Member) (table : List EquateAnswer) (headers : List Header) (contents : List Holding) (ts : List Target) → AreLoads list table headers contents → ts ≡ targets list table
+    → file_text (images_in (exports_for (form_in list) 1 (exports list table)) headers contents ++ images_after (length headers + 1) ts (setting_in list).runtimes) ≡ written_file list table
 unfolding written_file images load_headers
 written_same list table headers contents ts are same =
     let rs = (setting_in list).runtimes in
-    ap (λ (l : List Image). file_text (l ++ images_behind (length headers + 1) ts rs)) (images_same list table 1 (load_names list) headers contents (omega arith) are.headers' are.contents')
-    ∙ ap (λ (n : ℕ). file_text (load_images list table 1 (load_names list) ++ images_behind (n + 1) ts rs)) (headers_size list headers are.headers')
-    ∙ ap (λ (l : List Target). file_text (load_images list table 1 (load_names list) ++ images_behind (table_number list) l rs)) same
+    ap (λ (l : List Image). file_text (l ++ images_after (length headers + 1) ts rs)) (images_same list table 1 (load_names list) headers contents (omega arith) are.headers' are.contents')
+    ∙ ap (λ (n : ℕ). file_text (load_images list table 1 (load_names list) ++ images_after (n + 1) ts rs)) (headers_size list headers are.headers')
+    ∙ ap (λ (l : List Target). file_text (load_images list table 1 (load_names list) ++ images_after (table_number list) l rs)) same
 
 -- ---- they can be written
 
@@ -99,13 +99,13 @@ is_ready f cells content header version size small runs holds = record {
       (subst (λ (l : List Patch). AreWritten (length (map byte_under cells)) 0 l) (sym holds.patches') (runs_written cells runs));
 }
 
-load_ready : (list : List Member) (table : List Told) (number : ℕ) (x : List ℕ) (content : Holding) → HasHeader (load_fields list number x) → is_too_long (load_fields list number x) ≡ false
+load_ready : (list : List Member) (table : List EquateAnswer) (number : ℕ) (x : List ℕ) (content : Holding) → HasHeader (load_fields list number x) → is_too_long (load_fields list number x) ≡ false
     → HasCells (load_length x list) (linked list table x) → HoldsCells (linked list table x) content → IsReady (load_fields list number x) content
 unfolding load_fields
 load_ready list table number x content header long has holds =
     is_ready (load_fields list number x) (linked list table x) content header refl (sym has.size') (short_length (load_fields list number x) long) has.runs holds
 
-all_ready : (list : List Member) (table : List Told) (number : ℕ) (xs : List (List ℕ)) (headers : List Header) (contents : List Holding) → ((m : Member) → IsIn list m → HasHeader m.segment.fields)
+all_ready : (list : List Member) (table : List EquateAnswer) (number : ℕ) (xs : List (List ℕ)) (headers : List Header) (contents : List Holding) → ((m : Member) → IsIn list m → HasHeader m.segment.fields)
     → MembersHave list table → ((x : List ℕ) → IsIn xs x → IsIn (load_names list) x) → AllByRecursion (λ f. is_too_long f ≡ false) (headers_from list number xs)
     → map fields headers ≡ headers_from list number xs → HoldLinked list table xs contents → AreReady headers contents
 all_ready list table number [] [] [] each have among short same hold = tt
@@ -121,7 +121,7 @@ all_ready list table number (x ∷ xs) (h ∷ headers) (content ∷ contents) ea
     )
 
 -- where each record gives its cells
-pub loads_ready : (given : LinkInput) (list : List Member) (table : List Told) (headers : List Header) (contents : List Holding) → HasBytes given → IsResolved given list → IsTable list table
+pub loads_ready : (given : LinkInput) (list : List Member) (table : List EquateAnswer) (headers : List Header) (contents : List Holding) → HasBytes given → IsResolved given list → IsTable list table
     → AreMade list table start (items list) → AreLoads list table headers contents → AreReady headers contents
 unfolding load_headers
 loads_ready given list table headers contents bytes resolved is_table are loads =

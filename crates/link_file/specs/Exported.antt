@@ -7,7 +7,7 @@ use Rattle.omf_format.specs.File.{Segment}
 use Rattle.link_meaning.specs.Member.{Member}
 use Rattle.object_meaning.specs.Defines.{Scope, ForSegment, ForUnit, ForAll, Definition, defined_in}
 use Rattle.link_meaning.specs.Search.{entries_from, entries}
-use Rattle.link_meaning.specs.LinkValues.{Told}
+use Rattle.link_meaning.specs.LinkValues.{EquateAnswer}
 use Rattle.link_meaning.specs.LinkWritten.{export_of}
 use Rattle.link_tables.specs.Coming.{Coming}
 use Rattle.link_file.specs.declared.exports.ExportsSeen as kept
@@ -44,8 +44,8 @@ entry_with name None = []
 entry_with name (Some place) = Entry place.0 place.1 name ∷ []
 
 -- these are the ENTRY records of the first definitions, so many of all
-abbrev pub IsExported : List Member → List Told → ℕ → List ℕ → Type 0
-IsExported list told number out = out ≡ spelled_records (flat_map (export_of list told) (take number (entries list)))
+abbrev pub IsExported : List Member → List EquateAnswer → ℕ → List ℕ → Type 0
+IsExported list reported number out = out ≡ spelled_records (flat_map (export_of list reported) (take number (entries list)))
 
 -- a member of the list has this segment, and so many definitions stand before its own
 pub record StandsBefore (list : List Member) (s : Segment) (number : ℕ) : Type 0 where
@@ -57,19 +57,19 @@ pub record StandsBefore (list : List Member) (s : Segment) (number : ℕ) : Type
   pub count : number ≡ length (entries_from defined_in 1 front)
 
 -- the records of some of a segment's definitions were put, of which the first one has this number, and the other records are still to come
-pub record Exporting (list : List Member) (told : List Told) (s : Segment) (first number : ℕ) (at : Reader) (out : List ℕ) : Type 0 where
+pub record Exporting (list : List Member) (reported : List EquateAnswer) (s : Segment) (first number : ℕ) (at : Reader) (out : List ℕ) : Type 0 where
   pub done : List (ℕ × Record)
   pub back : List (ℕ × Record)
   pub parts : s.records ≡ done ++ back
   pub coming : Coming at back
   pub count : number ≡ first + length (defined_so_far s done)
-  pub exported : IsExported list told number out
+  pub exported : IsExported list reported number out
 
 -- those of so many members were put, and so many definitions are theirs
-pub record ExportsTo (list : List Member) (told : List Told) (place number : ℕ) (out : List ℕ) : Type 0 where
+pub record ExportsTo (list : List Member) (reported : List EquateAnswer) (place number : ℕ) (out : List ℕ) : Type 0 where
   pub front : List Member
   pub back : List Member
   pub parts : list ≡ front ++ back
   pub place' : place ≡ length front
   pub count : number ≡ length (entries_from defined_in 1 front)
-  pub exported : IsExported list told number out
+  pub exported : IsExported list reported number out

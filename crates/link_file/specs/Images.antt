@@ -11,7 +11,7 @@ use Rattle.load_meaning.specs.WrittenFile.{Image}
 use Rattle.load_meaning.specs.declared.table.Target.{Target}
 use Rattle.link_meaning.specs.Member.{RuntimeFile, Member, form_in}
 use Rattle.link_meaning.specs.Layout.{load_names, load_headers}
-use Rattle.link_meaning.specs.LinkValues.{Told}
+use Rattle.link_meaning.specs.LinkValues.{EquateAnswer}
 use Rattle.link_meaning.specs.LinkedCells.{linked}
 use Rattle.link_meaning.specs.LinkWritten.{exports, exports_for, table_images, path_images}
 use Rattle.load_writer.specs.WrittenParts.{seen}
@@ -62,23 +62,23 @@ AreReady (header ∷ headers) (content ∷ contents) = IsReady (fields header) c
 -- ---- linked load segments
 
 -- each content holds the linked cells of the load segment with its load name
-abbrev pub HoldLinked : List Member → List Told → List (List ℕ) → List Holding → Type 0
+abbrev pub HoldLinked : List Member → List EquateAnswer → List (List ℕ) → List Holding → Type 0
 HoldLinked list table [] [] = Unit {0}
 HoldLinked list table [] (content ∷ contents) = ⊥
 HoldLinked list table (x ∷ xs) [] = ⊥
 HoldLinked list table (x ∷ xs) (content ∷ contents) = HoldsCells (linked list table x) content × HoldLinked list table xs contents
 
 -- these are the headers and the contents of the linked load segments
-pub record AreLoads (list : List Member) (table : List Told) (headers : List Header) (contents : List Holding) : Type 0 where
+pub record AreLoads (list : List Member) (table : List EquateAnswer) (headers : List Header) (contents : List Holding) : Type 0 where
   pub headers' : map fields headers ≡ load_headers list
   pub contents' : HoldLinked list table (load_names list) contents
 
 -- the ENTRY records of the linked load segments, as they are spelled
-abbrev pub linked_exports : List Member → List Told → List ℕ
+abbrev pub linked_exports : List Member → List EquateAnswer → List ℕ
 linked_exports list table = spelled_records (exports_for (form_in list) 1 (exports list table))
 
 -- what stands behind the load segments: the table, where there is an entry, and the pathnames, where there are run-time library files
-abbrev pub images_behind : ℕ → List Target → List RuntimeFile → List Image
-images_behind number targets runtimes =
+abbrev pub images_after : ℕ → List Target → List RuntimeFile → List Image
+images_after number targets runtimes =
     let tables = table_images number targets in
     tables ++ path_images (number + length tables) runtimes

@@ -16,7 +16,7 @@ ghost use Rattle.link_meaning.specs.LinkWritten.{export_at, exports, exports_for
 ghost use Rattle.link_program.specs.Outside.{all_found};
 ghost use Rattle.link_content.specs.Fits.{to_load_limits};
 ghost use Rattle.link_values.specs.Slots.{AreOnce, AreSlots, rows_of};
-ghost use Rattle.link_values.specs.Seats.{AreKnown};
+ghost use Rattle.link_values.specs.MemberPlaces.{AreKnown};
 ghost use Rattle.link_file.specs.Images.{spelled_records};
 ghost use Rattle.link_file.specs.Walks.{IsWhole};
 ghost use Rattle.link_file.specs.Exported.{is_public, seen_name, IsSeen, DefinesSeen, entry_with, IsExported, StandsBefore};

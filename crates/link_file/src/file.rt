@@ -6,13 +6,13 @@ ghost use Rattle.load_meaning.specs.Cells.{Byte};
 ghost use Rattle.load_meaning.specs.Table.{file_entry, table_bytes};
 ghost use Rattle.load_meaning.specs.WrittenFile.{file_text, table_fields};
 ghost use Rattle.link_meaning.specs.Member.{setting_in};
-ghost use Rattle.link_meaning.specs.LinkValues.{Told};
+ghost use Rattle.link_meaning.specs.LinkValues.{EquateAnswer};
 ghost use Rattle.link_meaning.specs.LinkedCells.{targets};
 ghost use Rattle.link_meaning.specs.LinkWritten.{table_images, written_file};
 ghost use Rattle.link_meaning.specs.EmitFaults.{most_bytes};
 ghost use Rattle.link_content.specs.Contents.{HoldsCells};
 ghost use Rattle.link_program.specs.OfFiles.{IsOfFiles};
-ghost use Rattle.link_file.specs.Images.{AreReady, AreLoads, images_behind, linked_exports};
+ghost use Rattle.link_file.specs.Images.{AreReady, AreLoads, images_after, linked_exports};
 
 use crate::image::{ImageFault, put_image, put_images};
 use crate::pathnames::put_pathnames;
@@ -81,7 +81,7 @@ fn put_table(alloc: Global, out: &mut Vec<u8>, number: u16, table: &Table) -> Re
 }
 
 /// The number of the load segment behind the jump table, which would have this number and is there where it has an entry.
-fn number_behind(number: u16, table: &Table) -> u16
+fn number_after(number: u16, table: &Table) -> u16
     requires { number + 1 < 2 ^ 16 }
     ensures { result ≡ number + length (table_images number table.now) }
 {
@@ -102,13 +102,13 @@ fn put_rest(
 ) -> Result<(), ImageFault>
     requires files { IsOfFiles program.now }
     requires few { number + 1 < 2 ^ 16 }
-    ensures ok { OnOk result (out.new.items ≡ out.old.items ++ file_text (images_behind number table.now (setting_in program.now).runtimes)) }
+    ensures ok { OnOk result (out.new.items ≡ out.old.items ++ file_text (images_after number table.now (setting_in program.now).runtimes)) }
     ensures short { OnOk result (length out.old.items ≤ 0x1000000 → length out.new.items ≤ 0x1000000) }
     ensures too_long { IsErrOf result ImageFault.TooLong
-        → 0x1000000 < length out.old.items + length (file_text (images_behind number table.now (setting_in program.now).runtimes)) }
+        → 0x1000000 < length out.old.items + length (file_text (images_after number table.now (setting_in program.now).runtimes)) }
 {
     put_table(alloc, out, number, table)?;
-    put_pathnames(alloc, out, number_behind(number, table), program)
+    put_pathnames(alloc, out, number_after(number, table), program)
 }
 
 /// The load file of a program whose load segments have these headers, contents and exports, and whose jump table has these targets. It
@@ -124,11 +124,11 @@ pub fn write_linked(
     requires ready { AreReady headers.now contents.now }
     requires few { length headers.now + 2 < 2 ^ 16 }
     requires files { IsOfFiles program.now }
-    ensures ok { IfOk result (λ file. (told : List Told) → AreLoads program.now told headers.now contents.now → exports.now ≡ linked_exports program.now told
-        → table.now ≡ targets program.now told → file.items ≡ written_file program.now told) }
+    ensures ok { IfOk result (λ file. (reported : List EquateAnswer) → AreLoads program.now reported headers.now contents.now → exports.now ≡ linked_exports program.now reported
+        → table.now ≡ targets program.now reported → file.items ≡ written_file program.now reported) }
     ensures short { IfOk result (λ file. length file.items ≤ 0x1000000) }
-    ensures too_long { IsErrOf result ImageFault.TooLong → (told : List Told) → AreLoads program.now told headers.now contents.now
-        → exports.now ≡ linked_exports program.now told → table.now ≡ targets program.now told → most_bytes < length (written_file program.now told) }
+    ensures too_long { IsErrOf result ImageFault.TooLong → (reported : List EquateAnswer) → AreLoads program.now reported headers.now contents.now
+        → exports.now ≡ linked_exports program.now reported → table.now ≡ targets program.now reported → most_bytes < length (written_file program.now reported) }
 {
     let mut file = Vec::new(alloc);
     put_images(alloc, &mut file, headers, contents, exports)?;

@@ -3,7 +3,7 @@
 ghost use Rattle.std.specs.Prelude.{◌≡◌, ◌≤◌, ◌+◌, ◌<◌, ◌^◌, ◌++◌, ◌∷◌, [], IfOk, IfErr, OnOk, IsErrOf, MatchOption, Some, length, map, slice_get, take, drop, replicate, List};
 ghost use Rattle.omf_format.specs.Header.{IsWritable, header_bytes};
 ghost use Rattle.omf_header.specs.View.{fields};
-ghost use Rattle.load_meaning.specs.WrittenBody.{AreWritten, body_text, written_cells, zeros_behind};
+ghost use Rattle.load_meaning.specs.WrittenBody.{AreWritten, body_text, written_cells, zeros_after};
 ghost use Rattle.load_meaning.specs.WrittenFile.{image_text, file_text};
 ghost use Rattle.load_writer.specs.WrittenParts.{seen};
 ghost use Rattle.omf_format.specs.Record.{Record};
@@ -140,24 +140,24 @@ fn put_content(
     requires small { length (content.now).bytes ≤ 0xFFFFFF }
     requires patches { AreWritten (length (content.now).bytes) 0 (map seen (content.now).patches) }
     ensures bytes { OnOk result (out.new.items ≡ out.old.items ++ body_text own (content.now).bytes (map seen (content.now).patches)) }
-    ensures zeros { IfOk result (λ zeros. zeros ≡ zeros_behind (written_cells (content.now).bytes (map seen (content.now).patches))) }
+    ensures zeros { IfOk result (λ zeros. zeros ≡ zeros_after (written_cells (content.now).bytes (map seen (content.now).patches))) }
 {
-    let (place, behind) = content.place();
+    let (place, following) = content.place();
     match place {
-        ByteStorage::Lent(pieces) => {
+        ByteStorage::Borrowed(pieces) => {
             let zeros = put_plain_body(out, pieces)?;
-            Ok(zeros + behind as u32)
+            Ok(zeros + following as u32)
         }
         ByteStorage::Own(bytes) => {
             let zeros = put_body(alloc, out, own, bytes, content.patches())?;
-            Ok(zeros + behind as u32)
+            Ok(zeros + following as u32)
         }
     }
 }
 
 /// Appends room for a header, a body behind it, and behind that what the segment exports. The answer is how many zero bytes stand
 /// behind the body's data in memory.
-fn put_behind(
+fn put_after(
     alloc: Global,
     out: &mut Vec<u8>,
     room: usize,
@@ -169,7 +169,7 @@ fn put_behind(
     requires small { length (content.now).bytes ≤ 0xFFFFFF }
     requires patches { AreWritten (length (content.now).bytes) 0 (map seen (content.now).patches) }
     ensures bytes { OnOk result (out.new.items ≡ out.old.items ++ replicate room 0 ++ (body_text own (content.now).bytes (map seen (content.now).patches) ++ exports.now)) }
-    ensures zeros { IfOk result (λ zeros. zeros ≡ zeros_behind (written_cells (content.now).bytes (map seen (content.now).patches))) }
+    ensures zeros { IfOk result (λ zeros. zeros ≡ zeros_after (written_cells (content.now).bytes (map seen (content.now).patches))) }
     ensures memory_alone { IfErr result (λ fault. fault ≡ ImageFault.Memory) }
 {
     put_room(out, room)?;
@@ -229,7 +229,7 @@ pub fn put_image(
         return Err(ImageFault::TooLong);
     }
     let room = header_size(header);
-    let zeros = put_behind(alloc, out, room, header.seg_num, content, exports)?;
+    let zeros = put_after(alloc, out, room, header.seg_num, content, exports)?;
     let size = out.as_slice().len() - start - room;
     let front = front_of(alloc, header, zeros, size)?;
     close(out, start, front.as_slice())

@@ -62,11 +62,11 @@ impl<'e, 'a> EquateValues<'e, 'a> {
         requires { HasPlace self.now.list place at }
         ensures { (m : Member) → member_at self.now.list place ≡ Some m → result ≡ place_value self.now.list place m at }
     {
-        let seat = match place_of_member(self.program, place) {
-            Some(seat) => seat,
+        let member_place = match place_of_member(self.program, place) {
+            Some(member_place) => member_place,
             None => unreachable!(),
         };
-        place_at(seat, at)
+        place_at(member_place, at)
     }
 
     /// What an expression is worth in the member at a place of the list, from 1, where so many of its cells are before the record.
@@ -75,11 +75,17 @@ impl<'e, 'a> EquateValues<'e, 'a> {
         requires spelled { (m : Member) → member_at self.now.list place ≡ Some m → IsExpression m.segment.fields.lab_len expr.now }
         ensures { (m : Member) → member_at self.now.list place ≡ Some m → result ≡ value_in self.now.list self.now.table place m location expr.now }
     {
-        let seat = match place_of_member(self.program, place) {
-            Some(seat) => seat,
+        let member_place = match place_of_member(self.program, place) {
+            Some(member_place) => member_place,
             None => unreachable!(),
         };
-        value_in(self.program, self.slots.as_slice(), seat, location, expr)
+        value_in(
+            self.program,
+            self.slots.as_slice(),
+            member_place,
+            location,
+            expr,
+        )
     }
 
     /// The places that the program's records call through the jump table, in order of first call. Otherwise the first fault of a record.

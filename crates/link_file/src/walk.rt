@@ -10,9 +10,9 @@ ghost use Rattle.link_program.specs.Outside.{all_found};
 ghost use Rattle.link_meaning.specs.LinkedCells.{Item, bank_of};
 ghost use Rattle.link_tables.specs.Uses.{HasSpelling};
 ghost use Rattle.link_values.specs.Slots.{rows_of};
-ghost use Rattle.link_values.specs.Seats.{IsSeat};
+ghost use Rattle.link_values.specs.MemberPlaces.{IsMemberPlace};
 ghost use Rattle.link_content.specs.Records.{IsWorth};
-ghost use Rattle.link_file.specs.Walks.{IsWhole, Begins, HasBegun, Puts, StandsBehind, HasStood, PutsMember, Unmade, IsToldAt, IsWalkedTo, IsValueRefused};
+ghost use Rattle.link_file.specs.Walks.{IsWhole, Begins, HasBegun, Puts, StandsAfter, HasStood, PutsMember, Unmade, IsReportedAt, IsWalkedTo, IsValueRefused};
 
 use jump_table::Table;
 use link_content::{LoadContent, LoadLimits, MemberTarget, put_record};
@@ -39,19 +39,31 @@ pub struct LinkContext<'e, 'a> {
 /// What a record's expression stands for; a number, where the record has none.
 fn value_of(
     whole: &LinkContext,
-    seat: MemberPlace,
+    member_place: MemberPlace,
     location: u32,
     rec: &Rec,
 ) -> Result<Value, ValueFault>
     requires whole { IsWhole whole.now.program.now whole.now.slots.now whole.now.loads.now whole.now.table }
-    requires spelled { HasSpelling seat.lab_len (view rec.now) }
-    requires near { seat.offset + location < 2 ^ 32 }
-    ensures { (i : Item) → IsSeat whole.now.program.now i.member seat → seat.place ≡ i.place → i.here.location ≡ location
+    requires spelled { HasSpelling member_place.lab_len (view rec.now) }
+    requires near { member_place.offset + location < 2 ^ 32 }
+    ensures { (i : Item) → IsMemberPlace whole.now.program.now i.member member_place → member_place.place ≡ i.place → i.here.location ≡ location
         → IsWorth whole.now.program.now (rows_of (all_found whole.now.program.now) whole.now.slots.now) i (view rec.now) result }
 {
     match rec {
-        Rec::Formula { expr, .. } => value_in(whole.program, whole.slots, seat, location, expr),
-        Rec::Equate { expr, .. } => value_in(whole.program, whole.slots, seat, location, expr),
+        Rec::Formula { expr, .. } => value_in(
+            whole.program,
+            whole.slots,
+            member_place,
+            location,
+            expr,
+        ),
+        Rec::Equate { expr, .. } => value_in(
+            whole.program,
+            whole.slots,
+            member_place,
+            location,
+            expr,
+        ),
         Rec::End
         | Rec::Const { .. }
         | Rec::LongConst { .. }
@@ -88,26 +100,26 @@ ghost use Rattle.omf_format.specs.Header.{Fields};
 /// one's, with its displacement.
 fn put_records<'a>(
     whole: &LinkContext<'_, 'a>,
-    seat: MemberPlace,
+    member_place: MemberPlace,
     segment: &SegmentView<'a>,
     content: &mut LoadContent<'a>,
     table: &mut Table,
 ) -> Result<(), (LinkCause, u32)>
     requires whole { IsWhole whole.now.program.now whole.now.slots.now whole.now.loads.now whole.now.table }
     requires sound { IsSound segment.now }
-    requires begun { HasBegun whole.now.program.now (rows_of (all_found whole.now.program.now) whole.now.slots.now) seat (segment_of_view segment.now) table.old content.old }
+    requires begun { HasBegun whole.now.program.now (rows_of (all_found whole.now.program.now) whole.now.slots.now) member_place (segment_of_view segment.now) table.old content.old }
     ensures ok { OnOk result ((front : List Member) (m : Member) (back : List Member) (before : List Cell)
-        → Begins whole.now.program.now (rows_of (all_found whole.now.program.now) whole.now.slots.now) front m back seat (segment_of_view segment.now) table.old before content.old
+        → Begins whole.now.program.now (rows_of (all_found whole.now.program.now) whole.now.slots.now) front m back member_place (segment_of_view segment.now) table.old before content.old
         → Puts whole.now.program.now (rows_of (all_found whole.now.program.now) whole.now.slots.now) front m (segment_of_view segment.now).records table.new before content.new) }
     ensures err { IfErr result (λ fault. (front : List Member) (m : Member) (back : List Member) (before : List Cell)
-        → Begins whole.now.program.now (rows_of (all_found whole.now.program.now) whole.now.slots.now) front m back seat (segment_of_view segment.now) table.old before content.old
+        → Begins whole.now.program.now (rows_of (all_found whole.now.program.now) whole.now.slots.now) front m back member_place (segment_of_view segment.now) table.old before content.old
         → (fault.0 ≡ causes.Memory) ⊎ Unmade whole.now.program.now (rows_of (all_found whole.now.program.now) whole.now.slots.now) front m fault.0 fault.1) }
 {
     let site = MemberTarget {
         table: whole.table,
-        own: seat.load_segment,
-        bank_size: bank_of(whole.loads, seat.load_segment),
-        offset: seat.offset,
+        own: member_place.load_segment,
+        bank_size: bank_of(whole.loads, member_place.load_segment),
+        offset: member_place.offset,
     };
     let mut records = segment.records();
     let mut location = 0;
@@ -115,7 +127,7 @@ fn put_records<'a>(
         match next_record(&mut records) {
             None => return Ok(()),
             Some((at, rec)) => {
-                let value = value_of(whole, seat, location, &rec);
+                let value = value_of(whole, member_place, location, &rec);
                 match put_record(
                     content,
                     table,
@@ -138,24 +150,24 @@ fn put_records<'a>(
 /// Puts what a member gives: zeros up to its offset, what its records give, and RESSPC zeros.
 fn put_segment<'a>(
     whole: &LinkContext<'_, 'a>,
-    seat: MemberPlace,
+    member_place: MemberPlace,
     segment: &SegmentView<'a>,
     content: &mut LoadContent<'a>,
     table: &mut Table,
 ) -> Result<(), (LinkCause, u32)>
     requires whole { IsWhole whole.now.program.now whole.now.slots.now whole.now.loads.now whole.now.table }
     requires sound { IsSound segment.now }
-    requires stood { HasStood whole.now.program.now (rows_of (all_found whole.now.program.now) whole.now.slots.now) seat (segment_of_view segment.now) table.old content.old }
+    requires stood { HasStood whole.now.program.now (rows_of (all_found whole.now.program.now) whole.now.slots.now) member_place (segment_of_view segment.now) table.old content.old }
     ensures ok { OnOk result ((front : List Member) (m : Member) (back : List Member) (cells : List Cell)
-        → StandsBehind whole.now.program.now (rows_of (all_found whole.now.program.now) whole.now.slots.now) front m back seat (segment_of_view segment.now) table.old cells content.old
+        → StandsAfter whole.now.program.now (rows_of (all_found whole.now.program.now) whole.now.slots.now) front m back member_place (segment_of_view segment.now) table.old cells content.old
         → PutsMember whole.now.program.now (rows_of (all_found whole.now.program.now) whole.now.slots.now) front m table.new cells content.new) }
     ensures err { IfErr result (λ fault. (front : List Member) (m : Member) (back : List Member) (cells : List Cell)
-        → StandsBehind whole.now.program.now (rows_of (all_found whole.now.program.now) whole.now.slots.now) front m back seat (segment_of_view segment.now) table.old cells content.old
+        → StandsAfter whole.now.program.now (rows_of (all_found whole.now.program.now) whole.now.slots.now) front m back member_place (segment_of_view segment.now) table.old cells content.old
         → (fault.0 ≡ causes.Memory) ⊎ Unmade whole.now.program.now (rows_of (all_found whole.now.program.now) whole.now.slots.now) front m fault.0 fault.1) }
 {
-    let gap = seat.offset as usize - content.len();
+    let gap = member_place.offset as usize - content.len();
     content.put_zeros(gap);
-    put_records(whole, seat, segment, content, table)?;
+    put_records(whole, member_place, segment, content, table)?;
     content.put_zeros(segment.header.res_spc as usize);
     Ok(())
 }
@@ -163,7 +175,7 @@ fn put_segment<'a>(
 /// The first fault of a member's records, as a fault of the linker.
 fn value_fault(program: &Program, place: u32, cause: LinkCause, at: u32) -> LinkFault
     requires { (m : Member) × (member_at program.now place ≡ Some m) }
-    ensures told { (m : Member) → member_at program.now place ≡ Some m → IsToldAt m cause at result }
+    ensures reported { (m : Member) → member_at program.now place ≡ Some m → IsReportedAt m cause at result }
     ensures memory { result.cause ≡ causes.Memory → cause ≡ causes.Memory }
 {
     match cause {
@@ -231,16 +243,16 @@ fn put_member<'a>(
     ensures ok { OnOk result (IsWalkedTo whole.now.program.now (rows_of (all_found whole.now.program.now) whole.now.slots.now) place table.new contents.new.items) }
     ensures err { IfErr result (λ fault. IsValueRefused whole.now.program.now (rows_of (all_found whole.now.program.now) whole.now.slots.now) fault) }
 {
-    let seat = match place_of_member(whole.program, place) {
-        Some(seat) => seat,
+    let member_place = match place_of_member(whole.program, place) {
+        Some(member_place) => member_place,
         None => unreachable!(),
     };
     let segment = match whole.program.view(place) {
         Some(segment) => segment,
         None => unreachable!(),
     };
-    let number = usize::from(seat.load_segment) - 1;
-    match put_segment(whole, seat, segment, &mut contents[number], table) {
+    let number = usize::from(member_place.load_segment) - 1;
+    match put_segment(whole, member_place, segment, &mut contents[number], table) {
         Ok(()) => Ok(()),
         Err((cause, at)) => Err(value_fault(whole.program, place, cause, at)),
     }

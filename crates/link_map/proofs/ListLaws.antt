@@ -4,16 +4,16 @@ use Rattle.std.specs.Prelude.{slice_get, option_map}
 use Rattle.omf_format.specs.Header.{Fields}
 use Rattle.omf_format.specs.Record.{Record}
 use Rattle.omf_format.specs.File.{Segment}
-use Rattle.object_meaning.specs.Sizes.{place_behind, body_size}
+use Rattle.object_meaning.specs.Sizes.{place_after, body_size}
 use Rattle.link_meaning.specs.Member.{Member}
 use Rattle.link_meaning.specs.Layout.{load_headers, load_of, offset_of}
-use Rattle.link_meaning.specs.laws.PlaceFits.{IsPlaceIn, behind-le}
+use Rattle.link_meaning.specs.laws.PlaceFits.{IsPlaceIn, following-le}
 use Rattle.link_program.specs.declared.program.LinkMember.{LinkMember}
 use Rattle.link_program.specs.Linked.{member_at}
 use Rattle.link_program.specs.OfFiles.{IsOfFiles}
 use Rattle.link_program.specs.Programs.{linked_at, header_at}
 use Rattle.link_values.proofs.FileFacts.{near_of}
-use Rattle.link_values.proofs.LocatedLaws.{behind-append}
+use Rattle.link_values.proofs.LocatedLaws.{following-append}
 use Rattle.link_map.specs.Standing.{HasMember, HasLoad}
 use Rattle.link_map.proofs.TextLaws.{same_some, some_none, item_there}
 
@@ -49,8 +49,8 @@ link_of list place m = record { file = m.file; segment = m.number; load_segment 
 pub untold_member : (list : List Member) (place : ℕ) (m : Member) → member_at list place ≡ Some m → None ≡ linked_at list place → ⊥
 untold_member list place m there is = some_none (link_of list place m) (sym (is ∙ ap (option_map (link_of list place)) there))
 
-pub told_segment : (list : List Member) (place : ℕ) (m : Member) (s : Segment) → member_at list place ≡ Some m → Some s ≡ option_map (λ (o : Member). o.segment) (member_at list place) → m.segment ≡ s
-told_segment list place m s there is = same_some m.segment s (sym (is ∙ ap (option_map (λ (o : Member). o.segment)) there))
+pub reported_segment : (list : List Member) (place : ℕ) (m : Member) (s : Segment) → member_at list place ≡ Some m → Some s ≡ option_map (λ (o : Member). o.segment) (member_at list place) → m.segment ≡ s
+reported_segment list place m s there is = same_some m.segment s (sym (is ∙ ap (option_map (λ (o : Member). o.segment)) there))
 
 pub untold_segment : (list : List Member) (place : ℕ) (m : Member) → member_at list place ≡ Some m → None ≡ option_map (λ (o : Member). o.segment) (member_at list place) → ⊥
 untold_segment list place m there is = some_none m.segment (sym (is ∙ ap (option_map (λ (o : Member). o.segment)) there))
@@ -75,8 +75,8 @@ pub near_there : (list : List Member) → IsOfFiles list → (place : ℕ) (m : 
 near_there list of place m at there inside = near_of list of place m at (place_in list place m at there inside)
 
 -- so many cells as stand behind some of a segment's first records are no more than it has
-pub behind_within : (s : Segment) (done back : List (ℕ × Record)) → s.records ≡ done ++ back → place_behind 0 done ≤ body_size s
+pub after_within : (s : Segment) (done back : List (ℕ × Record)) → s.records ≡ done ++ back → place_after 0 done ≤ body_size s
 unfolding body_size
-behind_within s done back parts =
-    let whole : place_behind 0 s.records ≡ place_behind (place_behind 0 done) back = ap (place_behind 0) parts ∙ behind-append 0 done back in
-    omega (arith, whole, behind-le (place_behind 0 done) back)
+after_within s done back parts =
+    let whole : place_after 0 s.records ≡ place_after (place_after 0 done) back = ap (place_after 0) parts ∙ following-append 0 done back in
+    omega (arith, whole, following-le (place_after 0 done) back)

@@ -10,7 +10,7 @@ use Rattle.load_meaning.specs.LoadTable.{target_at}
 use Rattle.load_meaning.specs.WrittenFile.{table_fields}
 use Rattle.link_meaning.specs.Member.{Member}
 use Rattle.link_meaning.specs.Layout.{load_headers}
-use Rattle.link_meaning.specs.LinkValues.{Told}
+use Rattle.link_meaning.specs.LinkValues.{EquateAnswer}
 use Rattle.link_meaning.specs.LinkedCells.{table_number, targets}
 use Rattle.link_meaning.specs.LinkFaults.{LinkInput, IsResolved}
 use Rattle.link_map.specs.MapText.{numbered_texts, load_text, load_line, entry_line, table_text, map_text, IsMapOf}
@@ -46,7 +46,7 @@ table_some number (t ∷ ts) size name some is named =
 -- ---- the map
 
 -- the load segments, and the table behind them
-pub map_is : (list : List Member) (table : List Told) (loads text : List ℕ) (number : ℕ) (ts : List Target) → loads ≡ numbered_texts (load_text list table) 1 (load_headers list)
+pub map_is : (list : List Member) (table : List EquateAnswer) (loads text : List ℕ) (number : ℕ) (ts : List Target) → loads ≡ numbered_texts (load_text list table) 1 (load_headers list)
     → text ≡ loads ++ table_text number ts → number ≡ table_number list → ts ≡ targets list table → text ≡ map_text list table
 unfolding map_text
 map_is list table loads text number ts drawn more counted called =

@@ -10,7 +10,7 @@ use Rattle.omf_format.specs.Header.{is_private}
 use Rattle.omf_format.specs.Record.{Record, Label, Equate}
 use Rattle.omf_format.specs.Reading.{Reader}
 use Rattle.omf_format.specs.File.{Segment}
-use Rattle.object_meaning.specs.Sizes.{size_at, place_behind}
+use Rattle.object_meaning.specs.Sizes.{size_at, place_after}
 use Rattle.link_meaning.specs.Member.{Member}
 use Rattle.object_meaning.specs.Defines.{Definition, scope_of, outer_scope, title_of, defined_by, defined_in}
 use Rattle.link_meaning.specs.LinkValues.{place_value, value_in}
@@ -19,7 +19,7 @@ use Rattle.link_program.specs.Linked.{member_at}
 use Rattle.link_values.specs.Circulars.{defined_so_far}
 use Rattle.link_file.specs.Valued.{Valued}
 use Rattle.link_values.proofs.CircularLaws.{so_far-more, so_far-all, title_empty}
-use Rattle.link_values.proofs.LocatedLaws.{behind-append}
+use Rattle.link_values.proofs.LocatedLaws.{following-append}
 use Rattle.link_map.specs.MapText.{scope_text, symbol_text, symbol_line}
 use Rattle.link_map.specs.Standing.{HasRecord}
 use Rattle.link_map.proofs.TextLaws.{same_some}
@@ -55,11 +55,11 @@ its value = Ok value
 
 pub title_line : (v : Valued) (place : ℕ) (m : Member) (s : Segment) (scope name : List ℕ) (value : Value) → scope ≡ scope_text (outer_scope (is_private s.fields.kind)) → name ≡ s.fields.name → (name ≡ [] → ⊥)
     → value ≡ place_value v.list place m 0 → symbol_text scope name (Ok value) ≡ lines_of v place m (title_of s)
-title_line v place m s scope name value scoped told some valued =
+title_line v place m s scope name value scoped reported some valued =
     ap (λ (l : List ℕ). symbol_text l name (its value)) scoped
-    ∙ ap (λ (l : List ℕ). symbol_text (scope_text (outer_scope (is_private s.fields.kind))) l (its value)) told
+    ∙ ap (λ (l : List ℕ). symbol_text (scope_text (outer_scope (is_private s.fields.kind))) l (its value)) reported
     ∙ ap (λ (x : Value). symbol_text (scope_text (outer_scope (is_private s.fields.kind))) s.fields.name (its x)) valued
-    ∙ sym (ap (lines_of v place m) (title_full s (λ none. some (told ∙ none))) ∙ lines_one v place m (named s s.fields.name))
+    ∙ sym (ap (lines_of v place m) (title_full s (λ none. some (reported ∙ none))) ∙ lines_one v place m (named s s.fields.name))
 
 -- ---- records
 
@@ -98,7 +98,7 @@ pub record IsTelling (v : Valued) (place : ℕ) (s : Segment) (at : Reader) (loc
   pub back : List (ℕ × Record)
   pub parts : s.records ≡ done ++ back
   pub coming : Coming at back
-  pub location' : location ≡ place_behind 0 done
+  pub location' : location ≡ place_after 0 done
   pub is : (m : Member) → member_at v.list place ≡ Some m → text ≡ before ++ lines_of v place m (defined_so_far s done)
 
 -- at first
@@ -114,19 +114,19 @@ telling_none v place s at before text coming titled = record {
 }
 
 -- behind one record more
-pub telling_more : (v : Valued) (place : ℕ) (s : Segment) (at next : Reader) (location behind : ℕ) (before text after : List ℕ) (found : ℕ × Record) (more : List (ℕ × Record)) (t : IsTelling v place s at location before text)
-    → t.back ≡ found ∷ more → Coming next more → behind ≡ location + size_at location found.1
-    → ((m : Member) (at : ℕ) → member_at v.list place ≡ Some m → after ≡ text ++ lines_of v place m (defined_by at location found.1)) → IsTelling v place s next behind before after
-telling_more v place s at next location behind before text after found more t back coming size lines = record {
+pub telling_more : (v : Valued) (place : ℕ) (s : Segment) (at next : Reader) (location following : ℕ) (before text after : List ℕ) (found : ℕ × Record) (more : List (ℕ × Record)) (t : IsTelling v place s at location before text)
+    → t.back ≡ found ∷ more → Coming next more → following ≡ location + size_at location found.1
+    → ((m : Member) (at : ℕ) → member_at v.list place ≡ Some m → after ≡ text ++ lines_of v place m (defined_by at location found.1)) → IsTelling v place s next following before after
+telling_more v place s at next location following before text after found more t back coming size lines = record {
   done = t.done ++ found ∷ [];
   back = more;
   parts = t.parts ∙ ap (λ (l : List (ℕ × Record)). t.done ++ l) back ∙ sym (append_assoc t.done (found ∷ []) more);
   coming = coming;
-  location' = size ∙ ap (λ (n : ℕ). n + size_at n found.1) t.location' ∙ sym (behind-append 0 t.done (found ∷ []));
+  location' = size ∙ ap (λ (n : ℕ). n + size_at n found.1) t.location' ∙ sym (following-append 0 t.done (found ∷ []));
   is = λ m there.
       let f = symbol_line v.list v.table place m in
       let first = defined_so_far s t.done in
-      let own = defined_by found.0 (place_behind 0 t.done) found.1 in
+      let own = defined_by found.0 (place_after 0 t.done) found.1 in
       lines m found.0 there
       ∙ ap (λ (n : ℕ). text ++ flat_map f (defined_by found.0 n found.1)) t.location'
       ∙ ap (λ (l : List ℕ). l ++ flat_map f own) (t.is m there)

@@ -36,14 +36,14 @@ numbered-more {A} text_of number (suc k) (y ∷ xs) x found =
     ∙ ap (λ (n : ℕ). numbered_texts text_of number (take n (y ∷ xs))) (sym more)
 
 -- behind a text, those of the first items, so many: of none
-pub told_none : {A : Type 0} (text_of : ℕ → A → List ℕ) (number : ℕ) (xs : List A) (before : List ℕ) → before ≡ before ++ numbered_texts text_of number (take 0 xs)
-told_none text_of number [] before = sym (append-nil before)
-told_none text_of number (x ∷ xs) before = sym (append-nil before)
+pub reported_none : {A : Type 0} (text_of : ℕ → A → List ℕ) (number : ℕ) (xs : List A) (before : List ℕ) → before ≡ before ++ numbered_texts text_of number (take 0 xs)
+reported_none text_of number [] before = sym (append-nil before)
+reported_none text_of number (x ∷ xs) before = sym (append-nil before)
 
 -- of one more
-pub told_more : {A : Type 0} (text_of : ℕ → A → List ℕ) (number k at : ℕ) (xs : List A) (x : A) (before text after : List ℕ) → slice_get xs k ≡ Some x → at ≡ number + k
+pub reported_more : {A : Type 0} (text_of : ℕ → A → List ℕ) (number k at : ℕ) (xs : List A) (x : A) (before text after : List ℕ) → slice_get xs k ≡ Some x → at ≡ number + k
     → text ≡ before ++ numbered_texts text_of number (take k xs) → after ≡ text ++ text_of at x → after ≡ before ++ numbered_texts text_of number (take (k + 1) xs)
-told_more text_of number k at xs x before text after found place is more =
+reported_more text_of number k at xs x before text after found place is more =
     let so_far = numbered_texts text_of number (take k xs) in
     more
     ∙ ap (λ (l : List ℕ). l ++ text_of at x) is
@@ -52,9 +52,9 @@ told_more text_of number k at xs x before text after found place is more =
     ∙ ap (λ (l : List ℕ). before ++ l) (numbered-more text_of number k xs x found)
 
 -- of all
-pub told_all : {A : Type 0} (text_of : ℕ → A → List ℕ) (number k : ℕ) (xs : List A) (before text : List ℕ) → length xs ≤ k
+pub reported_all : {A : Type 0} (text_of : ℕ → A → List ℕ) (number k : ℕ) (xs : List A) (before text : List ℕ) → length xs ≤ k
     → text ≡ before ++ numbered_texts text_of number (take k xs) → text ≡ before ++ numbered_texts text_of number xs
-told_all {A} text_of number k xs before text most is = is ∙ ap (λ (l : List A). before ++ numbered_texts text_of number l) (take_all k xs most)
+reported_all {A} text_of number k xs before text most is = is ∙ ap (λ (l : List A). before ++ numbered_texts text_of number l) (take_all k xs most)
 
 -- ---- texts behind a text
 

@@ -16,7 +16,7 @@ use Rattle.load_meaning.specs.WrittenFile.{table_fields}
 use Rattle.link_meaning.specs.Member.{Member}
 use Rattle.object_meaning.specs.Defines.{Scope, ForSegment, ForUnit, ForAll, Definition, defined_in}
 use Rattle.link_meaning.specs.Layout.{load_headers, load_of, offset_of}
-use Rattle.link_meaning.specs.LinkValues.{Told, place_value, value_in}
+use Rattle.link_meaning.specs.LinkValues.{EquateAnswer, place_value, value_in}
 use Rattle.link_meaning.specs.LinkedCells.{table_number, targets}
 use Rattle.link_meaning.specs.LinkFaults.{LinkInput}
 use Rattle.link_meaning.specs.EmitFaults.{IsLinkable}
@@ -50,13 +50,13 @@ unfoldable pub symbol_text : List ℕ → List ℕ → Result Value ValueFault �
 symbol_text scope name value = line (scope ++ name_text name ++ value_text value)
 
 -- a label stands for its place in the member, and an equate for what its expression is worth where it stands
-abbrev pub meant_by : List Member → List Told → ℕ → Member → Definition → Result Value ValueFault
+abbrev pub meant_by : List Member → List EquateAnswer → ℕ → Member → Definition → Result Value ValueFault
 meant_by list table place m d = elim d.expr [
   | None ↦ Ok (place_value list place m d.place)
   | Some text ↦ value_in list table place m d.place text
 ]
 
-abbrev pub symbol_line : List Member → List Told → ℕ → Member → Definition → List ℕ
+abbrev pub symbol_line : List Member → List EquateAnswer → ℕ → Member → Definition → List ℕ
 symbol_line list table place m d = symbol_text (scope_text d.scope) d.name (meant_by list table place m d)
 
 -- ---- members and load segments
@@ -68,12 +68,12 @@ member_line file number offset f =
     ++ codes " name " ++ quoted_name f.name)
 
 -- the member at a place of the list, and what it defines, its SEGNAME first, in record order, which is that of places
-abbrev pub member_text : List Member → List Told → ℕ → Member → List ℕ
+abbrev pub member_text : List Member → List EquateAnswer → ℕ → Member → List ℕ
 member_text list table place m =
     member_line m.file m.number (offset_of list place m) m.segment.fields ++ flat_map (symbol_line list table place m) (defined_in m.segment)
 
 -- the same where it is one of the load segment with this number, and nothing where it isn't
-abbrev pub text_in : List Member → List Told → ℕ → ℕ → Member → List ℕ
+abbrev pub text_in : List Member → List EquateAnswer → ℕ → ℕ → Member → List ℕ
 text_in list table number place m = if load_of list m == number then member_text list table place m else []
 
 -- a load segment: its number, LENGTH, KIND, ALIGN and SEGNAME
@@ -87,7 +87,7 @@ abbrev pub header_line : ℕ → Fields → List ℕ
 header_line number f = load_line number f.length f.kind f.align f.name
 
 -- a load segment and its members, in list order
-abbrev pub load_text : List Member → List Told → ℕ → Fields → List ℕ
+abbrev pub load_text : List Member → List EquateAnswer → ℕ → Fields → List ℕ
 load_text list table number f = header_line number f ++ numbered_texts (text_in list table number) 1 list
 
 -- ---- the jump table
@@ -106,12 +106,12 @@ table_text number (t ∷ targets) =
 -- ---- the map
 
 -- the load segments in order of number, the table behind the others
-unfoldable pub map_text : List Member → List Told → List ℕ
+unfoldable pub map_text : List Member → List EquateAnswer → List ℕ
 map_text list table = numbered_texts (load_text list table) 1 (load_headers list) ++ table_text (table_number list) (targets list table)
 
 -- the files are linked, and this is the map of their linked list
 pub record IsMapOf (given : LinkInput) (text : List ℕ) : Type 0 where
   pub list : List Member
-  pub table : List Told
+  pub table : List EquateAnswer
   pub linkable : IsLinkable given list table
   pub is : text ≡ map_text list table

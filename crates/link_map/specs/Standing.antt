@@ -5,7 +5,7 @@ use Rattle.omf_format.specs.Header.{Fields}
 use Rattle.omf_format.specs.Record.{Record}
 use Rattle.link_meaning.specs.Member.{Member}
 use Rattle.link_meaning.specs.Layout.{load_headers}
-use Rattle.link_meaning.specs.LinkValues.{Told}
+use Rattle.link_meaning.specs.LinkValues.{EquateAnswer}
 use Rattle.link_meaning.specs.EmitFaults.{IsEmitted}
 use Rattle.link_program.specs.Linked.{member_at}
 use Rattle.link_program.specs.Programs.{header_at}
@@ -34,6 +34,6 @@ pub record HasRecord (list : List Member) (place location : ℕ) (r : Record) : 
 
 -- the program of this list can be written, and this is its map
 pub record IsDrawn (list : List Member) (text : List ℕ) : Type 0 where
-  pub table : List Told
+  pub table : List EquateAnswer
   pub emitted : IsEmitted list table
   pub is : text ≡ map_text list table

@@ -8,24 +8,24 @@ use Rattle.link_meaning.specs.declared.fault.LinkFault.{LinkFault}
 use Rattle.link_meaning.specs.First.{IsFirst, HasNone}
 use Rattle.link_meaning.specs.Member.{Member}
 use Rattle.link_meaning.specs.Search.{FoundDefinition}
-use Rattle.link_meaning.specs.Rings.{equates, IsCircular}
-use Rattle.link_meaning.specs.LinkValues.{Told, IsTable}
-use Rattle.link_meaning.specs.LinkedCells.{Item, items, state_behind, made}
+use Rattle.link_meaning.specs.Cycles.{equates, IsCircular}
+use Rattle.link_meaning.specs.LinkValues.{EquateAnswer, IsTable}
+use Rattle.link_meaning.specs.LinkedCells.{Item, items, state_after, made}
 use Rattle.link_meaning.specs.LinkWritten.{AreMade, start, images, written_file, linked_cells, HaveCells}
 use Rattle.link_meaning.specs.LinkFaults.{LinkInput, HasBytes, no_spot, spot_in, IsFirstResolveFault, IsResolved}
 
 -- ---- rings
 
 -- the equate leads back to itself
-pub record HasRingFault (list : List Member) (before : List FoundDefinition) (e : FoundDefinition) (fault : LinkFault) : Type 0 where
-  pub ring : IsCircular list e
-  pub told : fault ≡ record { cause = Circular; name = Some e.definition.name; spot = spot_in e.member e.definition.at }
+pub record HasCycleFault (list : List Member) (before : List FoundDefinition) (e : FoundDefinition) (fault : LinkFault) : Type 0 where
+  pub cycle : IsCircular list e
+  pub reported : fault ≡ record { cause = Circular; name = Some e.definition.name; spot = spot_in e.member e.definition.at }
 
 -- ---- values
 
 -- the record, behind those before it, gives no cells: its expression has no value, or the value doesn't fit
-pub record HasValueFault (list : List Member) (table : List Told) (before : List Item) (i : Item) (fault : LinkFault) : Type 0 where
-  pub cause : made list table (state_behind list table before) i ≡ Err fault.cause
+pub record HasValueFault (list : List Member) (table : List EquateAnswer) (before : List Item) (i : Item) (fault : LinkFault) : Type 0 where
+  pub cause : made list table (state_after list table before) i ≡ Err fault.cause
   pub name : fault.name ≡ None
   pub spot : fault.spot ≡ spot_in i.member i.here.at
 
@@ -36,34 +36,34 @@ abbrev pub most_bytes : ℕ
 most_bytes = 0x1000000
 
 -- the load file would have more
-pub record HasSizeFault (list : List Member) (table : List Told) (fault : LinkFault) : Type 0 where
+pub record HasSizeFault (list : List Member) (table : List EquateAnswer) (fault : LinkFault) : Type 0 where
   pub long : most_bytes < length (written_file list table)
-  pub told : fault ≡ record { cause = FileTooLong; name = None; spot = no_spot }
+  pub reported : fault ≡ record { cause = FileTooLong; name = None; spot = no_spot }
 
 -- ---- the phases
 
 -- the phases behind layout, in their order
 pub data EmitPhase : Type 0 where
-  Rings : EmitPhase
+  Cycles : EmitPhase
   Values : EmitPhase
   Size : EmitPhase
 
 abbrev pub emit_phases : List EmitPhase
-emit_phases = Rings ∷ Values ∷ Size ∷ []
+emit_phases = Cycles ∷ Values ∷ Size ∷ []
 
 -- what a phase finds in the linked list: the first equate, in list and record order, that leads back to itself; the first
 -- record, in that order, that gives no cells; a file that is too long
 abbrev pub HasEmitFault : List Member → List EmitPhase → EmitPhase → LinkFault → Type 0
-HasEmitFault list before Rings fault = IsFirst (HasRingFault list) (equates list) fault
-HasEmitFault list before Values fault = (table : List Told) × IsTable list table × IsFirst (HasValueFault list table) (items list) fault
-HasEmitFault list before Size fault = (table : List Told) × IsTable list table × HasSizeFault list table fault
+HasEmitFault list before Cycles fault = IsFirst (HasCycleFault list) (equates list) fault
+HasEmitFault list before Values fault = (table : List EquateAnswer) × IsTable list table × IsFirst (HasValueFault list table) (items list) fault
+HasEmitFault list before Size fault = (table : List EquateAnswer) × IsTable list table × HasSizeFault list table fault
 
 -- the first fault of these phases
 abbrev pub IsFirstEmitFault : List Member → LinkFault → Type 0
 IsFirstEmitFault list fault = IsFirst (HasEmitFault list) emit_phases fault
 
 -- the equates of the list have these values, and none of these phases finds a fault
-pub record IsEmitted (list : List Member) (table : List Told) : Type 0 where
+pub record IsEmitted (list : List Member) (table : List EquateAnswer) : Type 0 where
   pub valued : IsTable list table
   pub sound : HasNone (HasEmitFault list) emit_phases
 
@@ -75,14 +75,14 @@ pub data IsFirstLinkFault (given : LinkInput) (fault : LinkFault) : Type 0 where
   OfEmitting : (list : List Member) → IsResolved given list → IsFirstEmitFault list fault → IsFirstLinkFault given fault
 
 -- no phase finds a fault in the files, which have this linked list, whose equates have these values
-pub record IsLinkable (given : LinkInput) (list : List Member) (table : List Told) : Type 0 where
+pub record IsLinkable (given : LinkInput) (list : List Member) (table : List EquateAnswer) : Type 0 where
   pub resolved : IsResolved given list
   pub emitted : IsEmitted list table
 
 -- the load file of the files
 pub record IsLinkedTo (given : LinkInput) (output : List ℕ) : Type 0 where
   pub list : List Member
-  pub table : List Told
+  pub table : List EquateAnswer
   pub linkable : IsLinkable given list table
   pub is_written : output ≡ written_file list table
 
@@ -90,7 +90,7 @@ pub record IsLinkedTo (given : LinkInput) (output : List ℕ) : Type 0 where
 
 -- of a linked list: the load file, or the first fault
 abbrev pub IsEmitAnswer : List Member → Result (List ℕ) LinkFault → Type 0
-IsEmitAnswer list (Ok output) = (table : List Told) × IsEmitted list table × (output ≡ written_file list table)
+IsEmitAnswer list (Ok output) = (table : List EquateAnswer) × IsEmitted list table × (output ≡ written_file list table)
 IsEmitAnswer list (Err fault) = IsFirstEmitFault list fault
 
 -- of files
@@ -114,11 +114,11 @@ LinkAnswersAsEmit = (given : LinkInput) (list : List Member) (a : Result (List �
 
 -- No record has a fault exactly where each gives its cells.
 abbrev pub MadeWhereSound : Type 0
-MadeWhereSound = (list : List Member) (table : List Told) → HasNone (HasValueFault list table) (items list) ↔ AreMade list table start (items list)
+MadeWhereSound = (list : List Member) (table : List EquateAnswer) → HasNone (HasValueFault list table) (items list) ↔ AreMade list table start (items list)
 
 -- The load file of files without a fault is a file of the load segments and the table, and each of them stands for its linked
 -- cells.
 abbrev pub LinkableStandsFor : Type 0
-LinkableStandsFor = (given : LinkInput) (list : List Member) (table : List Told) → HasBytes given → IsLinkable given list table
+LinkableStandsFor = (given : LinkInput) (list : List Member) (table : List EquateAnswer) → HasBytes given → IsLinkable given list table
     → (segments : List Segment) × IsFile segments (written_file list table) × AreReadAs (images list table) segments
     × HaveCells (linked_cells list table) segments

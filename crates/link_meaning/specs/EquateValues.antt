@@ -5,22 +5,22 @@ use Rattle.omf_format.specs.declared.value.ValueFault.{ValueFault}
 use Rattle.link_meaning.specs.First.{IsIn}
 use Rattle.link_meaning.specs.Member.{Member}
 use Rattle.link_meaning.specs.Search.{FoundDefinition, entries}
-use Rattle.link_meaning.specs.Rings.{is_equate, equates, LeadsTo, IsCircular}
-use Rattle.link_meaning.specs.LinkValues.{Told, value_of_definition, equate_value, IsTable}
+use Rattle.link_meaning.specs.Cycles.{is_equate, equates, LeadsTo, IsCircular}
+use Rattle.link_meaning.specs.LinkValues.{EquateAnswer, value_of_definition, equate_value, IsTable}
 use Rattle.link_meaning.specs.LinkFaults.{LinkInput, HasBytes, IsResolved}
 
 -- An equate has its value, or its fault, once those to which it leads have theirs: it is what the expression stands for where a
 -- table tells them.
 pub data HasValue (list : List Member) : FoundDefinition → Result Value ValueFault → Type 0 where
-  ByOthers : (e : FoundDefinition) (table : List Told) (answer : Result Value ValueFault) → answer ≡ equate_value list table e
+  ByOthers : (e : FoundDefinition) (table : List EquateAnswer) (answer : Result Value ValueFault) → answer ≡ equate_value list table e
       → ((f : FoundDefinition) → LeadsTo list e f → HasValue list f (value_of_definition table f.place f.definition.at)) → HasValue list e answer
 
 -- each row tells the value of its equate
-abbrev pub TellValues : List Member → List FoundDefinition → List Told → Type 0
-TellValues list [] [] = Unit {0}
-TellValues list [] (t ∷ rows) = ⊥
-TellValues list (e ∷ es) [] = ⊥
-TellValues list (e ∷ es) (t ∷ rows) = (t.place ≡ e.place) × (t.at ≡ e.definition.at) × HasValue list e t.answer × TellValues list es rows
+abbrev pub GiveValues : List Member → List FoundDefinition → List EquateAnswer → Type 0
+GiveValues list [] [] = Unit {0}
+GiveValues list [] (t ∷ rows) = ⊥
+GiveValues list (e ∷ es) [] = ⊥
+GiveValues list (e ∷ es) (t ∷ rows) = (t.place ≡ e.place) × (t.at ≡ e.definition.at) × HasValue list e t.answer × GiveValues list es rows
 
 -- equates of one member and one displacement are one
 abbrev pub AreApart : List FoundDefinition → Type 0
@@ -32,18 +32,18 @@ AreApart es = (e f : FoundDefinition) → IsIn es e → IsIn es f → e.place �
 abbrev pub OneValue : Type 0
 OneValue = (list : List Member) (e : FoundDefinition) (a b : Result Value ValueFault) → HasValue list e a → HasValue list e b → a ≡ b
 
-abbrev pub NoneOnRing : Type 0
-NoneOnRing = (list : List Member) (e : FoundDefinition) (a : Result Value ValueFault) → HasValue list e a → IsCircular list e → ⊥
+abbrev pub NoneOnCycle : Type 0
+NoneOnCycle = (list : List Member) (e : FoundDefinition) (a : Result Value ValueFault) → HasValue list e a → IsCircular list e → ⊥
 
 -- In resolved files the table of values is the one that tells each equate its value.
 abbrev pub TableOfValues : Type 0
-TableOfValues = (given : LinkInput) (list : List Member) (table : List Told) → HasBytes given → IsResolved given list
-    → TellValues list (equates list) table ↔ IsTable list table
+TableOfValues = (given : LinkInput) (list : List Member) (table : List EquateAnswer) → HasBytes given → IsResolved given list
+    → GiveValues list (equates list) table ↔ IsTable list table
 
 -- Where no equate of resolved files leads back to itself they have a table of values.
-abbrev pub TableWithoutRings : Type 0
-TableWithoutRings = (given : LinkInput) (list : List Member) → HasBytes given → IsResolved given list
-    → ((e : FoundDefinition) → IsIn (equates list) e → IsCircular list e → ⊥) → (table : List Told) × IsTable list table
+abbrev pub TableWithoutCycles : Type 0
+TableWithoutCycles = (given : LinkInput) (list : List Member) → HasBytes given → IsResolved given list
+    → ((e : FoundDefinition) → IsIn (equates list) e → IsCircular list e → ⊥) → (table : List EquateAnswer) × IsTable list table
 
 -- In resolved files two numbers of definitions that are equates of one member and one displacement are one number.
 abbrev pub OneNumber : Type 0

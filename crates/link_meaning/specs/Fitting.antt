@@ -143,10 +143,10 @@ fit_cells table count targets (Number n) = map Byte (little_bytes count n)
 fit_cells table count targets (Place segment offset shift) = parts count segment offset shift
 fit_cells table count targets (Entry target) = parts count table (entry_place (entry_of targets target)) (pos 0)
 
-abbrev pub targets_behind : List Target → Fit → List Target
-targets_behind targets (Number n) = targets
-targets_behind targets (Place segment offset shift) = targets
-targets_behind targets (Entry target) = with_target targets target
+abbrev pub targets_after : List Target → Fit → List Target
+targets_after targets (Number n) = targets
+targets_after targets (Place segment offset shift) = targets
+targets_after targets (Entry target) = with_target targets target
 
 -- the value's fault as one of the linker; the names are known here, so there is no `Unknown`
 abbrev pub value_cause : ValueFault → LinkCause

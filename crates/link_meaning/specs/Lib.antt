@@ -5,7 +5,7 @@ pub mod Uses
 pub mod Search
 pub mod LinkedList
 pub mod Layout
-pub mod Rings
+pub mod Cycles
 pub mod LinkValues
 pub mod Fitting
 pub mod LinkedCells

@@ -131,7 +131,7 @@ runtime_cause _ = BadRuntime
 pub record HasRuntimeFault (file : ℕ) (bytes : List ℕ) (fault : LinkFault) : Type 0 where
   pub found : LoadFault
   pub first : IsFirstRuntimeFault bytes found
-  pub told : fault ≡ record { cause = runtime_cause found.cause; name = None; spot = record { file = file; segment = found.segment; at = found.at } }
+  pub reported : fault ≡ record { cause = runtime_cause found.cause; name = None; spot = record { file = file; segment = found.segment; at = found.at } }
 
 -- the run-time library files, each a path and bytes, are these
 abbrev pub AreRuntimes : List (List ℕ × List ℕ) → List RuntimeFile → Type 0
@@ -211,7 +211,7 @@ pub record HasUseFault (list : List Member) (before : List PlacedUse) (a : Place
 pub record HasOrgFault (before : List Member) (m : Member) (fault : LinkFault) : Type 0 where
   pub later : list_any (in_load m.segment.fields.load_name) before ≡ true
   pub asks : m.segment.fields.org ≡ 0 → ⊥
-  pub told : fault ≡ record { cause = OrgConflict; name = None; spot = spot_in m m.segment.start }
+  pub reported : fault ≡ record { cause = OrgConflict; name = None; spot = spot_in m m.segment.start }
 
 abbrev pub first_spot : List Member → Spot
 first_spot [] = no_spot
@@ -221,14 +221,14 @@ first_spot (m ∷ members) = spot_in m m.segment.start
 pub record HasCountFault (list : List Member) (fault : LinkFault) : Type 0 where
   pub load_name : List ℕ
   pub there : slice_get (load_names list) 254 ≡ Some load_name
-  pub told : fault ≡ record { cause = TooManySegments; name = None; spot = first_spot (load_members load_name list) }
+  pub reported : fault ≡ record { cause = TooManySegments; name = None; spot = first_spot (load_members load_name list) }
 
 abbrev pub is_too_long : Fields → Bool
 is_too_long f = nat_lt 0xFFFFFF f.length || (not (f.bank_size == 0) && nat_lt f.bank_size f.length)
 
 pub record HasLengthFault (list : List Member) (before : List Fields) (f : Fields) (fault : LinkFault) : Type 0 where
   pub long : is_too_long f ≡ true
-  pub told : fault ≡ record { cause = SegmentTooLong; name = None; spot = first_spot (load_members f.load_name list) }
+  pub reported : fault ≡ record { cause = SegmentTooLong; name = None; spot = first_spot (load_members f.load_name list) }
 
 -- a run-time library file has only dynamic load segments, and none is skipped
 abbrev pub may_not_stand : LinkForm → Fields → Bool
@@ -237,7 +237,7 @@ may_not_stand LibraryForm f = not (is_dynamic f.kind && not (is_skipped f.kind))
 
 pub record HasKindFault (list : List Member) (before : List Fields) (f : Fields) (fault : LinkFault) : Type 0 where
   pub other : may_not_stand (form_in list) f ≡ true
-  pub told : fault ≡ record { cause = NotDynamic; name = None; spot = first_spot (load_members f.load_name list) }
+  pub reported : fault ≡ record { cause = NotDynamic; name = None; spot = first_spot (load_members f.load_name list) }
 
 pub data LayoutCheck : Type 0 where
   Orgs : LayoutCheck

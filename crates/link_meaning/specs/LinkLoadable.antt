@@ -16,7 +16,7 @@ use Rattle.link_meaning.specs.Member.{Member, setting_in, form_in, RuntimeFile}
 use Rattle.link_meaning.specs.declared.form.LinkForm.TheVariants.{Program, Runtime as LibraryForm}
 use Rattle.load_meaning.specs.Runtime.{IsRuntime}
 use Rattle.link_meaning.specs.Layout.{load_names, load_headers}
-use Rattle.link_meaning.specs.LinkValues.{Told}
+use Rattle.link_meaning.specs.LinkValues.{EquateAnswer}
 use Rattle.link_meaning.specs.Fitting.{load_header, is_dynamic_load, length_of, length_outside}
 use Rattle.link_meaning.specs.LinkedCells.{table_number, targets, linked}
 use Rattle.link_meaning.specs.LinkWritten.{linked_cells}
@@ -39,14 +39,14 @@ path_headers number [] = []
 path_headers number (r ∷ runtimes) = pathnames_fields number (length (paths_text (map (λ one. one.path) (r ∷ runtimes)))) ∷ []
 
 -- the headers of the load segments in order of number, the table's behind them, and the pathnames' behind all
-unfoldable pub linked_headers : List Member → List Told → List Fields
+unfoldable pub linked_headers : List Member → List EquateAnswer → List Fields
 linked_headers list table =
     let tables = table_headers (table_number list) (targets list table) in
     load_headers list ++ (tables ++ path_headers (table_number list + length tables) (setting_in list).runtimes)
 
 -- the segments are the load segments in order of number, and the table behind them: each has the header of the layout, and
 -- stands for its linked cells
-pub record StandFor (list : List Member) (table : List Told) (segments : List Segment) : Type 0 where
+pub record StandFor (list : List Member) (table : List EquateAnswer) (segments : List Segment) : Type 0 where
   pub headers : map (λ s. plain_fields s.fields) segments ≡ linked_headers list table
   pub cells' : map cells segments ≡ linked_cells list table
 
@@ -96,7 +96,7 @@ abbrev pub is_skipped_load : List Fields → ℕ → Bool
 is_skipped_load headers number = elim (load_header headers number) [ None ↦ false | Some f ↦ is_skipped f.kind ]
 
 -- no part of a place and no entry of the file itself names a skipped load segment
-pub record NamesNoSkipped (list : List Member) (table : List Told) : Type 0 where
+pub record NamesNoSkipped (list : List Member) (table : List EquateAnswer) : Type 0 where
   pub parts : AllByRecursion (λ cs. AllByRecursion (λ c. Names (λ n. is_skipped_load (load_headers list) n ≡ false) c) cs) (linked_cells list table)
   pub entries : AllByRecursion (λ t. t.file ≡ 1 → is_skipped_load (load_headers list) t.segment ≡ false) (targets list table)
 
@@ -110,7 +110,7 @@ StandsForLinkedCells = (given : LinkInput) (output : List ℕ) → HasBytes give
 -- Only calls reach another dynamic load segment: what the cells of a load segment name is the load segment itself, a static
 -- one, or the table, and the table's entries lead into dynamic ones.
 abbrev pub OnlyCallsReachDynamic : Type 0
-OnlyCallsReachDynamic = (given : LinkInput) (list : List Member) (table : List Told) → HasBytes given → IsLinkable given list table
+OnlyCallsReachDynamic = (given : LinkInput) (list : List Member) (table : List EquateAnswer) → HasBytes given → IsLinkable given list table
     → ((k : ℕ) (load_name : List ℕ) → slice_get (load_names list) k ≡ Some load_name
     → AllByRecursion (λ c. Names (Reaches list (targets list table) (k + 1)) c) (linked list table load_name))
     × AllByRecursion (IsCalled list) (targets list table)

@@ -11,15 +11,15 @@ use Rattle.link_meaning.specs.Member.{Member}
 use Rattle.object_meaning.specs.Terms.{tree_in, term_at}
 use Rattle.link_meaning.specs.Search.{FoundDefinition, finds}
 use Rattle.link_meaning.specs.Layout.{load_of, offset_of}
-use Rattle.link_meaning.specs.Rings.{equates, IsCircular}
+use Rattle.link_meaning.specs.Cycles.{equates, IsCircular}
 
 -- the value of an equate, or its fault, by the place of its member and its record's displacement
-pub record Told : Type 0 where
+pub record EquateAnswer : Type 0 where
   pub place : ℕ
   pub at : ℕ
   pub answer : Result Value ValueFault
 
-abbrev pub value_of_definition : List Told → ℕ → ℕ → Result Value ValueFault
+abbrev pub value_of_definition : List EquateAnswer → ℕ → ℕ → Result Value ValueFault
 value_of_definition [] place at = Err NotRelocatable
 value_of_definition (t ∷ table) place at = if t.place == place && t.at == at then t.answer else value_of_definition table place at
 
@@ -32,7 +32,7 @@ abbrev pub outside_value : FoundDefinition → Value
 outside_value f = At f.member.file f.member.number f.definition.place (pos 0)
 
 -- a label is a place, of a member or of a run-time library file, and an equate what the table tells
-abbrev pub found_value : List Member → List Told → FoundDefinition → Result Value ValueFault
+abbrev pub found_value : List Member → List EquateAnswer → FoundDefinition → Result Value ValueFault
 found_value list table f = elim f.definition.expr [
   | None ↦ Ok (if f.place == 0 then outside_value f else place_value list f.place f.member f.definition.place)
   | Some text ↦ value_of_definition table f.place f.definition.at
@@ -43,7 +43,7 @@ if_ok (Ok v) = Some v
 if_ok (Err fault) = None
 
 -- the value of a name that found this; a faulty equate has none
-abbrev pub label_value : List Member → List Told → Bool → List FoundDefinition → Option Value
+abbrev pub label_value : List Member → List EquateAnswer → Bool → List FoundDefinition → Option Value
 label_value list table weak [] = if weak then Some (Fixed 0) else None
 label_value list table weak (f ∷ found) = if_ok (found_value list table f)
 
@@ -54,7 +54,7 @@ attribute_value code (f ∷ found) =
     if code == 0x84 then Some f.definition.size else if code == 0x85 then Some f.definition.form else Some 1
 
 -- what an expression meets in the member at this place of the list, where so many of its cells are before the record
-unfoldable pub member_environment : List Member → List Told → ℕ → Member → ℕ → Environment
+unfoldable pub member_environment : List Member → List EquateAnswer → ℕ → Member → ℕ → Environment
 member_environment list table place m location = record {
   label = λ name weak. label_value list table weak (finds list place m name);
   attribute = λ code name. attribute_value code (finds list place m name);
@@ -63,16 +63,16 @@ member_environment list table place m location = record {
 }
 
 -- the fault of the equate that a name found
-abbrev pub fault_found : List Member → List Told → ValueFault → List FoundDefinition → ValueFault
+abbrev pub fault_found : List Member → List EquateAnswer → ValueFault → List FoundDefinition → ValueFault
 fault_found list table fault [] = fault
 fault_found list table fault (f ∷ found) = elim (found_value list table f) [ Ok v ↦ fault | Err of ↦ of ]
 
-abbrev pub fault_named : List Member → List Told → ℕ → Member → ValueFault → Option Term → ValueFault
+abbrev pub fault_named : List Member → List EquateAnswer → ℕ → Member → ValueFault → Option Term → ValueFault
 fault_named list table place m fault (Some (Named code name)) = if nat_le code 0x83 then fault_found list table fault (finds list place m name) else fault
 fault_named _ _ _ _ fault _ = fault
 
 -- a name whose equate has a fault has that fault: `Unknown` says at which term of the expression the name stands
-abbrev pub value_or_equate_fault : List Member → List Told → ℕ → Member → Tree → Result Value ValueFault → Result Value ValueFault
+abbrev pub value_or_equate_fault : List Member → List EquateAnswer → ℕ → Member → Tree → Result Value ValueFault → Result Value ValueFault
 value_or_equate_fault list table place m tree (Ok v) = Ok v
 value_or_equate_fault list table place m tree (Err DivideByZero) = Err DivideByZero
 value_or_equate_fault list table place m tree (Err NotRelocatable) = Err NotRelocatable
@@ -80,30 +80,30 @@ value_or_equate_fault list table place m tree (Err (Unknown at)) =
     Err (fault_named list table place m (Unknown at) (term_at m.segment.fields.lab_len at 0 tree))
 
 -- the value of an expression's tree in that member
-abbrev pub tree_value : List Member → List Told → ℕ → Member → ℕ → Option Tree → Result Value ValueFault
+abbrev pub tree_value : List Member → List EquateAnswer → ℕ → Member → ℕ → Option Tree → Result Value ValueFault
 tree_value list table place m location None = Err NotRelocatable
 tree_value list table place m location (Some tree) =
     value_or_equate_fault list table place m tree (value (member_environment list table place m location) m.segment.fields.lab_len 0 tree)
 
-unfoldable pub value_in : List Member → List Told → ℕ → Member → ℕ → List ℕ → Result Value ValueFault
+unfoldable pub value_in : List Member → List EquateAnswer → ℕ → Member → ℕ → List ℕ → Result Value ValueFault
 value_in list table place m location text = tree_value list table place m location (tree_in m.segment.fields.lab_len text)
 
-abbrev pub equate_value : List Member → List Told → FoundDefinition → Result Value ValueFault
+abbrev pub equate_value : List Member → List EquateAnswer → FoundDefinition → Result Value ValueFault
 equate_value list table e = elim e.definition.expr [
   | None ↦ Err NotRelocatable
   | Some text ↦ value_in list table e.place e.member e.definition.place text
 ]
 
 -- each row tells what its equate's expression stands for, the names in it being told by the same table
-abbrev pub AreTold : List Member → List Told → List FoundDefinition → List Told → Type 0
-AreTold list table [] [] = Unit {0}
-AreTold list table [] (t ∷ rows) = ⊥
-AreTold list table (e ∷ es) [] = ⊥
-AreTold list table (e ∷ es) (t ∷ rows) =
+abbrev pub AreReported : List Member → List EquateAnswer → List FoundDefinition → List EquateAnswer → Type 0
+AreReported list table [] [] = Unit {0}
+AreReported list table [] (t ∷ rows) = ⊥
+AreReported list table (e ∷ es) [] = ⊥
+AreReported list table (e ∷ es) (t ∷ rows) =
     (t.place ≡ e.place) × (t.at ≡ e.definition.at) × (t.answer ≡ value_of_definition table e.place e.definition.at)
-    × (value_of_definition table e.place e.definition.at ≡ equate_value list table e) × AreTold list table es rows
+    × (value_of_definition table e.place e.definition.at ≡ equate_value list table e) × AreReported list table es rows
 
 -- the values of the equates, none of which leads back to itself
-pub record IsTable (list : List Member) (table : List Told) : Type 0 where
+pub record IsTable (list : List Member) (table : List EquateAnswer) : Type 0 where
   pub straight : (e : FoundDefinition) → IsIn (equates list) e → IsCircular list e → ⊥
-  pub rows : AreTold list table (equates list) table
+  pub rows : AreReported list table (equates list) table

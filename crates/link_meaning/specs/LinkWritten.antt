@@ -22,7 +22,7 @@ use Rattle.link_meaning.specs.declared.form.LinkForm.TheVariants.{Program, Runti
 use Rattle.link_meaning.specs.declared.form.LinkForm.{LinkForm}
 use Rattle.link_meaning.specs.Member.{Member, RuntimeFile, setting_in, form_in}
 use Rattle.link_meaning.specs.Layout.{load_names, load_fields, load_headers}
-use Rattle.link_meaning.specs.LinkValues.{Told, IsTable, found_value}
+use Rattle.link_meaning.specs.LinkValues.{EquateAnswer, IsTable, found_value}
 use Rattle.link_meaning.specs.LinkedCells.{Item, LinkState, Made, table_number, items, made, state_after_item, targets, linked}
 use Rattle.link_meaning.specs.LinkFaults.{LinkInput, HasBytes, IsResolved}
 
@@ -72,7 +72,7 @@ export_at headers name (Ok (At file segment offset shift)) =
 export_at headers name (Err fault) = []
 
 -- only what all see is exported
-abbrev pub export_of : List Member → List Told → FoundDefinition → List Record
+abbrev pub export_of : List Member → List EquateAnswer → FoundDefinition → List Record
 export_of list table f = elim f.definition.scope [
   | ForSegment ↦ []
   | ForUnit ↦ []
@@ -80,7 +80,7 @@ export_of list table f = elim f.definition.scope [
 ]
 
 -- in list and record order, a SEGNAME before its segment's records
-unfoldable pub exports : List Member → List Told → List Record
+unfoldable pub exports : List Member → List EquateAnswer → List Record
 exports list table = flat_map (export_of list table) (entries list)
 
 -- those of a load segment: of a run-time library file the first one has them all
@@ -89,7 +89,7 @@ exports_for Program number all = []
 exports_for LibraryForm number all = if number == 1 then all else []
 
 -- the load segments with these load names, in order, the first with this number
-abbrev pub load_images : List Member → List Told → ℕ → List (List ℕ) → List Image
+abbrev pub load_images : List Member → List EquateAnswer → ℕ → List (List ℕ) → List Image
 load_images list table number [] = []
 load_images list table number (x ∷ xs) =
     image_of (load_fields list number x) (linked list table x) (exports_for (form_in list) number (exports list table)) ∷ load_images list table (number + 1) xs
@@ -105,13 +105,13 @@ path_images number [] = []
 path_images number (r ∷ runtimes) = pathnames_image number (map (λ one. one.path) (r ∷ runtimes)) ∷ []
 
 -- the load segments in order of number, the table behind them, and the pathnames behind all
-unfoldable pub images : List Member → List Told → List Image
+unfoldable pub images : List Member → List EquateAnswer → List Image
 images list table =
     let tables = table_images (table_number list) (targets list table) in
     load_images list table 1 (load_names list) ++ (tables ++ path_images (table_number list + length tables) (setting_in list).runtimes)
 
 -- the bytes of the load file
-unfoldable pub written_file : List Member → List Told → List ℕ
+unfoldable pub written_file : List Member → List EquateAnswer → List ℕ
 written_file list table = file_text (images list table)
 
 -- ---- what the file stands for
@@ -127,7 +127,7 @@ path_cells [] = []
 path_cells (r ∷ runtimes) = map Byte (paths_text (map (λ one. one.path) (r ∷ runtimes))) ∷ []
 
 -- the linked cells of the load segments in order of number, the table's behind them, and the pathnames' behind all
-unfoldable pub linked_cells : List Member → List Told → List (List Cell)
+unfoldable pub linked_cells : List Member → List EquateAnswer → List (List Cell)
 linked_cells list table = map (linked list table) (load_names list) ++ (table_cells (targets list table) ++ path_cells (setting_in list).runtimes)
 
 -- each segment has its cells, and there are as many of the ones as of the others
@@ -138,7 +138,7 @@ HaveCells (cs ∷ all) [] = ⊥
 HaveCells (cs ∷ all) (s ∷ segments) = (cells s ≡ cs) × HaveCells all segments
 
 -- each of these records, from this state on, gives cells: no value has a fault, and each fits
-abbrev pub AreMade : List Member → List Told → LinkState → List Item → Type 0
+abbrev pub AreMade : List Member → List EquateAnswer → LinkState → List Item → Type 0
 AreMade list table state [] = Unit {0}
 AreMade list table state (i ∷ is) =
     (x : Made) × (made list table state i ≡ Ok x) × AreMade list table (state_after_item state i (made list table state i)) is
@@ -148,7 +148,7 @@ start = record { targets = []; place = 0; cells = [] }
 
 -- The file that the linker writes is a file of the load segments and the table, and each of them stands for its cells.
 abbrev pub LinkedStandsFor : Type 0
-LinkedStandsFor = (given : LinkInput) (list : List Member) (table : List Told) → HasBytes given → IsResolved given list
+LinkedStandsFor = (given : LinkInput) (list : List Member) (table : List EquateAnswer) → HasBytes given → IsResolved given list
     → IsTable list table → AreMade list table start (items list) → length (written_file list table) ≤ 0x1000000
     → (segments : List Segment) × IsFile segments (written_file list table) × AreReadAs (images list table) segments
     × HaveCells (linked_cells list table) segments

@@ -9,9 +9,9 @@ use Rattle.object_meaning.specs.Sizes.{Located, records_with_offsets}
 use Rattle.omf_format.specs.Number.{padding}
 use Rattle.link_meaning.specs.Member.{Member, setting_in}
 use Rattle.link_meaning.specs.Layout.{in_load, load_names, load_headers, load_of, offset_of}
-use Rattle.link_meaning.specs.LinkValues.{Told, value_in}
+use Rattle.link_meaning.specs.LinkValues.{EquateAnswer, value_in}
 use Rattle.load_meaning.specs.declared.table.Target.{Target}
-use Rattle.link_meaning.specs.Fitting.{PatchPlace, load_header, fit_value, fit_cells, targets_behind, value_or_cause}
+use Rattle.link_meaning.specs.Fitting.{PatchPlace, load_header, fit_value, fit_cells, targets_after, value_or_cause}
 
 -- ---- records in list order
 
@@ -59,7 +59,7 @@ Made = List Cell × List Target
 abbrev pub zeros : ℕ → List Cell
 zeros n = replicate n (Byte 0)
 
-abbrev pub made_by : List Member → List Told → LinkState → Item → Record → Result Made LinkCause
+abbrev pub made_by : List Member → List EquateAnswer → LinkState → Item → Record → Result Made LinkCause
 made_by list table state i (Const bytes) = Ok (map Byte bytes, state.targets)
 made_by list table state i (LongConst bytes) = Ok (map Byte bytes, state.targets)
 made_by list table state i (Align n) = Ok (zeros (padding n i.here.location), state.targets)
@@ -70,11 +70,11 @@ made_by list table state i (Equate global name size form private expr) =
 made_by list table state i (Formula code count n expr) =
     value_or_cause (value_in list table i.place i.member i.here.location expr) >>= λ v.
     fit_value (load_headers list) (frame_of list i) state.targets (cells_before state i) code count n v >>= λ fit.
-    let targets = targets_behind state.targets fit in
+    let targets = targets_after state.targets fit in
     Ok (fit_cells (table_number list) count targets fit, targets)
 made_by _ _ state _ _ = Ok ([], state.targets)
 
-unfoldable pub made : List Member → List Told → LinkState → Item → Result Made LinkCause
+unfoldable pub made : List Member → List EquateAnswer → LinkState → Item → Result Made LinkCause
 made list table state i = made_by list table state i i.here.content
 
 -- ---- behind records
@@ -83,27 +83,27 @@ abbrev pub state_after_item : LinkState → Item → Result Made LinkCause → L
 state_after_item state i (Err cause) = state
 state_after_item state i (Ok x) = record { targets = x.1; place = i.place; cells = cells_before state i ++ x.0 }
 
-abbrev pub state_from : List Member → List Told → LinkState → List Item → LinkState
+abbrev pub state_from : List Member → List EquateAnswer → LinkState → List Item → LinkState
 state_from list table state [] = state
 state_from list table state (i ∷ is) = state_from list table (state_after_item state i (made list table state i)) is
 
 -- what these records, the first ones of the list, made
-unfoldable pub state_behind : List Member → List Told → List Item → LinkState
-state_behind list table is = state_from list table (record { targets = []; place = 0; cells = [] }) is
+unfoldable pub state_after : List Member → List EquateAnswer → List Item → LinkState
+state_after list table is = state_from list table (record { targets = []; place = 0; cells = [] }) is
 
 -- the distinct targets in order of first reference
-unfoldable pub targets : List Member → List Told → List Target
-targets list table = (state_behind list table (items list)).targets
+unfoldable pub targets : List Member → List EquateAnswer → List Target
+targets list table = (state_after list table (items list)).targets
 
 -- ---- members and load segments
 
 -- the cells of a member: those of its records, and RESSPC zeros
-unfoldable pub member_cells : List Member → List Told → ℕ → Member → List Cell
+unfoldable pub member_cells : List Member → List EquateAnswer → ℕ → Member → List Cell
 member_cells list table place m =
-    (state_behind list table (filter (λ i. nat_le i.place place) (items list))).cells ++ zeros m.segment.fields.res_spc
+    (state_after list table (filter (λ i. nat_le i.place place) (items list))).cells ++ zeros m.segment.fields.res_spc
 
 -- the cells of a load segment so far, with those of the members from this place on at their offsets
-abbrev pub cells_from : List Member → List Told → List ℕ → List Cell → ℕ → List Member → List Cell
+abbrev pub cells_from : List Member → List EquateAnswer → List ℕ → List Cell → ℕ → List Member → List Cell
 cells_from list table load_name cells place [] = cells
 cells_from list table load_name cells place (m ∷ members) = cells_from list table load_name
     (if in_load load_name m
@@ -112,5 +112,5 @@ cells_from list table load_name cells place (m ∷ members) = cells_from list ta
     (place + 1) members
 
 -- the linked cells of the load segment with this load name
-unfoldable pub linked : List Member → List Told → List ℕ → List Cell
+unfoldable pub linked : List Member → List EquateAnswer → List ℕ → List Cell
 linked list table load_name = cells_from list table load_name [] 1 list

@@ -4,7 +4,7 @@ ghost use Rattle.link_meaning.specs.Layout.{OffsetIsLeast, OneOffset};
 ghost use Rattle.link_meaning.specs.LinkWritten.{LinkedStandsFor};
 ghost use Rattle.link_meaning.specs.EmitFaults.{OneLinkAnswer, OneEmitAnswer, LinkAnswersAsEmit, MadeWhereSound, LinkableStandsFor};
 ghost use Rattle.link_meaning.specs.LinkLoadable.{StandsForLinkedCells, OnlyCallsReachDynamic, IsLoadedWhereNoneSkipped, IsRuntimeOfForm, HasNoPathnames, HasNoLoadFault, IsReadWhole};
-ghost use Rattle.link_meaning.specs.EquateValues.{OneValue, NoneOnRing, TableOfValues, TableWithoutRings, OneNumber};
+ghost use Rattle.link_meaning.specs.EquateValues.{OneValue, NoneOnCycle, TableOfValues, TableWithoutCycles, OneNumber};
 
 /// Where a member stands in its load segment is settled: at the least multiple of its alignment behind the members before it.
 pub fn offsets_are_least()
@@ -41,9 +41,9 @@ pub fn linkable_files_stand_for_their_cells()
 /// their table, which is there where no equate leads back to itself.
 pub fn equates_have_one_value()
     ensures one { OneValue }
-    ensures none_on_ring { NoneOnRing }
+    ensures none_on_cycle { NoneOnCycle }
     ensures table { TableOfValues }
-    ensures without_rings { TableWithoutRings }
+    ensures without_cycles { TableWithoutCycles }
     ensures one_number { OneNumber }
 {}
 

@@ -8,21 +8,21 @@ use Rattle.link_meaning.specs.Member.{Row, Input, Member, Offer, is_library, mem
 use Rattle.link_meaning.specs.LinkFaults.{segments_fault}
 use Rattle.link_meaning.specs.laws.ProgressLaws.{AreSound}
 use Rattle.lib_dict.specs.DictionaryLayout.{DefinesSo}
-use Rattle.lib_dict.specs.Library.{told_row}
+use Rattle.lib_dict.specs.Library.{row_view}
 use Rattle.link_program.specs.Files.{segment_in, IsAmong, AllAmong}
 use Rattle.link_program.specs.Inputs.{IsSoundInput}
 use Rattle.link_program.proofs.RowLaws.{row_place, offer_is}
 use Rattle.link_program.proofs.OpeningLaws.{in_either}
 
 -- the files from a number on are the inputs' segments
-abbrev Behind : List (List Segment) → ℕ → List Input → Type 0
-Behind files n inputs = (k : ℕ) → slice_get files (n + k) ≡ slice_get (map (λ i. i.segments) inputs) k
+abbrev After : List (List Segment) → ℕ → List Input → Type 0
+After files n inputs = (k : ℕ) → slice_get files (n + k) ≡ slice_get (map (λ i. i.segments) inputs) k
 
-behind_more : (files : List (List Segment)) (n : ℕ) (i : Input) (inputs : List Input) → Behind files n (i ∷ inputs) → Behind files (n + 1) inputs
-behind_more files n i inputs behind k = let same : n + 1 + k ≡ n + suc k = omega arith in ap (slice_get files) same ∙ behind (suc k)
+after_more : (files : List (List Segment)) (n : ℕ) (i : Input) (inputs : List Input) → After files n (i ∷ inputs) → After files (n + 1) inputs
+after_more files n i inputs following k = let same : n + 1 + k ≡ n + suc k = omega arith in ap (slice_get files) same ∙ following (suc k)
 
-file_at : (files : List (List Segment)) (n : ℕ) (i : Input) (inputs : List Input) → Behind files n (i ∷ inputs) → slice_get files n ≡ Some i.segments
-file_at files n i inputs behind = let same : n ≡ n + 0 = omega arith in ap (slice_get files) same ∙ behind 0
+file_at : (files : List (List Segment)) (n : ℕ) (i : Input) (inputs : List Input) → After files n (i ∷ inputs) → slice_get files n ≡ Some i.segments
+file_at files n i inputs following = let same : n ≡ n + 0 = omega arith in ap (slice_get files) same ∙ following 0
 
 -- the segment of a file
 stands : (files : List (List Segment)) (n k : ℕ) (segments : List Segment) (s : Segment) (file number : ℕ) → slice_get files n ≡ Some segments → slice_get segments k ≡ Some s → file ≡ n + 1 → number ≡ k + 1 → segment_in files file number ≡ Some s
@@ -57,27 +57,27 @@ member_from setting file n (s ∷ list) m (inr is) =
     let rest = member_from setting file (n + 1) list m is in
     record { k = suc rest.k; file' = rest.file'; number = omega (arith, rest.number); here = rest.here }
 
-objects_among_from : (setting : LinkSetting) (files : List (List Segment)) (n : ℕ) (inputs : List Input) → Behind files n inputs → AllAmong files (objects_from setting (n + 1) inputs)
-objects_among_from setting files n [] behind m is = absurd is
-objects_among_from setting files n (i ∷ inputs) behind m is =
-    settle (in_either (if is_library i.segments then [] else members_from setting (n + 1) 1 i.segments) (objects_from setting (n + 1 + 1) inputs) m is) (λ more. objects_among_from setting files (n + 1) inputs (behind_more files n i inputs behind) m more)
+objects_among_from : (setting : LinkSetting) (files : List (List Segment)) (n : ℕ) (inputs : List Input) → After files n inputs → AllAmong files (objects_from setting (n + 1) inputs)
+objects_among_from setting files n [] following m is = absurd is
+objects_among_from setting files n (i ∷ inputs) following m is =
+    settle (in_either (if is_library i.segments then [] else members_from setting (n + 1) 1 i.segments) (objects_from setting (n + 1 + 1) inputs) m is) (λ more. objects_among_from setting files (n + 1) inputs (after_more files n i inputs following) m more)
   where
     own : (b : Bool) → IsIn (if b then [] else members_from setting (n + 1) 1 i.segments) m → IsAmong files m
     own true is = absurd is
     own false is =
         let f = member_from setting (n + 1) 1 i.segments m is in
-        stands files n f.k i.segments m.segment m.file m.number (file_at files n i inputs behind) f.here f.file' (omega (arith, f.number))
+        stands files n f.k i.segments m.segment m.file m.number (file_at files n i inputs following) f.here f.file' (omega (arith, f.number))
 
     settle : IsIn (if is_library i.segments then [] else members_from setting (n + 1) 1 i.segments) m ⊎ IsIn (objects_from setting (n + 1 + 1) inputs) m → (IsIn (objects_from setting (n + 1 + 1) inputs) m → IsAmong files m) → IsAmong files m
     settle (inl a) go = own (is_library i.segments) a
     settle (inr b) go = go b
 
-behind_all : (inputs : List Input) → Behind (map (λ i. i.segments) inputs) 0 inputs
-behind_all inputs k = let same : 0 + k ≡ k = omega arith in ap (slice_get (map (λ (i : Input). i.segments) inputs)) same
+following_all : (inputs : List Input) → After (map (λ i. i.segments) inputs) 0 inputs
+following_all inputs k = let same : 0 + k ≡ k = omega arith in ap (slice_get (map (λ (i : Input). i.segments) inputs)) same
 
 pub objects_among : (setting : LinkSetting) (files : List (List Segment)) (inputs : List Input) → files ≡ map (λ i. i.segments) inputs → AllAmong files (objects setting inputs)
 unfolding objects
-objects_among setting files inputs are = subst (λ (l : List (List Segment)). AllAmong l (objects_from setting 1 inputs)) (sym are) (objects_among_from setting (map (λ (i : Input). i.segments) inputs) 0 inputs (behind_all inputs))
+objects_among setting files inputs are = subst (λ (l : List (List Segment)). AllAmong l (objects_from setting 1 inputs)) (sym are) (objects_among_from setting (map (λ (i : Input). i.segments) inputs) 0 inputs (following_all inputs))
 
 -- ---- offers
 
@@ -107,7 +107,7 @@ record Stands (files : List (List Segment)) (o : Offer) : Type 0 where
 of_row : (setting : LinkSetting) (files : List (List Segment)) (n : ℕ) (i : Input) (o : Offer) → slice_get files n ≡ Some i.segments → IsSoundInput i → IsOffered setting (n + 1) i.segments i.rows o → Stands files o
 of_row setting files n i o there sound is =
     let s = sound.1 is.row is.among in
-    let p = row_place i.segments is.row (told_row i.segments is.row) refl s in
+    let p = row_place i.segments is.row (row_view i.segments is.row) refl s in
     let same = offer_is setting (n + 1) i.segments is.row o p.k p.segment is.is p.number p.here in
     let segment : Some s.segment ≡ some p.segment = sym s.here ∙ ap (segment_at i.segments) p.number ∙ p.here in
     let one : s.segment ≡ p.segment = same_segment s.segment p.segment segment in
@@ -123,19 +123,19 @@ of_row setting files n i o there sound is =
     same_segment : (a b : Segment) → Some a ≡ Some b → a ≡ b
     same_segment a b e = cc
 
-offers_stand : (setting : LinkSetting) (files : List (List Segment)) (n : ℕ) (inputs : List Input) → Behind files n inputs → AllSound inputs → (o : Offer) → IsIn (offers_from setting (n + 1) inputs) o → Stands files o
-offers_stand setting files n [] behind sound o is = absurd is
-offers_stand setting files n (i ∷ inputs) behind sound o is =
-    settle (in_either (filter_map (offer_of setting (n + 1) i.segments) i.rows) (offers_from setting (n + 1 + 1) inputs) o is) (λ more. offers_stand setting files (n + 1) inputs (behind_more files n i inputs behind) (λ j there. sound j (inr there)) o more)
+offers_stand : (setting : LinkSetting) (files : List (List Segment)) (n : ℕ) (inputs : List Input) → After files n inputs → AllSound inputs → (o : Offer) → IsIn (offers_from setting (n + 1) inputs) o → Stands files o
+offers_stand setting files n [] following sound o is = absurd is
+offers_stand setting files n (i ∷ inputs) following sound o is =
+    settle (in_either (filter_map (offer_of setting (n + 1) i.segments) i.rows) (offers_from setting (n + 1 + 1) inputs) o is) (λ more. offers_stand setting files (n + 1) inputs (after_more files n i inputs following) (λ j there. sound j (inr there)) o more)
   where
     settle : IsIn (filter_map (offer_of setting (n + 1) i.segments) i.rows) o ⊎ IsIn (offers_from setting (n + 1 + 1) inputs) o → (IsIn (offers_from setting (n + 1 + 1) inputs) o → Stands files o) → Stands files o
-    settle (inl a) go = of_row setting files n i o (file_at files n i inputs behind) (sound i (inl refl)) (offered setting (n + 1) i.segments i.rows o a)
+    settle (inl a) go = of_row setting files n i o (file_at files n i inputs following) (sound i (inl refl)) (offered setting (n + 1) i.segments i.rows o a)
     settle (inr b) go = go b
 
 all_stand : (setting : LinkSetting) (files : List (List Segment)) (inputs : List Input) → files ≡ map (λ i. i.segments) inputs → AllSound inputs → (o : Offer) → IsIn (library_offers setting inputs) o → Stands files o
 unfolding library_offers
 all_stand setting files inputs are sound o is =
-    subst (λ (l : List (List Segment)). Stands l o) (sym are) (offers_stand setting (map (λ (i : Input). i.segments) inputs) 0 inputs (behind_all inputs) sound o is)
+    subst (λ (l : List (List Segment)). Stands l o) (sym are) (offers_stand setting (map (λ (i : Input). i.segments) inputs) 0 inputs (following_all inputs) sound o is)
 
 pub offers_among : (setting : LinkSetting) (files : List (List Segment)) (inputs : List Input) → files ≡ map (λ i. i.segments) inputs → AllSound inputs → (o : Offer) → IsIn (library_offers setting inputs) o → IsAmong files o.member
 offers_among setting files inputs are sound o is = (all_stand setting files inputs are sound o is).among

@@ -12,10 +12,10 @@ use Rattle.link_program.specs.Linked.{origin_of, Holds}
 use Rattle.link_program.specs.Finding.{IsFirstOf, finds_for, found_in}
 
 -- an answer with this number
-abbrev Tells : ℕ → Matches → Type 0
-Tells n answer = (answer ≡ One n) ⊎ (answer ≡ Several n)
+abbrev Reports : ℕ → Matches → Type 0
+Reports n answer = (answer ≡ One n) ⊎ (answer ≡ Several n)
 
-first_of : (all found : List FoundDefinition) (answer : Matches) (n : ℕ) → Tells n answer → Sees all found answer → IsFirstOf all found (Some n)
+first_of : (all found : List FoundDefinition) (answer : Matches) (n : ℕ) → Reports n answer → Sees all found answer → IsFirstOf all found (Some n)
 first_of all [] answer n (inl is) seen = absurd cc
 first_of all [] answer n (inr is) seen = absurd cc
 first_of all (f ∷ []) answer n (inl is) seen = let same : seen.0 ≡ n = one seen.0 n (sym seen.1 ∙ is) in subst (λ (k : ℕ). slice_get all k ≡ Some f) same seen.2
@@ -35,10 +35,10 @@ first_of all (f ∷ g ∷ more) answer n (inr is) seen = let same : seen.0 ≡ n
     one : (a b : ℕ) → Several a ≡ Several b → a ≡ b
     one a b e = cc
 
-pub first_told : (list : List Member) (kept : Linked) (place : ℕ) (name : List ℕ) (all : List FoundDefinition) (answer : Matches) (n : ℕ) → Holds list kept → (place ≡ 0 → ⊥) → place ≤ length kept.members.items → Tells n answer
+pub first_reported : (list : List Member) (kept : Linked) (place : ℕ) (name : List ℕ) (all : List FoundDefinition) (answer : Matches) (n : ℕ) → Holds list kept → (place ≡ 0 → ⊥) → place ≤ length kept.members.items → Reports n answer
     → ((m : Member) → slice_get list (place - 1) ≡ Some m → Sees all (finds list place m name) answer) → IsFirstOf all (found_in list place name) (Some n)
-first_told list kept zero name all answer n holds some within tells sees = absurd (some refl)
-first_told list kept (suc k) name all answer n holds some within tells sees = by_member (slice_get list k) refl
+first_reported list kept zero name all answer n holds some within reports sees = absurd (some refl)
+first_reported list kept (suc k) name all answer n holds some within reports sees = by_member (slice_get list k) refl
   where
     size : length kept.members.items ≡ length list
     size = ap length holds.members ∙ length-map list origin_of
@@ -53,4 +53,4 @@ first_told list kept (suc k) name all answer n holds some within tells sees = by
 
     by_member : (o : Option Member) → slice_get list k ≡ o → IsFirstOf all (finds_for list (suc k) o name) (Some n)
     by_member None none = absurd (gone list k (omega (arith, within, size)) none)
-    by_member (Some m) there = first_of all (finds list (suc k) m name) answer n tells (sees m (ap (slice_get list) less ∙ there))
+    by_member (Some m) there = first_of all (finds list (suc k) m name) answer n reports (sees m (ap (slice_get list) less ∙ there))

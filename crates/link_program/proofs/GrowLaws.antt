@@ -24,7 +24,7 @@ use Rattle.link_meaning.specs.Search.{outside}
 use Rattle.std.specs.List.{AllByRecursion}
 use Rattle.link_tables.specs.Definitions.{IsOf}
 use Rattle.link_program.specs.Linked.{Holds}
-use Rattle.link_tables.specs.Offers.{told_origin}
+use Rattle.link_tables.specs.Offers.{origin_view}
 use Rattle.link_program.specs.Opening.{OpensNothing}
 use Rattle.link_program.specs.Wanted.{wanted_at, WantsNothing, IsWanted}
 use Rattle.link_program.specs.Files.{segment_in, IsAmong, AllAmong}
@@ -150,7 +150,7 @@ pub growing_start : (setting : LinkSetting) (inputs : List Input) (files : List 
     → taken ≡ replicate n false → Growing setting inputs files linked taken 0
 growing_start setting inputs files table os linked taken n may count none =
     let whole : objects setting inputs ≡ objects setting inputs ++ [] = sym (append-nil (objects setting inputs)) in
-    let size : n ≡ length (library_offers setting inputs) = omega (arith, count, ap length may.offers'.origins, length-map (library_offers setting inputs) told_origin) in
+    let size : n ≡ length (library_offers setting inputs) = omega (arith, count, ap length may.offers'.origins, length-map (library_offers setting inputs) origin_view) in
     record {
       added = [];
       holds = subst (λ (l : List Member). Holds l linked) whole may.objects';
@@ -214,7 +214,7 @@ taken_more os list flags k o at within taken j p is there = settle (nat_same j k
 -- one more member: the cursor stays at the use that wanted it, or goes back to the first use
 pub growing_more : (setting : LinkSetting) (inputs : List Input) (files : List (List Segment)) (table : OutsideNames) (os : kept.Offers) (first old new : Linked) (taken flags : List Bool) (cursor number row next : ℕ) (origin : Origin) (s : Segment) (may : MayGrow setting inputs files table os first)
     (g : Growing setting inputs files old taken cursor) (w : IsWanted (library_offers setting inputs) (objects setting inputs ++ g.added) (Some (number, row)))
-    → number < length (all_uses (objects setting inputs ++ g.added)) → origin ≡ told_origin w.0 → s ≡ w.0.member.segment
+    → number < length (all_uses (objects setting inputs ++ g.added)) → origin ≡ origin_view w.0 → s ≡ w.0.member.segment
     → ((list : List Member) (m : Member) → IsOf m origin → m.segment ≡ s → Holds list old → Holds (list ++ m ∷ []) new)
     → (next ≡ 0) ⊎ ((next ≡ number) × OpensNothing (objects setting inputs ++ g.added) w.0.member)
     → flags ≡ set taken row true → Growing setting inputs files new flags next
@@ -259,19 +259,19 @@ cursor_goes false number next P is so = inr (is, so refl)
 
 -- ---- the row's segment
 
-pub origin_of : (o : Offer) (origin : Origin) → origin ≡ told_origin o → IsOf o.member origin
+pub origin_of : (o : Offer) (origin : Origin) → origin ≡ origin_view o → IsOf o.member origin
 origin_of o origin from = (sym (ap (λ (x : Origin). x.file) from), sym (ap (λ (x : Origin). x.segment) from), sym (ap (λ (x : Origin). x.from) from))
 
-pub among_origin : (files : List (List Segment)) (o : Offer) (origin : Origin) → origin ≡ told_origin o → IsAmong files o.member → segment_in files origin.file origin.segment ≡ Some o.member.segment
+pub among_origin : (files : List (List Segment)) (o : Offer) (origin : Origin) → origin ≡ origin_view o → IsAmong files o.member → segment_in files origin.file origin.segment ≡ Some o.member.segment
 among_origin files o origin from among = ap (λ (x : Origin). segment_in files x.file x.segment) from ∙ among
 
 same_segment : (a b : Segment) → Some a ≡ Some b → a ≡ b
 same_segment a b e = cc
 
-pub origin_among : (files : List (List Segment)) (o : Offer) (origin : Origin) (s : Segment) → origin ≡ told_origin o → IsAmong files o.member → Some s ≡ segment_in files origin.file origin.segment → s ≡ o.member.segment
+pub origin_among : (files : List (List Segment)) (o : Offer) (origin : Origin) (s : Segment) → origin ≡ origin_view o → IsAmong files o.member → Some s ≡ segment_in files origin.file origin.segment → s ≡ o.member.segment
 origin_among files o origin s from among is = same_segment s o.member.segment (is ∙ among_origin files o origin from among)
 
-pub no_segment : (files : List (List Segment)) (o : Offer) (origin : Origin) → origin ≡ told_origin o → IsAmong files o.member → None ≡ segment_in files origin.file origin.segment → ⊥
+pub no_segment : (files : List (List Segment)) (o : Offer) (origin : Origin) → origin ≡ origin_view o → IsAmong files o.member → None ≡ segment_in files origin.file origin.segment → ⊥
 no_segment files o origin from among is = let clash : None ≡ Some o.member.segment = is ∙ among_origin files o origin from among in absurd cc
 
 -- a file's segment that was looked up is short

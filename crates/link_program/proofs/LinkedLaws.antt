@@ -19,7 +19,7 @@ use Rattle.link_tables.specs.declared.definitions.Origin.{Origin}
 use Rattle.link_program.specs.declared.linked.Linked.{Linked}
 use Rattle.link_tables.specs.Names.{Indexes}
 use Rattle.link_tables.specs.Definitions.{AreDefinitions, IsOf, founds_in}
-use Rattle.link_tables.specs.Uses.{told_use, at_place, HaveShortNames}
+use Rattle.link_tables.specs.Uses.{use_view, at_place, HaveShortNames}
 use Rattle.link_program.specs.Linked.{title_of_data, title_in, name_at, names_of, usings_at, is_among, has_using, usings_in, origin_of, place_rows, Holds, GainsTitle, OriginOf, member_at}
 
 -- ---- lists
@@ -45,9 +45,9 @@ asked_from-snoc place (x ∷ list) m =
     ap (λ (l : List PlacedUse). uses_at place x (uses_of x.segment) ++ l) (asked_from-snoc (place + 1) list m ∙ ap (λ (p : ℕ). asked_from (place + 1) list ++ uses_at p m (uses_of m.segment)) same)
     ∙ sym (append_assoc (uses_at place x (uses_of x.segment)) (asked_from (place + 1) list) (uses_at (place + suc (length list)) m (uses_of m.segment)))
 
-told-uses_at : (place : ℕ) (m : Member) (uses : List Use) → map told_use (uses_at place m uses) ≡ at_place place uses
-told-uses_at place m [] = refl
-told-uses_at place m (u ∷ uses) = ap (λ (l : List (ℕ × Use)). (place, u) ∷ l) (told-uses_at place m uses)
+reported-uses_at : (place : ℕ) (m : Member) (uses : List Use) → map use_view (uses_at place m uses) ≡ at_place place uses
+reported-uses_at place m [] = refl
+reported-uses_at place m (u ∷ uses) = ap (λ (l : List (ℕ × Use)). (place, u) ∷ l) (reported-uses_at place m uses)
 
 -- ---- names of USING
 
@@ -167,11 +167,11 @@ held_more list m old new s origin names place of same holds place_is members tit
       titles = subst (λ (l : List FoundDefinition). Indexes (place_rows l) new.titles) all_titles (titles (entries_from data_title_of 1 list) m of holds.titles);
       uses =
           uses ∙ ap (λ (l : List (ℕ × Use)). l ++ at_place place (uses_of s)) holds.uses
-          ∙ ap (λ (p : ℕ). map told_use (asked_from 1 list) ++ at_place p (uses_of s)) at
-          ∙ ap (λ (x : Segment). map told_use (asked_from 1 list) ++ at_place (1 + length list) (uses_of x)) (sym same)
-          ∙ ap (λ (l : List (ℕ × Use)). map told_use (asked_from 1 list) ++ l) (sym (told-uses_at (1 + length list) m (uses_of m.segment)))
-          ∙ sym (map-append told_use (asked_from 1 list) (uses_at (1 + length list) m (uses_of m.segment)))
-          ∙ ap (map told_use) (sym (asked_from-snoc 1 list m));
+          ∙ ap (λ (p : ℕ). map use_view (asked_from 1 list) ++ at_place p (uses_of s)) at
+          ∙ ap (λ (x : Segment). map use_view (asked_from 1 list) ++ at_place (1 + length list) (uses_of x)) (sym same)
+          ∙ ap (λ (l : List (ℕ × Use)). map use_view (asked_from 1 list) ++ l) (sym (reported-uses_at (1 + length list) m (uses_of m.segment)))
+          ∙ sym (map-append use_view (asked_from 1 list) (uses_at (1 + length list) m (uses_of m.segment)))
+          ∙ ap (map use_view) (sym (asked_from-snoc 1 list m));
       short = short holds.short;
     }
 

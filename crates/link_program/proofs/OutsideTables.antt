@@ -88,21 +88,21 @@ get_front [] ys k f e = absurd cc
 get_front (x ∷ xs) ys zero f e = e
 get_front (x ∷ xs) ys (suc k) f e = get_front xs ys k f e
 
-get_behind : (xs ys : List FoundDefinition) (k : ℕ) → slice_get (xs ++ ys) (length xs + k) ≡ slice_get ys k
-get_behind [] ys k = let same : 0 + k ≡ k = omega arith in ap (slice_get ys) same
-get_behind (x ∷ xs) ys k = let same : suc (length xs) + k ≡ suc (length xs + k) = omega arith in ap (slice_get (x ∷ xs ++ ys)) same ∙ get_behind xs ys k
+get_after : (xs ys : List FoundDefinition) (k : ℕ) → slice_get (xs ++ ys) (length xs + k) ≡ slice_get ys k
+get_after [] ys k = let same : 0 + k ≡ k = omega arith in ap (slice_get ys) same
+get_after (x ∷ xs) ys k = let same : suc (length xs) + k ≡ suc (length xs + k) = omega arith in ap (slice_get (x ∷ xs ++ ys)) same ∙ get_after xs ys k
 
 pub sees_front : (xs ys found : List FoundDefinition) (answer : Matches) → Sees xs found answer → Sees (xs ++ ys) found answer
 sees_front xs ys [] answer seen = seen
 sees_front xs ys (f ∷ []) answer seen = (seen.0, seen.1, get_front xs ys seen.0 f seen.2)
 sees_front xs ys (f ∷ g ∷ more) answer seen = (seen.0, seen.1, get_front xs ys seen.0 f seen.2)
 
-pub sees_behind : (xs ys found : List FoundDefinition) (n : ℕ) (answer : Matches) → n ≡ length xs → Sees ys found answer → Sees (xs ++ ys) found (with_number_after n answer)
-sees_behind xs ys [] n answer size seen = ap (with_number_after n) seen
-sees_behind xs ys (f ∷ []) n answer size seen =
-    (n + seen.0, ap (with_number_after n) seen.1, ap (λ (k : ℕ). slice_get (xs ++ ys) (k + seen.0)) size ∙ get_behind xs ys seen.0 ∙ seen.2)
-sees_behind xs ys (f ∷ g ∷ more) n answer size seen =
-    (n + seen.0, ap (with_number_after n) seen.1, ap (λ (k : ℕ). slice_get (xs ++ ys) (k + seen.0)) size ∙ get_behind xs ys seen.0 ∙ seen.2)
+pub sees_after : (xs ys found : List FoundDefinition) (n : ℕ) (answer : Matches) → n ≡ length xs → Sees ys found answer → Sees (xs ++ ys) found (with_number_after n answer)
+sees_after xs ys [] n answer size seen = ap (with_number_after n) seen
+sees_after xs ys (f ∷ []) n answer size seen =
+    (n + seen.0, ap (with_number_after n) seen.1, ap (λ (k : ℕ). slice_get (xs ++ ys) (k + seen.0)) size ∙ get_after xs ys seen.0 ∙ seen.2)
+sees_after xs ys (f ∷ g ∷ more) n answer size seen =
+    (n + seen.0, ap (with_number_after n) seen.1, ap (λ (k : ℕ). slice_get (xs ++ ys) (k + seen.0)) size ∙ get_after xs ys seen.0 ∙ seen.2)
 
 -- ---- the whole search
 
@@ -123,7 +123,7 @@ unfolding finds
 found_outside list place m name n inside answer seen none size far = by_found (finds_inside list place m name) seen
   where
     by_found : (found : List FoundDefinition) → Sees (entries list) found inside → Sees (all_found list) (or_else found (with_this_name name (outside (setting_in list)))) (with_number_after n answer)
-    by_found [] s = sees_behind (entries list) (outside (setting_in list)) (with_this_name name (outside (setting_in list))) n answer size far
+    by_found [] s = sees_after (entries list) (outside (setting_in list)) (with_this_name name (outside (setting_in list))) n answer size far
     by_found (f ∷ []) s = let clash : One s.0 ≡ Nothing = sym s.1 ∙ none in absurd cc
     by_found (f ∷ g ∷ more) s = let clash : Several s.0 ≡ Nothing = sym s.1 ∙ none in absurd cc
 

@@ -180,38 +180,38 @@ header_none headers fs (suc k) are some' at =
     sym (ap (λ (l : List Fields). slice_get l k) (sym are) ∙ slice_get-map fields headers k ∙ ap (option_map fields) (ap (slice_get headers) (sym less) ∙ at))
 
 -- the member whose origin was told
-pub record IsTold (list : List Member) (place : ℕ) (origin : Origin) : Type 0 where
+pub record IsReported (list : List Member) (place : ℕ) (origin : Origin) : Type 0 where
   pub k : ℕ
   pub place' : place ≡ suc k
   pub member : Member
   pub at : slice_get list k ≡ Some member
   pub of : IsOf member origin
 
-pub told_at : (list : List Member) (place : ℕ) (answer : Option Origin) (origin : Origin) → OriginOf (member_at list place) answer → answer ≡ Some origin → IsTold list place origin
-told_at list zero answer origin told is = absurd (subst (OriginOf None) is told)
-told_at list (suc k) answer origin told is = settle (slice_get list k) refl (subst (OriginOf (slice_get list k)) is told)
+pub reported_at : (list : List Member) (place : ℕ) (answer : Option Origin) (origin : Origin) → OriginOf (member_at list place) answer → answer ≡ Some origin → IsReported list place origin
+reported_at list zero answer origin reported is = absurd (subst (OriginOf None) is reported)
+reported_at list (suc k) answer origin reported is = settle (slice_get list k) refl (subst (OriginOf (slice_get list k)) is reported)
   where
-    settle : (o : Option Member) → slice_get list k ≡ o → OriginOf o (Some origin) → IsTold list (suc k) origin
+    settle : (o : Option Member) → slice_get list k ≡ o → OriginOf o (Some origin) → IsReported list (suc k) origin
     settle None e of = absurd of
     settle (Some m) e of = record { k = k; place' = refl; member = m; at = e; of = of }
 
 -- what a view shows is the member's segment
-pub segment_told : (files : List (List Segment)) (list : List Member) (place : ℕ) (origin : Origin) (told : IsTold list place origin) → AllAmong files list → segment_in files origin.file origin.segment ≡ Some told.member.segment
-segment_told files list place origin told among =
-    ap (λ (n : ℕ). segment_in files n origin.segment) (sym told.of.0) ∙ ap (λ (n : ℕ). segment_in files told.member.file n) (sym told.of.1) ∙ among told.member (in_at list told.k told.member told.at)
+pub segment_reported : (files : List (List Segment)) (list : List Member) (place : ℕ) (origin : Origin) (reported : IsReported list place origin) → AllAmong files list → segment_in files origin.file origin.segment ≡ Some reported.member.segment
+segment_reported files list place origin reported among =
+    ap (λ (n : ℕ). segment_in files n origin.segment) (sym reported.of.0) ∙ ap (λ (n : ℕ). segment_in files reported.member.file n) (sym reported.of.1) ∙ among reported.member (in_at list reported.k reported.member reported.at)
 
-pub member_told : (list : List Member) (place : ℕ) (origin : Origin) (told : IsTold list place origin) → member_at list place ≡ Some told.member
-member_told list place origin told = ap (member_at list) told.place' ∙ told.at
+pub member_reported : (list : List Member) (place : ℕ) (origin : Origin) (reported : IsReported list place origin) → member_at list place ≡ Some reported.member
+member_reported list place origin reported = ap (member_at list) reported.place' ∙ reported.at
 
-pub linked_told : (list : List Member) (place : ℕ) (origin : Origin) (told : IsTold list place origin) (stands : LoadOffset) → StandsAt list told.k told.member stands
+pub linked_reported : (list : List Member) (place : ℕ) (origin : Origin) (reported : IsReported list place origin) (stands : LoadOffset) → StandsAt list reported.k reported.member stands
     → Some (record { file = origin.file; segment = origin.segment; load_segment = stands.load + 1; offset = stands.offset }) ≡ linked_at list place
-linked_told list place origin told stands at =
-    let same : told.k + 1 ≡ place = omega (arith, told.place') in
-    ap (λ (n : ℕ). by n origin.segment (stands.load + 1) stands.offset) (sym told.of.0)
-    ∙ ap (λ (n : ℕ). by told.member.file n (stands.load + 1) stands.offset) (sym told.of.1)
-    ∙ ap (λ (n : ℕ). by told.member.file told.member.number n stands.offset) at.load
-    ∙ ap (λ (n : ℕ). by told.member.file told.member.number (load_of list told.member) n) (at.offset ∙ ap (λ (n : ℕ). offset_of list n told.member) same)
-    ∙ sym (ap (option_map (λ (m : Member). linked m)) (member_told list place origin told))
+linked_reported list place origin reported stands at =
+    let same : reported.k + 1 ≡ place = omega (arith, reported.place') in
+    ap (λ (n : ℕ). by n origin.segment (stands.load + 1) stands.offset) (sym reported.of.0)
+    ∙ ap (λ (n : ℕ). by reported.member.file n (stands.load + 1) stands.offset) (sym reported.of.1)
+    ∙ ap (λ (n : ℕ). by reported.member.file reported.member.number n stands.offset) at.load
+    ∙ ap (λ (n : ℕ). by reported.member.file reported.member.number (load_of list reported.member) n) (at.offset ∙ ap (λ (n : ℕ). offset_of list n reported.member) same)
+    ∙ sym (ap (option_map (λ (m : Member). linked m)) (member_reported list place origin reported))
   where
     by : ℕ → ℕ → ℕ → ℕ → Option LinkMember
     by file segment load offset = Some (record { file = file; segment = segment; load_segment = load; offset = offset })
@@ -223,20 +223,20 @@ segment_same : (a b : Segment) → Some a ≡ Some b → a ≡ b
 segment_same a b e = cc
 
 -- the segment that was looked up is the member's
-pub view_told : (files : List (List Segment)) (list : List Member) (place : ℕ) (origin : Origin) (told : IsTold list place origin) (s : Segment) → AllAmong files list → Some s ≡ segment_in files origin.file origin.segment → told.member.segment ≡ s
-view_told files list place origin told s among is = segment_same told.member.segment s (sym (segment_told files list place origin told among) ∙ sym is)
+pub view_reported : (files : List (List Segment)) (list : List Member) (place : ℕ) (origin : Origin) (reported : IsReported list place origin) (s : Segment) → AllAmong files list → Some s ≡ segment_in files origin.file origin.segment → reported.member.segment ≡ s
+view_reported files list place origin reported s among is = segment_same reported.member.segment s (sym (segment_reported files list place origin reported among) ∙ sym is)
 
-pub no_view : (files : List (List Segment)) (list : List Member) (place : ℕ) (origin : Origin) (told : IsTold list place origin) → AllAmong files list → None ≡ segment_in files origin.file origin.segment → ⊥
-no_view files list place origin told among is =
-    let clash : None ≡ some told.member.segment = is ∙ segment_told files list place origin told among in
+pub no_view : (files : List (List Segment)) (list : List Member) (place : ℕ) (origin : Origin) (reported : IsReported list place origin) → AllAmong files list → None ≡ segment_in files origin.file origin.segment → ⊥
+no_view files list place origin reported among is =
+    let clash : None ≡ some reported.member.segment = is ∙ segment_reported files list place origin reported among in
     cc
 
-pub laid_more : (files : List (List Segment)) (list : List Member) (k : ℕ) (origin : Origin) (s : Segment) (old new : laid.LinkLayout) (told : IsTold list (k + 1) origin) → AllAmong files list → Some s ≡ segment_in files origin.file origin.segment → Laid (take k list) old
+pub laid_more : (files : List (List Segment)) (list : List Member) (k : ℕ) (origin : Origin) (s : Segment) (old new : laid.LinkLayout) (reported : IsReported list (k + 1) origin) → AllAmong files list → Some s ≡ segment_in files origin.file origin.segment → Laid (take k list) old
     → ((before : List Member) (m : Member) → IsOf m origin → m.segment ≡ s → Laid before old → Laid (before ++ m ∷ []) new) → Laid (take (k + 1) list) new
-laid_more files list k origin s old new told among is laid add =
-    let same : told.k ≡ k = omega (arith, told.place') in
-    let at : slice_get list k ≡ Some told.member = ap (slice_get list) (sym same) ∙ told.at in
-    subst (λ (l : List Member). Laid l new) (sym (take_more list k told.member at)) (add (take k list) told.member told.of (view_told files list (k + 1) origin told s among is) laid)
+laid_more files list k origin s old new reported among is laid add =
+    let same : reported.k ≡ k = omega (arith, reported.place') in
+    let at : slice_get list k ≡ Some reported.member = ap (slice_get list) (sym same) ∙ reported.at in
+    subst (λ (l : List Member). Laid l new) (sym (take_more list k reported.member at)) (add (take k list) reported.member reported.of (view_reported files list (k + 1) origin reported s among is) laid)
 
 -- ---- run-time library files
 

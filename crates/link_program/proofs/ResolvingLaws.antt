@@ -17,7 +17,7 @@ use Rattle.link_tables.specs.declared.names.Matches.{Matches}
 use Rattle.link_tables.specs.declared.uses.Use as kept
 use Rattle.link_program.specs.declared.linked.Linked.{Linked}
 use Rattle.link_tables.specs.Definitions.{Seen}
-use Rattle.link_tables.specs.Uses.{use_of, told_use}
+use Rattle.link_tables.specs.Uses.{use_of, use_view}
 use Rattle.link_program.specs.Linked.{Holds}
 use Rattle.link_program.specs.Resolving.{IsShape, cause_of, FailsToResolve, IsFirstUse}
 use Rattle.link_tables.proofs.Lists.{drop_at}
@@ -84,7 +84,7 @@ stands list k a e = stands_from 1 list k a e
 pub record IsUse (list : List Member) (k : ℕ) (u : kept.Use) : Type 0 where
   pub use' : PlacedUse
   pub at : slice_get (all_uses list) k ≡ Some use'
-  pub told : told_use use' ≡ use_of u
+  pub reported : use_view use' ≡ use_of u
 
 pair_same : (a b : ℕ × Use) → Some a ≡ Some b → a ≡ b
 pair_same a b e = cc
@@ -92,18 +92,18 @@ pair_same a b e = cc
 pub use_is : (list : List Member) (table : Linked) (k : ℕ) (u : kept.Use) → Holds list table → slice_get table.uses k ≡ Some (use_of u) → IsUse list k u
 use_is list table k u holds there = settle (slice_get (all_uses list) k) refl
   where
-    both : option_map told_use (slice_get (all_uses list) k) ≡ Some (use_of u)
-    both = sym (slice_get-map told_use (all_uses list) k) ∙ sym (ap (λ (l : List (ℕ × Use)). slice_get l k) holds.uses) ∙ there
+    both : option_map use_view (slice_get (all_uses list) k) ≡ Some (use_of u)
+    both = sym (slice_get-map use_view (all_uses list) k) ∙ sym (ap (λ (l : List (ℕ × Use)). slice_get l k) holds.uses) ∙ there
 
     settle : (o : Option PlacedUse) → slice_get (all_uses list) k ≡ o → IsUse list k u
-    settle None e = let clash : option_map told_use None ≡ Some (use_of u) = sym (ap (option_map told_use) e) ∙ both in absurd cc
-    settle (Some a) e = record { use' = a; at = e; told = pair_same (told_use a) (use_of u) (sym (ap (option_map told_use) e) ∙ both) }
+    settle None e = let clash : option_map use_view None ≡ Some (use_of u) = sym (ap (option_map use_view) e) ∙ both in absurd cc
+    settle (Some a) e = record { use' = a; at = e; reported = pair_same (use_view a) (use_of u) (sym (ap (option_map use_view) e) ∙ both) }
 
 -- its member's place is one of the list
 pub place_within : (list : List Member) (table : Linked) (k : ℕ) (u : kept.Use) → Holds list table → IsUse list k u → (0 < u.place) × (u.place ≤ length table.members.items)
 place_within list table k u holds is =
     let s = stands list k is.use' is.at in
-    let same : is.use'.place ≡ u.place = ap (λ (p : ℕ × Use). p.0) is.told in
+    let same : is.use'.place ≡ u.place = ap (λ (p : ℕ × Use). p.0) is.reported in
     let less = slice_get_within list (is.use'.place - 1) is.use'.member s.at in
     (omega (arith, s.low, same), omega (arith, less, s.low, same, count_is list table holds))
 
@@ -113,8 +113,8 @@ pub fails_so : (list : List Member) (k : ℕ) (u : kept.Use) (o : Matches) (is :
 fails_so list k u o is shape =
     let a = is.use' in
     let s = stands list k a is.at in
-    let place : a.place ≡ u.place = ap (λ (p : ℕ × Use). p.0) is.told in
-    let used : a.use' ≡ (use_of u).1 = ap (λ (p : ℕ × Use). p.1) is.told in
+    let place : a.place ≡ u.place = ap (λ (p : ℕ × Use). p.0) is.reported in
+    let used : a.use' ≡ (use_of u).1 = ap (λ (p : ℕ × Use). p.1) is.reported in
     let there : slice_get list (u.place - 1) ≡ Some a.member = ap (λ (n : ℕ). slice_get list (n - 1)) (sym place) ∙ s.at in
     let found : found_for list a.place a.member a.use' ≡ found_for list u.place a.member (use_of u).1 =
     ap (λ (n : ℕ). found_for list n a.member a.use') place ∙ ap (λ (x : Use). found_for list u.place a.member x) used in

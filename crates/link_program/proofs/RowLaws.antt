@@ -4,7 +4,7 @@ use Rattle.std.specs.Prelude.{slice_get, option_map}
 use Rattle.std.specs.Option.{option_map_or}
 use Rattle.omf_format.specs.File.{Segment, segment_at}
 use Rattle.link_meaning.specs.Member.{Row, Offer, offer_of, LinkSetting, is_library}
-use Rattle.lib_dict.specs.Library.{LibraryRow, told_row}
+use Rattle.lib_dict.specs.Library.{LibraryRow, row_view}
 use Rattle.link_program.specs.Inputs.{StandsIn, AllStand}
 use Rattle.link_meaning.specs.Dictionary.{rows_of}
 use Rattle.lib_dict.specs.DictionaryLayout.{AreRows, RowsAreLaidOut}
@@ -17,10 +17,10 @@ pub record HasPlace (segments : List Segment) (row : Row) (at : ℕ) : Type 0 wh
   pub here : slice_get segments k ≡ Some segment
   pub start : segment.start ≡ at
 
-pub row_place : (segments : List Segment) (row : Row) (told : LibraryRow) → told ≡ told_row segments row → StandsIn segments row → HasPlace segments row told.at
-row_place segments row told is stands = settle row.segment refl stands.here
+pub row_place : (segments : List Segment) (row : Row) (reported : LibraryRow) → reported ≡ row_view segments row → StandsIn segments row → HasPlace segments row reported.at
+row_place segments row reported is stands = settle row.segment refl stands.here
   where
-    settle : (n : ℕ) → row.segment ≡ n → segment_at segments n ≡ Some stands.segment → HasPlace segments row told.at
+    settle : (n : ℕ) → row.segment ≡ n → segment_at segments n ≡ Some stands.segment → HasPlace segments row reported.at
     settle zero e here = absurd cc
     settle (suc k) e here = record {
       k = k;

@@ -183,8 +183,8 @@ pub one_step : (list : List Member) (m : Member) (name : List ℕ) (names : List
 one_step list m name names n seen = steps_for-cons list m name names ∙ ap (λ (ps : List ℕ). map Within ps ++ steps_for list m names) (one_place (finds_data list m name) n seen)
 
 -- what a search for a USING name answered
-pub told_titles : (list : List Member) (m : Member) (name : List ℕ) (answer o : Matches) → answer ≡ o → SeesPlace (finds_data list m name) answer → SeesPlace (finds_data list m name) o
-told_titles list m name answer o is seen = subst (λ (a : Matches). SeesPlace (finds_data list m name) a) is seen
+pub reported_titles : (list : List Member) (m : Member) (name : List ℕ) (answer o : Matches) → answer ≡ o → SeesPlace (finds_data list m name) answer → SeesPlace (finds_data list m name) o
+reported_titles list m name answer o is seen = subst (λ (a : Matches). SeesPlace (finds_data list m name) a) is seen
 
 -- ---- the names of USING one by one
 

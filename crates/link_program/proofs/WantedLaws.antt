@@ -13,7 +13,7 @@ use Rattle.link_tables.specs.declared.names.Matches.{Matches}
 use Rattle.link_tables.specs.declared.names.Matches.TheVariants.{Nothing, One, Several}
 use Rattle.link_tables.specs.declared.uses.Use as kept
 use Rattle.link_program.specs.declared.linked.Linked.{Linked}
-use Rattle.link_tables.specs.Uses.{use_of, told_use}
+use Rattle.link_tables.specs.Uses.{use_of, use_view}
 use Rattle.link_program.specs.Linked.{Holds}
 use Rattle.link_tables.specs.Offers.{IsRow}
 use Rattle.link_program.specs.Resolving.{IsShape}
@@ -37,8 +37,8 @@ pub wants_so : (os : List Offer) (list : List Member) (k : ℕ) (u : kept.Use) (
 wants_so os list k u answer is row =
     let a = is.use' in
     let s = stands list k a is.at in
-    let place : a.place ≡ u.place = ap (λ (p : ℕ × Use). p.0) is.told in
-    let used : a.use' ≡ (use_of u).1 = ap (λ (p : ℕ × Use). p.1) is.told in
+    let place : a.place ≡ u.place = ap (λ (p : ℕ × Use). p.0) is.reported in
+    let used : a.use' ≡ (use_of u).1 = ap (λ (p : ℕ × Use). p.1) is.reported in
     let there : slice_get list (u.place - 1) ≡ Some a.member = ap (λ (n : ℕ). slice_get list (n - 1)) (sym place) ∙ s.at in
     let same : wanted_by os list u.place a.member (use_of u).1 ≡ wanted_by os list a.place a.member a.use' =
     sym (ap (λ (n : ℕ). wanted_by os list n a.member a.use') place ∙ ap (λ (x : Use). wanted_by os list u.place a.member x) used) in
@@ -74,7 +74,7 @@ wanted_here os list k u number is row so_far =
 pub wanted_none : (os : List Offer) (list : List Member) (table : Linked) (k : ℕ) → Holds list table → length table.uses ≤ k → WantsNothing os list k → wanted os list ≡ None
 unfolding wanted
 wanted_none os list table k holds past so_far =
-    let size : length (all_uses list) ≡ length table.uses = sym (length-map (all_uses list) told_use) ∙ sym (ap length holds.uses) in
+    let size : length (all_uses list) ≡ length table.uses = sym (length-map (all_uses list) use_view) ∙ sym (ap length holds.uses) in
     sym (ap (first_some (wanted_at os list)) (take_past (all_uses list) k (omega (arith, size, past)))) ∙ so_far
 
 -- where there are no rows, no use wants anything

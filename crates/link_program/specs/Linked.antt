@@ -16,7 +16,7 @@ use Rattle.link_tables.specs.declared.definitions.Origin.{Origin}
 use Rattle.link_program.specs.declared.linked.Linked.{Linked}
 use Rattle.link_tables.specs.Names.{Row, Indexes}
 use Rattle.link_tables.specs.Definitions.{Seen, AreDefinitions, IsOf, key_of_found, founds_in}
-use Rattle.link_tables.specs.Uses.{told_use, HaveShortNames}
+use Rattle.link_tables.specs.Uses.{use_view, HaveShortNames}
 
 -- where a member comes from
 abbrev pub origin_of : Member → Origin
@@ -64,7 +64,7 @@ pub record Holds (list : List Member) (kept : Linked) : Type 0 where
   pub each : (place : ℕ) (name : List ℕ) → has_using kept.usings place name ≡ is_among name (usings_in (member_at list place))
   pub definitions : AreDefinitions (entries list) kept.definitions
   pub titles : Indexes (place_rows (data_titles list)) kept.titles
-  pub uses : kept.uses ≡ map told_use (all_uses list)
+  pub uses : kept.uses ≡ map use_view (all_uses list)
   pub short : HaveShortNames kept.uses
 
 -- what a table of titles gains

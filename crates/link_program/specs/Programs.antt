@@ -12,7 +12,7 @@ use Rattle.link_meaning.specs.Layout.{load_of, offset_of, load_headers}
 use Rattle.link_tables.specs.declared.definitions.Origin.{Origin}
 use Rattle.link_program.specs.declared.program.LinkMember.{LinkMember}
 use Rattle.link_program.specs.declared.program.ResolvedProgram.{ResolvedProgram}
-use Rattle.link_program.specs.declared.program.Definition as told
+use Rattle.link_program.specs.declared.program.Definition as reported
 use Rattle.link_program.specs.Outside.{IsOutsideOf}
 use Rattle.link_tables.specs.declared.layout.LoadOffset.{LoadOffset}
 use Rattle.link_program.specs.Linked.{Holds, member_at}
@@ -60,7 +60,7 @@ pub record IsKept (list : List Member) (kept : ResolvedProgram) : Type 0 where
   pub of_files : IsOfFiles list
 
 -- a definition as a program tells it: of a member its load segment in the file itself, else the file and the segment of its value
-pub record ToldSymbol : Type 0 where
+pub record SymbolView : Type 0 where
   pub member : ℕ
   pub file : ℕ
   pub segment : ℕ
@@ -69,11 +69,11 @@ pub record ToldSymbol : Type 0 where
   pub length : ℕ
   pub form : ℕ
 
-abbrev pub symbol_of : told.Definition → ToldSymbol
+abbrev pub symbol_of : reported.Definition → SymbolView
 symbol_of d = record { member = d.member; file = d.file; segment = d.segment; at = d.at; expr = option_map (λ text. text.now) d.expr; length = d.length; form = d.form }
 
-abbrev pub told_symbol : List Member → FoundDefinition → ToldSymbol
-told_symbol list f = record {
+abbrev pub symbol_view : List Member → FoundDefinition → SymbolView
+symbol_view list f = record {
   member = f.place;
   file = if f.place == 0 then f.member.file else 1;
   segment = if f.place == 0 then f.member.number else load_of list f.member;

@@ -17,12 +17,12 @@ use Rattle.link_program.specs.OfFiles.{IsOfFiles}
 abbrev unresolved_cause : LinkCause → Option LinkCause
 unresolved_cause cause = Some cause
 
-abbrev told_fault : PlacedUse → LinkCause → LinkFault
-told_fault a cause = record { cause = cause; name = Some a.use'.name; spot = spot_in a.member a.use'.at }
+abbrev fault_view : PlacedUse → LinkCause → LinkFault
+fault_view a cause = record { cause = cause; name = Some a.use'.name; spot = spot_in a.member a.use'.at }
 
 abbrev fault_by : PlacedUse → Option LinkCause → Option LinkFault
 fault_by a None = None
-fault_by a (Some cause) = Some (told_fault a cause)
+fault_by a (Some cause) = Some (fault_view a cause)
 
 abbrev use_fault : List Member → PlacedUse → Option LinkFault
 use_fault list a = fault_by a (use_cause a.use'.want (found_for list a.place a.member a.use'))
@@ -36,10 +36,10 @@ has_fault list before a fault e = by_cause (use_cause a.use'.want (found_for lis
     by_cause : (o : Option LinkCause) → use_cause a.use'.want (found_for list a.place a.member a.use') ≡ o → fault_by a o ≡ Some fault → HasUseFault list before a fault
     by_cause None is e = absurd cc
     by_cause (Some cause) is e =
-        let same = same_fault (told_fault a cause) fault e in
+        let same = same_fault (fault_view a cause) fault e in
         record { cause = is ∙ ap (λ (f : LinkFault). unresolved_cause f.cause) same; name = ap (λ (f : LinkFault). f.name) (sym same); spot = ap (λ (f : LinkFault). f.spot) (sym same) }
 
-fault_has : (list : List Member) (before : List PlacedUse) (a : PlacedUse) (fault : LinkFault) → HasUseFault list before a fault → use_fault list a ≡ Some (told_fault a fault.cause)
+fault_has : (list : List Member) (before : List PlacedUse) (a : PlacedUse) (fault : LinkFault) → HasUseFault list before a fault → use_fault list a ≡ Some (fault_view a fault.cause)
 fault_has list before a fault has = ap (fault_by a) has.cause
 
 none_here : (list : List Member) (xs : List PlacedUse) → first_some (use_fault list) xs ≡ None → (a : PlacedUse) → IsIn xs a → use_fault list a ≡ None
@@ -59,7 +59,7 @@ first_as list fault e =
       item = first.item;
       after = first.after;
       parts = first.parts;
-      none = λ front other rest its parts has. first.none front other rest (told_fault other its.cause) parts (fault_has list front other its has);
+      none = λ front other rest its parts has. first.none front other rest (fault_view other its.cause) parts (fault_has list front other its has);
       here = has_fault list first.before first.item fault first.here;
     }
 

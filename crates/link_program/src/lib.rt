@@ -13,8 +13,8 @@ mod program;
 pub use files::{length_of, segment_in};
 pub use growing::grow;
 pub use link_tables::{
-    LinkLayout, LoadOffset, Matches, Offers, Origin, expression_of, headers, next_record, size_at,
-    size_behind,
+    LinkLayout, LoadOffset, Matches, Offers, Origin, expression_of, headers, next_record,
+    size_after, size_at,
 };
 pub use linked::Linked;
 pub use memory::memory_fault;

@@ -13,7 +13,7 @@ ghost use Rattle.link_meaning.specs.LinkedList.{all_uses, found_for, wanted_by};
 ghost use Rattle.link_tables.specs.Names.{Row, Indexes, key_of};
 ghost use Rattle.link_program.specs.Finding.{IsFirstOf, found_in};
 ghost use Rattle.link_program.specs.Resolving.{IsShape, IsHeld, FailsToResolve, IsFirstUse, cause_of};
-ghost use Rattle.link_tables.specs.Definitions.{AreDefinitions, AreHolders, IsOf, Sees, founds_in, told_definition};
+ghost use Rattle.link_tables.specs.Definitions.{AreDefinitions, AreHolders, IsOf, Sees, founds_in, definition_view};
 ghost use Rattle.link_tables.specs.Listed.{definition_of};
 ghost use Rattle.link_tables.specs.Uses.{use_of};
 ghost use Rattle.link_tables.specs.Offers.{AreOffers, IsRow};
@@ -149,7 +149,7 @@ impl<'a> Linked<'a> {
     pub fn use_numbered(&self, number: usize) -> (Origin, &'a [u8], u32)
         requires held { IsHeld self.now }
         requires within { number < length self.now.uses }
-        ensures told { (list : List Member) (a : PlacedUse) → Holds list self.now → slice_get (all_uses list) number ≡ Some a
+        ensures reported { (list : List Member) (a : PlacedUse) → Holds list self.now → slice_get (all_uses list) number ≡ Some a
             → IsOf a.member result.0 × (result.1.now ≡ a.use'.name) × (result.2 ≡ a.use'.at) }
         ensures short { length result.1.now ≤ 255 }
     {
@@ -480,7 +480,7 @@ impl<'a> Linked<'a> {
 
     /// The definition with a number, from 0, of all in list and record order.
     pub fn definition(&self, number: usize) -> Option<Defined<'a>>
-        ensures { (list : List Member) → Holds list self.now → option_map definition_of result ≡ option_map told_definition (slice_get (entries list) number) }
+        ensures { (list : List Member) → Holds list self.now → option_map definition_of result ≡ option_map definition_view (slice_get (entries list) number) }
     {
         self.definitions.get(number)
     }

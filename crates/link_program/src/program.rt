@@ -13,7 +13,7 @@ ghost use Rattle.link_program.specs.Resolving.{first_found};
 ghost use Rattle.link_meaning.specs.First.{IsIn};
 ghost use Rattle.link_meaning.specs.Uses.{Use, uses_of};
 ghost use Rattle.link_meaning.specs.LinkFaults.{LinkInput, IsResolved};
-ghost use Rattle.link_program.specs.Programs.{IsKept, linked_at, header_at, symbol_of, told_symbol, FindsOnly, StandsInInput};
+ghost use Rattle.link_program.specs.Programs.{IsKept, linked_at, header_at, symbol_of, symbol_view, FindsOnly, StandsInInput};
 
 use crate::files::segment_in;
 use crate::linked::Linked;
@@ -222,7 +222,7 @@ impl<'a> Program<'a> {
     /// What a name first finds in the member at a place, from 1, used there or not.
     pub fn symbol(&self, place: u32, name: &[u8]) -> Option<Definition<'a>>
         ensures found { (m : meaning.Member) → member_at self.now place ≡ Some m
-            → option_map symbol_of result ≡ option_map (told_symbol self.now) (first_found (finds self.now place m name.now)) }
+            → option_map symbol_of result ≡ option_map (symbol_view self.now) (first_found (finds self.now place m name.now)) }
         ensures outside { member_at self.now place ≡ None → IsNone result }
         // A name that an expression or STRONG of the member uses finds nothing else.
         ensures only { (m : meaning.Member) (u : Use) → member_at self.now place ≡ Some m → IsIn (uses_of m.segment) u → u.name ≡ name.now
@@ -237,7 +237,7 @@ impl<'a> Program<'a> {
     /// What has a number, from 0: the definitions of all members in list and record order, and then the names of the run-time library
     /// files in file, segment and record order.
     pub fn definition(&self, number: usize) -> Option<Definition<'a>>
-        ensures { option_map symbol_of result ≡ option_map (told_symbol self.now) (slice_get (all_found self.now) number) }
+        ensures { option_map symbol_of result ≡ option_map (symbol_view self.now) (slice_get (all_found self.now) number) }
     {
         let count = self.kept.linked.definition_count();
         if number < count {

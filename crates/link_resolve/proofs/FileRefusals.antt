@@ -24,13 +24,13 @@ first_of causes.Memory fault bytes other is = absurd (other refl)
 -- a fault that isn't want of memory
 pub of_file : (fault : FileFault) (c : FileCause) (file : ℕ) (bytes : List ℕ) (result : LinkFault) → fault.cause ≡ c → (c ≡ causes.Memory → ⊥) → result ≡ fault_at (link_cause c) file fault.segment fault.at → IsRefused fault bytes
     → IsFileRefused file bytes result
-of_file fault c file bytes result cause other told refused =
+of_file fault c file bytes result cause other reported refused =
     let first = first_of c fault bytes other (subst (λ (x : FileCause). UnlessMemory x fault (IsFirstFault bytes fault)) cause refused) in
-    inr (OfFile fault first (told ∙ ap (λ (x : FileCause). fault_at (link_cause x) file fault.segment fault.at) (sym cause)))
+    inr (OfFile fault first (reported ∙ ap (λ (x : FileCause). fault_at (link_cause x) file fault.segment fault.at) (sym cause)))
 
 pub of_segment : (list : List Segment) (file : ℕ) (bytes : List ℕ) (found : ℕ × (LinkCause × ℕ)) (result : LinkFault) → IsFile list bytes → segments_fault 1 list ≡ Some found → result ≡ fault_at found.1.0 file found.0 found.1.1
     → IsFileRefused file bytes result
-of_segment list file bytes found result is fault told = inr (OfSegment list found is fault told)
+of_segment list file bytes found result is fault reported = inr (OfSegment list found is fault reported)
 
 pub truncated_other : causes.Truncated ≡ causes.Memory → ⊥
 truncated_other e = cc

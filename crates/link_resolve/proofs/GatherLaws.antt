@@ -13,7 +13,7 @@ use Rattle.link_meaning.specs.Dictionary.{rows_of}
 use Rattle.link_meaning.specs.LinkFaults.{segments_fault, OfDictionary, IsInput}
 use Rattle.link_meaning.specs.declared.fault.LinkFault.{LinkFault}
 use Rattle.lib_dict.specs.DictionaryLayout.{AreRows, RowsAreLaidOut}
-use Rattle.lib_dict.specs.Library.{LibraryRow, told_row, HasRows, IsFalseAt}
+use Rattle.lib_dict.specs.Library.{LibraryRow, row_view, HasRows, IsFalseAt}
 use Rattle.link_resolve.specs.declared.gather.Gathered as gathered
 use Rattle.link_program.specs.Linked.{Holds}
 use Rattle.link_tables.specs.Offers.{AreOffers}
@@ -44,25 +44,25 @@ members_more setting file n (x ∷ list) (suc k) s e =
 
 -- ---- a library's rows
 
-pub told_so : (list : List Segment) (bytes : List ℕ) (told : List LibraryRow) → RowsAreLaidOut → IsFile list bytes → HasRows bytes told → shown.AreRows list told
-told_so list bytes told law is_file has =
+pub reported_so : (list : List Segment) (bytes : List ℕ) (reported : List LibraryRow) → RowsAreLaidOut → IsFile list bytes → HasRows bytes reported → shown.AreRows list reported
+reported_so list bytes reported law is_file has =
     let same : has.segments ≡ list = file_same has.segments list bytes has.is_file is_file in
     let read : rows_of list ≡ Ok has.found = ap rows_of (sym same) ∙ has.read in
     let library : is_library list ≡ true = ap is_library (sym same) ∙ has.library in
     record {
       rows = has.found;
       read = read;
-      told' = has.told ∙ ap (λ (l : List Segment). map (told_row l) has.found) same;
+      reported' = has.reported ∙ ap (λ (l : List Segment). map (row_view l) has.found) same;
       stand = rows_stand list has.found law library read;
       ascend = ascend list 0 bytes (length bytes) is_file;
     }
 
 pub false_library : (list : List Segment) (bytes : List ℕ) (file at : ℕ) (fault : LinkFault) → IsFile list bytes → segments_fault 1 list ≡ None → is_library list ≡ true → IsFalseAt bytes at
     → fault ≡ record { cause = BadLibrary; name = None; spot = record { file = file; segment = 1; at = at } } → IsFileRefused file bytes fault
-false_library list bytes file at fault is_file sound library is told =
+false_library list bytes file at fault is_file sound library is reported =
     let same : is.segments ≡ list = file_same is.segments list bytes is.is_file is_file in
     let rows : rows_of list ≡ Err at = ap rows_of (sym same) ∙ is.false' in
-    inr (OfDictionary list at is_file sound (ap (λ (b : Bool). if b then rows_of list else Ok []) library ∙ rows) told)
+    inr (OfDictionary list at is_file sound (ap (λ (b : Bool). if b then rows_of list else Ok []) library ∙ rows) reported)
 
 -- ---- one more input
 

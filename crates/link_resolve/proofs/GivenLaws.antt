@@ -45,5 +45,5 @@ none_taken [] = refl
 none_taken (f ∷ files) = refl
 
 pub on_true : (b : Bool) (P : Type 0) → b ≡ true → OnTrue b P → P
-on_true true P is told = told
-on_true false P is told = absurd cc
+on_true true P is reported = reported
+on_true false P is reported = absurd cc

@@ -15,10 +15,10 @@ use Rattle.link_meaning.specs.First.{IsIn}
 use Rattle.link_meaning.specs.Member.{Row, Offer, offer_of, LinkSetting}
 use Rattle.object_meaning.specs.Defines.{Definition, outer_scope, title_of, data_title_of}
 use Rattle.link_meaning.specs.LinkedList.{has_title}
-use Rattle.lib_dict.specs.Library.{LibraryRow, told_row}
+use Rattle.lib_dict.specs.Library.{LibraryRow, row_view}
 use Rattle.link_tables.specs.declared.definitions.Origin.{Origin}
 use Rattle.link_tables.specs.declared.offers.Offers.{Offers}
-use Rattle.link_tables.specs.Offers.{told_origin, is_titled, IsOfferOf, AreOffers}
+use Rattle.link_tables.specs.Offers.{origin_view, is_titled, IsOfferOf, AreOffers}
 use Rattle.std.proofs.lemmas.Option.{slice_get-map}
 use Rattle.std.proofs.lemmas.List.{length-map}
 use Rattle.link_resolve.specs.Libraries.{StartsAscend}
@@ -108,18 +108,18 @@ there_is setting file segments row k s number here =
     let place : row.segment - 1 ≡ k = omega (arith, number) in
     ap (λ (x : Option Segment). option_map (offer_with setting file row) x) (ap (slice_get segments) place ∙ here)
 
-pub offered_so : (setting : LinkSetting) (file : ℕ) (segments : List Segment) (row : Row) (told : LibraryRow) (o : Offer) (k : ℕ) (s : Segment) (number : ℕ) (titled : Bool) → offer_of setting file segments row ≡ Some o → row.segment ≡ suc k → slice_get segments k ≡ Some s
-    → told ≡ told_row segments row → number ≡ k + 1 → titled ≡ has_title s told.name told.private → IsOfferOf o told.name told.private (record { file = file; segment = number; from = told.file }) titled
-offered_so setting file segments row told o k s number titled is place here told_is number_is titled_is =
+pub offered_so : (setting : LinkSetting) (file : ℕ) (segments : List Segment) (row : Row) (reported : LibraryRow) (o : Offer) (k : ℕ) (s : Segment) (number : ℕ) (titled : Bool) → offer_of setting file segments row ≡ Some o → row.segment ≡ suc k → slice_get segments k ≡ Some s
+    → reported ≡ row_view segments row → number ≡ k + 1 → titled ≡ has_title s reported.name reported.private → IsOfferOf o reported.name reported.private (record { file = file; segment = number; from = reported.file }) titled
+offered_so setting file segments row reported o k s number titled is place here reported_is number_is titled_is =
     let same = offer_is setting file segments row o k s is place here in
-    let name : row.name ≡ told.name = sym (ap (λ (t : LibraryRow). t.name) told_is) in
-    let private : row.private ≡ told.private = sym (ap (λ (t : LibraryRow). t.private) told_is) in
-    let from : row.from ≡ told.file = sym (ap (λ (t : LibraryRow). t.file) told_is) in
+    let name : row.name ≡ reported.name = sym (ap (λ (t : LibraryRow). t.name) reported_is) in
+    let private : row.private ≡ reported.private = sym (ap (λ (t : LibraryRow). t.private) reported_is) in
+    let from : row.from ≡ reported.file = sym (ap (λ (t : LibraryRow). t.file) reported_is) in
     record {
       name' = ap (λ (x : Offer). x.name) same ∙ name;
       private' = ap (λ (x : Offer). x.private) same ∙ private;
-      origin' = ap told_origin same ∙ origin_same file row.segment row.from number told.file (omega (arith, place, number_is)) from;
-      titled' = ap is_titled same ∙ ap (λ (n : List ℕ). has_title s n row.private) name ∙ ap (λ (b : Bool). has_title s told.name b) private ∙ sym titled_is;
+      origin' = ap origin_view same ∙ origin_same file row.segment row.from number reported.file (omega (arith, place, number_is)) from;
+      titled' = ap is_titled same ∙ ap (λ (n : List ℕ). has_title s n row.private) name ∙ ap (λ (b : Bool). has_title s reported.name b) private ∙ sym titled_is;
     }
   where
     origin_at : ℕ → ℕ → ℕ → Origin
@@ -156,49 +156,49 @@ number_same : (a b : ℕ) → Some a ≡ Some b → a ≡ b
 number_same a b e = cc
 
 -- what was looked up for a row
-pub offered_row : (setting : LinkSetting) (file : ℕ) (segments : List Segment) (row : Row) (told : LibraryRow) (o : Offer) (number : ℕ) (v : SegmentView) (titled : Bool) (stands : StandsIn segments row) (is : told ≡ told_row segments row) → offer_of setting file segments row ≡ Some o
-    → Some number ≡ Some ((row_place segments row told is stands).k + 1) → Some (segment_of_view v) ≡ segment_at segments number → titled ≡ has_title (segment_of_view v) told.name told.private
-    → IsOfferOf o told.name told.private (record { file = file; segment = number; from = told.file }) titled
-offered_row setting file segments row told o number v titled stands is offer numbered there titled_is =
-    let p = row_place segments row told is stands in
+pub offered_row : (setting : LinkSetting) (file : ℕ) (segments : List Segment) (row : Row) (reported : LibraryRow) (o : Offer) (number : ℕ) (v : SegmentView) (titled : Bool) (stands : StandsIn segments row) (is : reported ≡ row_view segments row) → offer_of setting file segments row ≡ Some o
+    → Some number ≡ Some ((row_place segments row reported is stands).k + 1) → Some (segment_of_view v) ≡ segment_at segments number → titled ≡ has_title (segment_of_view v) reported.name reported.private
+    → IsOfferOf o reported.name reported.private (record { file = file; segment = number; from = reported.file }) titled
+offered_row setting file segments row reported o number v titled stands is offer numbered there titled_is =
+    let p = row_place segments row reported is stands in
     let n = number_same number (p.k + 1) numbered in
     let here : slice_get segments p.k ≡ Some (segment_of_view v) = shown_at segments p.k v (there ∙ ap (segment_at segments) n) in
-    offered_so setting file segments row told o p.k (segment_of_view v) number titled offer p.number here is n titled_is
+    offered_so setting file segments row reported o p.k (segment_of_view v) number titled offer p.number here is n titled_is
 
 -- ---- the loop
 
 -- the row that is told at a place
-pub record IsRowAt (segments : List Segment) (rows : List Row) (k : ℕ) (told : LibraryRow) : Type 0 where
+pub record IsRowAt (segments : List Segment) (rows : List Row) (k : ℕ) (reported : LibraryRow) : Type 0 where
   pub row : Row
   pub at : slice_get rows k ≡ Some row
   pub among : IsIn rows row
-  pub told' : told ≡ told_row segments row
+  pub reported' : reported ≡ row_view segments row
 
-pub row_at : (segments : List Segment) (dictionary : List LibraryRow) (rows : List Row) (k : ℕ) (told : LibraryRow) → dictionary ≡ map (told_row segments) rows → Some told ≡ slice_get dictionary k → IsRowAt segments rows k told
-row_at segments dictionary rows k told are at = settle (slice_get rows k) refl
+pub row_at : (segments : List Segment) (dictionary : List LibraryRow) (rows : List Row) (k : ℕ) (reported : LibraryRow) → dictionary ≡ map (row_view segments) rows → Some reported ≡ slice_get dictionary k → IsRowAt segments rows k reported
+row_at segments dictionary rows k reported are at = settle (slice_get rows k) refl
   where
-    both : option_map (told_row segments) (slice_get rows k) ≡ Some told
-    both = sym (slice_get-map (told_row segments) rows k) ∙ ap (λ (l : List LibraryRow). slice_get l k) (sym are) ∙ sym at
+    both : option_map (row_view segments) (slice_get rows k) ≡ Some reported
+    both = sym (slice_get-map (row_view segments) rows k) ∙ ap (λ (l : List LibraryRow). slice_get l k) (sym are) ∙ sym at
 
-    told_same : (a b : LibraryRow) → Some a ≡ Some b → a ≡ b
-    told_same a b e = cc
+    reported_same : (a b : LibraryRow) → Some a ≡ Some b → a ≡ b
+    reported_same a b e = cc
 
-    settle : (o : Option Row) → slice_get rows k ≡ o → IsRowAt segments rows k told
-    settle None e = let clash : option_map (told_row segments) None ≡ Some told = sym (ap (option_map (told_row segments)) e) ∙ both in absurd cc
-    settle (Some row) e = record { row = row; at = e; among = in_at rows k row e; told' = sym (told_same (told_row segments row) told (sym (ap (option_map (told_row segments)) e) ∙ both)) }
+    settle : (o : Option Row) → slice_get rows k ≡ o → IsRowAt segments rows k reported
+    settle None e = let clash : option_map (row_view segments) None ≡ Some reported = sym (ap (option_map (row_view segments)) e) ∙ both in absurd cc
+    settle (Some row) e = record { row = row; at = e; among = in_at rows k row e; reported' = sym (reported_same (row_view segments row) reported (sym (ap (option_map (row_view segments)) e) ∙ both)) }
 
-pub rows_next : (setting : LinkSetting) (file : ℕ) (segments : List Segment) (os : List Offer) (rows : List Row) (k : ℕ) (told : LibraryRow) (r : IsRowAt segments rows k told) → AllStand segments rows → (old new : Offers) → AreOffers (os ++ filter_map (offer_of setting file segments) (take k rows)) old
-    → ((os' : List Offer) (row : Row) (o : Offer) → told ≡ told_row segments row → StandsIn segments row → offer_of setting file segments row ≡ Some o → AreOffers os' old → AreOffers (os' ++ o ∷ []) new)
+pub rows_next : (setting : LinkSetting) (file : ℕ) (segments : List Segment) (os : List Offer) (rows : List Row) (k : ℕ) (reported : LibraryRow) (r : IsRowAt segments rows k reported) → AllStand segments rows → (old new : Offers) → AreOffers (os ++ filter_map (offer_of setting file segments) (take k rows)) old
+    → ((os' : List Offer) (row : Row) (o : Offer) → reported ≡ row_view segments row → StandsIn segments row → offer_of setting file segments row ≡ Some o → AreOffers os' old → AreOffers (os' ++ o ∷ []) new)
     → AreOffers (os ++ filter_map (offer_of setting file segments) (take (k + 1) rows)) new
-rows_next setting file segments os rows k told r stand old new are add =
+rows_next setting file segments os rows k reported r stand old new are add =
     let s = stand r.row r.among in
-    let p = row_place segments r.row told r.told' s in
+    let p = row_place segments r.row reported r.reported' s in
     let offer = there_is setting file segments r.row p.k p.segment p.number p.here in
     let o : Offer = offer_with setting file r.row p.segment in
-    subst (λ (l : List Offer). AreOffers l new) (offers_more setting file segments os rows k r.row o r.at offer) (add (os ++ filter_map (offer_of setting file segments) (take k rows)) r.row o r.told' s offer are)
+    subst (λ (l : List Offer). AreOffers l new) (offers_more setting file segments os rows k r.row o r.at offer) (add (os ++ filter_map (offer_of setting file segments) (take k rows)) r.row o r.reported' s offer are)
 
-pub rows_all : (setting : LinkSetting) (file : ℕ) (segments : List Segment) (dictionary : List LibraryRow) (os : List Offer) (rows : List Row) (k : ℕ) (offers : Offers) → dictionary ≡ map (told_row segments) rows → length dictionary ≤ k
+pub rows_all : (setting : LinkSetting) (file : ℕ) (segments : List Segment) (dictionary : List LibraryRow) (os : List Offer) (rows : List Row) (k : ℕ) (offers : Offers) → dictionary ≡ map (row_view segments) rows → length dictionary ≤ k
     → AreOffers (os ++ filter_map (offer_of setting file segments) (take k rows)) offers → AreOffers (os ++ filter_map (offer_of setting file segments) rows) offers
 rows_all setting file segments dictionary os rows k offers are past is =
-    let size : length rows ≤ k = omega (arith, past, ap length are, length-map rows (told_row segments)) in
+    let size : length rows ≤ k = omega (arith, past, ap length are, length-map rows (row_view segments)) in
     subst (λ (l : List Row). AreOffers (os ++ filter_map (offer_of setting file segments) l) offers) (take_all rows k size) is

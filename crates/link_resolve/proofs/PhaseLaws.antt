@@ -65,13 +65,13 @@ at_reading given fault first = record { before = []; item = Reading; after = Obj
 
 pub at_objects : (given : LinkInput) (inputs : List Input) (setting : LinkSetting) (fault : LinkFault) → IsSetting given setting → AreInputs given.inputs inputs → objects setting inputs ≡ []
     → fault ≡ record { cause = Empty; name = None; spot = no_spot } → IsFirstResolveFault given fault
-at_objects given inputs setting fault with' are empty told = record {
+at_objects given inputs setting fault with' are empty reported = record {
   before = upto_reading;
   item = Objects;
   after = Names ∷ Layout ∷ [];
   parts = refl;
   none = none_reading given inputs setting with' are;
-  here = (setting, inputs, with', are, empty, told);
+  here = (setting, inputs, with', are, empty, reported);
 }
 
 pub at_names : (given : LinkInput) (inputs : List Input) (setting : LinkSetting) (list : List Member) (fault : LinkFault) → IsSetting given setting → AreInputs given.inputs inputs → (objects setting inputs ≡ [] → ⊥) → IsProgram given list
@@ -126,17 +126,17 @@ spot_at file segment at = record { file = file; segment = segment; at = at }
 pub first_used : (list : List Member) (cause : LinkCause) (number : ℕ) (origin : Origin) (name : List ℕ) (at : ℕ) (fault : LinkFault) (first : IsFirstUse list cause number) → IsOf first.use'.member origin
     → name ≡ first.use'.use'.name → at ≡ first.use'.use'.at
     → fault ≡ record { cause = cause; name = Some name; spot = record { file = origin.file; segment = origin.segment; at = at } } → IsFirst (HasUseFault list) (all_uses list) fault
-first_used list cause number origin name at fault first of named placed told = record {
+first_used list cause number origin name at fault first of named placed reported = record {
   before = first.before;
   item = first.use';
   after = first.after;
   parts = first.parts;
   none = none_used list first.before first.none;
   here = record {
-    cause = first.fails ∙ ap (λ (f : LinkFault). Some f.cause) (sym told);
-    name = ap (λ (f : LinkFault). f.name) told ∙ ap some named;
+    cause = first.fails ∙ ap (λ (f : LinkFault). Some f.cause) (sym reported);
+    name = ap (λ (f : LinkFault). f.name) reported ∙ ap some named;
     spot =
-        ap (λ (f : LinkFault). f.spot) told
+        ap (λ (f : LinkFault). f.spot) reported
         ∙ ap (λ (n : ℕ). spot_at n origin.segment at) (sym of.0)
         ∙ ap (λ (n : ℕ). spot_at first.use'.member.file n at) (sym of.1)
         ∙ ap (spot_at first.use'.member.file first.use'.member.number) placed;

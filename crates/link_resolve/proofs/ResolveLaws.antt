@@ -183,7 +183,7 @@ refused_runtime given kept fault n files count same h (inr first) =
 
 pub refused_empty : (given : LinkInput) (kept : gathered.Gathered) (setting : LinkSetting) (fault : LinkFault) (h : HasGathered given.inputs kept) → IsSetting given setting → length kept.linked.members.items ≡ 0
     → fault ≡ record { cause = Empty; name = None; spot = no_spot } → IsRefused given fault
-refused_empty given kept setting fault h with' none told = inr (at_objects given h.0 setting fault with' h.1 (no_objects setting given.inputs kept h none) told)
+refused_empty given kept setting fault h with' none reported = inr (at_objects given h.0 setting fault with' h.1 (no_objects setting given.inputs kept h none) reported)
 
 pub refused_use : (given : LinkInput) (grown : Grown) (fault : LinkFault) (of : IsListOf given grown) → IsUseFault of.grown.list fault → IsRefused given fault
 refused_use given grown fault of (inl e) = inl e

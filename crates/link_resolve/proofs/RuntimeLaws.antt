@@ -26,19 +26,19 @@ use Rattle.link_program.specs.Programs.{runtimes_of}
 use Rattle.link_tables.proofs.Lists.{drop_at, take_more}
 
 -- want of memory has no cause that is told, and no other cause is told as that
-pub not_memory : (cause : LoadCause) (told : LinkCause) → to_link_cause cause ≡ Some told → told ≡ causes.Memory → ⊥
-not_memory Truncated told e memory = cc
-not_memory BadHeader told e memory = cc
-not_memory Unsupported told e memory = cc
-not_memory BadRecord told e memory = cc
-not_memory NotLoadFile told e memory = cc
-not_memory Sequence told e memory = cc
-not_memory DataTooLong told e memory = cc
-not_memory PatchOutside told e memory = cc
-not_memory NoSuchTarget told e memory = cc
-not_memory DynamicTarget told e memory = cc
-not_memory BadTable told e memory = cc
-not_memory Memory told e memory = cc
+pub not_memory : (cause : LoadCause) (reported : LinkCause) → to_link_cause cause ≡ Some reported → reported ≡ causes.Memory → ⊥
+not_memory Truncated reported e memory = cc
+not_memory BadHeader reported e memory = cc
+not_memory Unsupported reported e memory = cc
+not_memory BadRecord reported e memory = cc
+not_memory NotLoadFile reported e memory = cc
+not_memory Sequence reported e memory = cc
+not_memory DataTooLong reported e memory = cc
+not_memory PatchOutside reported e memory = cc
+not_memory NoSuchTarget reported e memory = cc
+not_memory DynamicTarget reported e memory = cc
+not_memory BadTable reported e memory = cc
+not_memory Memory reported e memory = cc
 
 pub untold : (cause : LoadCause) → to_link_cause cause ≡ None → cause ≡ Memory
 untold Truncated e = absurd cc
@@ -160,9 +160,9 @@ known Memory cause fault P e is = absurd cc
 -- the fault of a file as one of the file with this number
 pub file_refused : (fault : LoadFault) (file : ℕ) (bytes : List ℕ) (cause : LinkCause) (its : LinkFault) → to_link_cause fault.cause ≡ Some cause
     → its ≡ record { cause = cause; name = None; spot = record { file = file; segment = fault.segment; at = fault.at } } → IsRuntimeRefused fault bytes → IsFileRefused file bytes its
-file_refused fault file bytes cause its is told refused =
+file_refused fault file bytes cause its is reported refused =
     let both = known fault.cause cause fault (IsFirstRuntimeFault bytes fault) is refused in
-    inr (record { found = fault; first = both.0; told = told ∙ ap at both.1 })
+    inr (record { found = fault; first = both.0; reported = reported ∙ ap at both.1 })
   where
     at : LinkCause → LinkFault
     at c = record { cause = c; name = None; spot = record { file = file; segment = fault.segment; at = fault.at } }

@@ -2,7 +2,7 @@
 use Rattle.std.specs.Prelude.{◌≡◌, ℕ, ◌++◌, List, [], Ok, map, if◌then◌else◌}
 use Rattle.std.specs.List.{filter_map}
 use Rattle.omf_format.specs.File.{Segment}
-use Rattle.lib_dict.specs.Library.{LibraryRow, told_row}
+use Rattle.lib_dict.specs.Library.{LibraryRow, row_view}
 use Rattle.link_meaning.specs.First.{IsIn}
 use Rattle.link_meaning.specs.Member.{Row, Input, LinkSetting, Member, Offer, is_library, members_from, offer_of, objects, library_offers}
 use Rattle.link_meaning.specs.Dictionary.{rows_of}
@@ -20,10 +20,10 @@ pub record IsGathered (inputs : List Input) (kept : kept.Gathered) : Type 0 wher
   pub sound : (input : Input) → IsIn inputs input → IsSoundInput input
 
 -- these rows are told of a library
-pub record AreRows (segments : List Segment) (told : List LibraryRow) : Type 0 where
+pub record AreRows (segments : List Segment) (reported : List LibraryRow) : Type 0 where
   pub rows : List Row
   pub read : rows_of segments ≡ Ok rows
-  pub told' : told ≡ map (told_row segments) rows
+  pub reported' : reported ≡ map (row_view segments) rows
   pub stand : AllStand segments rows
   pub ascend : StartsAscend segments
 

@@ -10,7 +10,7 @@ ghost use Rattle.link_meaning.specs.LinkFaults.{type_fault, record_fault, record
 ghost use Rattle.link_tables.specs.Sizes.{in_32_bits};
 
 use link_meaning::LinkCause;
-use link_program::{next_record, size_behind};
+use link_program::{next_record, size_after};
 use omf_header::Header;
 use omf_records::{Rec, SegmentList, SegmentView};
 
@@ -72,7 +72,7 @@ fn records_size(segment: &SegmentView) -> Result<Option<u32>, (LinkCause, u32)>
             None => return Ok(size),
             Some((at, rec)) => match record_fault(&rec, align) {
                 Some(cause) => return Err((cause, at)),
-                None => size = size_behind(size, &rec),
+                None => size = size_after(size, &rec),
             },
         }
     }

@@ -16,7 +16,7 @@ use omf_base::Name;
 const MOST: usize = 0xFFFF_FFFF;
 
 /// How many bytes more there may be than those of the inputs; None where the inputs have too many.
-fn room_behind(inputs: &Vec<Vec<u8>>) -> Option<usize>
+fn room_after(inputs: &Vec<Vec<u8>>) -> Option<usize>
     ensures { MatchOption result (0xFFFFFFFF < total_size (all_bytes inputs.now.items)) (λ left. left + total_size (all_bytes inputs.now.items) ≡ 0xFFFFFFFF) }
 {
     let mut left = MOST;
@@ -34,7 +34,7 @@ pub fn are_few(inputs: &Vec<Vec<u8>>) -> bool
     ensures few { OnTrue result (AreFew (all_bytes inputs.now.items)) }
     ensures many { result ≡ false → ¬ AreFew (all_bytes inputs.now.items) }
 {
-    match room_behind(inputs) {
+    match room_after(inputs) {
         Some(_) => inputs.len() <= MOST,
         None => false,
     }
@@ -107,7 +107,7 @@ pub fn may_resolve(inputs: &Vec<Vec<u8>>, runtimes: &Vec<Member>, form: LinkForm
     ensures paths { OnTrue result (HavePaths (given_of inputs.now.items runtimes.now.items form)) }
     ensures other { result ≡ false → FewGiven (given_of inputs.now.items runtimes.now.items form) → ¬ HavePaths (given_of inputs.now.items runtimes.now.items form) }
 {
-    let room = match room_behind(inputs) {
+    let room = match room_after(inputs) {
         Some(room) => room,
         None => return false,
     };

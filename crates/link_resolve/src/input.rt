@@ -27,7 +27,7 @@ pub fn fault_in(file: u32, segment: u32, at: u32, cause: LinkCause) -> LinkFault
 
 /// A file's fault as one of the input with this number.
 fn file_fault(fault: FileFault, file: u32) -> LinkFault
-    ensures told { (bytes : List ℕ) → IsRefused fault bytes → IsFileRefused file bytes result }
+    ensures reported { (bytes : List ℕ) → IsRefused fault bytes → IsFileRefused file bytes result }
     ensures memory { result.cause ≡ LinkCause.Memory → fault.cause ≡ FileCause.Memory }
 {
     let (segment, at) = (fault.segment, fault.at);

@@ -4,13 +4,13 @@ ghost use Rattle.std.specs.Prelude.{◌≡◌, ◌+◌, ◌<◌, ◌++◌, ◌�
 ghost use Rattle.std.specs.List.{filter_map};
 ghost use Rattle.omf_format.specs.File.{Segment};
 ghost use Rattle.omf_records.specs.Segments.{IsSound, segment_of_view};
-ghost use Rattle.lib_dict.specs.Library.{told_row};
+ghost use Rattle.lib_dict.specs.Library.{row_view};
 ghost use Rattle.lib_dict.specs.Rows.{seen_row};
 ghost use Rattle.link_meaning.specs.Member.{Offer, offer_of, LinkSetting};
-ghost use Rattle.link_meaning.specs.Member as told;
+ghost use Rattle.link_meaning.specs.Member as reported;
 ghost use Rattle.link_meaning.specs.LinkedList.{has_title};
 ghost use Rattle.link_tables.specs.Offers.{AreOffers};
-ghost use Rattle.link_resolve.specs.Libraries.{StartsAscend, IsTold, AreTold};
+ghost use Rattle.link_resolve.specs.Libraries.{StartsAscend, IsReported, AreReported};
 ghost use Rattle.link_program.specs.Inputs.{StandsIn, AllStand};
 
 use lib_dict::{Dictionary, Row};
@@ -81,8 +81,8 @@ fn add_row<'a>(
     file: u32,
 ) -> Result<(), AllocError>
     requires ascend { StartsAscend segments.now }
-    requires told { IsTold segments.now (seen_row row) }
-    ensures { OnOk result ((setting : LinkSetting) (os : List Offer) (r : told.Row) (o : Offer) → seen_row row.entry ≡ told_row segments.now r → StandsIn segments.now r
+    requires reported { IsReported segments.now (seen_row row) }
+    ensures { OnOk result ((setting : LinkSetting) (os : List Offer) (r : reported.Row) (o : Offer) → seen_row row.entry ≡ row_view segments.now r → StandsIn segments.now r
         → offer_of setting file segments.now r ≡ Some o → AreOffers os offers.old → AreOffers (os ++ o ∷ []) offers.new) }
 {
     let number = match number_of(segments, row.at) {
@@ -110,8 +110,8 @@ pub fn add_rows<'a>(
     file: u32,
 ) -> Result<(), AllocError>
     requires ascend { StartsAscend segments.now }
-    requires told { AreTold segments.now dictionary.now }
-    ensures { OnOk result ((setting : LinkSetting) (os : List Offer) (rows : List told.Row) → dictionary.now ≡ map (told_row segments.now) rows → AllStand segments.now rows
+    requires reported { AreReported segments.now dictionary.now }
+    ensures { OnOk result ((setting : LinkSetting) (os : List Offer) (rows : List reported.Row) → dictionary.now ≡ map (row_view segments.now) rows → AllStand segments.now rows
         → AreOffers os offers.old → AreOffers (os ++ filter_map (offer_of setting file segments.now) rows) offers.new) }
 {
     let rows = dictionary.count() as usize;

@@ -42,7 +42,7 @@ fn to_link_cause(cause: LoadCause) -> Option<LinkCause>
 
 /// A run-time library file's fault, where the file has this number.
 fn file_fault(fault: LoadFault, file: u32) -> LinkFault
-    ensures told { (bytes : List ℕ) → IsRuntimeRefused fault bytes → IsFileRefused file bytes result }
+    ensures reported { (bytes : List ℕ) → IsRuntimeRefused fault bytes → IsFileRefused file bytes result }
     ensures memory { result.cause ≡ LinkCause.Memory → fault.cause ≡ LoadCause.Memory }
 {
     match to_link_cause(fault.cause) {

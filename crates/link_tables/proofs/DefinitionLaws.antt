@@ -12,7 +12,7 @@ use Rattle.std.specs.Str.{bytes_eq}
 use Rattle.omf_format.specs.Record.{Record}
 use Rattle.omf_format.specs.Reading.{Reader}
 use Rattle.omf_format.specs.File.{Segment}
-use Rattle.object_meaning.specs.Sizes.{Located, size_at, located_from, place_behind}
+use Rattle.object_meaning.specs.Sizes.{Located, size_at, located_from, place_after}
 use Rattle.link_meaning.specs.Member.{Member}
 use Rattle.object_meaning.specs.Defines.{Definition, outer_scope, defined_by, title_of}
 use Rattle.omf_format.specs.Header.{is_private}
@@ -27,7 +27,7 @@ use Rattle.link_tables.specs.declared.definitions.Definitions.{Definitions}
 use Rattle.link_tables.specs.declared.definitions.Origin.{Origin}
 use Rattle.link_tables.specs.Names.{Named, Row, Indexes, is_row, seen_of, outcome}
 use Rattle.link_tables.specs.Coming.{Coming, Walks}
-use Rattle.link_tables.specs.Definitions.{ToldDefinition, definition_of, told_definition, key_of_found, is_found, numbered_rows, local_under, local_rows, AreDefinitions, Sees, IsElsewhere, IsOf, founds_in}
+use Rattle.link_tables.specs.Definitions.{DefinitionRow, definition_of, definition_view, key_of_found, is_found, numbered_rows, local_under, local_rows, AreDefinitions, Sees, IsElsewhere, IsOf, founds_in}
 use Rattle.link_tables.proofs.Grown.{grows}
 
 -- ---- look-ups
@@ -64,8 +64,8 @@ pub seen_all : (fs : List FoundDefinition) (table : Definitions) (key : Named) (
 seen_all fs table key answer are looks = seen_under fs table.names key answer are.names looks
 
 pub got : (fs : List FoundDefinition) (table : Definitions) (number : ℕ) (answer : Option kept.Defined) → AreDefinitions fs table → option_map definition_of answer ≡ slice_get table.items number
-    → option_map definition_of answer ≡ option_map told_definition (slice_get fs number)
-got fs table number answer are is = is ∙ ap (λ (l : List ToldDefinition). slice_get l number) are.items ∙ slice_get-map told_definition fs number
+    → option_map definition_of answer ≡ option_map definition_view (slice_get fs number)
+got fs table number answer are is = is ∙ ap (λ (l : List DefinitionRow). slice_get l number) are.items ∙ slice_get-map definition_view fs number
 
 -- ---- what segments have for themselves
 
@@ -136,11 +136,11 @@ locals-snoc (g ∷ fs) f =
     let L : FoundDefinition → List Row = λ x. local_under (step_of x) x.definition.name in
     ap (λ (l : List Row). l ++ L f) (flat_map-cons L g fs) ∙ append_assoc (L g) (local_rows fs) (L f) ∙ ap (λ (l : List Row). L g ++ l) (locals-snoc fs f) ∙ sym (flat_map-cons L g (fs ++ f ∷ []))
 
-pub pushed : (fs : List FoundDefinition) (f : FoundDefinition) (old new : Definitions) (key : Named) (number : ℕ) (d : kept.Defined) → AreDefinitions fs old → key ≡ key_of_found f → definition_of d ≡ told_definition f
+pub pushed : (fs : List FoundDefinition) (f : FoundDefinition) (old new : Definitions) (key : Named) (number : ℕ) (d : kept.Defined) → AreDefinitions fs old → key ≡ key_of_found f → definition_of d ≡ definition_view f
     → number ≡ length old.items → ((rows : List Row) → Indexes rows old.names → Indexes (rows ++ (key, number) ∷ []) new.names) → new.items ≡ old.items ++ definition_of d ∷ []
     → ((rows : List Row) → Indexes rows old.locals → Indexes (rows ++ local_under key.step key.name) new.locals) → AreDefinitions (fs ++ f ∷ []) new
-pushed fs f old new key number d are key_is told_is number_is more items more_locals =
-    let size : length old.items ≡ length fs = ap length are.items ∙ length-map fs told_definition in
+pushed fs f old new key number d are key_is reported_is number_is more items more_locals =
+    let size : length old.items ≡ length fs = ap length are.items ∙ length-map fs definition_view in
     let front : length fs ≡ 0 + length fs = omega arith in
     let rows : numbered_rows 0 fs ++ (key, number) ∷ [] ≡ numbered_rows 0 (fs ++ f ∷ []) =
     ap (λ (k : Named). numbered_rows 0 fs ++ (k, number) ∷ []) key_is ∙ ap (λ (k : ℕ). numbered_rows 0 fs ++ (key_of_found f, k) ∷ []) (number_is ∙ size) ∙ ap (λ (k : ℕ). numbered_rows 0 fs ++ (key_of_found f, k) ∷ []) front ∙ sym (numbered-snoc 0 fs f) in
@@ -150,9 +150,9 @@ pushed fs f old new key number d are key_is told_is number_is more items more_lo
       names = subst (λ (l : List Row). Indexes l new.names) rows (more (numbered_rows 0 fs) are.names);
       locals = subst (λ (l : List Row). Indexes l new.locals) locals (more_locals (local_rows fs) are.locals);
       items =
-          items ∙ ap (λ (l : List ToldDefinition). l ++ definition_of d ∷ []) are.items
-          ∙ ap (λ (t : ToldDefinition). map told_definition fs ++ t ∷ []) told_is
-          ∙ sym (map-append told_definition fs (f ∷ []));
+          items ∙ ap (λ (l : List DefinitionRow). l ++ definition_of d ∷ []) are.items
+          ∙ ap (λ (t : DefinitionRow). map definition_view fs ++ t ∷ []) reported_is
+          ∙ sym (map-append definition_view fs (f ∷ []));
     }
 
 -- ---- a segment's
@@ -177,7 +177,7 @@ defined_at r = defined_by r.at r.location r.content
 pub record Defining (all : List (ℕ × Record)) (at : Reader) (location : ℕ) (old new : Definitions) (origin : Origin) (place : ℕ) : Type 0 where
   pub back : List (ℕ × Record)
   pub coming : Coming at back
-  pub whole : place_behind 0 all ≡ place_behind location back
+  pub whole : place_after 0 all ≡ place_after location back
   pub done : List Located
   pub parts : located_from 0 all ≡ done ++ located_from location back
   pub gains : Gains old new origin place (flat_map defined_at done)
@@ -193,10 +193,10 @@ defining_end all at location old new origin place d end =
 
 -- no record makes the location pass the body's size
 pub defining_within : (all : List (ℕ × Record)) (at after : Reader) (location : ℕ) (old new : Definitions) (origin : Origin) (place : ℕ) (found : ℕ × Record) (d : Defining all at location old new origin place)
-    → Walks after d.back (Some found) → location + size_at location found.1 ≤ place_behind 0 all
+    → Walks after d.back (Some found) → location + size_at location found.1 ≤ place_after 0 all
 defining_within all at after location old new origin place found d w =
     let less = grows (location + size_at location found.1) w.0 in
-    let whole : place_behind 0 all ≡ place_behind (location + size_at location found.1) w.0 = d.whole ∙ ap (place_behind location) w.1 in
+    let whole : place_after 0 all ≡ place_after (location + size_at location found.1) w.0 = d.whole ∙ ap (place_after location) w.1 in
     omega (arith, less, whole)
 
 pub defining_more : (all : List (ℕ × Record)) (at after : Reader) (location next : ℕ) (old new newer : Definitions) (origin : Origin) (place : ℕ) (found : ℕ × Record) (d : Defining all at location old new origin place)
@@ -209,7 +209,7 @@ defining_more all at after location next old new newer origin place found d w ga
     record {
       back = w.0;
       coming = w.2;
-      whole = d.whole ∙ ap (place_behind location) w.1 ∙ ap (λ (n : ℕ). place_behind n w.0) (sym is);
+      whole = d.whole ∙ ap (place_after location) w.1 ∙ ap (λ (n : ℕ). place_after n w.0) (sym is);
       done = d.done ++ r ∷ [];
       parts =
           d.parts ∙ ap (λ (l : List (ℕ × Record)). d.done ++ located_from location l) w.1
@@ -233,8 +233,8 @@ abbrev key_as : Step → List ℕ → Named
 key_as t n = record { step = t; name = n }
 
 -- what a push of one definition gains
-abbrev pub Pushes : Definitions → Definitions → Named → ToldDefinition → Type 0
-Pushes old new key told = (fs : List FoundDefinition) (f : FoundDefinition) → AreDefinitions fs old → key ≡ key_of_found f → told ≡ told_definition f → AreDefinitions (fs ++ f ∷ []) new
+abbrev pub Pushes : Definitions → Definitions → Named → DefinitionRow → Type 0
+Pushes old new key reported = (fs : List FoundDefinition) (f : FoundDefinition) → AreDefinitions fs old → key ≡ key_of_found f → reported ≡ definition_view f → AreDefinitions (fs ++ f ∷ []) new
 
 pub titled : (old new : Definitions) (origin : Origin) (place : ℕ) (s : Segment) (name : List ℕ) (private : Bool) (step : Step) → name ≡ s.fields.name → (name ≡ [] → ⊥) → private ≡ is_private s.fields.kind
     → ((p : ℕ) → step ≡ step_for p origin.file origin.from (outer_scope private))

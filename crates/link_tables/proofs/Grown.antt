@@ -3,11 +3,11 @@ use Rattle.std.proofs.Common.{◌≡◌, ℕ, ◌+◌, ◌≤◌, ◌^◌, Bool,
 use Rattle.std.specs.Prelude.{if◌then◌else◌}
 use Rattle.std.proofs.lemmas.Bool.{le-ltb}
 use Rattle.omf_format.specs.Record.{Record}
-use Rattle.object_meaning.specs.Sizes.{size_at, place_behind}
+use Rattle.object_meaning.specs.Sizes.{size_at, place_after}
 use Rattle.link_tables.specs.Sizes.{in_32_bits}
 
 -- no record makes it less
-pub grows : (at : ℕ) (founds : List (ℕ × Record)) → at ≤ place_behind at founds
+pub grows : (at : ℕ) (founds : List (ℕ × Record)) → at ≤ place_after at founds
 grows at [] = omega arith
 grows at (found ∷ founds) = omega (arith, grows (at + size_at at found.1) founds)
 

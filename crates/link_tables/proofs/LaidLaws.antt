@@ -34,8 +34,8 @@ use Rattle.link_tables.proofs.LoadNames.{bytes_refl, has_names, has_at, names_ne
 abbrev name_of : Member → List ℕ
 name_of m = m.segment.fields.load_name
 
-abbrev offset_behind : ℕ → Member → ℕ
-offset_behind end m = aligned_from (alignment_of m.segment.fields.align) end
+abbrev offset_after : ℕ → Member → ℕ
+offset_after end m = aligned_from (alignment_of m.segment.fields.align) end
 
 -- ---- the members of a load segment
 
@@ -43,11 +43,11 @@ members_more : (x : List ℕ) (list : List Member) (m : Member) → load_members
 unfolding load_members
 members_more x list m = filter-append (in_load x) list (m ∷ [])
 
-end_more : (x : List ℕ) (end : ℕ) (list : List Member) (m : Member) → end_from end x (list ++ m ∷ []) ≡ (if in_load x m then offset_behind (end_from end x list) m + m.segment.fields.length else end_from end x list)
+end_more : (x : List ℕ) (end : ℕ) (list : List Member) (m : Member) → end_from end x (list ++ m ∷ []) ≡ (if in_load x m then offset_after (end_from end x list) m + m.segment.fields.length else end_from end x list)
 end_more x end [] m = refl
-end_more x end (y ∷ list) m = end_more x (if in_load x y then offset_behind end y + y.segment.fields.length else end) list m
+end_more x end (y ∷ list) m = end_more x (if in_load x y then offset_after end y + y.segment.fields.length else end) list m
 
-length_more : (x : List ℕ) (list : List Member) (m : Member) → load_length x (list ++ m ∷ []) ≡ (if in_load x m then offset_behind (load_length x list) m + m.segment.fields.length else load_length x list)
+length_more : (x : List ℕ) (list : List Member) (m : Member) → load_length x (list ++ m ∷ []) ≡ (if in_load x m then offset_after (load_length x list) m + m.segment.fields.length else load_length x list)
 unfolding load_length
 length_more x list m = end_more x 0 list m
 
@@ -68,7 +68,7 @@ no_end : (x : List ℕ) (end : ℕ) (list : List Member) → list_any (in_load x
 no_end x end [] none = refl
 no_end x end (y ∷ list) none = settle (in_load x y) none (λ rest. no_end x end list rest)
   where
-    settle : (b : Bool) → (b || list_any (in_load x) list) ≡ false → (list_any (in_load x) list ≡ false → end_from end x list ≡ end) → end_from (if b then offset_behind end y + y.segment.fields.length else end) x list ≡ end
+    settle : (b : Bool) → (b || list_any (in_load x) list) ≡ false → (list_any (in_load x) list ≡ false → end_from end x list ≡ end) → end_from (if b then offset_after end y + y.segment.fields.length else end) x list ≡ end
     settle true e go = absurd cc
     settle false e go = go e
 
@@ -178,8 +178,8 @@ fresh_load m spot load at f = record {
   length' = f.length';
 }
 
-joined_load : (members : List Member) (end offset : ℕ) (m : Member) (old new : LoadLayout) → (members ≡ [] → ⊥) → IsLoadOf members end old → offset ≡ offset_behind old.length m → IsJoined m.segment.fields offset old new
-    → IsLoadOf (members ++ m ∷ []) (offset_behind end m + m.segment.fields.length) new
+joined_load : (members : List Member) (end offset : ℕ) (m : Member) (old new : LoadLayout) → (members ≡ [] → ⊥) → IsLoadOf members end old → offset ≡ offset_after old.length m → IsJoined m.segment.fields offset old new
+    → IsLoadOf (members ++ m ∷ []) (offset_after end m + m.segment.fields.length) new
 joined_load members end offset m old new some is at j = record {
   first = j.first ∙ is.first ∙ sym (spot_more members m some);
   kind = ap (λ k. k.bits) j.kind ∙ is.kind ∙ ap load_segment_kind (sym (first_more (λ f. f.kind) members m some));
@@ -188,7 +188,7 @@ joined_load members end offset m old new some is at j = record {
   align = j.align ∙ ap (λ (n : ℕ). max n m.segment.fields.align) is.align ∙ sym (aligns_more members m);
   bank_size = j.bank_size ∙ ap (λ (n : ℕ). lesser_bank n m.segment.fields.bank_size) is.bank_size ∙ sym (banks_more members m);
   length' =
-      j.length' ∙ ap (λ (n : ℕ). min (n + m.segment.fields.length) 16777216) (at ∙ ap (λ (n : ℕ). offset_behind n m) is.length')
+      j.length' ∙ ap (λ (n : ℕ). min (n + m.segment.fields.length) 16777216) (at ∙ ap (λ (n : ℕ). offset_after n m) is.length')
       ∙ capped m.segment.fields.align end m.segment.fields.length;
 }
 
@@ -198,18 +198,18 @@ other_stays list m load other is =
     let members : load_members load.load_name (list ++ m ∷ []) ≡ load_members load.load_name list =
     members_more load.load_name list m ∙ ap (λ (b : Bool). load_members load.load_name list ++ (if b then m ∷ [] else [])) other ∙ append-nil (load_members load.load_name list) in
     let ends : load_length load.load_name (list ++ m ∷ []) ≡ load_length load.load_name list =
-    length_more load.load_name list m ∙ ap (λ (b : Bool). if b then offset_behind (load_length load.load_name list) m + m.segment.fields.length else load_length load.load_name list) other in
+    length_more load.load_name list m ∙ ap (λ (b : Bool). if b then offset_after (load_length load.load_name list) m + m.segment.fields.length else load_length load.load_name list) other in
     subst (λ (l : List Member). IsLoadOf l (load_length load.load_name (list ++ m ∷ [])) load) (sym members)
     (subst (λ (n : ℕ). IsLoadOf (load_members load.load_name list) n load) (sym ends) is)
 
 -- that of its own name
-own_load : (list : List Member) (m : Member) (load : LoadLayout) → in_load load.load_name m ≡ true → IsLoadOf (load_members load.load_name list ++ m ∷ []) (offset_behind (load_length load.load_name list) m + m.segment.fields.length) load
+own_load : (list : List Member) (m : Member) (load : LoadLayout) → in_load load.load_name m ≡ true → IsLoadOf (load_members load.load_name list ++ m ∷ []) (offset_after (load_length load.load_name list) m + m.segment.fields.length) load
     → IsLoad (list ++ m ∷ []) load
 own_load list m load own is =
     let members : load_members load.load_name (list ++ m ∷ []) ≡ load_members load.load_name list ++ m ∷ [] =
     members_more load.load_name list m ∙ ap (λ (b : Bool). load_members load.load_name list ++ (if b then m ∷ [] else [])) own in
-    let ends : load_length load.load_name (list ++ m ∷ []) ≡ offset_behind (load_length load.load_name list) m + m.segment.fields.length =
-    length_more load.load_name list m ∙ ap (λ (b : Bool). if b then offset_behind (load_length load.load_name list) m + m.segment.fields.length else load_length load.load_name list) own in
+    let ends : load_length load.load_name (list ++ m ∷ []) ≡ offset_after (load_length load.load_name list) m + m.segment.fields.length =
+    length_more load.load_name list m ∙ ap (λ (b : Bool). if b then offset_after (load_length load.load_name list) m + m.segment.fields.length else load_length load.load_name list) own in
     subst (λ (l : List Member). IsLoadOf l (load_length load.load_name (list ++ m ∷ [])) load) (sym members)
     (subst (λ (n : ℕ). IsLoadOf (load_members load.load_name list ++ m ∷ []) n load) (sym ends) is)
 
@@ -297,12 +297,12 @@ place_stays list m n k p at is =
     let before : take (k + 1 - 1) (list ++ m ∷ []) ≡ take (k + 1 - 1) list = ap (λ (i : ℕ). take i (list ++ m ∷ [])) less ∙ front ∙ sym (ap (λ (i : ℕ). take i list) less) in
     record {
       load = is.load ∙ sym (number_same list m n k at);
-      offset = λ small. is.offset (subst (λ (l : List Member). end_from 0 (name_of n) l ≤ 16777216) front small) ∙ sym (ap (λ (l : List Member). offset_behind (end_from 0 (name_of n) l) n) before);
+      offset = λ small. is.offset (subst (λ (l : List Member). end_from 0 (name_of n) l ≤ 16777216) front small) ∙ sym (ap (λ (l : List Member). offset_after (end_from 0 (name_of n) l) n) before);
     }
 
 -- the place of one more member
 place_last : (list : List Member) (m : Member) (p : LoadOffset) (i : ℕ) → slice_get (load_names (list ++ m ∷ [])) i ≡ Some (name_of m) → p.load ≡ i
-    → (end_from 0 (name_of m) list ≤ 16777216 → p.offset ≡ offset_behind (end_from 0 (name_of m) list) m) → IsPlace (list ++ m ∷ []) (length list) m p
+    → (end_from 0 (name_of m) list ≤ 16777216 → p.offset ≡ offset_after (end_from 0 (name_of m) list) m) → IsPlace (list ++ m ∷ []) (length list) m p
 unfolding load_of offset_of
 place_last list m p i there load offset =
     let all : take (length list) (list ++ m ∷ []) ≡ list = take-append_seam list (m ∷ []) in
@@ -310,7 +310,7 @@ place_last list m p i there load offset =
     let before : take (length list + 1 - 1) (list ++ m ∷ []) ≡ list = ap (λ (n : ℕ). take n (list ++ m ∷ [])) less ∙ all in
     record {
       load = ap (λ (n : ℕ). n + 1) load ∙ sym (load_number (list ++ m ∷ []) i (name_of m) there);
-      offset = λ small. offset (subst (λ (l : List Member). end_from 0 (name_of m) l ≤ 16777216) all small) ∙ sym (ap (λ (l : List Member). offset_behind (end_from 0 (name_of m) l) m) before);
+      offset = λ small. offset (subst (λ (l : List Member). end_from 0 (name_of m) l ≤ 16777216) all small) ∙ sym (ap (λ (l : List Member). offset_after (end_from 0 (name_of m) l) m) before);
     }
 
 -- ---- conflicts
@@ -345,7 +345,7 @@ conflict_more list m None spot there at is = settle (m.segment.fields.org == 0) 
       after = [];
       parts = refl;
       none = is;
-      here = record { later = there; asks = λ z. asked z; told = ap org_fault at };
+      here = record { later = there; asks = λ z. asked z; reported = ap org_fault at };
     }
       where
         asked : m.segment.fields.org ≡ 0 → ⊥
@@ -374,14 +374,14 @@ laid_new list m old new spot load p laid none at fresh number start loads places
     absent : list_any (in_load (name_of m)) list ≡ false
     absent = sym (has_names (name_of m) list) ∙ none
 
-    of_fresh : IsLoadOf (load_members load.load_name list ++ m ∷ []) (offset_behind (load_length load.load_name list) m + m.segment.fields.length) load
+    of_fresh : IsLoadOf (load_members load.load_name list ++ m ∷ []) (offset_after (load_length load.load_name list) m + m.segment.fields.length) load
     of_fresh =
         let none' : list_any (in_load load.load_name) list ≡ false = subst (λ (x : List ℕ). list_any (in_load x) list ≡ false) (sym fresh.load_name) absent in
         let members : load_members load.load_name list ++ m ∷ [] ≡ m ∷ [] = ap (λ (l : List Member). l ++ m ∷ []) (no_members load.load_name list none') in
-        let ends : offset_behind (end_from 0 load.load_name list) m + m.segment.fields.length ≡ m.segment.fields.length =
-        omega (arith, ap (λ (n : ℕ). offset_behind n m) (no_end load.load_name 0 list none'), start_zero m.segment.fields.align) in
-        subst (λ (n : ℕ). IsLoadOf (load_members load.load_name list ++ m ∷ []) (offset_behind n m + m.segment.fields.length) load) (sym (length_is load.load_name list))
-        (subst (λ (l : List Member). IsLoadOf l (offset_behind (end_from 0 load.load_name list) m + m.segment.fields.length) load) (sym members)
+        let ends : offset_after (end_from 0 load.load_name list) m + m.segment.fields.length ≡ m.segment.fields.length =
+        omega (arith, ap (λ (n : ℕ). offset_after n m) (no_end load.load_name 0 list none'), start_zero m.segment.fields.align) in
+        subst (λ (n : ℕ). IsLoadOf (load_members load.load_name list ++ m ∷ []) (offset_after n m + m.segment.fields.length) load) (sym (length_is load.load_name list))
+        (subst (λ (l : List Member). IsLoadOf l (offset_after (end_from 0 load.load_name list) m + m.segment.fields.length) load) (sym members)
         (subst (λ (n : ℕ). IsLoadOf (m ∷ []) n load) (sym ends) (fresh_load m spot load at fresh)))
 
     load_at : (k : ℕ) (l : LoadLayout) → (slice_get old.loads.items k ≡ Some l) ⊎ ((k ≡ length old.loads.items) × (load ≡ l)) → IsLoad (list ++ m ∷ []) l
@@ -395,11 +395,11 @@ laid_new list m old new spot load p laid none at fresh number start loads places
     place_at k n q (inr a) (inr b) =
         let size : length old.loads.items ≡ length (load_names list) = sym (length-map old.loads.items (λ (l : LoadLayout). l.load_name)) ∙ ap length laid.named in
         let there : slice_get (load_names (list ++ m ∷ [])) (length (load_names list)) ≡ Some (name_of m) = ap (λ (l : List (List ℕ)). slice_get l (length (load_names list))) (names_new list m none) ∙ snoc_at (load_names list) (name_of m) in
-        let is = place_last list m p (length (load_names list)) there (number ∙ size) (λ small. start ∙ sym (ap (λ (i : ℕ). offset_behind i m) (no_end (name_of m) 0 list absent) ∙ start_zero m.segment.fields.align)) in
+        let is = place_last list m p (length (load_names list)) there (number ∙ size) (λ small. start ∙ sym (ap (λ (i : ℕ). offset_after i m) (no_end (name_of m) 0 list absent) ∙ start_zero m.segment.fields.align)) in
         subst (λ (i : ℕ). IsPlace (list ++ m ∷ []) i n q) (sym a.0) (subst (λ (x : Member). IsPlace (list ++ m ∷ []) (length list) x q) a.1 (subst (λ (x : LoadOffset). IsPlace (list ++ m ∷ []) (length list) m x) b.1 is))
 
 pub laid_same : (list : List Member) (m : Member) (old new : kept.LinkLayout) (spot : Spot) (i : ℕ) (was now : LoadLayout) (p : LoadOffset) → Laid list old → slice_get (load_names list) i ≡ Some (name_of m) → slice_get old.loads.items i ≡ Some was
-    → spot ≡ spot_in m m.segment.start → p.load ≡ i → p.offset ≡ offset_behind was.length m → IsJoined m.segment.fields p.offset was now → new.loads.items ≡ set old.loads.items i now → new.places.items ≡ old.places.items ++ p ∷ []
+    → spot ≡ spot_in m m.segment.start → p.load ≡ i → p.offset ≡ offset_after was.length m → IsJoined m.segment.fields p.offset was now → new.loads.items ≡ set old.loads.items i now → new.places.items ≡ old.places.items ++ p ∷ []
     → new.conflict ≡ conflict_with old.conflict m.segment.fields.org spot → new.names ≡ old.names → Laid (list ++ m ∷ []) new
 laid_same list m old new spot i was now p laid here is_was at number offset joined loads places conflict names =
     record {
@@ -429,10 +429,10 @@ laid_same list m old new spot i was now p laid here is_was at number offset join
     now_name : now.load_name ≡ name_of m
     now_name = joined.load_name ∙ was_name
 
-    of_joined : IsLoadOf (load_members now.load_name list ++ m ∷ []) (offset_behind (load_length now.load_name list) m + m.segment.fields.length) now
+    of_joined : IsLoadOf (load_members now.load_name list ++ m ∷ []) (offset_after (load_length now.load_name list) m + m.segment.fields.length) now
     of_joined =
         let some : load_members was.load_name list ≡ [] → ⊥ = some_members was.load_name list (ap (λ (x : List ℕ). list_any (in_load x) list) was_name ∙ present) in
-        subst (λ (x : List ℕ). IsLoadOf (load_members x list ++ m ∷ []) (offset_behind (load_length x list) m + m.segment.fields.length) now) (sym joined.load_name)
+        subst (λ (x : List ℕ). IsLoadOf (load_members x list ++ m ∷ []) (offset_after (load_length x list) m + m.segment.fields.length) now) (sym joined.load_name)
         (joined_load (load_members was.load_name list) (load_length was.load_name list) p.offset m was now some (laid.loads i was is_was) offset joined)
 
     load_at : (k : ℕ) (l : LoadLayout) → ((k ≡ i) × (now ≡ l)) ⊎ ((k ≡ i → ⊥) × (slice_get old.loads.items k ≡ Some l)) → IsLoad (list ++ m ∷ []) l
@@ -456,7 +456,7 @@ laid_same list m old new spot i was now p laid here is_was at number offset join
     place_at k n q (inr a) (inl b) = let within = slice_get_within old.places.items k q b in absurd (omega (arith, within, a.0, laid.count))
     place_at k n q (inr a) (inr b) =
         let is = place_last list m p i (ap (λ (l : List (List ℕ)). slice_get l i) whole ∙ here) number
-        (λ small. offset ∙ ap (λ (e : ℕ). offset_behind e m) ((laid.loads i was is_was).length' ∙ ap (λ (x : List ℕ). min (load_length x list) 16777216) was_name ∙ least small)) in
+        (λ small. offset ∙ ap (λ (e : ℕ). offset_after e m) ((laid.loads i was is_was).length' ∙ ap (λ (x : List ℕ). min (load_length x list) 16777216) was_name ∙ least small)) in
         subst (λ (j : ℕ). IsPlace (list ++ m ∷ []) j n q) (sym a.0) (subst (λ (x : Member). IsPlace (list ++ m ∷ []) (length list) x q) a.1 (subst (λ (x : LoadOffset). IsPlace (list ++ m ∷ []) (length list) m x) b.1 is))
       where
         least : end_from 0 (name_of m) list ≤ 16777216 → min (load_length (name_of m) list) 16777216 ≡ end_from 0 (name_of m) list

@@ -240,17 +240,17 @@ none_all form list layout is laid none few short fine =
 -- ---- a fault
 
 pub at_orgs : (list : List Member) (spot : Spot) (fault : LinkFault) → IsConflict list (Some spot) → fault ≡ org_fault spot → IsFirst (HasLayoutFault list) layout_checks fault
-at_orgs list spot fault is told = record { before = []; item = Orgs; after = Count ∷ Lengths ∷ Kinds ∷ []; parts = refl; none = none_yet (HasLayoutFault list); here = subst (IsFirst HasOrgFault list) (sym told) is }
+at_orgs list spot fault is reported = record { before = []; item = Orgs; after = Count ∷ Lengths ∷ Kinds ∷ []; parts = refl; none = none_yet (HasLayoutFault list); here = subst (IsFirst HasOrgFault list) (sym reported) is }
 
 pub at_count : (list : List Member) (layout : kept.LinkLayout) (load : LoadLayout) (fault : LinkFault) → Laid list layout → HasNone HasOrgFault list → slice_get layout.loads.items 254 ≡ Some load
     → fault ≡ record { cause = TooManySegments; name = None; spot = load.first } → IsFirst (HasLayoutFault list) layout_checks fault
-at_count list layout load fault laid none there told = record {
+at_count list layout load fault laid none there reported = record {
   before = upto_orgs;
   item = Count;
   after = Lengths ∷ Kinds ∷ [];
   parts = refl;
   none = none_orgs list none;
-  here = record { load_name = load.load_name; there = name_at list layout 254 load laid there; told = told ∙ ap (λ (s : Spot). count_fault s) (laid.loads 254 load there).first };
+  here = record { load_name = load.load_name; there = name_at list layout 254 load laid there; reported = reported ∙ ap (λ (s : Spot). count_fault s) (laid.loads 254 load there).first };
 }
   where
     count_fault : Spot → LinkFault
@@ -298,7 +298,7 @@ first_bad bad wrong Has list layout k load fault test fails laid at before here 
 pub at_lengths : (list : List Member) (layout : kept.LinkLayout) (spot : Spot) (fault : LinkFault) → Laid list layout → HasNone HasOrgFault list → length (load_names list) ≤ 254 → IsFirstLong layout.loads.items spot
     → fault ≡ record { cause = SegmentTooLong; name = None; spot = spot } → IsFirst (HasLayoutFault list) layout_checks fault
 unfolding load_fields
-at_lengths list layout spot fault laid none few first told =
+at_lengths list layout spot fault laid none few first reported =
     let is = laid.loads first.k first.load first.at in
     record {
       before = upto_count;
@@ -307,7 +307,7 @@ at_lengths list layout spot fault laid none few first told =
       parts = refl;
       none = none_count list none few;
       here = first_bad is_long is_too_long (HasLengthFault list) list layout first.k first.load fault (long_test list) (long_fails list) laid first.at first.before
-          record { long = sym (long_is list (1 + first.k) first.load is) ∙ first.long; told = told ∙ ap long_fault (first.spot' ∙ is.first) };
+          record { long = sym (long_is list (1 + first.k) first.load is) ∙ first.long; reported = reported ∙ ap long_fault (first.spot' ∙ is.first) };
     }
   where
     long_fault : Spot → LinkFault
@@ -316,7 +316,7 @@ at_lengths list layout spot fault laid none few first told =
 pub at_kinds : (list : List Member) (layout : kept.LinkLayout) (spot : Spot) (fault : LinkFault) → form_in list ≡ LibraryForm → Laid list layout → HasNone HasOrgFault list → length (load_names list) ≤ 254 → AllShort layout.loads.items
     → IsFirstOther layout.loads.items spot → fault ≡ record { cause = NotDynamic; name = None; spot = spot } → IsFirst (HasLayoutFault list) layout_checks fault
 unfolding load_fields
-at_kinds list layout spot fault form laid none few short first told =
+at_kinds list layout spot fault form laid none few short first reported =
     let is = laid.loads first.k first.load first.at in
     let x = first.load.load_name in
     record {
@@ -329,7 +329,7 @@ at_kinds list layout spot fault form laid none few short first told =
           (λ j load found. first.before j load found)
           record {
             other = ap (λ (f : LinkForm). may_not_stand f (fields_of list (1 + first.k) x)) form ∙ sym (kind_test list (1 + first.k) first.load is) ∙ first.other;
-            told = told ∙ ap kind_fault (first.spot' ∙ is.first);
+            reported = reported ∙ ap kind_fault (first.spot' ∙ is.first);
           };
     }
   where

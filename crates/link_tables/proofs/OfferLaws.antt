@@ -16,7 +16,7 @@ use Rattle.link_tables.specs.declared.definitions.Origin.{Origin}
 use Rattle.link_tables.specs.declared.offers.Offers.{Offers}
 use Rattle.link_tables.specs.Names.{Named, Row, Indexes, is_key, is_row, seen_of, outcome}
 use Rattle.link_tables.specs.Definitions.{IsOf}
-use Rattle.link_tables.specs.Offers.{step_of_offer, key_of_offer, is_titled, offer_rows, titled_rows, told_origin, AreOffers, IsOfferOf, number_of, first_number, IsRow}
+use Rattle.link_tables.specs.Offers.{step_of_offer, key_of_offer, is_titled, offer_rows, titled_rows, origin_view, AreOffers, IsOfferOf, number_of, first_number, IsRow}
 use Rattle.link_tables.proofs.NameTables.{bytes_same}
 
 -- ---- the first row of a key
@@ -135,14 +135,14 @@ start os k = let same : 0 + k ≡ k = omega arith in ap (slice_get os) same
 pub row_one : (os : List Offer) (m : Member) (user : Origin) (name : List ℕ) (at : ℕ) (answer : Option ℕ) → IsOf m user → answer ≡ first_number (offer_rows 0 os) (unit_key user name) (all_key name)
     → IsRow os (row_for os m (record { want = wants.One; name = name; at = at })) answer
 unfolding row_for
-row_one os m user name at answer is told =
+row_one os m user name at answer is reported =
     let own : first_offer (λ o. counts_for (use_one name at) o && is_of_member m o) os ≡ first_offer (by_key (unit_key user name)) os =
     ap (λ (t : Offer → Bool). first_offer t os) (λ i o. own_test m name at o i) ∙ ap (λ (k : Named). first_offer (by_key k) os) (unit_key-same m user name is) in
     let every : first_offer (λ o. counts_for (use_one name at) o && not o.private) os ≡ first_offer (by_key (all_key name)) os =
     ap (λ (t : Offer → Bool). first_offer t os) (λ i o. all_test name at o i) in
     let both = either os (first_offer (by_key (unit_key user name)) os) (first_offer (by_key (all_key name)) os) (number_of (outcome (offer_rows 0 os) (unit_key user name))) (number_of (outcome (offer_rows 0 os) (all_key name)))
     (first_by_key os os 0 (unit_key user name) (start os)) (first_by_key os os 0 (all_key name) (start os)) in
-    subst (IsRow os (option_or (first_offer (λ o. counts_for (use_one name at) o && is_of_member m o) os) (first_offer (λ o. counts_for (use_one name at) o && not o.private) os))) (sym told)
+    subst (IsRow os (option_or (first_offer (λ o. counts_for (use_one name at) o && is_of_member m o) os) (first_offer (λ o. counts_for (use_one name at) o && not o.private) os))) (sym reported)
     (subst (λ (a : Option Member). IsRow os (option_or a (first_offer (λ o. counts_for (use_one name at) o && not o.private) os)) (first_number (offer_rows 0 os) (unit_key user name) (all_key name))) (sym own)
     (subst (λ (b : Option Member). IsRow os (option_or (first_offer (by_key (unit_key user name)) os) b) (first_number (offer_rows 0 os) (unit_key user name) (all_key name))) (sym every) both))
 
@@ -204,14 +204,14 @@ all_step o = sym (all_by o.private o.member.file o.member.from)
 pub row_data : (os : List Offer) (m : Member) (user : Origin) (name : List ℕ) (at : ℕ) (answer : Option ℕ) → IsOf m user → answer ≡ first_number (titled_rows 0 os) (unit_key user name) (all_key name)
     → IsRow os (row_for os m (record { want = wants.Data; name = name; at = at })) answer
 unfolding row_for
-row_data os m user name at answer is told =
+row_data os m user name at answer is reported =
     let own : first_offer (λ o. counts_for (use_data name at) o && is_of_member m o) os ≡ first_offer (titled_by (unit_key user name)) os =
     ap (λ (t : Offer → Bool). first_offer t os) (λ i o. titled_test (OfUnit m.file m.from) (is_of_member m o) name at o (own_step m o) i) ∙ ap (λ (k : Named). first_offer (titled_by k) os) (unit_key-same m user name is) in
     let every : first_offer (λ o. counts_for (use_data name at) o && not o.private) os ≡ first_offer (titled_by (all_key name)) os =
     ap (λ (t : Offer → Bool). first_offer t os) (λ i o. titled_test Everyone (not o.private) name at o (all_step o) i) in
     let both = either os (first_offer (titled_by (unit_key user name)) os) (first_offer (titled_by (all_key name)) os) (number_of (outcome (titled_rows 0 os) (unit_key user name))) (number_of (outcome (titled_rows 0 os) (all_key name)))
     (first_titled os os 0 (unit_key user name) (start os)) (first_titled os os 0 (all_key name) (start os)) in
-    subst (IsRow os (option_or (first_offer (λ o. counts_for (use_data name at) o && is_of_member m o) os) (first_offer (λ o. counts_for (use_data name at) o && not o.private) os))) (sym told)
+    subst (IsRow os (option_or (first_offer (λ o. counts_for (use_data name at) o && is_of_member m o) os) (first_offer (λ o. counts_for (use_data name at) o && not o.private) os))) (sym reported)
     (subst (λ (a : Option Member). IsRow os (option_or a (first_offer (λ o. counts_for (use_data name at) o && not o.private) os)) (first_number (titled_rows 0 os) (unit_key user name) (all_key name))) (sym own)
     (subst (λ (b : Option Member). IsRow os (option_or (first_offer (titled_by (unit_key user name)) os) b) (first_number (titled_rows 0 os) (unit_key user name) (all_key name))) (sym every) both))
 
@@ -253,14 +253,14 @@ pub offered_more : (os : List Offer) (o : Offer) (old new : Offers) (name : List
     → ((rows : List Row) → Indexes rows old.names → Indexes (rows ++ (record { step = step; name = name }, number) ∷ []) new.names)
     → new.origins.items ≡ old.origins.items ++ origin ∷ [] → AreOffers (os ++ o ∷ []) new
 offered_more os o old new name private origin titled step number are is step_is number_is titles names origins =
-    let size : number ≡ 0 + length os = omega (arith, number_is, ap length are.origins, length-map os told_origin) in
+    let size : number ≡ 0 + length os = omega (arith, number_is, ap length are.origins, length-map os origin_view) in
     let key : key_as step name ≡ key_of_offer o =
     ap (λ (s : Step). key_as s name) (step_is 0 ∙ ap (λ (p : Bool). step_for 0 origin.file origin.from (outer_scope p)) (sym is.private')
     ∙ ap (λ (x : Origin). step_for 0 x.file x.from (outer_scope o.private)) (sym is.origin') ∙ step_of o.private o.member.file o.member.from)
     ∙ ap (λ (n : List ℕ). key_as (step_of_offer o) n) (sym is.name') in
     let row : (key_as step name, number) ≡ (key_of_offer o, 0 + length os) = ap (λ (k : Named). (k, number)) key ∙ ap (λ (n : ℕ). (key_of_offer o, n)) size in
     record {
-      origins = origins ∙ ap (λ (l : List Origin). l ++ origin ∷ []) are.origins ∙ ap (λ (x : Origin). map told_origin os ++ x ∷ []) (sym is.origin') ∙ sym (map-append told_origin os (o ∷ []));
+      origins = origins ∙ ap (λ (l : List Origin). l ++ origin ∷ []) are.origins ∙ ap (λ (x : Origin). map origin_view os ++ x ∷ []) (sym is.origin') ∙ sym (map-append origin_view os (o ∷ []));
       names = subst (λ (l : List Row). Indexes l new.names) (ap (λ (r : Row). offer_rows 0 os ++ r ∷ []) row ∙ sym (offer_rows-snoc 0 os o)) (names (offer_rows 0 os) are.names);
       titles =
           subst (λ (l : List Row). Indexes l new.titles)

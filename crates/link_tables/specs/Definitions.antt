@@ -1,5 +1,5 @@
 -- What a table of definitions holds of those of the linked list.
-pub use Rattle.link_tables.specs.Listed.{ToldDefinition, definition_of}
+pub use Rattle.link_tables.specs.Listed.{DefinitionRow, definition_of}
 use Rattle.std.specs.Prelude.{◌≡◌, ℕ, ◌+◌, Bool, List, [], ◌∷◌, Some, map, filter, slice_get}
 use Rattle.std.specs.List.{flat_map}
 use Rattle.link_meaning.specs.declared.search.Step.{Step}
@@ -13,8 +13,8 @@ use Rattle.link_tables.specs.declared.definitions.Definitions.{Definitions}
 use Rattle.link_tables.specs.declared.definitions.Origin.{Origin}
 use Rattle.link_tables.specs.Names.{Named, Row, Indexes, is_key}
 
-abbrev pub told_definition : FoundDefinition → ToldDefinition
-told_definition f = record { member = f.place; at = f.definition.place; expr = f.definition.expr; length = f.definition.size; form = f.definition.form }
+abbrev pub definition_view : FoundDefinition → DefinitionRow
+definition_view f = record { member = f.place; at = f.definition.place; expr = f.definition.expr; length = f.definition.size; form = f.definition.form }
 
 -- the step that sees a definition, and its name
 abbrev pub key_of_found : FoundDefinition → Named
@@ -42,13 +42,13 @@ local_rows fs = flat_map (λ f. local_under (step_of f) f.definition.name) fs
 pub record AreDefinitions (fs : List FoundDefinition) (table : Definitions) : Type 0 where
   pub names : Indexes (numbered_rows 0 fs) table.names
   pub locals : Indexes (local_rows fs) table.locals
-  pub items : table.items ≡ map told_definition fs
+  pub items : table.items ≡ map definition_view fs
 
 -- what a look-up answers where these are found, of which a number tells the first
 abbrev pub Seen : (FoundDefinition → ℕ → Type 0) → List FoundDefinition → Matches → Type 0
-Seen Tells [] answer = answer ≡ Nothing
-Seen Tells (f ∷ []) answer = (number : ℕ) × (answer ≡ One number) × Tells f number
-Seen Tells (f ∷ g ∷ more) answer = (number : ℕ) × (answer ≡ Several number) × Tells f number
+Seen Reports [] answer = answer ≡ Nothing
+Seen Reports (f ∷ []) answer = (number : ℕ) × (answer ≡ One number) × Reports f number
+Seen Reports (f ∷ g ∷ more) answer = (number : ℕ) × (answer ≡ Several number) × Reports f number
 
 -- a number is a place among all
 abbrev pub Sees : List FoundDefinition → List FoundDefinition → Matches → Type 0

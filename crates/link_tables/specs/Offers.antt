@@ -32,12 +32,12 @@ titled_rows n [] = []
 titled_rows n (o ∷ os) = if is_titled o then (key_of_offer o, n) ∷ titled_rows (n + 1) os else titled_rows (n + 1) os
 
 -- where the member comes from that a row would bring in
-abbrev pub told_origin : Offer → Origin
-told_origin o = record { file = o.member.file; segment = o.member.number; from = o.member.from }
+abbrev pub origin_view : Offer → Origin
+origin_view o = record { file = o.member.file; segment = o.member.number; from = o.member.from }
 
 -- these are the rows
 pub record AreOffers (os : List Offer) (table : kept.Offers) : Type 0 where
-  pub origins : table.origins.items ≡ map told_origin os
+  pub origins : table.origins.items ≡ map origin_view os
   pub names : Indexes (offer_rows 0 os) table.names
   pub titles : Indexes (titled_rows 0 os) table.titles
 
@@ -45,7 +45,7 @@ pub record AreOffers (os : List Offer) (table : kept.Offers) : Type 0 where
 pub record IsOfferOf (o : Offer) (name : List ℕ) (private : Bool) (origin : Origin) (titled : Bool) : Type 0 where
   pub name' : o.name ≡ name
   pub private' : o.private ≡ private
-  pub origin' : told_origin o ≡ origin
+  pub origin' : origin_view o ≡ origin
   pub titled' : is_titled o ≡ titled
 
 abbrev pub number_of : Matches → Option ℕ

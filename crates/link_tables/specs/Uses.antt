@@ -22,8 +22,8 @@ uses_of_sites wants sites = map use_of_site (zip wants sites)
 abbrev pub use_of : kept.Use → ℕ × Use
 use_of u = (u.place, record { want = u.want; name = u.name.now; at = u.at })
 
-abbrev pub told_use : PlacedUse → ℕ × Use
-told_use a = (a.place, a.use')
+abbrev pub use_view : PlacedUse → ℕ × Use
+use_view a = (a.place, a.use')
 
 -- the uses of the member at this place
 abbrev pub at_place : ℕ → List Use → List (ℕ × Use)

@@ -7,7 +7,7 @@ ghost use Rattle.link_meaning.specs.Member.{Member};
 ghost use Rattle.object_meaning.specs.Defines.{scope_of, title_of, defined_by, outer_scope};
 ghost use Rattle.link_meaning.specs.Search.{FoundDefinition, step_for};
 ghost use Rattle.link_tables.specs.Names.{Row, Indexes, key_of};
-ghost use Rattle.link_tables.specs.Definitions.{AreDefinitions, AreHolders, Sees, IsOf, local_under, is_found, key_of_found, told_definition, founds_in};
+ghost use Rattle.link_tables.specs.Definitions.{AreDefinitions, AreHolders, Sees, IsOf, local_under, is_found, key_of_found, definition_view, founds_in};
 ghost use Rattle.link_tables.specs.Listed.{definition_of};
 
 use crate::listed::Listed;
@@ -89,14 +89,14 @@ impl<'a> Definitions<'a> {
 
     /// The definition with this number, from 0.
     pub fn get(&self, number: usize) -> Option<Defined<'a>>
-        ensures { (fs : List FoundDefinition) → AreDefinitions fs self.now → option_map definition_of result ≡ option_map told_definition (slice_get fs number) }
+        ensures { (fs : List FoundDefinition) → AreDefinitions fs self.now → option_map definition_of result ≡ option_map definition_view (slice_get fs number) }
     {
         self.items.get(number)
     }
 
     fn push(&mut self, key: Key<'a>, definition: Defined<'a>) -> Result<(), AllocError>
         ensures { OnOk result ((fs : List FoundDefinition) (f : FoundDefinition) → AreDefinitions fs self.old → key_of key.entry ≡ key_of_found f
-            → definition_of definition.entry ≡ told_definition f → AreDefinitions (fs ++ f ∷ []) self.new) }
+            → definition_of definition.entry ≡ definition_view f → AreDefinitions (fs ++ f ∷ []) self.new) }
     {
         let number = self.items.count();
         self.names.add(key, number)?;

@@ -247,7 +247,7 @@ impl<'a> LinkLayout<'a> {
     /// What is wrong with the load segments of what is to be linked: a later member's address, their number, their lengths, or, of a
     /// run-time library file, their kinds.
     pub fn fault(&self, form: LinkForm) -> Option<LinkFault>
-        ensures told { (list : List Member) → form_in list ≡ form → Laid list self.now → MatchOption result
+        ensures reported { (list : List Member) → form_in list ≡ form → Laid list self.now → MatchOption result
             (HasNone (HasLayoutFault list) layout_checks) (λ fault. IsFirst (HasLayoutFault list) layout_checks fault) }
         ensures fine { result ≡ None → (length self.now.loads.items ≤ 254) × AllShort self.now.loads.items }
     {

@@ -23,6 +23,6 @@ pub use names::{Key, Matches, NameTable};
 pub use offers::Offers;
 pub use reading::next_record;
 pub use segname::title;
-pub use sizes::{size_at, size_behind};
+pub use sizes::{size_after, size_at};
 pub use uses::{Use, Uses};
 pub use usings::Usings;

@@ -27,9 +27,9 @@ pub struct Listed<'a> {
 
 impl<'a> Model for Listed<'a> {
     ghost use Rattle.std.specs.Prelude.{List};
-    ghost use Rattle.link_tables.specs.Listed.{ToldDefinition, expr_at, rows_from};
+    ghost use Rattle.link_tables.specs.Listed.{DefinitionRow, expr_at, rows_from};
 
-    ghost Value = { List ToldDefinition };
+    ghost Value = { List DefinitionRow };
 
     ghost view = { λ listed. rows_from (expr_at listed.exprs) 0 listed.marks.items };
 }

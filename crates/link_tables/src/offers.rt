@@ -6,7 +6,7 @@ ghost use Rattle.link_meaning.specs.Member.{Member, Offer};
 ghost use Rattle.link_meaning.specs.LinkedList.{row_for};
 ghost use Rattle.link_tables.specs.Names.{Row, Indexes, key_of, outcome};
 ghost use Rattle.link_tables.specs.Definitions.{IsOf};
-ghost use Rattle.link_tables.specs.Offers.{AreOffers, told_origin, IsOfferOf, IsRow, number_of, first_number};
+ghost use Rattle.link_tables.specs.Offers.{AreOffers, origin_view, IsOfferOf, IsRow, number_of, first_number};
 
 use crate::definitions::{Origin, outer_step};
 use crate::names::{Key, Matches, NameTable};
@@ -89,7 +89,7 @@ impl<'a> Offers<'a> {
     /// The member that the row with this number, from 0, would bring in.
     pub fn origin(&self, number: usize) -> Origin
         requires { number < length self.now.origins.items }
-        ensures { (os : List Offer) (o : Offer) → AreOffers os self.now → slice_get os number ≡ Some o → result ≡ told_origin o }
+        ensures { (os : List Offer) (o : Offer) → AreOffers os self.now → slice_get os number ≡ Some o → result ≡ origin_view o }
     {
         self.origins[number]
     }

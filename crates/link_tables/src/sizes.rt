@@ -35,7 +35,7 @@ pub fn size_at(rec: &Rec, location: u32) -> u64
 }
 
 /// How many cells there are with a record behind so many, where these numbers have 32 bits.
-pub fn size_behind(size: Option<u32>, rec: &Rec) -> Option<u32>
+pub fn size_after(size: Option<u32>, rec: &Rec) -> Option<u32>
     ensures { (n : ℕ) → size ≡ in_32_bits n → result ≡ in_32_bits (n + size_at n (view rec.now)) }
 {
     match size {

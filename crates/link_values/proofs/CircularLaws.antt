@@ -8,7 +8,7 @@ use Rattle.omf_format.specs.Record.{Record}
 use Rattle.omf_format.specs.Reading.{Reader}
 use Rattle.omf_format.specs.Header.{is_private}
 use Rattle.omf_format.specs.File.{Segment}
-use Rattle.object_meaning.specs.Sizes.{Located, size_at, located_from, records_with_offsets, place_behind}
+use Rattle.object_meaning.specs.Sizes.{Located, size_at, located_from, records_with_offsets, place_after}
 use Rattle.link_meaning.specs.Member.{Member}
 use Rattle.object_meaning.specs.Defines.{Definition, outer_scope, title_of, defined_by, defined_in}
 use Rattle.link_meaning.specs.Search.{FoundDefinition, entries_from, entries}
@@ -19,7 +19,7 @@ use Rattle.link_meaning.specs.LinkFaults.{spot_in}
 use Rattle.link_tables.specs.Coming.{Coming}
 use Rattle.link_program.specs.Linked.{member_at}
 use Rattle.link_program.specs.Memory.{memory_fault}
-use Rattle.link_values.specs.Circulars.{DefinesName, IsBehindTitle, defined_so_far, Counting, CountsTo, IsCircularAt}
+use Rattle.link_values.specs.Circulars.{DefinesName, IsAfterTitle, defined_so_far, Counting, CountsTo, IsCircularAt}
 use Rattle.link_values.proofs.FileFacts.{parts_there}
 use Rattle.link_values.proofs.LocatedLaws.{one_located, located-append, located-more}
 
@@ -35,22 +35,22 @@ flat-append (x ∷ xs) ys =
     ∙ ap (λ (l : List Definition). l ++ flat_map of_located ys) (sym (flat_map-cons of_located x xs))
 
 -- one record more
-pub so_far-more : (s : Segment) (done : List (ℕ × Record)) (found : ℕ × Record) → defined_so_far s (done ++ found ∷ []) ≡ defined_so_far s done ++ defined_by found.0 (place_behind 0 done) found.1
+pub so_far-more : (s : Segment) (done : List (ℕ × Record)) (found : ℕ × Record) → defined_so_far s (done ++ found ∷ []) ≡ defined_so_far s done ++ defined_by found.0 (place_after 0 done) found.1
 so_far-more s done found =
-    let r = one_located found (place_behind 0 done) in
+    let r = one_located found (place_after 0 done) in
     ap (λ (l : List Located). title_of s ++ flat_map of_located l) (located-append 0 done found)
     ∙ ap (λ (l : List Definition). title_of s ++ l) (flat-append (located_from 0 done) (r ∷ [])
     ∙ ap (λ (l : List Definition). flat_map of_located (located_from 0 done) ++ l) (flat_map-cons of_located r [] ∙ append-nil (of_located r)))
     ∙ sym (append_assoc (title_of s) (flat_map of_located (located_from 0 done)) (of_located r))
 
 -- all of them
-pub so_far-all : (s : Segment) (done back : List (ℕ × Record)) → s.records ≡ done ++ back → defined_in s ≡ defined_so_far s done ++ flat_map of_located (located_from (place_behind 0 done) back)
+pub so_far-all : (s : Segment) (done back : List (ℕ × Record)) → s.records ≡ done ++ back → defined_in s ≡ defined_so_far s done ++ flat_map of_located (located_from (place_after 0 done) back)
 unfolding defined_in records_with_offsets
 so_far-all s done back parts =
     ap (λ (l : List (ℕ × Record)). title_of s ++ flat_map of_located (located_from 0 l)) parts
     ∙ ap (λ (l : List Located). title_of s ++ flat_map of_located l) (located-more 0 done back)
-    ∙ ap (λ (l : List Definition). title_of s ++ l) (flat-append (located_from 0 done) (located_from (place_behind 0 done) back))
-    ∙ sym (append_assoc (title_of s) (flat_map of_located (located_from 0 done)) (flat_map of_located (located_from (place_behind 0 done) back)))
+    ∙ ap (λ (l : List Definition). title_of s ++ l) (flat-append (located_from 0 done) (located_from (place_after 0 done) back))
+    ∙ sym (append_assoc (title_of s) (flat_map of_located (located_from 0 done)) (flat_map of_located (located_from (place_after 0 done) back)))
 
 pub get_at : {A : Type 0} (xs ys : List A) (x : A) (n : ℕ) → n ≡ length xs → slice_get (xs ++ x ∷ ys) n ≡ Some x
 get_at [] ys x n is = ap (slice_get (x ∷ ys)) is
@@ -81,14 +81,14 @@ title_full s some = by_name s.fields.name some
     by_name [] some = absurd (some refl)
     by_name (b ∷ bs) some = (_, refl, refl, refl)
 
-pub untitled : (s : Segment) (number : ℕ) → s.fields.name ≡ [] → IsBehindTitle s number (Some number)
+pub untitled : (s : Segment) (number : ℕ) → s.fields.name ≡ [] → IsAfterTitle s number (Some number)
 untitled s number none = omega (arith, ap length (title_empty s none))
 
-pub titled : (s : Segment) (number left : ℕ) → (s.fields.name ≡ [] → ⊥) → number ≡ left + 1 → IsBehindTitle s number (Some left)
+pub titled : (s : Segment) (number left : ℕ) → (s.fields.name ≡ [] → ⊥) → number ≡ left + 1 → IsAfterTitle s number (Some left)
 titled s number left some is = let t = title_full s some in omega (arith, ap length t.1, is)
 
 -- the segment's name
-pub title_is : (s : Segment) (number : ℕ) (name : List ℕ) (at : ℕ) → IsBehindTitle s number None → name ≡ s.fields.name → at ≡ s.start → (d : Definition) × (slice_get (defined_in s) number ≡ Some d) × (name ≡ d.name) × (at ≡ d.at)
+pub title_is : (s : Segment) (number : ℕ) (name : List ℕ) (at : ℕ) → IsAfterTitle s number None → name ≡ s.fields.name → at ≡ s.start → (d : Definition) × (slice_get (defined_in s) number ≡ Some d) × (name ≡ d.name) × (at ≡ d.at)
 title_is s number name at is named there =
     let t = title_full s is.1 in
     let whole = so_far-all s [] s.records refl in (
@@ -98,7 +98,7 @@ title_is s number name at is named there =
       there ∙ sym t.3,
     )
 
-pub counting_all : (s : Segment) (number left : ℕ) (at : Reader) → IsBehindTitle s number (Some left) → Coming at s.records → Counting s number left at
+pub counting_all : (s : Segment) (number left : ℕ) (at : Reader) → IsAfterTitle s number (Some left) → Coming at s.records → Counting s number left at
 counting_all s number left at is coming = record { done = []; back = s.records; parts = refl; coming = coming; count = omega (arith, is, length-append (title_of s) []) }
 
 -- a record that defines nothing
@@ -109,7 +109,7 @@ counting_more s number left at after found more c back coming none = record {
   back = more;
   parts = c.parts ∙ ap (λ (l : List (ℕ × Record)). c.done ++ l) back ∙ sym (append_assoc c.done (found ∷ []) more);
   coming = coming;
-  count = omega (arith, c.count, ap length (so_far-more s c.done found), length-append (defined_so_far s c.done) (defined_by found.0 (place_behind 0 c.done) found.1), ap length (none (place_behind 0 c.done)));
+  count = omega (arith, c.count, ap length (so_far-more s c.done found), length-append (defined_so_far s c.done) (defined_by found.0 (place_after 0 c.done) found.1), ap length (none (place_after 0 c.done)));
 }
 
 -- one that defines a name, behind which numbers are left
@@ -120,15 +120,15 @@ counting_named s number left rest at after found more name c less back coming so
   back = more;
   parts = c.parts ∙ ap (λ (l : List (ℕ × Record)). c.done ++ l) back ∙ sym (append_assoc c.done (found ∷ []) more);
   coming = coming;
-  count = omega (arith, c.count, ap length (so_far-more s c.done found), length-append (defined_so_far s c.done) (defined_by found.0 (place_behind 0 c.done) found.1), ap length (some (place_behind 0 c.done)).1, less);
+  count = omega (arith, c.count, ap length (so_far-more s c.done found), length-append (defined_so_far s c.done) (defined_by found.0 (place_after 0 c.done) found.1), ap length (some (place_after 0 c.done)).1, less);
 }
 
 -- the one with the number
 pub counted : (s : Segment) (number left : ℕ) (at : Reader) (found : ℕ × Record) (more : List (ℕ × Record)) (name : List ℕ) (c : Counting s number left at) → left ≡ 0 → c.back ≡ found ∷ more
     → ((loc : ℕ) → DefinesName found.0 (defined_by found.0 loc found.1) (Some name)) → (d : Definition) × (slice_get (defined_in s) number ≡ Some d) × (name ≡ d.name) × (found.0 ≡ d.at)
 counted s number left at found more name c none back some =
-    let own = some (place_behind 0 c.done) in
-    let loc = place_behind 0 c.done in
+    let own = some (place_after 0 c.done) in
+    let loc = place_after 0 c.done in
     let rest = flat_map of_located (located_from (loc + size_at loc found.1) more) in
     let whole : defined_in s ≡ defined_so_far s c.done ++ own.0 ∷ rest =
     so_far-all s c.done (found ∷ more) (c.parts ∙ ap (λ (l : List (ℕ × Record)). c.done ++ l) back)
@@ -224,23 +224,23 @@ member_is list number place left c m back is =
     ap (λ (n : ℕ). member_at list (n + 1)) c.place' ∙ parts_there list c.front m back (c.parts ∙ ap (λ (l : List Member). c.front ++ l) is)
 
 -- a member without the number
-pub ring_step : (list : List Member) (number place left rest : ℕ) (s : Segment) → CountsTo list number place left → place < length list → Some s ≡ option_map (λ (o : Member). o.segment) (member_at list (place + 1))
+pub cycle_step : (list : List Member) (number place left rest : ℕ) (s : Segment) → CountsTo list number place left → place < length list → Some s ≡ option_map (λ (o : Member). o.segment) (member_at list (place + 1))
     → left ≡ length (defined_in s) + rest → CountsTo list number (place + 1) rest
-ring_step list number place left rest s c less shown size =
+cycle_step list number place left rest s c less shown size =
     let n = next_member list number place left c less in
     let same = segment_is list (place + 1) n.0 s (member_is list number place left c n.0 n.1 n.2) shown in
     counts_more list number place left rest c n.0 n.1 n.2 (size ∙ ap (λ (t : Segment). length (defined_in t) + rest) same)
 
 -- the member with it
-pub ring_here : (list : List Member) (number place left : ℕ) (s : Segment) (name : List ℕ) (at : ℕ) (fault : LinkFault) → CountsTo list number place left → place < length list
+pub cycle_here : (list : List Member) (number place left : ℕ) (s : Segment) (name : List ℕ) (at : ℕ) (fault : LinkFault) → CountsTo list number place left → place < length list
     → Some s ≡ option_map (λ (o : Member). o.segment) (member_at list (place + 1)) → (d : Definition) × (slice_get (defined_in s) left ≡ Some d) × (name ≡ d.name) × (at ≡ d.at)
     → ((m : Member) → member_at list (place + 1) ≡ Some m → (fault ≡ memory_fault) ⊎ (fault ≡ record { cause = Circular; name = Some name; spot = spot_in m at })) → IsCircularAt list number fault
-ring_here list number place left s name at fault c less shown d told e entry =
+cycle_here list number place left s name at fault c less shown d reported e entry =
     let n = next_member list number place left c less in
     let there = member_is list number place left c n.0 n.1 n.2 in
     let same = segment_is list (place + 1) n.0 s there shown in
     let here = counts_there list number place left c n.0 n.1 d.0 n.2 (subst (λ (t : Segment). slice_get (defined_in t) left ≡ Some d.0) same d.1) in
-    by_fault e (same_found (record { place = 1 + length c.front; member = n.0; definition = d.0 }) e (sym here ∙ entry)) (told n.0 there)
+    by_fault e (same_found (record { place = 1 + length c.front; member = n.0; definition = d.0 }) e (sym here ∙ entry)) (reported n.0 there)
   where
     same_found : (x y : FoundDefinition) → Some x ≡ Some y → x ≡ y
     same_found x y e = cc
@@ -252,5 +252,5 @@ ring_here list number place left s name at fault c less shown d told e entry =
         → (fault ≡ memory_fault) ⊎ (fault ≡ record { cause = Circular; name = Some name; spot = spot_in (next_member list number place left c less).0 at })
         → (fault ≡ memory_fault) ⊎ (fault ≡ record { cause = Circular; name = Some e.definition.name; spot = spot_in e.member e.definition.at })
     by_fault e is (inl memory) = inl memory
-    by_fault e is (inr told) = inr (told ∙ ap (λ (n : List ℕ). fault_by n (spot_in (next_member list number place left c less).0 at)) d.2 ∙ ap (λ (n : ℕ). fault_by d.0.name (spot_in (next_member list number place left c less).0 n)) d.3
+    by_fault e is (inr reported) = inr (reported ∙ ap (λ (n : List ℕ). fault_by n (spot_in (next_member list number place left c less).0 at)) d.2 ∙ ap (λ (n : ℕ). fault_by d.0.name (spot_in (next_member list number place left c less).0 n)) d.3
         ∙ ap (λ (f : FoundDefinition). fault_by f.definition.name (spot_in f.member f.definition.at)) is)

@@ -19,7 +19,7 @@ use Rattle.link_meaning.specs.Uses.{Use, used_by_term, used_by, uses_of}
 use Rattle.link_meaning.specs.Search.{FoundDefinition, entries, finds}
 use Rattle.link_meaning.specs.LinkedList.{asked_from, all_uses, found_for}
 use Rattle.link_meaning.specs.Layout.{load_names, offset_of}
-use Rattle.link_meaning.specs.Rings.{has_expr}
+use Rattle.link_meaning.specs.Cycles.{has_expr}
 use Rattle.link_meaning.specs.LinkValues.{place_value}
 use Rattle.link_meaning.specs.LinkFaults.{use_cause}
 use Rattle.link_meaning.specs.laws.PlaceFits.{IsPlaceIn, place_fits, entry_there, offset-le, short_load, name_there, in_parts, in-append}

@@ -13,10 +13,10 @@ use Rattle.object_meaning.specs.Terms.{asks_value, asked_by, asked_in}
 use Rattle.object_meaning.specs.laws.TreeInLaws.{tree_in-again}
 use Rattle.link_meaning.specs.Search.{FoundDefinition, entries, finds}
 use Rattle.link_program.specs.Outside.{all_found}
-use Rattle.link_meaning.specs.Rings.{is_equate, names_in}
+use Rattle.link_meaning.specs.Cycles.{is_equate, names_in}
 use Rattle.link_program.specs.Linked.{member_at}
 use Rattle.link_program.specs.Finding.{IsFirstOf, finds_for}
-use Rattle.cycles.specs.Graphs as rings
+use Rattle.cycles.specs.Graphs as cycle_order
 use Rattle.link_values.specs.declared.slots.ValueSlot.{ValueSlot}
 use Rattle.link_values.specs.declared.slots.ValueSlot.TheVariants.{Open, Done}
 use Rattle.link_values.specs.Equates.{AreFirstSlots, IsOpen, IsRow, NameRow, FindOne}
@@ -46,16 +46,16 @@ asked_terms l p (Unary code a) =
     ∙ sym (flat-append (placed_terms l p (terms_of a)) (placed_terms l (p + length (terms_text l (terms_of a))) (Operator code ∷ [])))
     ∙ ap (flat_map asks) (sym (placed-append l p (terms_of a) (Operator code ∷ [])))
 asked_terms l p (Binary code a b) =
-    let behind = p + length (terms_text l (terms_of a)) in
-    let last = behind + length (terms_text l (terms_of b)) in
-    let right : asked_by b ≡ flat_map asks (placed_terms l behind (terms_of b ++ Operator code ∷ [])) =
-    asked_terms l behind b
-    ∙ sym (append-nil (flat_map asks (placed_terms l behind (terms_of b))))
-    ∙ sym (flat-append (placed_terms l behind (terms_of b)) (placed_terms l last (Operator code ∷ [])))
-    ∙ ap (flat_map asks) (sym (placed-append l behind (terms_of b) (Operator code ∷ []))) in
+    let following = p + length (terms_text l (terms_of a)) in
+    let last = following + length (terms_text l (terms_of b)) in
+    let right : asked_by b ≡ flat_map asks (placed_terms l following (terms_of b ++ Operator code ∷ [])) =
+    asked_terms l following b
+    ∙ sym (append-nil (flat_map asks (placed_terms l following (terms_of b))))
+    ∙ sym (flat-append (placed_terms l following (terms_of b)) (placed_terms l last (Operator code ∷ [])))
+    ∙ ap (flat_map asks) (sym (placed-append l following (terms_of b) (Operator code ∷ []))) in
     ap (λ (x : List (List ℕ)). x ++ asked_by b) (asked_terms l p a)
     ∙ ap (λ (x : List (List ℕ)). flat_map asks (placed_terms l p (terms_of a)) ++ x) right
-    ∙ sym (flat-append (placed_terms l p (terms_of a)) (placed_terms l behind (terms_of b ++ Operator code ∷ [])))
+    ∙ sym (flat-append (placed_terms l p (terms_of a)) (placed_terms l following (terms_of b ++ Operator code ∷ [])))
     ∙ ap (flat_map asks) (sym (placed-append l p (terms_of a) (terms_of b ++ Operator code ∷ [])))
 
 pub names_are : (l : ℕ) (text : List ℕ) (t : Tree) → Spells l text t → names_in l (Some text) ≡ flat_map (λ placed. asks_value placed.1) (terms_in l 0 text)
@@ -81,16 +81,16 @@ in_pushed (z ∷ xs) y x (inr more) = elim (in_pushed xs y x more) [
   | inr h ↦ inr h
 ]
 
-row_front : (xs : List ℕ) (n x : ℕ) → rings.IsIn xs x → rings.IsIn (xs ++ n ∷ []) x
+row_front : (xs : List ℕ) (n x : ℕ) → cycle_order.IsIn xs x → cycle_order.IsIn (xs ++ n ∷ []) x
 row_front [] n x is = absurd is
 row_front (y ∷ xs) n x (inl e) = inl e
 row_front (y ∷ xs) n x (inr more) = inr (row_front xs n x more)
 
-row_last : (xs : List ℕ) (n : ℕ) → rings.IsIn (xs ++ n ∷ []) n
+row_last : (xs : List ℕ) (n : ℕ) → cycle_order.IsIn (xs ++ n ∷ []) n
 row_last [] n = inl refl
 row_last (y ∷ xs) n = inr (row_last xs n)
 
-row_pushed : (xs : List ℕ) (n x : ℕ) → rings.IsIn (xs ++ n ∷ []) x → rings.IsIn xs x ⊎ (n ≡ x)
+row_pushed : (xs : List ℕ) (n x : ℕ) → cycle_order.IsIn (xs ++ n ∷ []) x → cycle_order.IsIn xs x ⊎ (n ≡ x)
 row_pushed [] n x (inl e) = inr e
 row_pushed [] n x (inr more) = absurd more
 row_pushed (z ∷ xs) n x (inl e) = inl (inl e)
@@ -99,7 +99,7 @@ row_pushed (z ∷ xs) n x (inr more) = elim (row_pushed xs n x more) [
   | inr h ↦ inr h
 ]
 
-more_sound : (list : List Member) (place : ℕ) (m : Member) (names : List (List ℕ)) (name : List ℕ) (row : List ℕ) → NameRow list place m names row → (k : ℕ) → rings.IsIn row k
+more_sound : (list : List Member) (place : ℕ) (m : Member) (names : List (List ℕ)) (name : List ℕ) (row : List ℕ) → NameRow list place m names row → (k : ℕ) → cycle_order.IsIn row k
     → (f : FoundDefinition) × (slice_get (all_found list) k ≡ Some f) × ((other : List ℕ) × IsIn (names ++ name ∷ []) other × IsIn (finds list place m other) f) × (is_equate f ≡ true)
 more_sound list place m names name row is k there =
     let s = is.sound k there in
@@ -124,11 +124,11 @@ name_with list place m names name row n f at equate found one is = record {
   whole = λ g other asked finds' equate'. by_whole g other finds' equate' (in_pushed names name other asked);
 }
   where
-    by_sound : (k : ℕ) → rings.IsIn row k ⊎ (n ≡ k) → (f : FoundDefinition) × (slice_get (all_found list) k ≡ Some f) × ((other : List ℕ) × IsIn (names ++ name ∷ []) other × IsIn (finds list place m other) f) × (is_equate f ≡ true)
+    by_sound : (k : ℕ) → cycle_order.IsIn row k ⊎ (n ≡ k) → (f : FoundDefinition) × (slice_get (all_found list) k ≡ Some f) × ((other : List ℕ) × IsIn (names ++ name ∷ []) other × IsIn (finds list place m other) f) × (is_equate f ≡ true)
     by_sound k (inl h) = more_sound list place m names name row is k h
     by_sound k (inr e) = (f, subst (λ (x : ℕ). slice_get (all_found list) x ≡ Some f) e at, (name, in_right names (name ∷ []) name (inl refl), found), equate)
 
-    by_whole : (g : FoundDefinition) (other : List ℕ) → IsIn (finds list place m other) g → is_equate g ≡ true → IsIn names other ⊎ (name ≡ other) → (k : ℕ) × rings.IsIn (row ++ n ∷ []) k × (slice_get (all_found list) k ≡ Some g)
+    by_whole : (g : FoundDefinition) (other : List ℕ) → IsIn (finds list place m other) g → is_equate g ≡ true → IsIn names other ⊎ (name ≡ other) → (k : ℕ) × cycle_order.IsIn (row ++ n ∷ []) k × (slice_get (all_found list) k ≡ Some g)
     by_whole g other finds' equate' (inl h) = let w = is.whole g other h finds' equate' in (w.0, row_front row n w.0 w.1, w.2)
     by_whole g other finds' equate' (inr e) =
         let same : f ≡ g = one g (subst (λ (x : List ℕ). IsIn (finds list place m x) g) (sym e) finds') in

@@ -7,8 +7,8 @@ use Rattle.omf_format.specs.declared.value.ValueFault.{ValueFault}
 use Rattle.omf_format.specs.declared.value.ValueFault.TheVariants.{NotRelocatable}
 use Rattle.link_meaning.specs.Member.{Member}
 use Rattle.link_meaning.specs.Search.{FoundDefinition}
-use Rattle.link_meaning.specs.Rings.{has_expr, is_equate}
-use Rattle.link_meaning.specs.LinkValues.{Told, value_of_definition, found_value, if_ok, label_value}
+use Rattle.link_meaning.specs.Cycles.{has_expr, is_equate}
+use Rattle.link_meaning.specs.LinkValues.{EquateAnswer, value_of_definition, found_value, if_ok, label_value}
 use Rattle.link_values.specs.declared.slots.ValueSlot.{ValueSlot}
 use Rattle.link_values.specs.declared.slots.ValueSlot.TheVariants.{Open, Done, Failed}
 use Rattle.link_values.specs.Slots.{answer_of, value_of, row_of, rows_of, label_place, AreSlots, AreOnce}
@@ -28,7 +28,7 @@ abbrev has_key : FoundDefinition → ℕ → ℕ → Bool
 has_key g place at = eqb g.place place && eqb g.definition.at at
 
 -- a row that isn't the equate's is passed over
-passed : (g : FoundDefinition) (answer : Option (Result Value ValueFault)) (rows : List Told) (place at : ℕ) → (is_equate g ≡ true → has_key g place at ≡ true → ⊥) → value_of_definition (row_of g answer ++ rows) place at ≡ value_of_definition rows place at
+passed : (g : FoundDefinition) (answer : Option (Result Value ValueFault)) (rows : List EquateAnswer) (place at : ℕ) → (is_equate g ≡ true → has_key g place at ≡ true → ⊥) → value_of_definition (row_of g answer ++ rows) place at ≡ value_of_definition rows place at
 passed g None rows place at other = refl
 passed g (Some answer) rows place at other = by_test (is_equate g) refl
   where
@@ -46,7 +46,7 @@ absent (f ∷ fs) [] place at none = refl
 absent (f ∷ fs) (slot ∷ slots) place at none =
     passed f (answer_of slot) (rows_of fs slots) place at (none 0 f refl) ∙ absent fs slots place at (λ k h there. none (suc k) h there)
 
-own_row : (f : FoundDefinition) (answer : Option (Result Value ValueFault)) (rows : List Told) → is_equate f ≡ true → value_of_definition rows f.place f.definition.at ≡ Err NotRelocatable → value_of_definition (row_of f answer ++ rows) f.place f.definition.at ≡ or_open answer
+own_row : (f : FoundDefinition) (answer : Option (Result Value ValueFault)) (rows : List EquateAnswer) → is_equate f ≡ true → value_of_definition rows f.place f.definition.at ≡ Err NotRelocatable → value_of_definition (row_of f answer ++ rows) f.place f.definition.at ≡ or_open answer
 own_row f None rows is none = none
 own_row f (Some answer) rows is none =
     let key : has_key f f.place f.definition.at ≡ true = and_from _ _ (eq-eqb f.place f.place refl) (eq-eqb f.definition.at f.definition.at refl) in
@@ -61,11 +61,11 @@ keys e place at is =
 once_rest : (g : FoundDefinition) (fs : List FoundDefinition) → AreOnce (g ∷ fs) → AreOnce fs
 once_rest g fs once i j e f here there p q place at = omega (arith, once (suc i) (suc j) e f here there p q place at)
 
-pub told_rows : (fs : List FoundDefinition) (slots : List ValueSlot) (n : ℕ) (f : FoundDefinition) (s : ValueSlot) → AreOnce fs → slice_get fs n ≡ Some f → slice_get slots n ≡ Some s → is_equate f ≡ true
+pub row_views : (fs : List FoundDefinition) (slots : List ValueSlot) (n : ℕ) (f : FoundDefinition) (s : ValueSlot) → AreOnce fs → slice_get fs n ≡ Some f → slice_get slots n ≡ Some s → is_equate f ≡ true
     → value_of_definition (rows_of fs slots) f.place f.definition.at ≡ or_open (answer_of s)
-told_rows [] slots n f s once here there is = absurd cc
-told_rows (g ∷ fs) [] n f s once here there is = absurd cc
-told_rows (g ∷ fs) (t ∷ slots) zero f s once here there is =
+row_views [] slots n f s once here there is = absurd cc
+row_views (g ∷ fs) [] n f s once here there is = absurd cc
+row_views (g ∷ fs) (t ∷ slots) zero f s once here there is =
     let same : g ≡ f = some_found g f here in
     let slot : t ≡ s = some_slot t s there in
     let none = absent fs slots f.place f.definition.at (λ k h at_k equate key.
@@ -74,11 +74,11 @@ told_rows (g ∷ fs) (t ∷ slots) zero f s once here there is =
     ap (λ (x : FoundDefinition). value_of_definition (row_of x (answer_of t) ++ rows_of fs slots) f.place f.definition.at) same
     ∙ own_row f (answer_of t) (rows_of fs slots) is none
     ∙ ap (λ (x : ValueSlot). or_open (answer_of x)) slot
-told_rows (g ∷ fs) (t ∷ slots) (suc k) f s once here there is =
+row_views (g ∷ fs) (t ∷ slots) (suc k) f s once here there is =
     passed g (answer_of t) (rows_of fs slots) f.place f.definition.at (λ equate key.
     let both = keys g f.place f.definition.at key in
     omega (arith, once 0 (suc k) g f refl here equate is both.0 both.1))
-    ∙ told_rows fs slots k f s (once_rest g fs once) here there is
+    ∙ row_views fs slots k f s (once_rest g fs once) here there is
 
 -- the slot of a label has its place
 pub label_slot : (list : List Member) (fs : List FoundDefinition) (slots : List ValueSlot) (n : ℕ) (f : FoundDefinition) (s : ValueSlot) → AreSlots list fs slots → slice_get fs n ≡ Some f → slice_get slots n ≡ Some s → is_equate f ≡ false
@@ -91,10 +91,10 @@ label_slot list (g ∷ fs) (t ∷ slots) zero f s are here there is =
     sym slot ∙ are.0 (ap is_equate same ∙ is) ∙ ap (λ (x : FoundDefinition). Done (label_place list x)) same
 label_slot list (g ∷ fs) (t ∷ slots) (suc k) f s are here there is = label_slot list fs slots k f s are.1 here there is
 
-told_value : (s : ValueSlot) → if_ok (or_open (answer_of s)) ≡ value_of s
-told_value Open = refl
-told_value (Done v) = refl
-told_value (Failed fault) = refl
+reported_value : (s : ValueSlot) → if_ok (or_open (answer_of s)) ≡ value_of s
+reported_value Open = refl
+reported_value (Done v) = refl
+reported_value (Failed fault) = refl
 
 -- what a name that found it stands for
 pub found_slot : (list : List Member) (fs : List FoundDefinition) (slots : List ValueSlot) (n : ℕ) (f : FoundDefinition) (s : ValueSlot) → AreOnce fs → AreSlots list fs slots → slice_get fs n ≡ Some f → slice_get slots n ≡ Some s
@@ -104,7 +104,7 @@ found_slot list fs slots n f s once are here there = by_expr f.definition.expr r
     by_expr : (x : Option (List ℕ)) → f.definition.expr ≡ x
         → if_ok (elim x as (λ y. Result Value ValueFault) [ None ↦ Ok (label_place list f) | Some text ↦ value_of_definition (rows_of fs slots) f.place f.definition.at ]) ≡ value_of s
     by_expr None is = sym (ap value_of (label_slot list fs slots n f s are here there (ap has_expr is)))
-    by_expr (Some text) is = ap if_ok (told_rows fs slots n f s once here there (ap has_expr is)) ∙ told_value s
+    by_expr (Some text) is = ap if_ok (row_views fs slots n f s once here there (ap has_expr is)) ∙ reported_value s
 
 -- each definition has a slot
 pub has_slot : (list : List Member) (fs : List FoundDefinition) (slots : List ValueSlot) (n : ℕ) (f : FoundDefinition) → AreSlots list fs slots → slice_get fs n ≡ Some f → (s : ValueSlot) × (slice_get slots n ≡ Some s)

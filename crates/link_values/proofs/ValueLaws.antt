@@ -14,17 +14,17 @@ use Rattle.object_meaning.specs.Terms.{tree_in, term_at}
 use Rattle.object_meaning.specs.laws.TreeInLaws.{tree_in-again}
 use Rattle.link_meaning.specs.Search.{FoundDefinition, finds}
 use Rattle.link_program.specs.Outside.{all_found}
-use Rattle.link_meaning.specs.Rings.{has_expr, is_equate}
-use Rattle.link_meaning.specs.LinkValues.{Told, value_of_definition, place_value, member_environment, found_value, fault_found, fault_named, value_or_equate_fault, tree_value, value_in}
+use Rattle.link_meaning.specs.Cycles.{has_expr, is_equate}
+use Rattle.link_meaning.specs.LinkValues.{EquateAnswer, value_of_definition, place_value, member_environment, found_value, fault_found, fault_named, value_or_equate_fault, tree_value, value_in}
 use Rattle.link_program.specs.Linked.{member_at}
 use Rattle.link_program.specs.Finding.{IsFirstOf, finds_for}
 use Rattle.link_values.specs.declared.member_place.MemberPlace.{MemberPlace}
 use Rattle.link_values.specs.declared.slots.ValueSlot.{ValueSlot}
 use Rattle.link_values.specs.Slots.{answer_of, label_place, AreOnce, AreSlots, rows_of}
-use Rattle.link_values.specs.Seats.{IsSeat, environment_in_member, Surroundings, environment_of}
-use Rattle.link_values.specs.Told.{operand, operand_in}
-use Rattle.link_values.proofs.SeatLaws.{meets_there}
-use Rattle.link_values.proofs.SlotLaws.{or_open, told_rows, label_slot}
+use Rattle.link_values.specs.MemberPlaces.{IsMemberPlace, environment_in_member, Surroundings, environment_of}
+use Rattle.link_values.specs.Operands.{operand, operand_in}
+use Rattle.link_values.proofs.MemberPlaceLaws.{meets_there}
+use Rattle.link_values.proofs.SlotLaws.{or_open, row_views, label_slot}
 
 -- ---- operands by their places
 
@@ -72,17 +72,17 @@ operand_tree l at p (Unary code a) is =
     ∙ or_none (operand_in at (placed_terms l p (terms_of a)))
     ∙ operand_tree l at p a is.2
 operand_tree l at p (Binary code a b) is =
-    let behind = p + length (terms_text l (terms_of a)) in
-    let last = behind + length (terms_text l (terms_of b)) in
+    let following = p + length (terms_text l (terms_of a)) in
+    let last = following + length (terms_text l (terms_of b)) in
     ap (operand_in at) (placed-append l p (terms_of a) (terms_of b ++ Operator code ∷ []))
-    ∙ operand_in-append at (placed_terms l p (terms_of a)) (placed_terms l behind (terms_of b ++ Operator code ∷ []))
+    ∙ operand_in-append at (placed_terms l p (terms_of a)) (placed_terms l following (terms_of b ++ Operator code ∷ []))
     ∙ ap (option_or (operand_in at (placed_terms l p (terms_of a))))
-    (ap (operand_in at) (placed-append l behind (terms_of b) (Operator code ∷ []))
-    ∙ operand_in-append at (placed_terms l behind (terms_of b)) (placed_terms l last (Operator code ∷ []))
-    ∙ ap (option_or (operand_in at (placed_terms l behind (terms_of b)))) (no_operator at last code)
-    ∙ or_none (operand_in at (placed_terms l behind (terms_of b)))
-    ∙ operand_tree l at behind b is.3)
-    ∙ ap (λ (o : Option Term). option_or o (term_at l at behind b)) (operand_tree l at p a is.2)
+    (ap (operand_in at) (placed-append l following (terms_of b) (Operator code ∷ []))
+    ∙ operand_in-append at (placed_terms l following (terms_of b)) (placed_terms l last (Operator code ∷ []))
+    ∙ ap (option_or (operand_in at (placed_terms l following (terms_of b)))) (no_operator at last code)
+    ∙ or_none (operand_in at (placed_terms l following (terms_of b)))
+    ∙ operand_tree l at following b is.3)
+    ∙ ap (λ (o : Option Term). option_or o (term_at l at following b)) (operand_tree l at p a is.2)
 
 pub operand_is : (l at : ℕ) (text : List ℕ) (t : Tree) → Spells l text t → operand_in at (terms_in l 0 text) ≡ term_at l at 0 t
 operand_is l at text t spells = ap (operand_in at) (terms_are l text t spells) ∙ operand_tree l at 0 t spells.formed
@@ -103,7 +103,7 @@ module _ (list : List Member) (all : List FoundDefinition) (slots : List ValueSl
       by_expr : (x : Option (List ℕ)) → f.definition.expr ≡ x
           → fault_in (elim x as (λ y. Result Value ValueFault) [ None ↦ Ok (label_place list f) | Some text ↦ value_of_definition (rows_of all slots) f.place f.definition.at ]) fault ≡ fault_in (or_open (answer_of s)) fault
       by_expr None e = absurd (true_false (sym is ∙ ap has_expr e))
-      by_expr (Some text) e = ap (λ (r : Result Value ValueFault). fault_in r fault) (told_rows all slots n f s once here there is)
+      by_expr (Some text) e = ap (λ (r : Result Value ValueFault). fault_in r fault) (row_views all slots n f s once here there is)
 
   label_says : (f : FoundDefinition) (s : ValueSlot) → slice_get all n ≡ Some f → slice_get slots n ≡ Some s → is_equate f ≡ false → fault_in (found_value list (rows_of all slots) f) fault ≡ fault_in (or_open (answer_of s)) fault
   label_says f s here there is = by_expr f.definition.expr refl
@@ -126,17 +126,17 @@ module _ (list : List Member) (all : List FoundDefinition) (slots : List ValueSl
 
 -- ---- values
 
-pub value_settled : (list : List Member) (slots : List ValueSlot) (seat : MemberPlace) (m : Member) (location : ℕ) (here start : Value) (text : List ℕ) (t : Tree) (r : Result Value ValueFault) → IsSeat list m seat
-    → here ≡ place_value list seat.place m location → start ≡ place_value list seat.place m 0 → Spells seat.lab_len text t → r ≡ value (environment_in_member list slots seat.place (member_at list seat.place) here start) seat.lab_len 0 t
-    → value_or_equate_fault list (rows_of (all_found list) slots) seat.place m t r ≡ value_in list (rows_of (all_found list) slots) seat.place m location text
+pub value_settled : (list : List Member) (slots : List ValueSlot) (member_place : MemberPlace) (m : Member) (location : ℕ) (here start : Value) (text : List ℕ) (t : Tree) (r : Result Value ValueFault) → IsMemberPlace list m member_place
+    → here ≡ place_value list member_place.place m location → start ≡ place_value list member_place.place m 0 → Spells member_place.lab_len text t → r ≡ value (environment_in_member list slots member_place.place (member_at list member_place.place) here start) member_place.lab_len 0 t
+    → value_or_equate_fault list (rows_of (all_found list) slots) member_place.place m t r ≡ value_in list (rows_of (all_found list) slots) member_place.place m location text
 unfolding value_in
-value_settled list slots seat m location here start text t r is here_is start_is spells value_is =
+value_settled list slots member_place m location here start text t r is here_is start_is spells value_is =
     let rows = rows_of (all_found list) slots in
     let tree : tree_in m.segment.fields.lab_len text ≡ Some t = tree_in-again m.segment.fields.lab_len text t (subst (λ (l : ℕ). Spells l text t) is.lab_len' spells) in
-    ap (value_or_equate_fault list rows seat.place m t) (value_is
-    ∙ ap (λ (e : Environment). value e seat.lab_len 0 t) (meets_there list slots seat.place m location here start is.there here_is start_is)
-    ∙ ap (λ (l : ℕ). value (member_environment list rows seat.place m location) l 0 t) is.lab_len')
-    ∙ sym (ap (tree_value list rows seat.place m location) tree)
+    ap (value_or_equate_fault list rows member_place.place m t) (value_is
+    ∙ ap (λ (e : Environment). value e member_place.lab_len 0 t) (meets_there list slots member_place.place m location here start is.there here_is start_is)
+    ∙ ap (λ (l : ℕ). value (member_environment list rows member_place.place m location) l 0 t) is.lab_len')
+    ∙ sym (ap (tree_value list rows member_place.place m location) tree)
 
 -- the value in the environment of a place
 pub evaluated : (e : Expression) (s : Surroundings) (l : ℕ) (text : List ℕ) (list : List Member) (slots : List ValueSlot) (place : ℕ) (here start : Value) (t : Tree) (r : Result Value ValueFault) → e ≡ record { text = text; lab_len = l }
@@ -148,15 +148,15 @@ evaluated e s l text list slots place here start t r e_is s_is go spells =
     ∙ ap (λ (x : Surroundings). value (environment_of x) l 0 t) s_is
 
 -- the fault of the operand at a place
-pub asked_fault : (list : List Member) (rows : List Told) (place : ℕ) (m : Member) (fault : ValueFault) (l at : ℕ) (text : List ℕ) (t : Tree) (o : Option Term) → Spells l text t → o ≡ operand_in at (terms_in l 0 text)
+pub asked_fault : (list : List Member) (rows : List EquateAnswer) (place : ℕ) (m : Member) (fault : ValueFault) (l at : ℕ) (text : List ℕ) (t : Tree) (o : Option Term) → Spells l text t → o ≡ operand_in at (terms_in l 0 text)
     → fault_named list rows place m fault o ≡ fault_named list rows place m fault (term_at l at 0 t)
 asked_fault list rows place m fault l at text t o spells is = ap (fault_named list rows place m fault) (is ∙ operand_is l at text t spells)
 
-pub named_fault : (list : List Member) (rows : List Told) (place code : ℕ) (m : Member) (name : List ℕ) (fault : ValueFault) → member_at list place ≡ Some m → code ≤ 0x83
+pub named_fault : (list : List Member) (rows : List EquateAnswer) (place code : ℕ) (m : Member) (name : List ℕ) (fault : ValueFault) → member_at list place ≡ Some m → code ≤ 0x83
     → fault_found list rows fault (finds_for list place (member_at list place) name) ≡ fault_named list rows place m fault (Some (Named code name))
 named_fault list rows place code m name fault there le =
     ap (λ (o : Option Member). fault_found list rows fault (finds_for list place o name)) there
     ∙ sym (ap (λ (b : Bool). cond b (fault_found list rows fault (finds list place m name)) fault) (le-leb code 0x83 le))
 
-pub other_fault : (list : List Member) (rows : List Told) (place code : ℕ) (m : Member) (name : List ℕ) (fault : ValueFault) → 0x83 < code → fault ≡ fault_named list rows place m fault (Some (Named code name))
+pub other_fault : (list : List Member) (rows : List EquateAnswer) (place code : ℕ) (m : Member) (name : List ℕ) (fault : ValueFault) → 0x83 < code → fault ≡ fault_named list rows place m fault (Some (Named code name))
 other_fault list rows place code m name fault lt = sym (ap (λ (b : Bool). cond b (fault_found list rows fault (finds list place m name)) fault) (lt-leb code 0x83 lt))

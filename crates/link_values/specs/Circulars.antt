@@ -21,9 +21,9 @@ DefinesName at ds None = ds ≡ []
 DefinesName at ds (Some name) = (d : Definition) × (ds ≡ d ∷ []) × (d.name ≡ name) × (d.at ≡ at)
 
 -- the number is that of the segment's name; or so many are left behind it
-abbrev pub IsBehindTitle : Segment → ℕ → Option ℕ → Type 0
-IsBehindTitle s number None = (number ≡ 0) × (s.fields.name ≡ [] → ⊥)
-IsBehindTitle s number (Some left) = number ≡ length (title_of s) + left
+abbrev pub IsAfterTitle : Segment → ℕ → Option ℕ → Type 0
+IsAfterTitle s number None = (number ≡ 0) × (s.fields.name ≡ [] → ⊥)
+IsAfterTitle s number (Some left) = number ≡ length (title_of s) + left
 
 -- the definition with a number, from 0: its name and displacement; or how many numbers are left behind the last
 abbrev pub IsNth : List Definition → ℕ → Result (Bor (List ℕ) × ℕ) ℕ → Type 0

@@ -7,17 +7,17 @@ use Rattle.link_meaning.specs.First.{IsIn, IsFirst}
 use Rattle.link_meaning.specs.Member.{Member}
 use Rattle.link_meaning.specs.Search.{FoundDefinition, finds}
 use Rattle.link_program.specs.Outside.{all_found}
-use Rattle.link_meaning.specs.Rings.{is_equate, equates, LeadsTo}
+use Rattle.link_meaning.specs.Cycles.{is_equate, equates, LeadsTo}
 use Rattle.link_meaning.specs.LinkValues.{IsTable}
 use Rattle.link_meaning.specs.EquateValues.{HasValue}
-use Rattle.link_meaning.specs.EmitFaults.{HasRingFault}
+use Rattle.link_meaning.specs.EmitFaults.{HasCycleFault}
 use Rattle.link_program.specs.Memory.{memory_fault}
 use Rattle.link_values.specs.declared.slots.ValueSlot.{ValueSlot}
 use Rattle.link_values.specs.declared.slots.ValueSlot.TheVariants.{Open, Done, Failed}
 use Rattle.cycles.specs.Graphs.{row_at}
-use Rattle.cycles.specs.Graphs as rings
+use Rattle.cycles.specs.Graphs as cycle_order
 use Rattle.link_values.specs.Slots.{answer_of, rows_of, label_place}
-use Rattle.link_values.specs.Seats.{AreKnown}
+use Rattle.link_values.specs.MemberPlaces.{AreKnown}
 
 -- a definition's slot at first: a label has its place, and an equate is open
 pub record IsFirstSlot (list : List Member) (f : FoundDefinition) (slot : ValueSlot) : Type 0 where
@@ -46,8 +46,8 @@ pub record AreTrue (list : List Member) (slots : List ValueSlot) : Type 0 where
 
 -- the numbers of the equates to which this one leads
 pub record IsRow (list : List Member) (e : FoundDefinition) (row : List ℕ) : Type 0 where
-  pub sound : (k : ℕ) → rings.IsIn row k → (f : FoundDefinition) × (slice_get (all_found list) k ≡ Some f) × LeadsTo list e f
-  pub whole : (f : FoundDefinition) → LeadsTo list e f → (k : ℕ) × rings.IsIn row k × (slice_get (all_found list) k ≡ Some f)
+  pub sound : (k : ℕ) → cycle_order.IsIn row k → (f : FoundDefinition) × (slice_get (all_found list) k ≡ Some f) × LeadsTo list e f
+  pub whole : (f : FoundDefinition) → LeadsTo list e f → (k : ℕ) × cycle_order.IsIn row k × (slice_get (all_found list) k ≡ Some f)
 
 abbrev pub AreRows : List Member → List FoundDefinition → List (List ℕ) → Type 0
 AreRows list [] [] = Unit {0}
@@ -57,7 +57,7 @@ AreRows list (f ∷ fs) (row ∷ rows) = IsRow list f row × AreRows list fs row
 
 -- no slot is open whose equate leads to none that is
 abbrev pub AreSettled : List (List ℕ) → List ValueSlot → Type 0
-AreSettled rows slots = (k : ℕ) → IsOpen slots k → (n : ℕ) × rings.IsIn (row_at rows k) n × IsOpen slots n
+AreSettled rows slots = (k : ℕ) → IsOpen slots k → (n : ℕ) × cycle_order.IsIn (row_at rows k) n × IsOpen slots n
 
 -- how many slots are open
 abbrev pub open_count : List ValueSlot → ℕ
@@ -68,8 +68,8 @@ open_count (Failed fault ∷ slots) = open_count slots
 
 -- these names, used in a member, find equates with these numbers
 pub record NameRow (list : List Member) (place : ℕ) (m : Member) (names : List (List ℕ)) (row : List ℕ) : Type 0 where
-  pub sound : (k : ℕ) → rings.IsIn row k → (f : FoundDefinition) × (slice_get (all_found list) k ≡ Some f) × ((name : List ℕ) × IsIn names name × IsIn (finds list place m name) f) × (is_equate f ≡ true)
-  pub whole : (f : FoundDefinition) (name : List ℕ) → IsIn names name → IsIn (finds list place m name) f → is_equate f ≡ true → (k : ℕ) × rings.IsIn row k × (slice_get (all_found list) k ≡ Some f)
+  pub sound : (k : ℕ) → cycle_order.IsIn row k → (f : FoundDefinition) × (slice_get (all_found list) k ≡ Some f) × ((name : List ℕ) × IsIn names name × IsIn (finds list place m name) f) × (is_equate f ≡ true)
+  pub whole : (f : FoundDefinition) (name : List ℕ) → IsIn names name → IsIn (finds list place m name) f → is_equate f ≡ true → (k : ℕ) × cycle_order.IsIn row k × (slice_get (all_found list) k ≡ Some f)
 
 -- each name finds one thing at most
 abbrev pub FindOne : List Member → ℕ → Member → List (List ℕ) → Type 0
@@ -81,5 +81,5 @@ pub record AreValues (list : List Member) (slots : List ValueSlot) : Type 0 wher
   pub table : IsTable list (rows_of (all_found list) slots)
 
 -- an equate leads back to itself, and this is the first one's fault, unless memory ran out
-abbrev pub IsRingRefused : List Member → LinkFault → Type 0
-IsRingRefused list fault = (fault ≡ memory_fault) ⊎ IsFirst (HasRingFault list) (equates list) fault
+abbrev pub IsCycleRefused : List Member → LinkFault → Type 0
+IsCycleRefused list fault = (fault ≡ memory_fault) ⊎ IsFirst (HasCycleFault list) (equates list) fault

@@ -1,5 +1,5 @@
 pub mod Slots
-pub mod Seats
-pub mod Told
+pub mod MemberPlaces
+pub mod Operands
 pub mod Equates
 pub mod Circulars

@@ -4,8 +4,8 @@ use Rattle.omf_format.specs.declared.value.Value.{Value}
 use Rattle.omf_format.specs.declared.value.ValueFault.{ValueFault}
 use Rattle.link_meaning.specs.Member.{Member}
 use Rattle.link_meaning.specs.Search.{FoundDefinition}
-use Rattle.link_meaning.specs.Rings.{is_equate}
-use Rattle.link_meaning.specs.LinkValues.{Told, place_value, outside_value}
+use Rattle.link_meaning.specs.Cycles.{is_equate}
+use Rattle.link_meaning.specs.LinkValues.{EquateAnswer, place_value, outside_value}
 use Rattle.link_values.specs.declared.slots.ValueSlot.{ValueSlot}
 use Rattle.link_values.specs.declared.slots.ValueSlot.TheVariants.{Open, Done, Failed}
 
@@ -21,12 +21,12 @@ value_of (Done v) = Some v
 value_of (Failed fault) = None
 
 -- the row of an equate whose value is known
-abbrev pub row_of : FoundDefinition → Option (Result Value ValueFault) → List Told
+abbrev pub row_of : FoundDefinition → Option (Result Value ValueFault) → List EquateAnswer
 row_of f None = []
 row_of f (Some answer) = if is_equate f then record { place = f.place; at = f.definition.at; answer = answer } ∷ [] else []
 
 -- the rows of the equates among definitions whose values are known
-abbrev pub rows_of : List FoundDefinition → List ValueSlot → List Told
+abbrev pub rows_of : List FoundDefinition → List ValueSlot → List EquateAnswer
 rows_of [] slots = []
 rows_of (f ∷ fs) [] = []
 rows_of (f ∷ fs) (slot ∷ slots) = row_of f (answer_of slot) ++ rows_of fs slots

@@ -5,7 +5,7 @@ ghost use Rattle.omf_records.specs.Segments.{IsSound, segment_of_view};
 ghost use Rattle.omf_records.specs.View.{view};
 ghost use Rattle.object_meaning.specs.Defines.{defined_by, defined_in};
 ghost use Rattle.link_meaning.specs.Search.{entries};
-ghost use Rattle.link_values.specs.Circulars.{DefinesName, IsBehindTitle, IsNth, IsCircularAt};
+ghost use Rattle.link_values.specs.Circulars.{DefinesName, IsAfterTitle, IsNth, IsCircularAt};
 
 use link_meaning::{LinkCause, LinkFault};
 use link_program::{Program, memory_fault, next_record};
@@ -39,8 +39,8 @@ fn defined_name<'a>(rec: &Rec<'a>) -> Option<&'a [u8]>
 }
 
 /// How many numbers are left behind the name of a segment; None where the number is the name's.
-fn behind_title(segment: &SegmentView, number: usize) -> Option<usize>
-    ensures { IsBehindTitle (segment_of_view segment.now) number result }
+fn after_title(segment: &SegmentView, number: usize) -> Option<usize>
+    ensures { IsAfterTitle (segment_of_view segment.now) number result }
 {
     if segment.header.name.bytes().is_empty() {
         return Some(number);
@@ -57,7 +57,7 @@ fn nth<'s, 'a>(segment: &'s SegmentView<'a>, number: usize) -> Result<(&'s [u8],
     requires { IsSound segment.now }
     ensures { IsNth (defined_in (segment_of_view segment.now)) number result }
 {
-    let mut left = match behind_title(segment, number) {
+    let mut left = match after_title(segment, number) {
         Some(left) => left,
         None => return Ok((segment.header.name.bytes(), segment.start)),
     };

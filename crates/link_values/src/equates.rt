@@ -7,11 +7,11 @@ ghost use Rattle.omf_format.specs.declared.value.Value.TheVariants.{At};
 ghost use Rattle.link_meaning.specs.LinkValues.{equate_value};
 ghost use Rattle.link_meaning.specs.Search.{FoundDefinition};
 ghost use Rattle.link_program.specs.Outside.{all_found};
-ghost use Rattle.link_meaning.specs.Rings.{is_equate};
-ghost use Rattle.link_program.specs.Programs.{symbol_of, told_symbol};
+ghost use Rattle.link_meaning.specs.Cycles.{is_equate};
+ghost use Rattle.link_program.specs.Programs.{symbol_of, symbol_view};
 ghost use Rattle.link_program.specs.OfFiles.{IsOfFiles};
 ghost use Rattle.link_values.specs.Slots.{answer_of, rows_of};
-ghost use Rattle.link_values.specs.Equates.{IsFirstSlot, AreFirstSlots, IsOpen, AreTrue, AreRows, AreSettled, open_count, with_slot, AreValues, IsRingRefused};
+ghost use Rattle.link_values.specs.Equates.{IsFirstSlot, AreFirstSlots, IsOpen, AreTrue, AreRows, AreSettled, open_count, with_slot, AreValues, IsCycleRefused};
 
 use crate::circular::cycle_fault;
 use crate::leads::leads_of;
@@ -39,8 +39,8 @@ fn place_outside(definition: &Definition) -> Value
 /// What is known at first of what a name can find: the place of a label, or of a name of a run-time library file.
 fn first_slot(program: &Program, definition: &Definition) -> ValueSlot
     requires files { IsOfFiles program.now }
-    requires there { (k : ℕ) × (f : FoundDefinition) × (slice_get (all_found program.now) k ≡ Some f) × (symbol_of definition.now ≡ told_symbol program.now f) }
-    ensures { (k : ℕ) (f : FoundDefinition) → slice_get (all_found program.now) k ≡ Some f → symbol_of definition.now ≡ told_symbol program.now f → IsFirstSlot program.now f result }
+    requires there { (k : ℕ) × (f : FoundDefinition) × (slice_get (all_found program.now) k ≡ Some f) × (symbol_of definition.now ≡ symbol_view program.now f) }
+    ensures { (k : ℕ) (f : FoundDefinition) → slice_get (all_found program.now) k ≡ Some f → symbol_of definition.now ≡ symbol_view program.now f → IsFirstSlot program.now f result }
 {
     match definition.expr {
         Some(_) => ValueSlot::Open,
@@ -49,7 +49,7 @@ fn first_slot(program: &Program, definition: &Definition) -> ValueSlot
                 return ValueSlot::Done(place_outside(definition));
             }
             match place_of_member(program, definition.member) {
-                Some(seat) => ValueSlot::Done(place_at(seat, definition.at)),
+                Some(member_place) => ValueSlot::Done(place_at(member_place, definition.at)),
                 None => unreachable!(),
             }
         }
@@ -112,11 +112,11 @@ fn slot_of(program: &Program, slots: &[ValueSlot], number: usize) -> ValueSlot
         Some(expr) => expr,
         None => return ValueSlot::Open,
     };
-    let seat = match place_of_member(program, definition.member) {
-        Some(seat) => seat,
+    let member_place = match place_of_member(program, definition.member) {
+        Some(member_place) => member_place,
         None => unreachable!(),
     };
-    match value_in(program, slots, seat, definition.at, expr) {
+    match value_in(program, slots, member_place, definition.at, expr) {
         Ok(value) => ValueSlot::Done(value),
         Err(fault) => ValueSlot::Failed(fault),
     }
@@ -223,7 +223,7 @@ fn has_open(slots: &[ValueSlot]) -> bool
 pub fn values_of(alloc: Global, program: &Program) -> Result<Vec<ValueSlot>, LinkFault>
     requires { IsOfFiles program.now }
     ensures valued { IfOk result (λ slots. AreValues program.now slots.items) }
-    ensures refused { IfErr result (λ fault. IsRingRefused program.now fault) }
+    ensures refused { IfErr result (λ fault. IsCycleRefused program.now fault) }
 {
     let mut slots = match first_slots(alloc, program) {
         Ok(slots) => slots,

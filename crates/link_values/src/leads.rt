@@ -8,7 +8,7 @@ ghost use Rattle.link_meaning.specs.Member.{Member};
 ghost use Rattle.object_meaning.specs.Terms.{asks_value};
 ghost use Rattle.link_meaning.specs.Search.{FoundDefinition};
 ghost use Rattle.link_program.specs.Outside.{all_found};
-ghost use Rattle.link_program.specs.Programs.{symbol_of, told_symbol};
+ghost use Rattle.link_program.specs.Programs.{symbol_of, symbol_view};
 ghost use Rattle.link_program.specs.Linked.{member_at};
 ghost use Rattle.link_program.specs.OfFiles.{IsOfFiles};
 ghost use Rattle.link_values.specs.Equates.{AreFirstSlots, IsRow, AreRows, NameRow, FindOne};
@@ -83,14 +83,21 @@ fn find_row(
 ) -> Result<(), AllocError>
     requires files { IsOfFiles program.now }
     requires slots { AreFirstSlots program.now (all_found program.now) slots.now }
-    requires there { (k : ℕ) × (f : FoundDefinition) × (slice_get (all_found program.now) k ≡ Some f) × (symbol_of definition.now ≡ told_symbol program.now f) }
-    ensures { OnOk result ((k : ℕ) (f : FoundDefinition) → slice_get (all_found program.now) k ≡ Some f → symbol_of definition.now ≡ told_symbol program.now f → IsRow program.now f row.new.items) }
+    requires there { (k : ℕ) × (f : FoundDefinition) × (slice_get (all_found program.now) k ≡ Some f) × (symbol_of definition.now ≡ symbol_view program.now f) }
+    ensures { OnOk result ((k : ℕ) (f : FoundDefinition) → slice_get (all_found program.now) k ≡ Some f → symbol_of definition.now ≡ symbol_view program.now f → IsRow program.now f row.new.items) }
 {
     row.clear();
     match definition.expr {
         None => Ok(()),
         Some(expr) => match place_of_member(program, definition.member) {
-            Some(seat) => add_leads(program, slots, seat.place, seat.lab_len, expr, row),
+            Some(member_place) => add_leads(
+                program,
+                slots,
+                member_place.place,
+                member_place.lab_len,
+                expr,
+                row,
+            ),
             None => unreachable!(),
         },
     }

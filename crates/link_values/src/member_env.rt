@@ -2,7 +2,7 @@
 
 ghost use Rattle.std.specs.Prelude.{◌≡◌};
 ghost use Rattle.link_program.specs.Programs.{symbol_of};
-ghost use Rattle.link_values.specs.Told.{attribute_told};
+ghost use Rattle.link_values.specs.Operands.{attribute_in_view};
 
 use crate::slots::{ValueSlot, label_of};
 use link_program::{Definition, Program};
@@ -21,7 +21,7 @@ pub struct MemberEnv<'e, 'a> {
 }
 
 impl<'e, 'a> Model for MemberEnv<'e, 'a> {
-    ghost use Rattle.link_values.specs.Seats.{Surroundings, AreKnown};
+    ghost use Rattle.link_values.specs.MemberPlaces.{Surroundings, AreKnown};
 
     ghost Value = { Surroundings };
 
@@ -31,7 +31,7 @@ impl<'e, 'a> Model for MemberEnv<'e, 'a> {
 }
 
 impl<'e, 'a> MemberEnv<'e, 'a> {
-    ghost use Rattle.link_values.specs.Seats.{AreKnown};
+    ghost use Rattle.link_values.specs.MemberPlaces.{AreKnown};
 
     /// What an expression meets in the member at a place, from 1, where these are the values of all definitions.
     pub fn new(
@@ -56,7 +56,7 @@ impl<'e, 'a> MemberEnv<'e, 'a> {
 
 /// The length (term $84), type ($85) or count of a name that found a definition.
 fn attribute_of(term: u8, definition: &Definition) -> u32
-    ensures { result ≡ attribute_told term (symbol_of definition.now) }
+    ensures { result ≡ attribute_in_view term (symbol_of definition.now) }
 {
     if term == 0x84 {
         u32::from(definition.length)
@@ -68,7 +68,7 @@ fn attribute_of(term: u8, definition: &Definition) -> u32
 }
 
 impl<'e, 'a> Env for MemberEnv<'e, 'a> {
-    ghost use Rattle.link_values.specs.Seats.{environment_of};
+    ghost use Rattle.link_values.specs.MemberPlaces.{environment_of};
 
     ghost meaning = { environment_of };
 

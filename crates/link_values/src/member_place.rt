@@ -1,7 +1,7 @@
 //! Where a member of the program stands.
 
 ghost use Rattle.link_program.specs.Linked.{member_at};
-ghost use Rattle.link_values.specs.Seats.{SeatOf};
+ghost use Rattle.link_values.specs.MemberPlaces.{MemberPlaceOf};
 
 use link_program::Program;
 
@@ -17,7 +17,7 @@ pub struct MemberPlace {
 
 /// Where the member at a place, from 1, stands.
 pub fn place_of_member(program: &Program, place: u32) -> Option<MemberPlace>
-    ensures { SeatOf program.now place (member_at program.now place) result }
+    ensures { MemberPlaceOf program.now place (member_at program.now place) result }
 {
     let member = match program.member(place) {
         Some(member) => member,

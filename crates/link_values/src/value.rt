@@ -10,8 +10,8 @@ ghost use Rattle.object_meaning.specs.Terms.{term_at};
 ghost use Rattle.link_meaning.specs.LinkValues.{fault_found, fault_named, place_value, value_in};
 ghost use Rattle.link_program.specs.Finding.{IsFirstOf};
 ghost use Rattle.link_values.specs.Slots.{AreOnce, AreSlots, rows_of};
-ghost use Rattle.link_values.specs.Seats.{IsSeat, AreKnown};
-ghost use Rattle.link_values.specs.Told.{operand, operand_in};
+ghost use Rattle.link_values.specs.MemberPlaces.{IsMemberPlace, AreKnown};
+ghost use Rattle.link_values.specs.Operands.{operand, operand_in};
 
 use crate::member_env::MemberEnv;
 use crate::member_place::MemberPlace;
@@ -21,14 +21,14 @@ use omf_expr::{Expr, Term, evaluate};
 use omf_format::{Value, ValueFault};
 
 /// A place of a member, counted from its start.
-pub fn place_at(seat: MemberPlace, at: u32) -> Value
-    requires { seat.offset + at < 2 ^ 32 }
-    ensures { (list : List Member) (m : Member) → IsSeat list m seat → result ≡ place_value list seat.place m at }
+pub fn place_at(member_place: MemberPlace, at: u32) -> Value
+    requires { member_place.offset + at < 2 ^ 32 }
+    ensures { (list : List Member) (m : Member) → IsMemberPlace list m member_place → result ≡ place_value list member_place.place m at }
 {
     Value::At {
         file: 1,
-        segment: seat.load_segment,
-        offset: seat.offset + at,
+        segment: member_place.load_segment,
+        offset: member_place.offset + at,
         shift: 0,
     }
 }
@@ -117,20 +117,20 @@ ghost use Rattle.link_program.specs.Linked.{member_at};
 pub fn value_in(
     program: &Program,
     slots: &[ValueSlot],
-    seat: MemberPlace,
+    member_place: MemberPlace,
     location: u32,
     expr: &[u8],
 ) -> Result<Value, ValueFault>
     requires known { AreKnown program.now slots.now }
-    requires spelled { IsExpression seat.lab_len expr.now }
-    requires near { seat.offset + location < 2 ^ 32 }
-    ensures { (m : Member) → IsSeat program.now m seat
-        → result ≡ value_in program.now (rows_of (all_found program.now) slots.now) seat.place m location expr.now }
+    requires spelled { IsExpression member_place.lab_len expr.now }
+    requires near { member_place.offset + location < 2 ^ 32 }
+    ensures { (m : Member) → IsMemberPlace program.now m member_place
+        → result ≡ value_in program.now (rows_of (all_found program.now) slots.now) member_place.place m location expr.now }
 {
-    let text = expression_of(expr, seat.lab_len);
-    let location = place_at(seat, location);
-    let start = place_at(seat, 0);
-    let meets = MemberEnv::new(program, slots, seat.place, location, start);
+    let text = expression_of(expr, member_place.lab_len);
+    let location = place_at(member_place, location);
+    let start = place_at(member_place, 0);
+    let meets = MemberEnv::new(program, slots, member_place.place, location, start);
     match evaluate(&text, &meets) {
         Ok(value) => Ok(value),
         Err(ValueFault::DivideByZero) => Err(ValueFault::DivideByZero),
@@ -138,7 +138,7 @@ pub fn value_in(
         Err(ValueFault::Unknown(at)) => Err(fault_at(
             program,
             slots,
-            seat.place,
+            member_place.place,
             &text,
             at,
             ValueFault::Unknown(at),

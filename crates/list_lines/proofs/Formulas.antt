@@ -31,25 +31,25 @@ spaced_none line (byte ∷ front) back w p q r = absurd cc
 -- it has a text
 record HasFirst (text : List ℕ) : Type 0 where
   byte : ℕ
-  behind : List ℕ
-  whole : text ≡ byte ∷ behind
+  following : List ℕ
+  whole : text ≡ byte ∷ following
 
 some_text : (w : Wanted) (back : List ℕ) → has_no_text w ≡ false → HasFirst (wanted_text w ++ back)
 some_text None' back e = absurd cc
-some_text (Number bytes n) back e = record { byte = 0x24; behind = hexadecimal (2 * bytes) n ++ back; whole = refl }
-some_text (Banks source destination) back e = record { byte = 0x24; behind = (hexadecimal 2 source ++ (codes "," ++ number_text 2 destination)) ++ back; whole = refl }
+some_text (Number bytes n) back e = record { byte = 0x24; following = hexadecimal (2 * bytes) n ++ back; whole = refl }
+some_text (Banks source destination) back e = record { byte = 0x24; following = (hexadecimal 2 source ++ (codes "," ++ number_text 2 destination)) ++ back; whole = refl }
 some_text (Label []) back e = absurd cc
-some_text (Label (byte ∷ name)) back e = record { byte = byte; behind = name ++ back; whole = refl }
-some_text (Moved [] true n) back e = record { byte = 0x2B; behind = number_text 8 n ++ back; whole = refl }
-some_text (Moved [] false n) back e = record { byte = 0x2D; behind = number_text 8 n ++ back; whole = refl }
-some_text (Moved (byte ∷ name) adds n) back e = record { byte = byte; behind = (name ++ (sign_text adds ++ number_text 8 n)) ++ back; whole = refl }
+some_text (Label (byte ∷ name)) back e = record { byte = byte; following = name ++ back; whole = refl }
+some_text (Moved [] true n) back e = record { byte = 0x2B; following = number_text 8 n ++ back; whole = refl }
+some_text (Moved [] false n) back e = record { byte = 0x2D; following = number_text 8 n ++ back; whole = refl }
+some_text (Moved (byte ∷ name) adds n) back e = record { byte = byte; following = (name ++ (sign_text adds ++ number_text 8 n)) ++ back; whole = refl }
 
 with_space : (line : List ℕ) (text : List ℕ) → HasFirst text → (line ++ 0x20 ∷ []) ++ text ≡ line ++ with_leading_space text
 with_space line text has =
-    ap (λ (l : List ℕ). (line ++ 0x20 ∷ []) ++ l) has.whole ∙ append_assoc line (0x20 ∷ []) (has.byte ∷ has.behind) ∙ ap (λ (l : List ℕ). line ++ with_leading_space l) (sym has.whole)
+    ap (λ (l : List ℕ). (line ++ 0x20 ∷ []) ++ l) has.whole ∙ append_assoc line (0x20 ∷ []) (has.byte ∷ has.following) ∙ ap (λ (l : List ℕ). line ++ with_leading_space l) (sym has.whole)
 
 first_before : (byte : ℕ) (front text : List ℕ) → HasFirst ((byte ∷ front) ++ text)
-first_before byte front text = record { byte = byte; behind = front ++ text; whole = refl }
+first_before byte front text = record { byte = byte; following = front ++ text; whole = refl }
 
 pub spaced_some : (line front back : List ℕ) (w : Wanted) → (front ≡ [] → has_no_text w ≡ true → back ≡ [] → ⊥) → (line ++ 0x20 ∷ []) ++ (front ++ (wanted_text w ++ back)) ≡ line ++ with_leading_space (front ++ (wanted_text w ++ back))
 spaced_some line (byte ∷ front) back w some = with_space line ((byte ∷ front) ++ (wanted_text w ++ back)) (first_before byte front (wanted_text w ++ back))

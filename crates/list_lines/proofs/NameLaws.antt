@@ -137,15 +137,15 @@ all_same (b ∷ bs) =
     ∙ ap (λ (x : Bool). x && (list_all is_name_byte bs && bytes_eq (folded bs) bs)) (byte_same b)
     ∙ ap (λ (x : Bool). is_upper b && x) (all_same bs)
 
-listable_is : (first : ℕ) (behind : List ℕ) → is_listable (first ∷ behind) ≡ (is_upper_start first && list_all is_upper behind)
+listable_is : (first : ℕ) (following : List ℕ) → is_listable (first ∷ following) ≡ (is_upper_start first && list_all is_upper following)
 unfolding is_name
-listable_is first behind =
-    regroup (is_name_start first) (list_all is_name_byte behind) (eqb (to_ascii_uppercase first) first) (bytes_eq (folded behind) behind)
-    ∙ ap (λ (x : Bool). x && (list_all is_name_byte behind && bytes_eq (folded behind) behind)) (start_same first)
-    ∙ ap (λ (x : Bool). is_upper_start first && x) (all_same behind)
+listable_is first following =
+    regroup (is_name_start first) (list_all is_name_byte following) (eqb (to_ascii_uppercase first) first) (bytes_eq (folded following) following)
+    ∙ ap (λ (x : Bool). x && (list_all is_name_byte following && bytes_eq (folded following) following)) (start_same first)
+    ∙ ap (λ (x : Bool). is_upper_start first && x) (all_same following)
 
-pub listable_split : (name behind : List ℕ) (first : ℕ) → name ≡ first ∷ behind → is_listable name ≡ (is_upper_start first && list_all is_upper behind)
-listable_split name behind first is = ap is_listable is ∙ listable_is first behind
+pub listable_split : (name following : List ℕ) (first : ℕ) → name ≡ first ∷ following → is_listable name ≡ (is_upper_start first && list_all is_upper following)
+listable_split name following first is = ap is_listable is ∙ listable_is first following
 
 pub not_listable : (name : List ℕ) → length name ≡ 0 → is_listable name ≡ false
 unfolding is_name

@@ -5,10 +5,10 @@ use Rattle.std.proofs.lemmas.Bool.{eqb-true, eq-eqb}
 use Rattle.omf_format.specs.Expression.{Term, Operator, Location, Constant, Named, Offset, Tree, Leaf, Unary, Binary, terms_in, IsExpression, operand_count, operands_of, Lead}
 use Rattle.omf_format.specs.laws.TreeLaws.{operand_counts}
 use Rattle.omf_format.specs.laws.ExpressionLaws.{tree_leads_to_one}
-use Rattle.object_meaning.specs.Terms.{with_term, trees_behind, last_tree, tree_in}
+use Rattle.object_meaning.specs.Terms.{with_term, trees_after, last_tree, tree_in}
 use Rattle.list_meaning.specs.Listed.{formula_text, operator_text, as_operand}
 use Rattle.list_lines.specs.declared.formula.FormulaPart.{FormulaPart}
-use Rattle.list_lines.specs.FormulaView.{terms_alone, is_leaf, parenthesized, part_view, part_of_tree, all_told, AreParts}
+use Rattle.list_lines.specs.FormulaView.{terms_alone, is_leaf, parenthesized, part_view, part_of_tree, all_reported, AreParts}
 use Rattle.list_lines.proofs.TermLaws.{bare_are, front_term}
 
 -- ---- the first bytes
@@ -24,10 +24,10 @@ less (suc n) (x ∷ a) (y ∷ b) e =
     ap (λ (z : ℕ). z ∷ take n a) head ∙ ap (λ (l : List ℕ). y ∷ l) (less n a b tail)
 
 -- with the same first bytes behind
-pub cut_behind : (n : ℕ) (x a b : List ℕ) → take n a ≡ take n b → take n (x ++ a) ≡ take n (x ++ b)
-cut_behind n [] a b e = e
-cut_behind zero (c ∷ x) a b e = refl
-cut_behind (suc n) (c ∷ x) a b e = ap (λ (l : List ℕ). c ∷ l) (cut_behind n x a b (less n a b e))
+pub cut_after : (n : ℕ) (x a b : List ℕ) → take n a ≡ take n b → take n (x ++ a) ≡ take n (x ++ b)
+cut_after n [] a b e = e
+cut_after zero (c ∷ x) a b e = refl
+cut_after (suc n) (c ∷ x) a b e = ap (λ (l : List ℕ). c ∷ l) (cut_after n x a b (less n a b e))
 
 -- with the same first bytes before
 pub cut_before : (n : ℕ) (a b y : List ℕ) → take n a ≡ take n b → take n (a ++ y) ≡ take n (b ++ y)
@@ -75,11 +75,11 @@ both_are : (a c : List ℕ) (b d : Bool) → a ≡ c → b ≡ d → ◌≡◌ {
 both_are a c b d p q = ap (λ (x : List ℕ). (x, b)) p ∙ ap (λ (x : Bool). (c, x)) q
 
 -- a part as an operand is its tree as an operand
-enclosed_told : (part : FormulaPart) (t : Tree) → part_view part ≡ part_of_tree t → take 256 (parenthesized part.alone part.text) ≡ take 256 (as_operand t (formula_text t))
-enclosed_told part t e = by t (right_is (take 256 part.text) (take 256 (formula_text t)) part.alone (is_leaf t) e) (left_is (take 256 part.text) (take 256 (formula_text t)) part.alone (is_leaf t) e)
+enclosed_reported : (part : FormulaPart) (t : Tree) → part_view part ≡ part_of_tree t → take 256 (parenthesized part.alone part.text) ≡ take 256 (as_operand t (formula_text t))
+enclosed_reported part t e = by t (right_is (take 256 part.text) (take 256 (formula_text t)) part.alone (is_leaf t) e) (left_is (take 256 part.text) (take 256 (formula_text t)) part.alone (is_leaf t) e)
   where
     parens : (text other : List ℕ) → take 256 text ≡ take 256 other → take 256 (codes "(" ++ (text ++ codes ")")) ≡ take 256 (codes "(" ++ (other ++ codes ")"))
-    parens text other e = cut_behind 256 (codes "(") (text ++ codes ")") (other ++ codes ")") (cut_before 256 text other (codes ")") e)
+    parens text other e = cut_after 256 (codes "(") (text ++ codes ")") (other ++ codes ")") (cut_before 256 text other (codes ")") e)
 
     by : (t : Tree) → part.alone ≡ is_leaf t → take 256 part.text ≡ take 256 (formula_text t) → take 256 (parenthesized part.alone part.text) ≡ take 256 (as_operand t (formula_text t))
     by (Leaf term) alone text = ap (λ (b : Bool). take 256 (parenthesized b part.text)) alone ∙ text
@@ -87,20 +87,20 @@ enclosed_told part t e = by t (right_is (take 256 part.text) (take 256 (formula_
     by (Binary code a b) alone text = ap (λ (b : Bool). take 256 (parenthesized b part.text)) alone ∙ parens part.text (formula_text (Binary code a b)) text
 
 -- an operator over one part
-pub told_one : (code : ℕ) (part right : FormulaPart) (a : Tree) → part_view right ≡ part_of_tree a → take 256 part.text ≡ take 256 (operator_text code ++ parenthesized right.alone right.text) → part.alone ≡ false → part_view part ≡ part_of_tree (Unary code a)
-told_one code part right a is text alone =
+pub reported_one : (code : ℕ) (part right : FormulaPart) (a : Tree) → part_view right ≡ part_of_tree a → take 256 part.text ≡ take 256 (operator_text code ++ parenthesized right.alone right.text) → part.alone ≡ false → part_view part ≡ part_of_tree (Unary code a)
+reported_one code part right a is text alone =
     both_are (take 256 part.text) (take 256 (formula_text (Unary code a))) part.alone false
-    (text ∙ cut_behind 256 (operator_text code) (parenthesized right.alone right.text) (as_operand a (formula_text a)) (enclosed_told right a is)) alone
+    (text ∙ cut_after 256 (operator_text code) (parenthesized right.alone right.text) (as_operand a (formula_text a)) (enclosed_reported right a is)) alone
 
 -- an operator over two parts
-pub told_two : (code : ℕ) (part left right : FormulaPart) (a b : Tree) → part_view left ≡ part_of_tree a → part_view right ≡ part_of_tree b
+pub reported_two : (code : ℕ) (part left right : FormulaPart) (a b : Tree) → part_view left ≡ part_of_tree a → part_view right ≡ part_of_tree b
     → take 256 part.text ≡ take 256 (parenthesized left.alone left.text ++ (operator_text code ++ parenthesized right.alone right.text)) → part.alone ≡ false → part_view part ≡ part_of_tree (Binary code a b)
-told_two code part left right a b is are text alone =
-    let behind = operator_text code ++ parenthesized right.alone right.text in
+reported_two code part left right a b is are text alone =
+    let following = operator_text code ++ parenthesized right.alone right.text in
     let other = operator_text code ++ as_operand b (formula_text b) in
     both_are (take 256 part.text) (take 256 (formula_text (Binary code a b))) part.alone false
-    (text ∙ cut_before 256 (parenthesized left.alone left.text) (as_operand a (formula_text a)) behind (enclosed_told left a is)
-    ∙ cut_behind 256 (as_operand a (formula_text a)) behind other (cut_behind 256 (operator_text code) (parenthesized right.alone right.text) (as_operand b (formula_text b)) (enclosed_told right b are))) alone
+    (text ∙ cut_before 256 (parenthesized left.alone left.text) (as_operand a (formula_text a)) following (enclosed_reported left a is)
+    ∙ cut_after 256 (as_operand a (formula_text a)) following other (cut_after 256 (operator_text code) (parenthesized right.alone right.text) (as_operand b (formula_text b)) (enclosed_reported right b are))) alone
 
 -- ---- parts one behind another
 
@@ -127,56 +127,56 @@ pub record Popped (trees : List Tree) (rest : List FormulaPart) (x : FormulaPart
   pub tree : Tree
   pub others : List Tree
   pub are : trees ≡ tree ∷ others
-  pub view : map part_view rest ≡ all_told others
+  pub view : map part_view rest ≡ all_reported others
   pub last : part_view x ≡ part_of_tree tree
 
-pub popped : (trees : List Tree) (items rest : List FormulaPart) (x : FormulaPart) → map part_view items ≡ all_told trees → items ≡ rest ++ x ∷ [] → Popped trees rest x
+pub popped : (trees : List Tree) (items rest : List FormulaPart) (x : FormulaPart) → map part_view items ≡ all_reported trees → items ≡ rest ++ x ∷ [] → Popped trees rest x
 popped [] items rest x view are = absurd (omega (arith, ap length (sym (map_last rest x) ∙ sym (ap (map part_view) are) ∙ view), length-append (map part_view rest) (part_view x ∷ [])))
 popped (t ∷ trees) items rest x view are =
-    let same = ends_same (map part_view rest) (all_told trees) (part_view x) (part_of_tree t) (sym (map_last rest x) ∙ sym (ap (map part_view) are) ∙ view) in
+    let same = ends_same (map part_view rest) (all_reported trees) (part_view x) (part_of_tree t) (sym (map_last rest x) ∙ sym (ap (map part_view) are) ∙ view) in
     record { tree = t; others = trees; are = refl; view = same.before; last = same.last }
 
-one_behind : (code : ℕ) (a : Tree) (trees : List Tree) → eqb (operand_count code) 1 ≡ true → with_term (a ∷ trees) (Operator code) ≡ Unary code a ∷ trees
-one_behind code a trees is = rw is refl
+one_after : (code : ℕ) (a : Tree) (trees : List Tree) → eqb (operand_count code) 1 ≡ true → with_term (a ∷ trees) (Operator code) ≡ Unary code a ∷ trees
+one_after code a trees is = rw is refl
 
-two_behind : (code : ℕ) (a b : Tree) (trees : List Tree) → eqb (operand_count code) 1 ≡ false → with_term (b ∷ a ∷ trees) (Operator code) ≡ Binary code a b ∷ trees
-two_behind code a b trees is = rw is refl
+two_after : (code : ℕ) (a b : Tree) (trees : List Tree) → eqb (operand_count code) 1 ≡ false → with_term (b ∷ a ∷ trees) (Operator code) ≡ Binary code a b ∷ trees
+two_after code a b trees is = rw is refl
 
 -- what an operator over the last part leaves
-pub over_last : (code : ℕ) (trees : List Tree) (items rest : List FormulaPart) (right part : FormulaPart) → map part_view items ≡ all_told trees → items ≡ rest ++ right ∷ [] → eqb (operand_count code) 1 ≡ true
-    → take 256 part.text ≡ take 256 (operator_text code ++ parenthesized right.alone right.text) → part.alone ≡ false → map part_view rest ++ part_view part ∷ [] ≡ all_told (with_term trees (Operator code))
+pub over_last : (code : ℕ) (trees : List Tree) (items rest : List FormulaPart) (right part : FormulaPart) → map part_view items ≡ all_reported trees → items ≡ rest ++ right ∷ [] → eqb (operand_count code) 1 ≡ true
+    → take 256 part.text ≡ take 256 (operator_text code ++ parenthesized right.alone right.text) → part.alone ≡ false → map part_view rest ++ part_view part ∷ [] ≡ all_reported (with_term trees (Operator code))
 over_last code trees items rest right part view are one text alone =
     let p = popped trees items rest right view are in
     ap (λ (l : List (List ℕ × Bool)). l ++ part_view part ∷ []) p.view
-    ∙ ap (λ (x : List ℕ × Bool). all_told p.others ++ x ∷ []) (told_one code part right p.tree p.last text alone)
-    ∙ ap all_told (sym (ap (λ (ts : List Tree). with_term ts (Operator code)) p.are ∙ one_behind code p.tree p.others one))
+    ∙ ap (λ (x : List ℕ × Bool). all_reported p.others ++ x ∷ []) (reported_one code part right p.tree p.last text alone)
+    ∙ ap all_reported (sym (ap (λ (ts : List Tree). with_term ts (Operator code)) p.are ∙ one_after code p.tree p.others one))
 
 -- what an operator over the last two parts leaves
-pub over_both : (code : ℕ) (trees : List Tree) (items middle rest : List FormulaPart) (left right part : FormulaPart) → map part_view items ≡ all_told trees → items ≡ middle ++ right ∷ [] → middle ≡ rest ++ left ∷ [] → eqb (operand_count code) 1 ≡ false
-    → take 256 part.text ≡ take 256 (parenthesized left.alone left.text ++ (operator_text code ++ parenthesized right.alone right.text)) → part.alone ≡ false → map part_view rest ++ part_view part ∷ [] ≡ all_told (with_term trees (Operator code))
+pub over_both : (code : ℕ) (trees : List Tree) (items middle rest : List FormulaPart) (left right part : FormulaPart) → map part_view items ≡ all_reported trees → items ≡ middle ++ right ∷ [] → middle ≡ rest ++ left ∷ [] → eqb (operand_count code) 1 ≡ false
+    → take 256 part.text ≡ take 256 (parenthesized left.alone left.text ++ (operator_text code ++ parenthesized right.alone right.text)) → part.alone ≡ false → map part_view rest ++ part_view part ∷ [] ≡ all_reported (with_term trees (Operator code))
 over_both code trees items middle rest left right part view are then two text alone =
     let p = popped trees items middle right view are in
     let q = popped p.others middle rest left p.view then in
     ap (λ (l : List (List ℕ × Bool)). l ++ part_view part ∷ []) q.view
-    ∙ ap (λ (x : List ℕ × Bool). all_told q.others ++ x ∷ []) (told_two code part left right q.tree p.tree q.last p.last text alone)
-    ∙ ap all_told (sym (ap (λ (ts : List Tree). with_term ts (Operator code)) (p.are ∙ ap (λ (ts : List Tree). p.tree ∷ ts) q.are) ∙ two_behind code q.tree p.tree q.others two))
+    ∙ ap (λ (x : List ℕ × Bool). all_reported q.others ++ x ∷ []) (reported_two code part left right q.tree p.tree q.last p.last text alone)
+    ∙ ap all_reported (sym (ap (λ (ts : List Tree). with_term ts (Operator code)) (p.are ∙ ap (λ (ts : List Tree). p.tree ∷ ts) q.are) ∙ two_after code q.tree p.tree q.others two))
 
 -- the same of answers
 pub one_answer : {E : Type 0} (r : Result FormulaPart E) (code : ℕ) (items rest : List FormulaPart) (right : FormulaPart) → items ≡ rest ++ right ∷ [] → eqb (operand_count code) 1 ≡ true
     → IfOk r (λ part. take 256 part.text ≡ take 256 (operator_text code ++ parenthesized right.alone right.text)) → IfOk r (λ part. part.alone ≡ false)
-    → (trees : List Tree) → map part_view items ≡ all_told trees → IfOk r (λ part. map part_view rest ++ part_view part ∷ [] ≡ all_told (with_term trees (Operator code)))
+    → (trees : List Tree) → map part_view items ≡ all_reported trees → IfOk r (λ part. map part_view rest ++ part_view part ∷ [] ≡ all_reported (with_term trees (Operator code)))
 one_answer (Ok part) code items rest right are one text alone trees view = over_last code trees items rest right part view are one text alone
 one_answer (Err e) code items rest right are one text alone trees view = tt
 
 pub two_answer : {E : Type 0} (r : Result FormulaPart E) (code : ℕ) (items middle rest : List FormulaPart) (left right : FormulaPart) → items ≡ middle ++ right ∷ [] → middle ≡ rest ++ left ∷ [] → eqb (operand_count code) 1 ≡ false
     → IfOk r (λ part. take 256 part.text ≡ take 256 (parenthesized left.alone left.text ++ (operator_text code ++ parenthesized right.alone right.text))) → IfOk r (λ part. part.alone ≡ false)
-    → (trees : List Tree) → map part_view items ≡ all_told trees → IfOk r (λ part. map part_view rest ++ part_view part ∷ [] ≡ all_told (with_term trees (Operator code)))
+    → (trees : List Tree) → map part_view items ≡ all_reported trees → IfOk r (λ part. map part_view rest ++ part_view part ∷ [] ≡ all_reported (with_term trees (Operator code)))
 two_answer (Ok part) code items middle rest left right are then two text alone trees view = over_both code trees items middle rest left right part view are then two text alone
 two_answer (Err e) code items middle rest left right are then two text alone trees view = tt
 
 -- a part that takes no others
-pub leaf_behind : (term : Term) (trees : List Tree) (items : List FormulaPart) (part : FormulaPart) → operands_of term ≡ 0 → map part_view items ≡ all_told trees → part_view part ≡ part_of_tree (Leaf term) → map part_view items ++ part_view part ∷ [] ≡ all_told (with_term trees term)
-leaf_behind (Operator code) trees items part none view is = absurd (omega (arith, none, some code))
+pub leaf_after : (term : Term) (trees : List Tree) (items : List FormulaPart) (part : FormulaPart) → operands_of term ≡ 0 → map part_view items ≡ all_reported trees → part_view part ≡ part_of_tree (Leaf term) → map part_view items ++ part_view part ∷ [] ≡ all_reported (with_term trees term)
+leaf_after (Operator code) trees items part none view is = absurd (omega (arith, none, some code))
   where
     some : (code : ℕ) → 1 ≤ operand_count code
     some code = by (eqb code 0x06 || eqb code 0x0B || eqb code 0x15)
@@ -184,37 +184,37 @@ leaf_behind (Operator code) trees items part none view is = absurd (omega (arith
         by : (b : Bool) → 1 ≤ cond b 1 2
         by true = omega arith
         by false = omega arith
-leaf_behind Location trees items part none view is = ap (λ (l : List (List ℕ × Bool)). l ++ part_view part ∷ []) view ∙ ap (λ (x : List ℕ × Bool). all_told trees ++ x ∷ []) is
-leaf_behind (Constant n) trees items part none view is = ap (λ (l : List (List ℕ × Bool)). l ++ part_view part ∷ []) view ∙ ap (λ (x : List ℕ × Bool). all_told trees ++ x ∷ []) is
-leaf_behind (Named code name) trees items part none view is = ap (λ (l : List (List ℕ × Bool)). l ++ part_view part ∷ []) view ∙ ap (λ (x : List ℕ × Bool). all_told trees ++ x ∷ []) is
-leaf_behind (Offset n) trees items part none view is = ap (λ (l : List (List ℕ × Bool)). l ++ part_view part ∷ []) view ∙ ap (λ (x : List ℕ × Bool). all_told trees ++ x ∷ []) is
+leaf_after Location trees items part none view is = ap (λ (l : List (List ℕ × Bool)). l ++ part_view part ∷ []) view ∙ ap (λ (x : List ℕ × Bool). all_reported trees ++ x ∷ []) is
+leaf_after (Constant n) trees items part none view is = ap (λ (l : List (List ℕ × Bool)). l ++ part_view part ∷ []) view ∙ ap (λ (x : List ℕ × Bool). all_reported trees ++ x ∷ []) is
+leaf_after (Named code name) trees items part none view is = ap (λ (l : List (List ℕ × Bool)). l ++ part_view part ∷ []) view ∙ ap (λ (x : List ℕ × Bool). all_reported trees ++ x ∷ []) is
+leaf_after (Offset n) trees items part none view is = ap (λ (l : List (List ℕ × Bool)). l ++ part_view part ∷ []) view ∙ ap (λ (x : List ℕ × Bool). all_reported trees ++ x ∷ []) is
 
 -- ---- all terms
 
-told_count : (trees : List Tree) → length (all_told trees) ≡ length trees
-told_count [] = refl
-told_count (t ∷ trees) = length-append (all_told trees) (part_of_tree t ∷ []) ∙ omega (arith, told_count trees)
+reported_count : (trees : List Tree) → length (all_reported trees) ≡ length trees
+reported_count [] = refl
+reported_count (t ∷ trees) = length-append (all_reported trees) (part_of_tree t ∷ []) ∙ omega (arith, reported_count trees)
 
 map_count : (items : List FormulaPart) → length (map part_view items) ≡ length items
 map_count [] = refl
 map_count (x ∷ items) = ap suc (map_count items)
 
 -- there are as many parts as trees
-pub part_count : (trees : List Tree) (items : List FormulaPart) → map part_view items ≡ all_told trees → length items ≡ length trees
-part_count trees items view = sym (map_count items) ∙ ap length view ∙ told_count trees
+pub part_count : (trees : List Tree) (items : List FormulaPart) → map part_view items ≡ all_reported trees → length items ≡ length trees
+part_count trees items view = sym (map_count items) ∙ ap length view ∙ reported_count trees
 
 with_count : (trees : List Tree) (term : Term) → operands_of term ≤ length trees → length (with_term trees term) ≡ length trees - operands_of term + 1
 with_count trees (Operator code) some = by (eqb (operand_count code) 1) refl trees some
   where
     by : (b : Bool) → eqb (operand_count code) 1 ≡ b → (trees : List Tree) → operand_count code ≤ length trees → length (with_term trees (Operator code)) ≡ length trees - operand_count code + 1
     by true e [] some = absurd (omega (arith, some, eqb-true (operand_count code) 1 e))
-    by true e (a ∷ trees) some = ap length (one_behind code a trees e) ∙ omega (arith, eqb-true (operand_count code) 1 e)
+    by true e (a ∷ trees) some = ap length (one_after code a trees e) ∙ omega (arith, eqb-true (operand_count code) 1 e)
     by false e trees some = two (operand_counts code (λ one. let clash : true ≡ false = sym (eq-eqb (operand_count code) 1 one) ∙ e in absurd cc)) trees some
       where
         two : operand_count code ≡ 2 → (trees : List Tree) → operand_count code ≤ length trees → length (with_term trees (Operator code)) ≡ length trees - operand_count code + 1
         two is [] some = absurd (omega (arith, some, is))
         two is (b ∷ []) some = absurd (omega (arith, some, is))
-        two is (b ∷ a ∷ trees) some = ap length (two_behind code a b trees e) ∙ omega (arith, is)
+        two is (b ∷ a ∷ trees) some = ap length (two_after code a b trees e) ∙ omega (arith, is)
 with_count trees Location some = omega arith
 with_count trees (Constant n) some = omega arith
 with_count trees (Named code name) some = omega arith
@@ -227,12 +227,12 @@ parts_begin l text is =
 
 -- and leaves parts
 pub parts_on : (all : List Term) (left next : List (ℕ × Term)) (at : ℕ) (term : Term) (parts rest more : List FormulaPart) (part : FormulaPart) → AreParts all (terms_alone left) parts → Some (at, term) ≡ slice_get left 0 → next ≡ drop 1 left
-    → ((trees : List Tree) → map part_view parts ≡ all_told trees → map part_view rest ++ part_view part ∷ [] ≡ all_told (with_term trees term)) → more ≡ rest ++ part ∷ [] → AreParts all (terms_alone next) more
+    → ((trees : List Tree) → map part_view parts ≡ all_reported trees → map part_view rest ++ part_view part ∷ [] ≡ all_reported (with_term trees term)) → more ≡ rest ++ part ∷ [] → AreParts all (terms_alone next) more
 parts_on all left next at term parts rest more part are e after gives is =
     let front = front_term left (at, term) e in
     let on : Lead (length are.trees) (term ∷ terms_alone (drop 1 left)) 1 = subst (λ (ps : List (ℕ × Term)). Lead (length are.trees) (terms_alone ps) 1) front are.leads in
     let leads : Lead (length (with_term are.trees term)) (terms_alone (drop 1 left)) 1 = subst (λ (n : ℕ). Lead n (terms_alone (drop 1 left)) 1) (sym (with_count are.trees term on.0)) on.2 in
-    let same : trees_behind (with_term are.trees term) (terms_alone (drop 1 left)) ≡ trees_behind [] all = sym (ap (λ (ps : List (ℕ × Term)). trees_behind are.trees (terms_alone ps)) front) ∙ are.same in
+    let same : trees_after (with_term are.trees term) (terms_alone (drop 1 left)) ≡ trees_after [] all = sym (ap (λ (ps : List (ℕ × Term)). trees_after are.trees (terms_alone ps)) front) ∙ are.same in
     subst (λ (ps : List (ℕ × Term)). AreParts all (terms_alone ps) more) (sym after) (record {
       trees = with_term are.trees term;
       view = ap (map part_view) is ∙ map_last rest part ∙ gives are.trees are.view;
@@ -241,7 +241,7 @@ parts_on all left next at term parts rest more part are e after gives is =
     })
 
 -- at the end there is one
-parts_one : (trees : List Tree) (items rest : List FormulaPart) (part : FormulaPart) (tree : Tree) → length trees ≡ 1 → map part_view items ≡ all_told trees → items ≡ rest ++ part ∷ [] → last_tree trees ≡ Some tree → take 256 part.text ≡ take 256 (formula_text tree)
+parts_one : (trees : List Tree) (items rest : List FormulaPart) (part : FormulaPart) (tree : Tree) → length trees ≡ 1 → map part_view items ≡ all_reported trees → items ≡ rest ++ part ∷ [] → last_tree trees ≡ Some tree → take 256 part.text ≡ take 256 (formula_text tree)
 parts_one trees items rest part tree one view are last =
     let p = popped trees items rest part view are in
     let first : Some p.tree ≡ Some tree = sym (ap last_tree p.are) ∙ last in
@@ -252,7 +252,7 @@ pub parts_end : (l : ℕ) (text : List ℕ) (left : List (ℕ × Term)) (parts r
     → (tree : Tree) → tree_in l text ≡ Some tree → take 256 part.text ≡ take 256 (formula_text tree)
 unfolding tree_in
 parts_end l text left parts rest part are none last tree is =
-    let same : are.trees ≡ trees_behind [] (terms_alone (terms_in l 0 text)) = sym (ap (λ (ps : List (ℕ × Term)). trees_behind are.trees (terms_alone ps)) none) ∙ are.same in
+    let same : are.trees ≡ trees_after [] (terms_alone (terms_in l 0 text)) = sym (ap (λ (ps : List (ℕ × Term)). trees_after are.trees (terms_alone ps)) none) ∙ are.same in
     let one : length are.trees ≡ 1 = subst (λ (ps : List (ℕ × Term)). Lead (length are.trees) (terms_alone ps) 1) none are.leads in
     parts_one are.trees parts rest part tree one are.view last (ap last_tree same ∙ is)
 

@@ -60,5 +60,5 @@ wrote_two x y a b c p q = wrote_both (x ∷ []) (y ∷ []) a b c (wrote_one x a 
 pub long_front : (x y : ListedStatement) → is_short x ≡ false → list_all is_short (x ∷ y ∷ []) ≡ false
 long_front x y long = long_first (x ∷ []) (y ∷ []) (long_one x long)
 
-pub long_behind : (x y : ListedStatement) → is_short y ≡ false → list_all is_short (x ∷ y ∷ []) ≡ false
-long_behind x y long = long_second (x ∷ []) (y ∷ []) (long_one y long)
+pub long_after : (x y : ListedStatement) → is_short y ≡ false → list_all is_short (x ∷ y ∷ []) ≡ false
+long_after x y long = long_second (x ∷ []) (y ∷ []) (long_one y long)

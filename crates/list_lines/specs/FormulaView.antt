@@ -3,7 +3,7 @@ use Rattle.std.specs.Prelude.{◌≡◌, ℕ, ◌==◌, Bool, true, false, List,
 use Rattle.std.specs.List.{list_all, list_any}
 use Rattle.omf_format.specs.Expression.{Term, Operator, Constant, Named, Tree, Leaf, Unary, Binary, Lead, Expression, terms_in}
 use Rattle.omf_expr.specs.View.{view}
-use Rattle.object_meaning.specs.Terms.{trees_behind}
+use Rattle.object_meaning.specs.Terms.{trees_after}
 use Rattle.list_meaning.specs.Listed as listed
 use Rattle.list_meaning.specs.Listed.{formula_text}
 use Rattle.list_lines.specs.declared.formula.Front.{Front}
@@ -72,15 +72,15 @@ abbrev pub part_of_tree : Tree → List ℕ × Bool
 part_of_tree tree = (take 256 (formula_text tree), is_leaf tree)
 
 -- the parts of trees, of which the last comes first
-abbrev pub all_told : List Tree → List (List ℕ × Bool)
-all_told [] = []
-all_told (tree ∷ trees) = all_told trees ++ part_of_tree tree ∷ []
+abbrev pub all_reported : List Tree → List (List ℕ × Bool)
+all_reported [] = []
+all_reported (tree ∷ trees) = all_reported trees ++ part_of_tree tree ∷ []
 
 -- the parts are those of the terms so far, and the terms that are left find their operands
 pub record AreParts (all left : List Term) (parts : List FormulaPart) : Type 0 where
   pub trees : List Tree
-  pub view : map part_view parts ≡ all_told trees
-  pub same : trees_behind trees left ≡ trees_behind [] all
+  pub view : map part_view parts ≡ all_reported trees
+  pub same : trees_after trees left ≡ trees_after [] all
   pub leads : Lead (length trees) left 1
 
 -- these are the first four terms of an expression

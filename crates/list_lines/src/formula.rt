@@ -6,7 +6,7 @@ ghost use Rattle.omf_expr.specs.View.{view};
 ghost use Rattle.object_meaning.specs.Terms.{tree_in, with_term};
 ghost use Rattle.list_meaning.specs.Listed.{operator_text, formula_text, term_text};
 ghost use Rattle.list_meaning.specs.Listing.{is_open, term_listable, term_may_stand};
-ghost use Rattle.list_lines.specs.FormulaView.{all_terms, any_term, term_at, moved_by, simple_four, weak_two, number_two, IsFront, parenthesized, part_view, part_of_tree, all_told};
+ghost use Rattle.list_lines.specs.FormulaView.{all_terms, any_term, term_at, moved_by, simple_four, weak_two, number_two, IsFront, parenthesized, part_view, part_of_tree, all_reported};
 ghost use Rattle.list_lines.specs.LineView.{HasSize, operand_view};
 ghost use Rattle.list_lines.specs.NamesView.{AreNames};
 
@@ -313,8 +313,8 @@ fn apply_operator(
     code: u8,
 ) -> Result<FormulaPart, LineFault>
     requires { operand_count code ≤ vec_len parts.old }
-    ensures { (trees : List Tree) → map part_view parts.old.items ≡ all_told trees
-        → IfOk result (λ part. map part_view parts.new.items ++ part_view part ∷ [] ≡ all_told (with_term trees (Operator code))) }
+    ensures { (trees : List Tree) → map part_view parts.old.items ≡ all_reported trees
+        → IfOk result (λ part. map part_view parts.new.items ++ part_view part ∷ [] ≡ all_reported (with_term trees (Operator code))) }
 {
     let Some(right) = parts.pop() else {
         unreachable!()
@@ -329,15 +329,15 @@ fn apply_operator(
 }
 
 /// The part of a term and of the parts that it takes.
-#[tactic(auto, using(crate::proofs::PartLaws::leaf_behind))]
+#[tactic(auto, using(crate::proofs::PartLaws::leaf_after))]
 fn part_of(
     alloc: Global,
     parts: &mut Vec<FormulaPart>,
     term: Term,
 ) -> Result<FormulaPart, LineFault>
     requires { operands_of (view term) ≤ vec_len parts.old }
-    ensures { (trees : List Tree) → map part_view parts.old.items ≡ all_told trees
-        → IfOk result (λ part. map part_view parts.new.items ++ part_view part ∷ [] ≡ all_told (with_term trees (view term.entry))) }
+    ensures { (trees : List Tree) → map part_view parts.old.items ≡ all_reported trees
+        → IfOk result (λ part. map part_view parts.new.items ++ part_view part ∷ [] ≡ all_reported (with_term trees (view term.entry))) }
 {
     match term {
         Term::Operator(code) => apply_operator(alloc, parts, code),

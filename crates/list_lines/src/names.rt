@@ -69,7 +69,7 @@ pub fn is_listable(name: &[u8]) -> bool
     ensures { result ≡ is_listable name.now }
 {
     match name.split_first() {
-        Some((first, behind)) => is_upper_start(*first) && are_upper(behind),
+        Some((first, following)) => is_upper_start(*first) && are_upper(following),
         None => false,
     }
 }

@@ -14,7 +14,7 @@ use Rattle.asm_meaning.specs.declared.directives.Switch.{Switch}
 use Rattle.asm_meaning.specs.declared.directives.Switch.TheVariants.{LongA, LongI, Msb}
 use Rattle.asm_meaning.specs.Formulas.{expression_text}
 use Rattle.asm_meaning.specs.Instruction.{Widths, kind_of, operand_bytes, operand_record, opcode_in}
-use Rattle.asm_meaning.specs.Pieces.{place_behind}
+use Rattle.asm_meaning.specs.Pieces.{place_after}
 use Rattle.asm_meaning.specs.State.{State, Segment, Names, no_names}
 use Rattle.list_meaning.specs.Listed.{ListedStatement, NextAlignIs, NextOrg, StartIs, KindIs, SwitchIs, Ds, Aligns, OrgIs, UsingIs, StrongIs, Labels, Equates, Instructs, Bytes, WeakIs, FormulaIs, EndIs, Wanted, None', Number, Banks, Label, Moved}
 
@@ -131,7 +131,7 @@ pub record Closes (state next : State) : Type 0 where
   pub s : Segment
   pub was : state.segment ≡ Some s
   pub here : next.segment ≡ None
-  pub ended : next.ended ≡ state.ended ++ record { header = record s.header { length = place_behind 0 (s.body ++ End ∷ []) }; body = s.body ++ End ∷ [] } ∷ []
+  pub ended : next.ended ≡ state.ended ++ record { header = record s.header { length = place_after 0 (s.body ++ End ∷ []) }; body = s.body ++ End ∷ [] } ∷ []
 
 -- what a line was written for: ALIGN and ORG before START wait for the next segment, and all lines behind it give to the open one
 abbrev pub IsLeft : ListedStatement → State → State → Type 0

@@ -89,8 +89,8 @@ abbrev pub instruction_of_opcode : ℕ → Instruction
 instruction_of_opcode opcode = or_brk (slice_get matrix opcode)
 
 -- how many bytes stand behind an opcode
-abbrev pub behind_opcode : Widths → ℕ → ℕ
-behind_opcode w opcode = operand_bytes w (instruction_of_opcode opcode).0 (instruction_of_opcode opcode).1
+abbrev pub after_opcode : Widths → ℕ → ℕ
+after_opcode w opcode = operand_bytes w (instruction_of_opcode opcode).0 (instruction_of_opcode opcode).1
 
 -- a bit of the operand of REP or SEP sets a width
 abbrev pub width_by : Bool → ℕ → ℕ → Bool → Bool
@@ -101,10 +101,10 @@ abbrev pub widths_by : Bool → ℕ → Widths → Widths
 widths_by on operand w = record { long_a = width_by on 0x20 operand w.long_a; long_i = width_by on 0x10 operand w.long_i }
 
 -- the widths behind an instruction with constant bytes
-unfoldable pub widths_behind : Mnemonic → List ℕ → Widths → Widths
-widths_behind Rep bytes w = widths_by true (little_number 1 bytes) w
-widths_behind Sep bytes w = widths_by false (little_number 1 bytes) w
-widths_behind _ bytes w = w
+unfoldable pub widths_following : Mnemonic → List ℕ → Widths → Widths
+widths_following Rep bytes w = widths_by true (little_number 1 bytes) w
+widths_following Sep bytes w = widths_by false (little_number 1 bytes) w
+widths_following _ bytes w = w
 
 -- a width is as it was
 abbrev pub same_bool : Bool → Bool → Bool
@@ -134,28 +134,28 @@ written_or mnemonic way bytes (Some wanted) = Instructs mnemonic way wanted ∷ 
 unfoldable pub said_instruction : Widths → ℕ → List ℕ → List ListedStatement
 said_instruction w opcode bytes =
     let found = instruction_of_opcode opcode in
-    if length bytes == behind_opcode w opcode
-    then written_or found.0 found.1 (opcode ∷ bytes) (operand_by (kind_of found.1) bytes) ++ turns_between w (widths_behind found.0 bytes w)
+    if length bytes == after_opcode w opcode
+    then written_or found.0 found.1 (opcode ∷ bytes) (operand_by (kind_of found.1) bytes) ++ turns_between w (widths_following found.0 bytes w)
     else Bytes (opcode ∷ bytes) ∷ []
 
 -- the widths behind it
 abbrev pub widths_past : Widths → ℕ → List ℕ → Widths
-widths_past w opcode bytes = if length bytes == behind_opcode w opcode then widths_behind (instruction_of_opcode opcode).0 bytes w else w
+widths_past w opcode bytes = if length bytes == after_opcode w opcode then widths_following (instruction_of_opcode opcode).0 bytes w else w
 
 -- the rest of a run, of which the first so many bytes were taken already
 unfoldable pub said_rest : Widths → ℕ → List ℕ → List ListedStatement
 said_rest w taken [] = []
-said_rest w (suc taken) (byte ∷ behind) = said_rest w taken behind
-said_rest w zero (opcode ∷ behind) =
-    let bytes = take (behind_opcode w opcode) behind in
-    said_instruction w opcode bytes ++ said_rest (widths_past w opcode bytes) (length bytes) behind
+said_rest w (suc taken) (byte ∷ following) = said_rest w taken following
+said_rest w zero (opcode ∷ following) =
+    let bytes = take (after_opcode w opcode) following in
+    said_instruction w opcode bytes ++ said_rest (widths_past w opcode bytes) (length bytes) following
 
 -- the widths behind the rest of a run
 unfoldable pub widths_rest : Widths → ℕ → List ℕ → Widths
 widths_rest w taken [] = w
-widths_rest w (suc taken) (byte ∷ behind) = widths_rest w taken behind
-widths_rest w zero (opcode ∷ behind) =
-    let bytes = take (behind_opcode w opcode) behind in widths_rest (widths_past w opcode bytes) (length bytes) behind
+widths_rest w (suc taken) (byte ∷ following) = widths_rest w taken following
+widths_rest w zero (opcode ∷ following) =
+    let bytes = take (after_opcode w opcode) following in widths_rest (widths_past w opcode bytes) (length bytes) following
 
 -- ---- expression records
 
@@ -184,7 +184,7 @@ record_by mnemonic Sign bytes = Some (0xEB, bytes, 0)
 
 -- the record of an opcode's operand that is no constant
 abbrev pub record_of_opcode : Widths → ℕ → Option (ℕ × ℕ × ℕ)
-record_of_opcode w opcode = record_by (instruction_of_opcode opcode).0 (kind_of (instruction_of_opcode opcode).1) (behind_opcode w opcode)
+record_of_opcode w opcode = record_by (instruction_of_opcode opcode).0 (kind_of (instruction_of_opcode opcode).1) (after_opcode w opcode)
 
 -- the record has this code, this count and this n
 abbrev pub is_record : ℕ → ℕ → ℕ → Option (ℕ × ℕ × ℕ) → Bool
@@ -220,14 +220,14 @@ abbrev pub is_among : List (List ℕ) → List ℕ → Bool
 is_among names name = list_any (bytes_eq name) names
 
 -- the last byte of a run, and those before it
-abbrev pub behind_byte : ℕ → Option (List ℕ × ℕ) → Option (List ℕ × ℕ)
-behind_byte byte None = Some ([], byte)
-behind_byte byte (Some found) = Some (byte ∷ found.0, found.1)
+abbrev pub after_byte : ℕ → Option (List ℕ × ℕ) → Option (List ℕ × ℕ)
+after_byte byte None = Some ([], byte)
+after_byte byte (Some found) = Some (byte ∷ found.0, found.1)
 
 -- a run without its last byte, and that byte
 unfoldable pub split_last : List ℕ → Option (List ℕ × ℕ)
 split_last [] = None
-split_last (byte ∷ behind) = behind_byte byte (split_last behind)
+split_last (byte ∷ following) = after_byte byte (split_last following)
 
 -- the opcode is held back: the run without it, and one instruction
 abbrev pub held_back : PendingRun → List ℕ → ℕ → Wanted → Given

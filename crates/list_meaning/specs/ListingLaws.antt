@@ -14,8 +14,8 @@ use Rattle.list_meaning.specs.Listing.{listing_from}
 
 -- a line of a file's listing, read with what the lines before it left, has no fault and leaves what it was written for
 abbrev pub LineIsRead : Type 0
-LineIsRead = (file : List ℕ) (segments : List Segment) (before behind : List ListedStatement) (said : ListedStatement) (state : State) → IsBytes file → IsFile segments file
-    → listing_from 1 segments ≡ Ok (before ++ said ∷ behind) → AreSteps start (numbered_lines 0 1 (map said_text before)) state
+LineIsRead = (file : List ℕ) (segments : List Segment) (before following : List ListedStatement) (said : ListedStatement) (state : State) → IsBytes file → IsFile segments file
+    → listing_from 1 segments ≡ Ok (before ++ said ∷ following) → AreSteps start (numbered_lines 0 1 (map said_text before)) state
     → (next : State) × IsStep state (line_of 0 (1 + length before) (said_text said)) (Ok next) × IsLeft said state next
 
 -- assembled without macros, a text gives an object whose segments stand for the same as these, unless that object would be too

@@ -16,7 +16,7 @@ pub mod ConstantLines
 pub mod BytesLine
 pub mod NumberLine
 pub mod LineGives
-pub mod Behind
+pub mod After
 pub mod RunGives
 pub mod FormulaCan
 pub mod Content

@@ -208,7 +208,7 @@ fn records_that_have_no_line_are_refused_at_their_places(rt: HostRuntime) -> Res
 }
 
 #[test]
-fn other_faults_are_told(rt: HostRuntime) -> Result<(), Fail> {
+fn other_faults_are_reported(rt: HostRuntime) -> Result<(), Fail> {
     let alloc = rt.alloc();
     let file = segment(alloc, 0, b"\xFF");
     let want = ListFault {

@@ -4,7 +4,7 @@ use Rattle.std.specs.Prelude.{◌⊎◌, slice_get, min}
 use Rattle.std.proofs.lemmas.Bool.{cases_lt}
 use Rattle.std.proofs.lemmas.List.{length-append, length-take, length-replicate}
 use Rattle.std.proofs.lemmas.Option.{slice_get_past}
-use Rattle.load_meaning.specs.laws.LayingLaws.{get-front, get-behind, get-take, same_list}
+use Rattle.load_meaning.specs.laws.LayingLaws.{get-front, get-following, get-take, same_list}
 use Rattle.load_content.specs.declared.pieces.BytePiece.{BytePiece}
 use Rattle.load_content.specs.Content.{ArePieces, IsAt}
 use Rattle.load_content.proofs.Splits.{within}
@@ -26,7 +26,7 @@ more_bytes bytes more at n upto is fits size each = same_list (take at bytes ++ 
       | inr from ↦ elim (cases_lt k upto) [
         | inl lt ↦
             let place : at + (k - at) ≡ k = omega (arith, from) in
-            get-behind (take at bytes) more k (k - at) (omega (arith, length-take at bytes, from, is, fits))
+            get-following (take at bytes) more k (k - at) (omega (arith, length-take at bytes, from, is, fits))
             ∙ sym (each (k - at) (omega (arith, from, lt, is))) ∙ ap (slice_get bytes) place ∙ sym (get-take upto bytes k lt)
         | inr past ↦
             slice_get_past (take at bytes ++ more) k (omega (arith, past, length-append (take at bytes) more, length-take at bytes, size, is, fits))
@@ -80,12 +80,12 @@ filled_more pieces bytes n size at next p are is here to = record {
 -- the zeros before a piece
 gap : (pieces : List BytePiece) (bytes : List ℕ) (n size at upto : ℕ) → ArePieces pieces bytes → IsFilled pieces n size at → size ≤ length bytes → upto ≤ size
     → ((i : ℕ) (q : BytePiece) → n ≤ i → IsAt pieces i q → upto ≤ q.start) → (k : ℕ) → at ≤ k → k < upto → slice_get bytes k ≡ Some 0
-gap pieces bytes n size at upto are is fits le behind k from lt = are.zeros k (omega (arith, fits, le, lt)) (λ i q there. elim (cases_lt i n) [
+gap pieces bytes n size at upto are is fits le following k from lt = are.zeros k (omega (arith, fits, le, lt)) (λ i q there. elim (cases_lt i n) [
   | inl before ↦ elim (is.passed i q before there) [
     | inl past ↦ inr (omega (arith, past, from))
     | inr full ↦ absurd (omega (arith, full, from, lt, le))
   ]
-  | inr after ↦ inl (omega (arith, behind i q after there, lt))
+  | inr after ↦ inl (omega (arith, following i q after there, lt))
 ])
 
 pub piece_filled : (pieces : List BytePiece) (bytes so_far : List ℕ) (n size at next : ℕ) (p : BytePiece) → ArePieces pieces bytes → IsFilled pieces n size at → size ≤ length bytes → IsAt pieces n p → next ≡ next_of p size
@@ -94,14 +94,14 @@ piece_filled pieces bytes so_far n size at next p are is fits here to done =
     let start = from_of p size in
     let from : at ≤ start = omega (arith, is.inside, is.left n p (omega arith) here) in
     let zeros : take at bytes ++ replicate (start - at) 0 ≡ take start bytes =
-    more_zeros bytes at start from (omega (arith, fits)) (gap pieces bytes n size at start are is fits (omega arith) (λ i q le there. behind i q le there)) in
+    more_zeros bytes at start from (omega (arith, fits)) (gap pieces bytes n size at start are is fits (omega arith) (λ i q le there. following i q le there)) in
     sym (append_assoc so_far (replicate (start - at) 0) (take (next - start) p.bytes.now))
     ∙ ap (λ (l : List ℕ). (l ++ replicate (start - at) 0) ++ take (next - start) p.bytes.now) done
     ∙ ap (λ (l : List ℕ). l ++ take (next - start) p.bytes.now) zeros
     ∙ more_bytes bytes (take (next - start) p.bytes.now) start (next - start) next (omega (arith, to)) (omega (arith, to, fits)) (omega (arith, length-take (next - start) p.bytes.now, to)) (λ m lt. byte m lt)
   where
-    behind : (i : ℕ) (q : BytePiece) → n ≤ i → IsAt pieces i q → from_of p size ≤ q.start
-    behind i q le there = elim (cases_lt n i) [
+    following : (i : ℕ) (q : BytePiece) → n ≤ i → IsAt pieces i q → from_of p size ≤ q.start
+    following i q le there = elim (cases_lt n i) [
       | inl after ↦ omega (arith, are.apart n i p q after here there)
       | inr same ↦
           let place : i ≡ n = omega (arith, le, same) in
@@ -136,7 +136,7 @@ lone_is p bytes are first = same_list bytes (p.bytes.now ++ replicate (length by
       | inr from ↦ elim (cases_lt k (length bytes)) [
         | inl lt ↦
             are.zeros k lt (λ i q at. inr (past k from i q at))
-            ∙ sym (get-behind p.bytes.now (replicate (length bytes - length p.bytes.now) 0) k (k - length p.bytes.now) (omega (arith, from)) ∙ get-zeros (length bytes - length p.bytes.now) (k - length p.bytes.now) (omega (arith, from, lt)))
+            ∙ sym (get-following p.bytes.now (replicate (length bytes - length p.bytes.now) 0) k (k - length p.bytes.now) (omega (arith, from)) ∙ get-zeros (length bytes - length p.bytes.now) (k - length p.bytes.now) (omega (arith, from, lt)))
         | inr past' ↦
             slice_get_past bytes k past'
             ∙ sym (slice_get_past (p.bytes.now ++ replicate (length bytes - length p.bytes.now) 0) k (omega (arith, past', from, fits, first, length-append p.bytes.now (replicate (length bytes - length p.bytes.now) 0), length-replicate {A = ℕ} (length bytes - length p.bytes.now) 0)))

@@ -6,7 +6,7 @@ use Rattle.std.proofs.lemmas.Bool.{cases_lt, cases_order}
 use Rattle.std.proofs.lemmas.List.{length-append, length-drop, get_or-drop}
 use Rattle.load_content.specs.declared.pieces.BytePiece.{BytePiece}
 use Rattle.load_content.specs.Content.{IsZeros, ArePieces, start_of}
-use Rattle.load_meaning.specs.laws.LayingLaws.{get-front, get-behind}
+use Rattle.load_meaning.specs.laws.LayingLaws.{get-front, get-following}
 use Rattle.load_content.proofs.Splits.{within, get_there}
 
 pub no_pieces : ArePieces [] []
@@ -30,10 +30,10 @@ zeros_more pieces bytes more are zeros = record {
   fits = λ i p at. omega (arith, are.fits i p at, length-append bytes more);
   zeros = λ k lt none. elim (cases_lt k (length bytes)) [
     | inl here ↦ get-front bytes more k here ∙ are.zeros k here none
-    | inr behind ↦
-        let place : k ≡ length bytes + (k - length bytes) = omega (arith, behind) in
-        get-behind bytes more k (k - length bytes) place ∙ ap (λ (l : List ℕ). slice_get l (k - length bytes)) zeros
-        ∙ get-zeros (length more) (k - length bytes) (omega (arith, length-append bytes more, behind))
+    | inr following ↦
+        let place : k ≡ length bytes + (k - length bytes) = omega (arith, following) in
+        get-following bytes more k (k - length bytes) place ∙ ap (λ (l : List ℕ). slice_get l (k - length bytes)) zeros
+        ∙ get-zeros (length more) (k - length bytes) (omega (arith, length-append bytes more, following))
   ];
 }
 
@@ -68,7 +68,7 @@ pieces_more pieces bytes new are start = record {
     | inl first ↦ get-front bytes new.bytes.now (p.start + n) (omega (arith, are.fits i p first, lt)) ∙ are.inside i n p first lt
     | inr last ↦
         let s : p.start ≡ new.start = ap (λ (r : BytePiece). r.start) last.1 in
-        get-behind bytes new.bytes.now (p.start + n) n (omega (arith, s, start)) ∙ ap (λ (r : BytePiece). slice_get r.bytes.now n) (sym last.1)
+        get-following bytes new.bytes.now (p.start + n) n (omega (arith, s, start)) ∙ ap (λ (r : BytePiece). slice_get r.bytes.now n) (sym last.1)
   ];
   fits = λ i p at. elim (last_or pieces new i p at) [
     | inl first ↦ omega (arith, are.fits i p first, length-append bytes new.bytes.now)
@@ -81,8 +81,8 @@ pieces_more pieces bytes new are start = record {
     | inl here ↦
         get-front bytes new.bytes.now k here
         ∙ are.zeros k here (λ i p at. none i p (get-front pieces (new ∷ []) i (within pieces i p at) ∙ at))
-    | inr behind ↦ elim (none (length pieces) new (last_there pieces new)) [
-      | inl before ↦ absurd (omega (arith, before, start, behind))
+    | inr following ↦ elim (none (length pieces) new (last_there pieces new)) [
+      | inl before ↦ absurd (omega (arith, before, start, following))
       | inr past ↦ absurd (omega (arith, past, start, lt, length-append bytes new.bytes.now))
     ]
   ];
@@ -127,7 +127,7 @@ uncovered pieces bytes at i p are lt there low none after = are.zeros at lt (λ 
       inr (subst (λ (r : BytePiece). r.start + length r.bytes.now ≤ at) (sym one) (omega (arith, past p.bytes.now (at - p.start) none, low)))
   | inr other ↦ elim other [
     | inl before ↦ inr (omega (arith, are.apart j i q p before is there, low))
-    | inr behind ↦ inl (after j q behind is)
+    | inr following ↦ inl (after j q following is)
   ]
 ])
 
@@ -137,6 +137,6 @@ rising pieces bytes are = λ i j d le lt. elim (cases_order i j) [
   | inl same ↦ let e : start_of (get_or pieces i d) ≡ start_of (get_or pieces j d) = ap (λ (n : ℕ). start_of (get_or pieces n d)) same in omega (arith, e)
   | inr other ↦ elim other [
     | inl before ↦ let h = are.apart i j (get_or pieces i d) (get_or pieces j d) before (get_there pieces i d (omega arith)) (get_there pieces j d lt) in omega (arith, h)
-    | inr behind ↦ absurd (omega (arith, behind, le))
+    | inr following ↦ absurd (omega (arith, following, le))
   ]
 ]

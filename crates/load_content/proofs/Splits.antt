@@ -19,7 +19,7 @@ get_there (x ∷ xs) (suc k) d lt = get_there xs k d (omega arith)
 pub split_at : {A : Type 0} (n : A → ℕ) (xs : List A) (most place : ℕ) → IsPartitionPoint (λ x. leb (n x) most ≡ true) (λ x. leb (n x) most ≡ false) xs place → IsSplit n xs most place
 split_at n xs most place point = record {
   before = λ i x lt is. leb-true (n x) most (subst (λ y. leb (n y) most ≡ true) (get_or_from_slice_get xs i x x is) (point.0 i x (omega arith) lt));
-  behind = λ i x le is. leb-false (n x) most (subst (λ y. leb (n y) most ≡ false) (get_or_from_slice_get xs i x x is) (point.1 i x le (within xs i x is)));
+  following = λ i x le is. leb-false (n x) most (subst (λ y. leb (n y) most ≡ false) (get_or_from_slice_get xs i x x is) (point.1 i x le (within xs i x is)));
 }
 
 -- of two items in order, by their places

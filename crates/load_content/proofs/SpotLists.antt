@@ -247,7 +247,7 @@ one_over [] k apart = inl tt
 one_over (t ∷ spots) k apart = elim (covers_or_not k t) [
   | inl yes_is ↦ inr (
     t,
-    (((λ _. refl), each_place (λ u. Covers k u → u ≡ t) spots (λ j u is over. let behind = apart 0 (suc j) t u (omega arith) refl is in absurd (omega (arith, behind, yes_is.1, over.0)))), λ none. none.0 yes_is),
+    (((λ _. refl), each_place (λ u. Covers k u → u ≡ t) spots (λ j u is over. let following = apart 0 (suc j) t u (omega arith) refl is in absurd (omega (arith, following, yes_is.1, over.0)))), λ none. none.0 yes_is),
   )
   | inr no_is ↦ elim (one_over spots k (λ i j s u lt is there. apart (suc i) (suc j) s u (omega arith) is there)) [
     | inl none ↦ inl (no_is, none)

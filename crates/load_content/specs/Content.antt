@@ -19,7 +19,7 @@ use Rattle.load_content.specs.declared.targets.SegmentContent.{SegmentContent}
 -- the items up to a place have a number that is at most this one, and those behind have a greater one
 pub record IsSplit {A : Type 0} (n : A → ℕ) (xs : List A) (most place : ℕ) : Type 0 where
   pub before : (i : ℕ) (x : A) → i < place → slice_get xs i ≡ Some x → n x ≤ most
-  pub behind : (i : ℕ) (x : A) → place ≤ i → slice_get xs i ≡ Some x → most < n x
+  pub following : (i : ℕ) (x : A) → place ≤ i → slice_get xs i ≡ Some x → most < n x
 
 -- ---- data
 

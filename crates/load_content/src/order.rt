@@ -114,8 +114,8 @@ fn runs_of(alloc: Global, spots: &[PatchSpot]) -> Result<Option<Vec<usize>>, All
         }
         let count = apart_count(left);
         runs.push(count)?;
-        let (_, behind) = left.split_at(count);
-        left = behind;
+        let (_, following) = left.split_at(count);
+        left = following;
     }
     Ok(Some(runs))
 }

@@ -109,9 +109,9 @@ pub fn spot_at(spots: &[PatchSpot], runs: &[usize], at: u32) -> Option<PatchSpot
     let mut left = spots;
     let mut found = None;
     'runs: for count in runs {
-        let (run, behind) = left.split_at(*count);
+        let (run, following) = left.split_at(*count);
         found = spot_in(run, at).or(found);
-        left = behind;
+        left = following;
     }
     found
 }

@@ -63,7 +63,7 @@ load_cause causes.Memory = Memory
 
 -- a fault that any file may have
 abbrev pub as_load : FaultAt → Fault
-as_load told = (load_cause told.0, told.1)
+as_load reported = (load_cause reported.0, reported.1)
 
 -- what is wrong with the header there, or else with its name or type, for which it is the segment's start
 unfoldable pub front_fault : ℕ → List ℕ → Option Fault

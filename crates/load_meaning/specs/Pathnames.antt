@@ -77,13 +77,13 @@ abbrev pub first_path : List ℕ → List ℕ
 first_path bytes = take (path_size bytes) (drop path_start bytes)
 
 -- what stands behind the row at the front
-abbrev pub behind_path : List ℕ → List ℕ
-behind_path bytes = drop (path_start + path_size bytes) bytes
+abbrev pub after_path : List ℕ → List ℕ
+after_path bytes = drop (path_start + path_size bytes) bytes
 
 -- the paths of so many rows at most, up to the number 0
 abbrev pub paths_in : ℕ → List ℕ → List (List ℕ)
 paths_in zero bytes = []
-paths_in (suc n) bytes = if number_at 2 0 bytes == 0 then [] else first_path bytes ∷ paths_in n (behind_path bytes)
+paths_in (suc n) bytes = if number_at 2 0 bytes == 0 then [] else first_path bytes ∷ paths_in n (after_path bytes)
 
 -- where the first field of a row behind its number begins that is wrong or passes the end: its zeros, its length byte, its path
 abbrev pub row_flaw : ℕ → List ℕ → Option ℕ
@@ -107,7 +107,7 @@ abbrev pub rows_flaw : ℕ → ℕ → ℕ → List ℕ → Option ℕ
 rows_flaw zero rows at bytes = end_flaw rows at bytes (Some at)
 rows_flaw (suc n) rows at bytes = end_flaw rows at bytes
     (if not (number_at 2 0 bytes == rows + 2) then Some at
-    else option_or (row_flaw at bytes) (rows_flaw n (rows + 1) (at + path_start + path_size bytes) (behind_path bytes)))
+    else option_or (row_flaw at bytes) (rows_flaw n (rows + 1) (at + path_start + path_size bytes) (after_path bytes)))
 
 -- ---- the segment
 

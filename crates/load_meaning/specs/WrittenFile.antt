@@ -11,7 +11,7 @@ use Rattle.load_meaning.specs.Pathnames.{paths_text}
 use Rattle.load_meaning.specs.declared.table.Entry.{Entry}
 use Rattle.load_meaning.specs.Cells.{Byte, Patch, cells}
 use Rattle.load_meaning.specs.Table.{most_entries, table_bytes}
-use Rattle.load_meaning.specs.WrittenBody.{AreWritten, zeros_behind, written_cells, data_records, body_records}
+use Rattle.load_meaning.specs.WrittenBody.{AreWritten, zeros_after, written_cells, data_records, body_records}
 
 -- a load segment that is to be written: its header's fields, its content, the patches over it, and its ENTRY records; where it is whole,
 -- as a list of pathnames, its zeros at the end are written too
@@ -32,7 +32,7 @@ image_body image = flat_map (spelling written_layout) (image_records image) ++ s
 
 -- the fields that are written: RESSPC is the number of zeros that the body leaves out
 abbrev pub image_fields : Image → Fields
-image_fields image = record image.fields { res_spc = if image.whole then 0 else zeros_behind (written_cells image.content image.patches) }
+image_fields image = record image.fields { res_spc = if image.whole then 0 else zeros_after (written_cells image.content image.patches) }
 
 -- an ENTRY record that can be written
 abbrev pub IsExport : Record → Type 0

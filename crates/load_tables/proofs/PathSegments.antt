@@ -17,7 +17,7 @@ use Rattle.load_meaning.specs.declared.load.LoadCause.TheVariants.{BadTable}
 use Rattle.load_meaning.specs.Cells.{segment_bytes}
 use Rattle.load_meaning.specs.Loadable.{in_segment, pathnames_flaw, pathnames_fault}
 use Rattle.load_meaning.specs.Pathnames.{has_pathnames, most_paths, paths_of, long_bytes, is_one_long}
-use Rattle.load_tables.specs.Paths.{lone_bytes, TakesLast, flaw_in, rows_in, flaw_behind, fault_behind, paths_then, is_second}
+use Rattle.load_tables.specs.Paths.{lone_bytes, TakesLast, flaw_in, rows_in, flaw_after, fault_after, paths_then, is_second}
 
 -- ---- the one record
 
@@ -136,31 +136,31 @@ module _ (s : Segment) where
   checked : Bool → Bool → Bool → Option ℕ
   checked second kind body = option_or (first_of ((second, 0) ∷ (kind, 0) ∷ (not body, 0) ∷ [])) rows_of
 
-  pub flaw_second : (second : Bool) → second ≡ true → flaw_behind second s ≡ Some 0
-  unfolding flaw_behind checked kind_of rows_of
+  pub flaw_second : (second : Bool) → second ≡ true → flaw_after second s ≡ Some 0
+  unfolding flaw_after checked kind_of rows_of
   flaw_second second is = ap (λ (b : Bool). checked b kind_of (is_one_long s.fields.length s.records)) is
 
-  pub flaw_kind : (second : Bool) → second ≡ false → (is_dynamic s.fields.kind || is_skipped s.fields.kind) ≡ true → flaw_behind second s ≡ Some 0
-  unfolding flaw_behind checked kind_of rows_of
+  pub flaw_kind : (second : Bool) → second ≡ false → (is_dynamic s.fields.kind || is_skipped s.fields.kind) ≡ true → flaw_after second s ≡ Some 0
+  unfolding flaw_after checked kind_of rows_of
   flaw_kind second first is =
       ap (λ (b : Bool). checked b kind_of (is_one_long s.fields.length s.records)) first ∙ ap (λ (b : Bool). checked false b (is_one_long s.fields.length s.records)) is
 
-  pub flaw_body : (second : Bool) → second ≡ false → (is_dynamic s.fields.kind || is_skipped s.fields.kind) ≡ false → is_one_long s.fields.length s.records ≡ false → flaw_behind second s ≡ Some 0
-  unfolding flaw_behind checked kind_of rows_of
+  pub flaw_body : (second : Bool) → second ≡ false → (is_dynamic s.fields.kind || is_skipped s.fields.kind) ≡ false → is_one_long s.fields.length s.records ≡ false → flaw_after second s ≡ Some 0
+  unfolding flaw_after checked kind_of rows_of
   flaw_body second first kind body =
       ap (λ (b : Bool). checked b kind_of (is_one_long s.fields.length s.records)) first ∙ ap (λ (b : Bool). checked false b (is_one_long s.fields.length s.records)) kind
       ∙ ap (λ (b : Bool). checked false false b) body
 
   pub flaw_rows : (second : Bool) (bytes : List ℕ) → second ≡ false → (is_dynamic s.fields.kind || is_skipped s.fields.kind) ≡ false → is_one_long s.fields.length s.records ≡ true → segment_bytes s ≡ bytes
-      → flaw_behind second s ≡ flaw_in most_paths bytes
-  unfolding flaw_behind checked kind_of rows_of
+      → flaw_after second s ≡ flaw_in most_paths bytes
+  unfolding flaw_after checked kind_of rows_of
   flaw_rows second bytes first kind body is =
       ap (λ (b : Bool). checked b kind_of (is_one_long s.fields.length s.records)) first ∙ ap (λ (b : Bool). checked false b (is_one_long s.fields.length s.records)) kind
       ∙ ap (λ (b : Bool). checked false false b) body ∙ ap (flaw_in most_paths) is
 
 -- where nothing is wrong with it, no other comes before it
-first_none : (second : Bool) (s : Segment) → flaw_behind second s ≡ None → second ≡ false
-unfolding flaw_behind
+first_none : (second : Bool) (s : Segment) → flaw_after second s ≡ None → second ≡ false
+unfolding flaw_after
 first_none true s e = absurd cc
 first_none false s e = refl
 
@@ -168,15 +168,15 @@ some_fault : (number : ℕ) (o : Option ℕ) → option_map (λ at. in_segment n
 some_fault number None e = refl
 some_fault number (Some at) e = absurd cc
 
-pub first_passed : (second : Bool) (number : ℕ) (s : Segment) → fault_behind second number s ≡ None → has_pathnames s ≡ true → second ≡ false
-unfolding fault_behind
+pub first_passed : (second : Bool) (number : ℕ) (s : Segment) → fault_after second number s ≡ None → has_pathnames s ≡ true → second ≡ false
+unfolding fault_after
 first_passed second number s e is =
-    first_none second s (some_fault number (flaw_behind second s) (sym (ap (λ (b : Bool). if b then option_map (λ at. in_segment number (BadTable, at)) (flaw_behind second s) else None) is) ∙ e))
+    first_none second s (some_fault number (flaw_after second s) (sym (ap (λ (b : Bool). if b then option_map (λ at. in_segment number (BadTable, at)) (flaw_after second s) else None) is) ∙ e))
 
 -- ---- the phase
 
-flaw_same : (segments : List Segment) (number : ℕ) (s : Segment) → pathnames_flaw segments number s ≡ flaw_behind (is_second segments number) s
-unfolding pathnames_flaw flaw_behind flaw_in
+flaw_same : (segments : List Segment) (number : ℕ) (s : Segment) → pathnames_flaw segments number s ≡ flaw_after (is_second segments number) s
+unfolding pathnames_flaw flaw_after flaw_in
 flaw_same segments number s = refl
 
 both_maps : (number : ℕ) (b : Bool) (o : Option ℕ)
@@ -185,11 +185,11 @@ both_maps number true None = refl
 both_maps number true (Some at) = refl
 both_maps number false o = refl
 
-pub phase_behind : (segments : List Segment) (number : ℕ) (s : Segment) (second : Bool) → second ≡ is_second segments number
-    → fault_behind second number s ≡ option_map (in_segment number) (pathnames_fault segments number s)
-unfolding fault_behind
-phase_behind segments number s second is =
-    ap (λ (b : Bool). fault_behind b number s) is
+pub phase_after : (segments : List Segment) (number : ℕ) (s : Segment) (second : Bool) → second ≡ is_second segments number
+    → fault_after second number s ≡ option_map (in_segment number) (pathnames_fault segments number s)
+unfolding fault_after
+phase_after segments number s second is =
+    ap (λ (b : Bool). fault_after b number s) is
     ∙ ap (λ (o : Option ℕ). if has_pathnames s then option_map (λ at. in_segment number (BadTable, at)) o else None) (sym (flaw_same segments number s))
     ∙ sym (both_maps number (has_pathnames s) (pathnames_flaw segments number s))
 

@@ -38,8 +38,8 @@ IsFlaw (Flaw at) flaw = flaw ≡ Some at
 IsFlaw Memory flaw = Unit {0}
 
 -- what is wrong with a pathname segment, where it is known whether another comes before it
-unfoldable pub flaw_behind : Bool → Segment → Option ℕ
-flaw_behind second s = option_or
+unfoldable pub flaw_after : Bool → Segment → Option ℕ
+flaw_after second s = option_or
     (first_of (
     (second, 0)
     ∷ (is_dynamic s.fields.kind || is_skipped s.fields.kind, 0)
@@ -48,8 +48,8 @@ flaw_behind second s = option_or
     (flaw_in most_paths (segment_bytes s))
 
 -- what is wrong with the segment that has this number, if it is a pathname segment
-unfoldable pub fault_behind : Bool → ℕ → Segment → Option LoadFault
-fault_behind second number s = if has_pathnames s then option_map (λ at. in_segment number (BadTable, at)) (flaw_behind second s) else None
+unfoldable pub fault_after : Bool → ℕ → Segment → Option LoadFault
+fault_after second number s = if has_pathnames s then option_map (λ at. in_segment number (BadTable, at)) (flaw_after second s) else None
 
 -- the paths of a segment, if it is a pathname segment, and else those that are there
 unfoldable pub paths_then : Segment → List (List ℕ) → List (List ℕ)

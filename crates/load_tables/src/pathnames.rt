@@ -10,7 +10,7 @@ ghost use Rattle.omf_records.specs.View as records;
 ghost use Rattle.omf_records.specs.Segments.{segment_of_view};
 ghost use Rattle.load_content.specs.Views.{IsLoadView, AreShown, IsLaterRefused};
 ghost use Rattle.load_tables.specs.View.{seen_paths};
-ghost use Rattle.load_tables.specs.Paths.{lone_bytes, TakesLast, flaw_in, rows_in, IsFlaw, flaw_behind, fault_behind, paths_then};
+ghost use Rattle.load_tables.specs.Paths.{lone_bytes, TakesLast, flaw_in, rows_in, IsFlaw, flaw_after, fault_after, paths_then};
 
 use load_meaning::{LoadCause, LoadFault};
 use omf_base::{first_items, items_after, number};
@@ -225,9 +225,9 @@ fn segment_paths<'a>(
     requires short { length view.now.file.now < 2 ^ 32 }
     requires segment_of_view { IsLoadView view.now.file.now view.now }
     requires sized { length (segment_bytes (segment_of_view view.now)) ≡ view.now.header.length }
-    ensures sound { OnOk result (flaw_behind second (segment_of_view view.now) ≡ None) }
+    ensures sound { OnOk result (flaw_after second (segment_of_view view.now) ≡ None) }
     ensures paths { IfOk result (λ paths. seen_paths paths.items ≡ rows_in most_paths (segment_bytes (segment_of_view view.now))) }
-    ensures flaw { IfErr result (λ fault. IsFlaw fault (flaw_behind second (segment_of_view view.now))) }
+    ensures flaw { IfErr result (λ fault. IsFlaw fault (flaw_after second (segment_of_view view.now))) }
 {
     if second || view.header.kind.is_dynamic() || view.header.kind.is_skip() {
         return Err(RowsFault::Flaw(0));
@@ -263,7 +263,7 @@ fn to_load_fault(fault: RowsFault, segment: u32) -> LoadFault
 }
 
 /// Reads the paths of the segment with this number, if it is a pathname segment; `second` says that another comes before it.
-#[tactic(auto, unfolding(crate::specs::Paths::fault_behind, crate::specs::Paths::paths_then))]
+#[tactic(auto, unfolding(crate::specs::Paths::fault_after, crate::specs::Paths::paths_then))]
 fn take_paths<'a>(
     alloc: Global,
     view: &SegmentView<'a>,
@@ -274,9 +274,9 @@ fn take_paths<'a>(
     requires short { length view.now.file.now < 2 ^ 32 }
     requires segment_of_view { IsLoadView view.now.file.now view.now }
     requires sized { length (segment_bytes (segment_of_view view.now)) ≡ view.now.header.length }
-    ensures sound { OnOk result (fault_behind second number (segment_of_view view.now) ≡ None) }
+    ensures sound { OnOk result (fault_after second number (segment_of_view view.now) ≡ None) }
     ensures paths { OnOk result (seen_paths paths.new.items ≡ paths_then (segment_of_view view.now) (seen_paths paths.old.items)) }
-    ensures refused { IfErr result (λ fault. IsLaterRefused fault (fault_behind second number (segment_of_view view.now))) }
+    ensures refused { IfErr result (λ fault. IsLaterRefused fault (fault_after second number (segment_of_view view.now))) }
 {
     if !has_pathnames(view) {
         return Ok(());

@@ -10,7 +10,7 @@ use Rattle.load_meaning.specs.Cells.{Patch}
 use Rattle.load_meaning.specs.WrittenBody.{AreWritten, IsWrittenPatch, stored_bytes, with_stored, written_data, data_records}
 use Rattle.load_meaning.specs.laws.FormLaws.{length-stored}
 use Rattle.load_meaning.specs.laws.StoredLaws.{length-data}
-use Rattle.load_writer.specs.WrittenParts.{end_behind, IsKept}
+use Rattle.load_writer.specs.WrittenParts.{end_after, IsKept}
 use Rattle.load_writer.proofs.KeptLaws.{end_low, kept_is}
 
 -- ---- a front of bytes with a piece over them
@@ -36,7 +36,7 @@ length-one l c b s size le =
 
 -- ---- patches that lie in the front
 
-cut_stored : (own n low : ℕ) (b : List ℕ) (patches : List Patch) → AreWritten (length b) low patches → end_behind low patches ≤ n → n ≤ length b
+cut_stored : (own n low : ℕ) (b : List ℕ) (patches : List Patch) → AreWritten (length b) low patches → end_after low patches ≤ n → n ≤ length b
     → take n (with_stored own b patches) ≡ with_stored own (take n b) patches
 cut_stored own n low b [] are end within = refl
 cut_stored own n low b (p ∷ patches) are end within =
@@ -46,7 +46,7 @@ cut_stored own n low b (p ∷ patches) are end within =
     cut_stored own n (p.location + p.count) next patches (subst (λ (k : ℕ). AreWritten k (p.location + p.count) patches) (sym same) are.2) end (omega (arith, same, within))
     ∙ ap (λ (t : List ℕ). with_stored own t patches) (cut_one n p.location p.count b (stored_bytes own p) (length-stored own p) first within)
 
-pub in_front : (n size low : ℕ) (patches : List Patch) → AreWritten size low patches → end_behind low patches ≤ n → AreWritten n low patches
+pub in_front : (n size low : ℕ) (patches : List Patch) → AreWritten size low patches → end_after low patches ≤ n → AreWritten n low patches
 in_front n size low [] are end = tt
 in_front n size low (p ∷ patches) are end =
     let here : IsWrittenPatch n p = record {
@@ -61,13 +61,13 @@ in_front n size low (p ∷ patches) are end =
 
 -- ---- the data
 
-pub data_is : (own n : ℕ) (content : List ℕ) (patches : List Patch) → AreWritten (length content) 0 patches → IsKept content (end_behind 0 patches) n
+pub data_is : (own n : ℕ) (content : List ℕ) (patches : List Patch) → AreWritten (length content) 0 patches → IsKept content (end_after 0 patches) n
     → with_stored own (take n content) patches ≡ written_data own content patches
 unfolding written_data
 data_is own n content patches are kept =
     sym (cut_stored own n 0 content patches are kept.reaches kept.within) ∙ ap (λ (k : ℕ). take k (with_stored own content patches)) (kept_is content patches n are kept)
 
-pub size_is : (own n : ℕ) (content : List ℕ) (patches : List Patch) → AreWritten (length content) 0 patches → IsKept content (end_behind 0 patches) n → n ≡ length (written_data own content patches)
+pub size_is : (own n : ℕ) (content : List ℕ) (patches : List Patch) → AreWritten (length content) 0 patches → IsKept content (end_after 0 patches) n → n ≡ length (written_data own content patches)
 size_is own n content patches are kept =
     let size : length (take n content) ≡ n = omega (arith, length-take n content, kept.within) in
     let front : AreWritten (length (take n content)) 0 patches = subst (λ (k : ℕ). AreWritten k 0 patches) (sym size) (in_front n (length content) 0 patches are kept.reaches) in
@@ -81,12 +81,12 @@ pub one_record : (d : List ℕ) → (length d ≡ 0 → ⊥) → flat_map (spell
 one_record [] some = absurd (some refl)
 one_record (x ∷ d) some = append-nil (spelling written_layout (LongConst (x ∷ d)))
 
-pub no_data : (own n : ℕ) (content old : List ℕ) (patches : List Patch) → AreWritten (length content) 0 patches → IsKept content (end_behind 0 patches) n → n ≡ 0
+pub no_data : (own n : ℕ) (content old : List ℕ) (patches : List Patch) → AreWritten (length content) 0 patches → IsKept content (end_after 0 patches) n → n ≡ 0
     → old ≡ old ++ flat_map (spelling written_layout) (data_records (written_data own content patches))
 no_data own n content old patches are kept none =
     sym (ap (λ (t : List ℕ). old ++ t) (no_bytes (written_data own content patches) (sym (size_is own n content patches are kept) ∙ none)) ∙ append-nil old)
 
-pub some_data : (own n : ℕ) (content front old new : List ℕ) (patches : List Patch) → AreWritten (length content) 0 patches → IsKept content (end_behind 0 patches) n → (n ≡ 0 → ⊥) → front ≡ take n content
+pub some_data : (own n : ℕ) (content front old new : List ℕ) (patches : List Patch) → AreWritten (length content) 0 patches → IsKept content (end_after 0 patches) n → (n ≡ 0 → ⊥) → front ≡ take n content
     → new ≡ old ++ spelling written_layout (LongConst (with_stored own front patches)) → new ≡ old ++ flat_map (spelling written_layout) (data_records (written_data own content patches))
 some_data own n content front old new patches are kept some front_is is =
     is

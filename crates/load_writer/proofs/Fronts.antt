@@ -9,8 +9,8 @@ pub front_whole : (xs ys : List ℕ) → ys ≡ xs → IsFront xs ys
 front_whole xs ys e = ([], e ∙ sym (append-nil xs))
 
 -- the front of a front
-pub front_behind : (xs ys zs : List ℕ) → IsFront xs ys → IsFront ys zs → IsFront xs zs
-front_behind xs ys zs f g = (f.0 ++ g.0, g.1 ∙ ap (λ (l : List ℕ). l ++ g.0) f.1 ∙ append_assoc xs f.0 g.0)
+pub front_after : (xs ys zs : List ℕ) → IsFront xs ys → IsFront ys zs → IsFront xs zs
+front_after xs ys zs f g = (f.0 ++ g.0, g.1 ∙ ap (λ (l : List ℕ). l ++ g.0) f.1 ∙ append_assoc xs f.0 g.0)
 
 -- what is left where all behind the front is cut off
 pub front_left : (n : ℕ) (xs ys zs : List ℕ) → n ≡ length xs → IsFront xs ys → zs ≡ take n ys → zs ≡ xs

@@ -4,29 +4,29 @@ use Rattle.std.specs.Prelude.{◌⊎◌, slice_get, get_or, option_map}
 use Rattle.std.proofs.lemmas.Bool.{cases_lt, and_parts, eq-eqb, ne_eqb, leb-true}
 use Rattle.std.proofs.lemmas.Option.{slice_get_within, slice_get-map, slice_get-get_or}
 use Rattle.load_meaning.specs.Cells.{Cell, Byte, Part, Patch, patched_cells}
-use Rattle.load_meaning.specs.WrittenBody.{AreWritten, is_zero, zeros_behind, written_cells}
+use Rattle.load_meaning.specs.WrittenBody.{AreWritten, is_zero, zeros_after, written_cells}
 use Rattle.load_meaning.specs.laws.LayingLaws.{Covers, Has, Missed, Found, get-missed, get-found}
 use Rattle.load_meaning.specs.laws.StoredLaws.{written_apart, parts, get-parts, patched-laid, fit-cells, HasPart, zeros_exact, no_byte, cells_size}
-use Rattle.load_writer.specs.WrittenParts.{end_behind, IsKept}
+use Rattle.load_writer.specs.WrittenParts.{end_after, IsKept}
 
 -- no patch lies behind the end of the last
-pub end_low : (size low : ℕ) (patches : List Patch) → AreWritten size low patches → low ≤ end_behind low patches
+pub end_low : (size low : ℕ) (patches : List Patch) → AreWritten size low patches → low ≤ end_after low patches
 end_low size low [] are = omega arith
 end_low size low (p ∷ patches) are = omega (arith, end_low size (p.location + p.count) patches are.2, are.1)
 
-covered_below : (size low : ℕ) (patches : List Patch) (p : Patch) (k : ℕ) → AreWritten size low patches → Has patches p → Covers p k → k < end_behind low patches
+covered_below : (size low : ℕ) (patches : List Patch) (p : Patch) (k : ℕ) → AreWritten size low patches → Has patches p → Covers p k → k < end_after low patches
 covered_below size low [] p k are has c = absurd has
 covered_below size low (q ∷ patches) p k are has c = elim has [
   | inl same ↦ let cq : Covers q k = subst (λ (r : Patch). Covers r k) same c in omega (arith, cq, end_low size (q.location + q.count) patches are.2)
   | inr more ↦ covered_below size (q.location + q.count) patches p k are.2 more c
 ]
 
-pub end_within : (size low : ℕ) (patches : List Patch) → low ≤ size → AreWritten size low patches → end_behind low patches ≤ size
+pub end_within : (size low : ℕ) (patches : List Patch) → low ≤ size → AreWritten size low patches → end_after low patches ≤ size
 end_within size low [] le are = le
 end_within size low (p ∷ patches) le are = end_within size (p.location + p.count) patches are.0.inside are.2
 
 -- and the byte before it is one of the last patch's
-last_found : (size low : ℕ) (patches : List Patch) → AreWritten size low patches → (end_behind low patches ≡ low) ⊎ Found patches (end_behind low patches - 1)
+last_found : (size low : ℕ) (patches : List Patch) → AreWritten size low patches → (end_after low patches ≡ low) ⊎ Found patches (end_after low patches - 1)
 last_found size low [] are = inl refl
 last_found size low (p ∷ patches) are =
     let some : 1 ≤ p.count = leb-true 1 p.count (and_parts (leb 1 p.count) (leb p.count 4) are.0.count').0 in
@@ -51,7 +51,7 @@ cell_found content patches k are found =
     (Part p.file p.segment p.offset p.shift (0 + (k - p.location)), there, refl)
 
 -- none lies from the end on
-past_end : (content : List ℕ) (patches : List Patch) (k : ℕ) → AreWritten (length content) 0 patches → end_behind 0 patches ≤ k → Missed patches k
+past_end : (content : List ℕ) (patches : List Patch) (k : ℕ) → AreWritten (length content) 0 patches → end_after 0 patches ≤ k → Missed patches k
 past_end content patches k are le p has c = let lt = covered_below (length content) 0 patches p k are has c in omega (arith, le, lt)
 
 pub byte_is : (o : Option ℕ) (c : Cell) → o ≡ Some 0 → option_map Byte o ≡ Some c → is_zero c ≡ true
@@ -74,11 +74,11 @@ other_byte (Some b) content k is lt not_zero = (Byte b, refl, ne_eqb b 0 (λ (e 
     some : ℕ → Option ℕ
     some n = Some n
 
-pub kept_is : (content : List ℕ) (patches : List Patch) (size : ℕ) → AreWritten (length content) 0 patches → IsKept content (end_behind 0 patches) size
-    → size ≡ length content - zeros_behind (written_cells content patches)
+pub kept_is : (content : List ℕ) (patches : List Patch) (size : ℕ) → AreWritten (length content) 0 patches → IsKept content (end_after 0 patches) size
+    → size ≡ length content - zeros_after (written_cells content patches)
 unfolding written_cells
 kept_is content patches size are is =
-    zeros_exact cells size each last (omega (arith, is.within, len)) ∙ ap (λ (n : ℕ). n - zeros_behind cells) len
+    zeros_exact cells size each last (omega (arith, is.within, len)) ∙ ap (λ (n : ℕ). n - zeros_after cells) len
   where
     cells : List Cell
     cells = patched_cells (map Byte content) patches
@@ -91,18 +91,18 @@ kept_is content patches size are is =
         let inside : k < length content = omega (arith, len, slice_get_within cells k c e) in
         byte_is (slice_get content k) c (is.zeros k le inside) (sym (cell_missed content patches k are (past_end content patches k are (omega (arith, le, is.reaches)))) ∙ e)
 
-    at_end : size ≡ end_behind 0 patches → (size ≡ 0) ⊎ ((1 ≤ size) × HasPart cells (size - 1))
+    at_end : size ≡ end_after 0 patches → (size ≡ 0) ⊎ ((1 ≤ size) × HasPart cells (size - 1))
     at_end same = elim (last_found (length content) 0 patches are) [
       | inl none ↦ inl (same ∙ none)
       | inr found ↦
-          let lt = covered_below (length content) 0 patches found.0 (end_behind 0 patches - 1) are found.1 found.2 in
-          inr (omega (arith, same, lt), subst (HasPart cells) (ap (λ (n : ℕ). n - 1) (sym same)) (cell_found content patches (end_behind 0 patches - 1) are found))
+          let lt = covered_below (length content) 0 patches found.0 (end_after 0 patches - 1) are found.1 found.2 in
+          inr (omega (arith, same, lt), subst (HasPart cells) (ap (λ (n : ℕ). n - 1) (sym same)) (cell_found content patches (end_after 0 patches - 1) are found))
     ]
 
     last : (size ≡ 0) ⊎ ((1 ≤ size) × HasPart cells (size - 1))
     last = elim is.last [
       | inl same ↦ at_end same
-      | inr other ↦ elim (cases_lt (size - 1) (end_behind 0 patches)) [
+      | inr other ↦ elim (cases_lt (size - 1) (end_after 0 patches)) [
         | inl lt ↦ at_end (omega (arith, lt, is.reaches))
         | inr past ↦
             let byte = other_byte (slice_get content (size - 1)) content (size - 1) refl (omega (arith, is.within, other.1)) other.0 in

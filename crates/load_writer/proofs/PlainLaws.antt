@@ -8,7 +8,7 @@ use Rattle.omf_format.specs.Field.{written_layout}
 use Rattle.omf_format.specs.Record.{spelling}
 use Rattle.load_meaning.specs.laws.StoredLaws.{zeros_left}
 use Rattle.load_meaning.specs.laws.TableLaws.{length-little_bytes}
-use Rattle.load_meaning.specs.WrittenBody.{data_records, supers_from, body_records, body_text, written_data, written_cells, zeros_behind}
+use Rattle.load_meaning.specs.WrittenBody.{data_records, supers_from, body_records, body_text, written_data, written_cells, zeros_after}
 use Rattle.load_writer.specs.WrittenParts.{IsKept}
 use Rattle.load_writer.proofs.DataLaws.{data_is, size_is, one_record, length-one}
 
@@ -73,7 +73,7 @@ module _ (n start : ℕ) (old content mid : List ℕ) (here : length old ≡ sta
       ∙ ap (λ (l : List ℕ). old ++ flat_map (spelling written_layout) (data_records l)) (data_is own n content [] tt kept_there)
       ∙ ap (λ (l : List ℕ). old ++ l) (plain_text own content)
 
-  pub plain_zeros : (whole : ℕ) → whole ≡ length mid → whole - start - 5 - n ≡ zeros_behind (written_cells content [])
+  pub plain_zeros : (whole : ℕ) → whole ≡ length mid → whole - start - 5 - n ≡ zeros_after (written_cells content [])
   plain_zeros whole size =
       omega (arith, size, ap length mid_is, length-append (old ++ begun) content, size_f, size_is 0 n content [] tt kept_there)
       ∙ zeros_left 0 content [] tt

@@ -14,9 +14,9 @@ run page [] = 0
 run page (at ∷ more) = if at / 256 == page then suc (run page more) else 0
 
 -- where the last patch ends
-abbrev pub end_behind : ℕ → List format.Patch → ℕ
-end_behind low [] = low
-end_behind low (p ∷ patches) = end_behind (p.location + p.count) patches
+abbrev pub end_after : ℕ → List format.Patch → ℕ
+end_after low [] = low
+end_after low (p ∷ patches) = end_after (p.location + p.count) patches
 
 -- so many bytes go up to a place, or up to the last one behind it that isn't 0
 pub record IsKept (content : List ℕ) (end size : ℕ) : Type 0 where

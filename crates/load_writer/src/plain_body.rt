@@ -5,7 +5,7 @@ ghost use Rattle.std.specs.List.{flat_map};
 ghost use Rattle.byteorder.specs.Endian.{little_bytes};
 ghost use Rattle.omf_format.specs.Field.{written_layout};
 ghost use Rattle.omf_format.specs.Record.{spelling};
-ghost use Rattle.load_meaning.specs.WrittenBody.{data_records, written_cells, zeros_behind, body_text};
+ghost use Rattle.load_meaning.specs.WrittenBody.{data_records, written_cells, zeros_after, body_text};
 ghost use Rattle.load_writer.specs.Joined.{joined};
 ghost use Rattle.load_writer.specs.WrittenParts.{IsKept, IsFront};
 
@@ -28,7 +28,7 @@ fn put_pieces(out: &mut Vec<u8>, pieces: &[&[u8]]) -> Result<(), BodyFault>
 }
 
 /// Appends an LCONST of pieces, whose count isn't written yet.
-#[tactic(auto, using(crate::proofs::Fronts::front_whole, crate::proofs::Fronts::front_behind))]
+#[tactic(auto, using(crate::proofs::Fronts::front_whole, crate::proofs::Fronts::front_after))]
 fn put_open(out: &mut Vec<u8>, pieces: &[&[u8]]) -> Result<(), BodyFault>
     ensures ok { OnOk result (out.new.items ≡ out.old.items ++ (0xF2 ∷ little_bytes 4 0) ++ joined pieces.now) }
     ensures err { OnErr result (IsFront out.old.items out.new.items) }
@@ -80,7 +80,7 @@ fn close(out: &mut Vec<u8>, start: usize) -> usize
 pub fn put_plain_body(out: &mut Vec<u8>, pieces: &[&[u8]]) -> Result<u32, BodyFault>
     requires small { length (joined pieces.now) ≤ 0xFFFFFF }
     ensures bytes { OnOk result ((own : ℕ) → out.new.items ≡ out.old.items ++ body_text own (joined pieces.now) []) }
-    ensures zeros { IfOk result (λ zeros. zeros ≡ zeros_behind (written_cells (joined pieces.now) [])) }
+    ensures zeros { IfOk result (λ zeros. zeros ≡ zeros_after (written_cells (joined pieces.now) [])) }
     ensures err { OnErr result (out.new.items ≡ out.old.items) }
 {
     let start = out.len();

@@ -4,7 +4,7 @@ ghost use Rattle.std.specs.Prelude.{◌≡◌, ◌≤◌, ◌++◌, length, map,
 ghost use Rattle.std.specs.List.{flat_map};
 ghost use Rattle.omf_format.specs.Field.{written_layout};
 ghost use Rattle.omf_format.specs.Record.{spelling};
-ghost use Rattle.load_meaning.specs.WrittenBody.{AreWritten, zeros_behind, written_cells, of_form, patches_stored_alone, lone_record, super_records, supers_from, body_text};
+ghost use Rattle.load_meaning.specs.WrittenBody.{AreWritten, zeros_after, written_cells, of_form, patches_stored_alone, lone_record, super_records, supers_from, body_text};
 ghost use Rattle.load_writer.specs.WrittenParts.{seen, places, IsFront};
 
 use crate::by_form::by_form;
@@ -78,7 +78,7 @@ impl From<PutFault> for BodyFault {
 }
 
 /// Appends the records of the patches that stand in no SUPER, in order.
-#[tactic(auto, using(crate::proofs::Fronts::front_whole, crate::proofs::Fronts::front_behind))]
+#[tactic(auto, using(crate::proofs::Fronts::front_whole, crate::proofs::Fronts::front_after))]
 fn put_lone(out: &mut Vec<u8>, own: u16, patches: &[Patch], size: usize) -> Result<(), BodyFault>
     requires small { size ≤ 0xFFFFFF }
     requires patches { AreWritten size 0 (map seen patches.now) }
@@ -123,7 +123,7 @@ fn put_super(
 }
 
 /// Appends the SUPERs of all types in order.
-#[tactic(auto, using(crate::proofs::Fronts::front_whole, crate::proofs::Fronts::front_behind))]
+#[tactic(auto, using(crate::proofs::Fronts::front_whole, crate::proofs::Fronts::front_after))]
 fn put_supers(
     alloc: Global,
     out: &mut Vec<u8>,
@@ -148,7 +148,7 @@ fn put_supers(
 
 /// Appends the data and the records of the patches, and tells how many zero bytes stand behind the data in memory. Where memory
 /// runs out, part of them may be appended.
-#[tactic(auto, using(crate::proofs::Fronts::front_whole, crate::proofs::Fronts::front_behind), unfolding(load_meaning::specs::WrittenBody::body_text, load_meaning::specs::WrittenBody::body_records))]
+#[tactic(auto, using(crate::proofs::Fronts::front_whole, crate::proofs::Fronts::front_after), unfolding(load_meaning::specs::WrittenBody::body_text, load_meaning::specs::WrittenBody::body_records))]
 fn put_parts(
     alloc: Global,
     out: &mut Vec<u8>,
@@ -159,7 +159,7 @@ fn put_parts(
     requires small { length content.now ≤ 0xFFFFFF }
     requires patches { AreWritten (length content.now) 0 (map seen patches.now) }
     ensures bytes { OnOk result (out.new.items ≡ out.old.items ++ body_text own content.now (map seen patches.now)) }
-    ensures zeros { IfOk result (λ zeros. zeros ≡ zeros_behind (written_cells content.now (map seen patches.now))) }
+    ensures zeros { IfOk result (λ zeros. zeros ≡ zeros_after (written_cells content.now (map seen patches.now))) }
     ensures err { OnErr result (IsFront out.old.items out.new.items) }
 {
     let size = put_data(out, own, content, patches)?;
@@ -186,7 +186,7 @@ pub fn put_body(
     requires small { length content.now ≤ 0xFFFFFF }
     requires patches { AreWritten (length content.now) 0 (map seen patches.now) }
     ensures bytes { OnOk result (out.new.items ≡ out.old.items ++ body_text own content.now (map seen patches.now)) }
-    ensures zeros { IfOk result (λ zeros. zeros ≡ zeros_behind (written_cells content.now (map seen patches.now))) }
+    ensures zeros { IfOk result (λ zeros. zeros ≡ zeros_after (written_cells content.now (map seen patches.now))) }
     ensures err { OnErr result (out.new.items ≡ out.old.items) }
 {
     let start = out.len();
@@ -211,7 +211,7 @@ pub fn body_of(
     requires small { length content.now ≤ 0xFFFFFF }
     requires patches { AreWritten (length content.now) 0 (map seen patches.now.items) }
     ensures bytes { IfOk result (λ body. body.bytes.items ≡ body_text own content.now (map seen patches.now.items)) }
-    ensures zeros { IfOk result (λ body. body.zeros ≡ zeros_behind (written_cells content.now (map seen patches.now.items))) }
+    ensures zeros { IfOk result (λ body. body.zeros ≡ zeros_after (written_cells content.now (map seen patches.now.items))) }
 {
     let mut bytes = Vec::new(alloc);
     let zeros = put_body(alloc, &mut bytes, own, content, patches.as_slice())?;

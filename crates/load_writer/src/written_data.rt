@@ -4,7 +4,7 @@ ghost use Rattle.std.specs.Prelude.{◌≡◌, ◌+◌, ◌-◌, ◌≤◌, ◌+
 ghost use Rattle.std.specs.List.{flat_map};
 ghost use Rattle.omf_format.specs.Field.{is_count, written_layout};
 ghost use Rattle.omf_format.specs.Record.{LongConst, spelling};
-ghost use Rattle.load_writer.specs.WrittenParts.{seen, end_behind, IsKept};
+ghost use Rattle.load_writer.specs.WrittenParts.{seen, end_after, IsKept};
 ghost use Rattle.load_meaning.specs.WrittenBody.{AreWritten, stored_bytes, with_stored, written_data, data_records};
 
 use crate::choice::has_form;
@@ -36,7 +36,7 @@ pub(crate) fn put_over(content: &mut [u8], at: usize, bytes: &[u8])
 fn put_patches(content: &mut [u8], own: u16, patches: &[Patch]) -> usize
     requires { AreWritten (length content.old) 0 (map seen patches.now) }
     ensures written { content.new ≡ with_stored own content.old (map seen patches.now) }
-    ensures end { result ≡ end_behind 0 (map seen patches.now) }
+    ensures end { result ≡ end_after 0 (map seen patches.now) }
 {
     let mut end = 0;
     'patches: for patch in patches {
@@ -66,7 +66,7 @@ pub fn kept(content: &[u8], end: usize) -> usize
 
 /// Where the last patch ends.
 fn end_of(patches: &[Patch]) -> usize
-    ensures { result ≡ end_behind 0 (map seen patches.now) }
+    ensures { result ≡ end_after 0 (map seen patches.now) }
 {
     let mut end = 0;
     'patches: for patch in patches {
@@ -79,7 +79,7 @@ fn end_of(patches: &[Patch]) -> usize
 /// How many bytes the data are: the content up to the end of the last patch, or up to the last byte behind it that isn't 0.
 fn data_size(content: &[u8], patches: &[Patch]) -> usize
     requires { AreWritten (length content.now) 0 (map seen patches.now) }
-    ensures { IsKept content.now (end_behind 0 (map seen patches.now)) result }
+    ensures { IsKept content.now (end_after 0 (map seen patches.now)) result }
 {
     kept(content, end_of(patches))
 }

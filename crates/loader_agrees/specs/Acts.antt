@@ -39,13 +39,13 @@ pub record CanRead (loader : Loaded) (id number at count : ℕ) (h : Handle) : T
   pub inside : at + count ≤ is.head.length
 
 -- these bytes are lent
-pub record HasLent (loader : Loaded) (id number at count : ℕ) (bytes : List ℕ) : Type 0 where
+pub record HasBorrowed (loader : Loaded) (id number at count : ℕ) (bytes : List ℕ) : Type 0 where
   pub h : Handle
   pub can : CanRead loader id number at count h
   pub is : bytes ≡ take count (drop at (bytes_at loader.memory h.slot))
 
 -- what is told of a segment
-pub record HasTold (loader : Loaded) (id number : ℕ) (presence : Presence) (length' kind : ℕ) : Type 0 where
+pub record HasReported (loader : Loaded) (id number : ℕ) (presence : Presence) (length' kind : ℕ) : Type 0 where
   pub passes : info_refusal (seen_by loader id) number ≡ None
   pub kept : LoadedUser
   pub made : user_of loader.users id ≡ Some kept

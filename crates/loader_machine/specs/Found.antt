@@ -63,15 +63,15 @@ pub data Joined : Type 0 where
   Joins : (all : List (List Segment)) → Joined
 
 -- behind one file more
-abbrev pub joined_behind : List Segment → Joined → Joined
-joined_behind segments (Stops reads why) = Stops (reads + 1) why
-joined_behind segments (Joins all) = Joins (segments ∷ all)
+abbrev pub joined_after : List Segment → Joined → Joined
+joined_after segments (Stops reads why) = Stops (reads + 1) why
+joined_after segments (Joins all) = Joins (segments ∷ all)
 
 -- by what the read of the first row finds, where this is what comes of the others
 abbrev pub JoinsFound : FileFound → (Joined → Type 0) → Joined → Type 0
 JoinsFound Unread Rest joined = joined ≡ Stops 1 CannotRead
 JoinsFound (Bad fault) Rest joined = joined ≡ Stops 1 (BadFile fault)
-JoinsFound (Good segments) Rest joined = (rest : Joined) × Rest rest × (joined ≡ joined_behind segments rest)
+JoinsFound (Good segments) Rest joined = (rest : Joined) × Rest rest × (joined ≡ joined_after segments rest)
 
 abbrev pub AreJoined : FileMap → List (List ℕ) → Joined → Type 0
 AreJoined held [] joined = joined ≡ Joins []

@@ -22,7 +22,7 @@ most_lines = 65536
 -- an empty line, or one that begins with a semicolon
 abbrev pub is_skipped : List ℕ → Bool
 is_skipped [] = true
-is_skipped (byte ∷ behind) = byte == ascii.semicolon
+is_skipped (byte ∷ following) = byte == ascii.semicolon
 
 -- the lines that aren't skipped
 abbrev pub written : List (List ℕ) → List (List ℕ)
@@ -88,7 +88,7 @@ command_named word =
 -- a number stands in the list and again behind
 unfoldable pub stands_twice : List ℕ → Bool
 stands_twice [] = false
-stands_twice (n ∷ behind) = list_any (λ other. n == other) behind || stands_twice behind
+stands_twice (n ∷ following) = list_any (λ other. n == other) following || stands_twice following
 
 -- `banks B B ..`: 1 to 256 numbers of banks, none of them twice
 unfoldable pub banks_of : List (List ℕ) → Result Command ScriptCause
@@ -308,8 +308,8 @@ is_start (command ∷ commands) = false
 pub record IsFirstBadLine (text : List ℕ) (number : ℕ) (cause : ScriptCause) : Type 0 where
   pub before : List (List ℕ)
   pub line : List ℕ
-  pub behind : List (List ℕ)
-  pub lines : lines_of text ≡ before ++ line ∷ behind
+  pub following : List (List ℕ)
+  pub lines : lines_of text ≡ before ++ line ∷ following
   pub number_is : number ≡ length before + 1
   pub commands : List Command
   pub good : AreGood before commands

@@ -11,14 +11,14 @@ use Rattle.loader_machine.specs.declared.faults.LoaderFault.TheVariants as fault
 use Rattle.loader_machine.specs.State.{Machine}
 use Rattle.loader_machine.specs.Commands as commands
 use Rattle.loader_machine.specs.Commands.{Command, Load, LoadSegment, Jsl, Restart, Reply}
-use Rattle.loader_machine.specs.Needs.{Needs, NeedsBehind, IsReadFor, path_if}
+use Rattle.loader_machine.specs.Needs.{Needs, NeedsAfter, IsReadFor, path_if}
 use Rattle.loader_machine.specs.Refusals.{Refuse}
 use Rattle.loader_machine.specs.Transcript.{IsAnswered}
 use Rattle.loader_machine.specs.Replies.{reply_line}
 use Rattle.loader_agrees.specs.Agrees.{Loaded, Agrees, Meets, ReadsNeeded, MeetsReads}
 use Rattle.loader_replies.specs.Replied.{unread, MayRead, OnceAtMost, ReadsAtMost, IsUnanswered}
 use Rattle.loader_replies.specs.Answered.{HasLine, IsAnswer}
-use Rattle.loader_replies.proofs.OneCommand.{OneTold}
+use Rattle.loader_replies.proofs.OneCommand.{OneReported}
 
 -- ---- commands that read
 
@@ -64,7 +64,7 @@ one_needed files state (Restart user) paths (inr its) = one_if paths _ _ _ its.1
 one_needed files state _ paths is = few_as paths [] is (omega arith)
 
 -- where no file is needed behind the first, as many are read where a read fails
-failed_reads : (files : FileMap) (state : Machine) (command : Command) (before now : ℕ) → ((rows : List (List ℕ)) (behind : ℕ) → NeedsBehind files state command rows behind → behind ≡ 0)
+failed_reads : (files : FileMap) (state : Machine) (command : Command) (before now : ℕ) → ((rows : List (List ℕ)) (following : ℕ) → NeedsAfter files state command rows following → following ≡ 0)
     → ReadsNeeded files state command 0 before now → ReadsNeeded files state command 1 before now
 failed_reads files state command before now none (reads, (first, needs, inl its), count) =
     let few = one_needed files state command first needs in
@@ -74,7 +74,7 @@ failed_reads files state command before now none (reads, (first, needs, inr its)
 
 -- a command that reads one file at most meets the machine, and reads what that needs
 pub meets_reads : (files : FileMap) (state : Machine) (command : Command) (reply : Reply) (new : Loaded) (before now : StoreSeen)
-    → ((rows : List (List ℕ)) (behind : ℕ) → NeedsBehind files state command rows behind → behind ≡ 0) → ReadsNeeded files state command 0 before.asked now.asked
+    → ((rows : List (List ℕ)) (following : ℕ) → NeedsAfter files state command rows following → following ≡ 0) → ReadsNeeded files state command 0 before.asked now.asked
     → Meets RoomRule files state command reply new before.faults now.faults → MeetsReads RoomRule files state command reply new before now
 meets_reads files state command reply new before now none reads (inl met) = inl (met.0, met.1, reads)
 meets_reads files state command reply new before now none reads (inr (inl cannot)) =
@@ -89,12 +89,12 @@ module _ (command : Command) (most : ℕ) (old new : Loaded) (before now : Store
   store_is = ap (λ (h : Option FileMap). record { held = h; faults = now.faults; asked = now.asked }) held
 
   -- over files that are told: the machine's reply, or `cannot read`
-  told_answer : (files : FileMap) (state : Machine) (reply : Reply) → reply ≢ commands.Refused faults.Memory → MeetsReads RoomRule files state command reply new before now
+  reported_answer : (files : FileMap) (state : Machine) (reply : Reply) → reply ≢ commands.Refused faults.Memory → MeetsReads RoomRule files state command reply new before now
       → (others : ℕ) × (reads : ℕ) × (next : Machine) × IsAnswered files state command reply others next × IsReadFor files state command others reads × Agrees files new next
       × (now.faults ≡ saturating_sum others before.faults) × (now.asked ≡ saturating_sum reads before.asked)
-  told_answer files state reply other (inl (met, same, reads)) = (0, reads.0, met.0, inl (met.1, refl), reads.1, met.2, same, reads.2)
-  told_answer files state reply other (inr (inl (is, paths, needs, some, agrees, rose, reads))) = (1, reads.0, state, inr (is, paths, needs, some, refl, refl), reads.1, agrees, rose, reads.2)
-  told_answer files state reply other (inr (inr short)) = absurd (other short.0)
+  reported_answer files state reply other (inl (met, same, reads)) = (0, reads.0, met.0, inl (met.1, refl), reads.1, met.2, same, reads.2)
+  reported_answer files state reply other (inr (inl (is, paths, needs, some, agrees, rose, reads))) = (1, reads.0, state, inr (is, paths, needs, some, refl, refl), reads.1, agrees, rose, reads.2)
+  reported_answer files state reply other (inr (inr short)) = absurd (other short.0)
 
   -- the machine's answer, or none for want of memory
   abbrev Meets' : Reply → Type 0
@@ -103,14 +103,14 @@ module _ (command : Command) (most : ℕ) (old new : Loaded) (before now : Store
   pub read_answer : (reply : Reply) (n : ℕ) → n ≤ most → MayRead command reply n → now.asked ≡ saturating_sum n before.asked → OnceAtMost before.faults now.faults → reply ≢ commands.Refused faults.Memory
       → (before.held ≡ None → Counted reply before.faults now.faults) → Meets' reply → IsAnswer command old reply new before now
   read_answer reply n few may is faults_once other untold meets = record {
-    told = go before.held refl;
+    reported = go before.held refl;
     store = store_is;
     unanswered = as_unanswered (n, few, is, faults_once, store_is);
   }
     where
-      go : (h : Option FileMap) → before.held ≡ h → OneTold command reply old new before now h
+      go : (h : Option FileMap) → before.held ≡ h → OneReported command reply old new before now h
       go None none = (n, may, untold none, is)
-      go (Some files) told = λ state agrees. told_answer files state reply other (meets files state told agrees)
+      go (Some files) reported = λ state agrees. reported_answer files state reply other (meets files state reported agrees)
 
   -- its line, or none
   pub read_line : (line : Result (List ℕ) LineFault) (reply : Reply) (n : ℕ) → n ≤ most → IfOk line (λ text. (reply ≢ commands.Refused faults.Memory) × (text ≡ reply_line reply))

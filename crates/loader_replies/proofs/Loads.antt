@@ -11,7 +11,7 @@ use Rattle.loader_machine.specs.declared.faults.LoaderFault.{LoaderFault}
 use Rattle.loader_machine.specs.declared.faults.LoaderFault.TheVariants as faults
 use Rattle.loader_machine.specs.Heads.{head_of}
 use Rattle.loader_machine.specs.State.{Machine, first_id}
-use Rattle.loader_machine.specs.Found.{Joined, Stops, Joins, joined_behind}
+use Rattle.loader_machine.specs.Found.{Joined, Stops, Joins, joined_after}
 use Rattle.loader_machine.specs.Commands as commands
 use Rattle.loader_machine.specs.Commands.{Load, Reply}
 use Rattle.loader_machine.specs.Replies.{reply_line}
@@ -32,9 +32,9 @@ abbrev RowsEnd : Option FileMap → ℕ → ℕ → ℕ → Joined → Type 0
 RowsEnd held most before now (Stops rows why) = IsFaulted {A = Started} held (Err why) before now × (is_full_fault why ≡ false) × (rows ≤ most)
 RowsEnd held most before now (Joins all) = (now ≡ before) × (length all ≤ most)
 
-end_behind : (held : Option FileMap) (most before now : ℕ) (segments : List Segment) (rest : Joined) → RowsEnd held most before now rest → RowsEnd held (suc most) before now (joined_behind segments rest)
-end_behind held most before now segments (Stops rows why) end = (end.0, end.1, omega (arith, end.2))
-end_behind held most before now segments (Joins all) end = (end.0, omega (arith, end.1))
+end_after : (held : Option FileMap) (most before now : ℕ) (segments : List Segment) (rest : Joined) → RowsEnd held most before now rest → RowsEnd held (suc most) before now (joined_after segments rest)
+end_after held most before now segments (Stops rows why) end = (end.0, end.1, omega (arith, end.2))
+end_after held most before now segments (Joins all) end = (end.0, omega (arith, end.1))
 
 rows_end : (held : Option FileMap) (paths : List (List ℕ)) (before now : ℕ) (joined : Joined) → AreRowsRead held paths before now joined → RowsEnd held (length paths) before now joined
 rows_end held [] before now joined (is, same) = subst (RowsEnd held 0 before now) (sym is) (same, omega arith)
@@ -43,7 +43,7 @@ rows_end held (path ∷ paths) before now joined (inl (cause, is)) =
 rows_end held (path ∷ paths) before now joined (inr (file, is_read, inl (bad, first, is, same))) =
     subst (RowsEnd held (suc (length paths)) before now) (sym is) (other_fault Started held (faults.BadFile bad) before now refl same, refl, omega arith)
 rows_end held (path ∷ paths) before now joined (inr (file, is_read, inr (segments, runtime, rest, rows, is))) =
-    subst (RowsEnd held (suc (length paths)) before now) (sym is) (end_behind held (length paths) before now segments rest (rows_end held paths before now rest rows))
+    subst (RowsEnd held (suc (length paths)) before now) (sym is) (end_after held (length paths) before now segments rest (rows_end held paths before now rest rows))
 
 -- ---- the counts of a load that was refused
 

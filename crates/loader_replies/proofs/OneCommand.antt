@@ -2,7 +2,7 @@
 use Rattle.std.proofs.Common.{◌≡◌, ◌≢◌, inl, ℕ, true, false, List, [], ◌∷◌, Bool, Option, Some, None, Result, Ok, Err, refl, sym, subst, ◌∙◌}
 use Rattle.std.specs.Prelude.{IsSome, IsSomeAnd, IfOk, OnErr}
 use Rattle.std.proofs.lemmas.Option.{same_Some}
-use Rattle.omf_io.specs.Counts.{saturating_sum, ToldOr}
+use Rattle.omf_io.specs.Counts.{saturating_sum, IfRevealedOr}
 use Rattle.omf_io.specs.Files.{FileMap, StoreSeen}
 use Rattle.omf_io.specs.Outside.{Outside}
 use Rattle.omf_base.specs.declared.line.LineFault.{LineFault}
@@ -43,8 +43,8 @@ line_answered (Ok text) result command old new o has printed short = answered re
 line_answered (Err fault) result command old new o has printed short = subst (λ (r : Result (Unit {0}) ReplyStop). HasAnswered r command old new o) (sym short.0) (has, short.1)
 
 -- what is told of an answer, where the files are
-abbrev pub OneTold : Command → Reply → Loaded → Loaded → StoreSeen → StoreSeen → Option FileMap → Type 0
-OneTold command reply old new before now held = ToldOr held
+abbrev pub OneReported : Command → Reply → Loaded → Loaded → StoreSeen → StoreSeen → Option FileMap → Type 0
+OneReported command reply old new before now held = IfRevealedOr held
     ((reads : ℕ) × MayRead command reply reads × (now.faults ≡ saturating_sum (unread (reply ∷ [])) before.faults) × (now.asked ≡ saturating_sum reads before.asked))
     (λ files. (state : Machine) → Agrees files old state → (others : ℕ) × (reads : ℕ) × (next : Machine) × IsAnswered files state command reply others next
     × IsReadFor files state command others reads × Agrees files new next × (now.faults ≡ saturating_sum others before.faults) × (now.asked ≡ saturating_sum reads before.asked))
@@ -76,9 +76,9 @@ idle_reads files state _ none = ([], refl, inl (refl, [], 0, (refl, refl), refl)
 -- a command that reads no file is answered as by the machine
 pub idle_answer : (store : StoreSeen) (command : Command) (old new : Loaded) (reply : Reply) → is_unread reply ≡ false → is_reader command ≡ false → IsUnanswered command store store
     → ((files : FileMap) (state : Machine) → Agrees files old state → Met RoomRule files state command reply new) → IsAnswer command old reply new store store
-idle_answer store command old new reply other none idle meets = record { told = go store.held; store = refl; unanswered = idle }
+idle_answer store command old new reply other none idle meets = record { reported = go store.held; store = refl; unanswered = idle }
   where
-    go : (h : Option FileMap) → OneTold command reply old new store store h
+    go : (h : Option FileMap) → OneReported command reply old new store store h
     go None = (0, idle_may command reply none, rw other refl, refl)
     go (Some files) = λ state agrees. let m = meets files state agrees in (0, 0, m.0, inl (m.1, refl), idle_reads files state command none, m.2, refl, refl)
 

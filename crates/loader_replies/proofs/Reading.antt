@@ -24,7 +24,7 @@ use Rattle.loader_machine.specs.Commands as commands
 use Rattle.loader_machine.specs.Commands.{Command, LoadSegment, Jsl, Restart, Reply}
 use Rattle.loader_machine.specs.Refusals.{Refuse, load_segment_refusal, restart_refusal}
 use Rattle.loader_machine.specs.Steps.{lost_in, lost_refusal}
-use Rattle.loader_machine.specs.Needs.{NeedsBehind}
+use Rattle.loader_machine.specs.Needs.{NeedsAfter}
 use Rattle.loader_machine.specs.Replies.{reply_line}
 use Rattle.loader_agrees.specs.Agrees.{LoadedUser, Loaded, kept_outlines, seen_by, Agrees, Meets, MeetsReads, ReadsNeeded}
 use Rattle.sys_loader.specs.declared.answers.Started.{Started}
@@ -34,7 +34,7 @@ use Rattle.sys_loader.specs.Calls.{IsBeginRefusal}
 use Rattle.sys_loader.specs.Replies.{load_reply}
 use Rattle.loader_users.specs.Changed.{IsChanged}
 use Rattle.sys_loader.specs.Activating.{IsBringRefusal, IsComeRefusal, IsReadRefusal, CantRead, LacksMemory, CantCome, DidCome, HasActivated, DidActivate, segment_reads}
-use Rattle.sys_loader.specs.Following as following
+use Rattle.sys_loader.specs.Following as following_jsl
 use Rattle.sys_loader.specs.Following.{jsl_reply, IsJslRefusal, NoBytes, NoJsl, NoPlace, NoEntry, entered_at, HasAsked, DidJsl}
 use Rattle.sys_loader.specs.Restarting as restarting
 use Rattle.sys_loader.specs.Restarting.{restart_reads, IsAgainRefusal, IsRestartRefusal, DidRestart}
@@ -125,7 +125,7 @@ module _ (held : Option FileMap) (old : Loaded) (id number : ℕ) (new : Loaded)
 
 jsl_safe : (loader : Loaded) (id number at : ℕ) (why : LoaderFault) → IsJslRefusal loader id number at why → is_unread_fault why ≡ false
 jsl_safe loader id number at why (NoBytes is) = bytes_safe loader.memory.slots (seen_by loader id) number at 4 why is
-jsl_safe loader id number at why (NoJsl bytes lent is) = go (slice_index bytes 0 == 0x22) is
+jsl_safe loader id number at why (NoJsl bytes loaned is) = go (slice_index bytes 0 == 0x22) is
   where
     go : (b : Bool) → cond b None (Some faults.NotJsl) ≡ Some why → is_unread_fault why ≡ false
     go true e = absurd cc
@@ -138,11 +138,11 @@ entered_faults held user segment offset (Ok address) before now is = is
 entered_faults held user segment offset (Err why) before now is = is
 
 jsl_faults : (held : Option FileMap) (old : Loaded) (id number at : ℕ) (result : Result Entered LoaderFault) (new : Loaded) (before now : ℕ) → DidJsl held old id number at result new before now → IsFaulted held result before now
-jsl_faults held old id number at result new before now (following.Stops why is result_is new_is now_is) =
+jsl_faults held old id number at result new before now (following_jsl.Stops why is result_is new_is now_is) =
     subst (λ (r : Result Entered LoaderFault). IsFaulted held r before now) (sym result_is) (other_fault Entered held why before now (jsl_safe old id number at why is) now_is)
-jsl_faults held old id number at result new before now (following.Leads place is result_is new_is now_is) =
+jsl_faults held old id number at result new before now (following_jsl.Leads place is result_is new_is now_is) =
     subst (λ (r : Result Entered LoaderFault). IsFaulted held r before now) (sym result_is) now_is
-jsl_faults held old id number at result new before now (following.Calls owner segment offset calls made did result_is) =
+jsl_faults held old id number at result new before now (following_jsl.Calls owner segment offset calls made did result_is) =
     subst (λ (r : Result Entered LoaderFault). IsFaulted held r before now) (sym result_is)
     (entered_faults held owner segment offset made before now (activation_faults held old owner segment new before now made did))
 
@@ -183,7 +183,7 @@ Meets' command old new before now reply = (files : FileMap) (state : Machine) �
 
 module _ (command : Command) (old new : Loaded) (before now : StoreSeen) (held : now.held ≡ before.held)
     (as_unanswered : ReadsAtMost 1 before now → IsUnanswered command before now)
-    (alone : (files : FileMap) (state : Machine) (rows : List (List ℕ)) (behind : ℕ) → NeedsBehind files state command rows behind → behind ≡ 0)
+    (alone : (files : FileMap) (state : Machine) (rows : List (List ℕ)) (following : ℕ) → NeedsAfter files state command rows following → following ≡ 0)
     (needed : (files : FileMap) (state : Machine) → before.held ≡ Some files → Agrees files old state → ReadsNeeded files state command 0 before.asked now.asked)
     (may : (reply : Reply) (n : ℕ) → n ≤ 1 → MayRead command reply n) (asked : OnceAtMost before.asked now.asked) where
   once_line : (line : Result (List ℕ) LineFault) (reply : Reply) → IfOk line (λ text. (reply ≢ commands.Refused faults.Memory) × (text ≡ reply_line reply)) → OnceAtMost before.faults now.faults
@@ -191,7 +191,7 @@ module _ (command : Command) (old new : Loaded) (before now : StoreSeen) (held :
   once_line line reply is faults_once untold meets = go asked
     where
       reads : (files : FileMap) (state : Machine) → before.held ≡ Some files → Agrees files old state → MeetsReads RoomRule files state command reply new before now
-      reads files state told agrees = meets_reads files state command reply new before now (alone files state) (needed files state told agrees) (meets files state told agrees)
+      reads files state reported agrees = meets_reads files state command reply new before now (alone files state) (needed files state reported agrees) (meets files state reported agrees)
 
       go : OnceAtMost before.asked now.asked → HasLine line command old new before now
       go (inl same) = read_line command 1 old new before now held as_unanswered line reply 0 (omega arith) is (may reply 0 (omega arith)) same faults_once untold reads
@@ -215,14 +215,14 @@ module _ (old new : Loaded) (id number : ℕ) (before now : StoreSeen) (held : n
       → DidActivate before.held old id number (Ok address) new before.faults now.faults → Meets' (LoadSegment id number) old new before now (commands.MadeActive number address)
       → HasLine line (LoadSegment id number) old new before now
   active_segment line address text did meets =
-      good_line (LoadSegment id number) old new before now held (λ o. o) (λ files state rows behind is. is.1) needed (λ reply n few. few) (once _ _ before.asked now.asked asked unasked refused) line (commands.MadeActive number address)
+      good_line (LoadSegment id number) old new before now held (λ o. o) (λ files state rows following is. is.1) needed (λ reply n few. few) (once _ _ before.asked now.asked asked unasked refused) line (commands.MadeActive number address)
       (λ same. absurd cc) refl text (activation_faults before.held old id number new before.faults now.faults (Ok address) did) meets
 
   pub no_segment : (line : Result (List ℕ) LineFault) (why : LoaderFault) → IfOk line (λ text. (why ≢ faults.Memory) × (text ≡ reply_line (commands.Refused why)))
       → DidActivate before.held old id number (Err why) new before.faults now.faults → Meets' (LoadSegment id number) old new before now (commands.Refused why)
       → HasLine line (LoadSegment id number) old new before now
   no_segment line why text did meets =
-      bad_line (LoadSegment id number) old new before now held (λ o. o) (λ files state rows behind is. is.1) needed (λ reply n few. few) (once _ _ before.asked now.asked asked unasked refused) ℕ line why text
+      bad_line (LoadSegment id number) old new before now held (λ o. o) (λ files state rows following is. is.1) needed (λ reply n few. few) (once _ _ before.asked now.asked asked unasked refused) ℕ line why text
       (activation_faults before.held old id number new before.faults now.faults (Err why) did) meets
 
 module _ (old new : Loaded) (id number at : ℕ) (before now : StoreSeen) (held : now.held ≡ before.held) (asked : HasAsked old id number at before.asked now.asked)
@@ -231,14 +231,14 @@ module _ (old new : Loaded) (id number at : ℕ) (before now : StoreSeen) (held 
       → DidJsl before.held old id number at (Ok place) new before.faults now.faults → Meets' (Jsl id number at) old new before now (jsl_reply (Ok place))
       → HasLine line (Jsl id number at) old new before now
   entered line place text did meets =
-      good_line (Jsl id number at) old new before now held (λ o. o) (λ files state rows behind is. is.1) needed (λ reply n few. few) (jsl_once old id number at before.asked now.asked asked) line (jsl_reply (Ok place))
+      good_line (Jsl id number at) old new before now held (λ o. o) (λ files state rows following is. is.1) needed (λ reply n few. few) (jsl_once old id number at before.asked now.asked asked) line (jsl_reply (Ok place))
       (λ same. absurd cc) refl text (jsl_faults before.held old id number at (Ok place) new before.faults now.faults did) meets
 
   pub not_entered : (line : Result (List ℕ) LineFault) (why : LoaderFault) → IfOk line (λ text. (why ≢ faults.Memory) × (text ≡ reply_line (commands.Refused why)))
       → DidJsl before.held old id number at (Err why) new before.faults now.faults → Meets' (Jsl id number at) old new before now (jsl_reply (Err why))
       → HasLine line (Jsl id number at) old new before now
   not_entered line why text did meets =
-      bad_line (Jsl id number at) old new before now held (λ o. o) (λ files state rows behind is. is.1) needed (λ reply n few. few) (jsl_once old id number at before.asked now.asked asked) Entered line why text
+      bad_line (Jsl id number at) old new before now held (λ o. o) (λ files state rows following is. is.1) needed (λ reply n few. few) (jsl_once old id number at before.asked now.asked asked) Entered line why text
       (jsl_faults before.held old id number at (Err why) new before.faults now.faults did) meets
 
 module _ (old new : Loaded) (id : ℕ) (before now : StoreSeen) (held : now.held ≡ before.held)
@@ -249,12 +249,12 @@ module _ (old new : Loaded) (id : ℕ) (before now : StoreSeen) (held : now.held
       → DidRestart before.held old id (Ok started) new before.faults now.faults → Meets' (Restart id) old new before now (load_reply (Ok started))
       → HasLine line (Restart id) old new before now
   restarted line started text did meets =
-      good_line (Restart id) old new before now held (λ o. o) (λ files state rows behind is. is.1) needed (λ reply n few. few) (once _ _ before.asked now.asked asked unasked refused) line (load_reply (Ok started))
+      good_line (Restart id) old new before now held (λ o. o) (λ files state rows following is. is.1) needed (λ reply n few. few) (once _ _ before.asked now.asked asked unasked refused) line (load_reply (Ok started))
       (λ same. absurd cc) refl text (restart_faults before.held old id (Ok started) new before.faults now.faults did) meets
 
   pub not_restarted : (line : Result (List ℕ) LineFault) (why : LoaderFault) → IfOk line (λ text. (why ≢ faults.Memory) × (text ≡ reply_line (commands.Refused why)))
       → DidRestart before.held old id (Err why) new before.faults now.faults → Meets' (Restart id) old new before now (load_reply (Err why))
       → HasLine line (Restart id) old new before now
   not_restarted line why text did meets =
-      bad_line (Restart id) old new before now held (λ o. o) (λ files state rows behind is. is.1) needed (λ reply n few. few) (once _ _ before.asked now.asked asked unasked refused) Started line why text
+      bad_line (Restart id) old new before now held (λ o. o) (λ files state rows following is. is.1) needed (λ reply n few. few) (once _ _ before.asked now.asked asked unasked refused) Started line why text
       (restart_faults before.held old id (Err why) new before.faults now.faults did) meets

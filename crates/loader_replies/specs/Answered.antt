@@ -1,6 +1,6 @@
 -- What one command does: how the loader answers it, its line, and how that is printed.
 use Rattle.std.specs.Prelude.{◌≡◌, ◌≢◌, ℕ, List, [], ◌∷◌, Result, Ok, Err}
-use Rattle.omf_io.specs.Counts.{saturating_sum, ToldOr}
+use Rattle.omf_io.specs.Counts.{saturating_sum, IfRevealedOr}
 use Rattle.omf_io.specs.Files.{FileMap, StoreSeen}
 use Rattle.omf_io.specs.Sinks.{SinkSeen, with_text, FailsToPrint}
 use Rattle.omf_io.specs.Outside.{Outside}
@@ -26,7 +26,7 @@ HasPrinted (Err Memory) text before now = now ≡ before
 -- the loader answers a command: over files that are told as the machine does, or by `cannot read` where the count is one more; and
 -- it reads what the command needs, up to a read that fails
 pub record IsAnswer (command : Command) (old : Loaded) (reply : Reply) (new : Loaded) (before now : StoreSeen) : Type 0 where
-  pub told : ToldOr before.held
+  pub reported : IfRevealedOr before.held
       ((reads : ℕ) × MayRead command reply reads × (now.faults ≡ saturating_sum (unread (reply ∷ [])) before.faults) × (now.asked ≡ saturating_sum reads before.asked))
       (λ files. (state : Machine) → Agrees files old state → (others : ℕ) × (reads : ℕ) × (next : Machine) × IsAnswered files state command reply others next
       × IsReadFor files state command others reads × Agrees files new next × (now.faults ≡ saturating_sum others before.faults) × (now.asked ≡ saturating_sum reads before.asked))

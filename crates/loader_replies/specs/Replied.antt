@@ -1,6 +1,6 @@
 -- The replies to a script's commands, and how they go with what is seen of the store.
 use Rattle.std.specs.Prelude.{◌≡◌, ◌⊎◌, ℕ, Bool, true, false, ◌+◌, ◌≤◌, List, [], ◌∷◌, length, count_by}
-use Rattle.omf_io.specs.Counts.{one_more, saturating_sum, ToldOr}
+use Rattle.omf_io.specs.Counts.{one_more, saturating_sum, IfRevealedOr}
 use Rattle.omf_io.specs.Files.{FileMap, StoreSeen}
 use Rattle.load_meaning.specs.Pathnames.{most_paths}
 use Rattle.loader_machine.specs.declared.faults.LoaderFault.{LoaderFault}
@@ -64,7 +64,7 @@ MayReadAll (command ∷ commands) (reply ∷ replies) reads =
 -- All else of the store is as before.
 pub record AreReplies (P : FileMap → Machine → Type 0) (commands : List Command) (replies : List Reply) (before now : StoreSeen) : Type 0 where
   pub one_each : length replies ≡ length commands
-  pub told : ToldOr before.held
+  pub reported : IfRevealedOr before.held
       ((reads : ℕ) × MayReadAll commands replies reads × (now.faults ≡ saturating_sum (unread replies) before.faults) × (now.asked ≡ saturating_sum reads before.asked))
       (λ files. (others : ℕ) × (reads : ℕ) × (last : Machine) × AreAnswered files (empty_of []) commands replies others reads last × P files last
       × (now.faults ≡ saturating_sum others before.faults) × (now.asked ≡ saturating_sum reads before.asked))

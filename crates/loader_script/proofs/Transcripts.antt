@@ -4,7 +4,7 @@ use Rattle.std.specs.Option.{option_map}
 use Rattle.std.proofs.lemmas.Grind.{flat_map-append}
 use Rattle.std.proofs.lemmas.List.Sums.{sum_by-append}
 use Rattle.std.proofs.lemmas.List.{append-nil}
-use Rattle.omf_io.specs.Counts.{one_more, saturating_sum, ToldOr}
+use Rattle.omf_io.specs.Counts.{one_more, saturating_sum, IfRevealedOr}
 use Rattle.omf_io.specs.Files.{FileMap, StoreSeen}
 use Rattle.omf_io.specs.Sinks.{SinkSeen, with_text}
 use Rattle.loader_machine.specs.State.{Machine, empty_of}
@@ -15,7 +15,7 @@ use Rattle.loader_machine.specs.Replies.{reply_line, replies_text}
 use Rattle.loader_agrees.specs.Agrees.{Loaded, Agrees}
 use Rattle.loader_replies.specs.Replied.{is_unread, unread, MayRead, MayReadAll, AreReplies}
 use Rattle.loader_replies.specs.Answered.{IsAnswer}
-use Rattle.loader_replies.proofs.OneCommand.{OneTold}
+use Rattle.loader_replies.proofs.OneCommand.{OneReported}
 
 -- ---- counts
 
@@ -85,8 +85,8 @@ printed_more replies reply before mid now so_far one =
 -- ---- all commands
 
 -- what is told of all answers, where the files are
-abbrev pub AllTold : (FileMap → Machine → Type 0) → List Command → List Reply → StoreSeen → StoreSeen → Option FileMap → Type 0
-AllTold P commands replies before now held = ToldOr held
+abbrev pub AllReported : (FileMap → Machine → Type 0) → List Command → List Reply → StoreSeen → StoreSeen → Option FileMap → Type 0
+AllReported P commands replies before now held = IfRevealedOr held
     ((reads : ℕ) × MayReadAll commands replies reads × (now.faults ≡ saturating_sum (unread replies) before.faults) × (now.asked ≡ saturating_sum reads before.asked))
     (λ files. (others : ℕ) × (reads : ℕ) × (last : Machine) × AreAnswered files (empty_of []) commands replies others reads last × P files last
     × (now.faults ≡ saturating_sum others before.faults) × (now.asked ≡ saturating_sum reads before.asked))
@@ -97,16 +97,16 @@ module _ (commands : List Command) (replies : List Reply) (command : Command) (r
   held_same : mid.held ≡ before.held
   held_same = ap (λ (s : StoreSeen). s.held) so_far.store
 
-  more_told : (h : Option FileMap) → AllTold (λ files last. Agrees files old last) commands replies before mid h → OneTold command reply old new mid now h
-      → AllTold (λ files last. Agrees files new last) (commands ++ command ∷ []) (replies ++ reply ∷ []) before now h
-  more_told None p q = (
+  more_reported : (h : Option FileMap) → AllReported (λ files last. Agrees files old last) commands replies before mid h → OneReported command reply old new mid now h
+      → AllReported (λ files last. Agrees files new last) (commands ++ command ∷ []) (replies ++ reply ∷ []) before now h
+  more_reported None p q = (
     p.0 + q.0,
     may_read-push commands replies command reply p.0 q.0 so_far.one_each p.1 q.1,
     q.2 ∙ ap (saturating_sum (unread (reply ∷ []))) p.2 ∙ risen-more (unread replies) (unread (reply ∷ [])) before.faults
         ∙ ap (λ (n : ℕ). saturating_sum n before.faults) (sym (unread-push replies reply)),
     q.3 ∙ ap (saturating_sum q.0) p.3 ∙ risen-more p.0 q.0 before.asked,
   )
-  more_told (Some files) p q =
+  more_reported (Some files) p q =
       let next = q p.2 p.4 in (
         p.0 + next.0,
         p.1 + next.1,
@@ -120,15 +120,15 @@ module _ (commands : List Command) (replies : List Reply) (command : Command) (r
   pub more_replied : AreReplies (λ files last. Agrees files new last) (commands ++ command ∷ []) (replies ++ reply ∷ []) before now
   more_replied = record {
     one_each = omega (arith, length-append replies (reply ∷ []), length-append commands (command ∷ []), so_far.one_each);
-    told = more_told before.held so_far.told (subst (OneTold command reply old new mid now) held_same one.told);
+    reported = more_reported before.held so_far.reported (subst (OneReported command reply old new mid now) held_same one.reported);
     store = one.store ∙ ap (λ (h : Option FileMap). record { held = h; faults = now.faults; asked = now.asked }) held_same;
   }
 
 -- what was replied, whatever state it led to
 pub forget : (P Q : FileMap → Machine → Type 0) (commands : List Command) (replies : List Reply) (before now : StoreSeen) → ((files : FileMap) (last : Machine) → P files last → Q files last)
     → AreReplies P commands replies before now → AreReplies Q commands replies before now
-forget P Q commands replies before now weaker run = record { one_each = run.one_each; told = go before.held run.told; store = run.store }
+forget P Q commands replies before now weaker run = record { one_each = run.one_each; reported = go before.held run.reported; store = run.store }
   where
-    go : (h : Option FileMap) → AllTold P commands replies before now h → AllTold Q commands replies before now h
+    go : (h : Option FileMap) → AllReported P commands replies before now h → AllReported Q commands replies before now h
     go None p = p
     go (Some files) p = (p.0, p.1, p.2, p.3, weaker files p.2 p.4, p.5, p.6)

@@ -17,8 +17,8 @@ use Rattle.loader_replies.specs.Replied.{AreReplies, IsUnanswered}
 use Rattle.loader_script.specs.Run.{HandsOut, HasRunAll, StopsShort}
 use Rattle.loader_replies.specs.Answered.{HasPrinted, IsAnswer, IsFirstLoader, HasAnswered}
 use Rattle.loader_script.specs.Running.{IsUnderWay, HasFinished}
-use Rattle.loader_replies.proofs.OneCommand.{OneTold, idle_reads, answered}
-use Rattle.loader_script.proofs.Transcripts.{AllTold, more_replied, forget, printed_more, with_text-none}
+use Rattle.loader_replies.proofs.OneCommand.{OneReported, idle_reads, answered}
+use Rattle.loader_script.proofs.Transcripts.{AllReported, more_replied, forget, printed_more, with_text-none}
 
 -- what stands for the loader before there is one
 abbrev pub no_loader : Loaded
@@ -39,19 +39,19 @@ agrees_yet files = record {
 pub nothing_yet : (store : StoreSeen) (sink : SinkSeen) → IsUnderWay [] no_loader (outside store store sink sink)
 nothing_yet store sink = record {
   replies = [];
-  answered = record { one_each = refl; told = go store.held; store = refl };
+  answered = record { one_each = refl; reported = go store.held; store = refl };
   printed = with_text-none sink;
 }
   where
-    go : (h : Option FileMap) → AllTold (λ files last. Agrees files no_loader last) [] [] store store h
+    go : (h : Option FileMap) → AllReported (λ files last. Agrees files no_loader last) [] [] store store h
     go None = (0, refl, refl, refl)
     go (Some files) = (0, 0, empty_of [], (refl, refl, refl), agrees_yet files, refl, refl)
 
 -- the banks of the first command
 first_answer : (store : StoreSeen) (command : Command) (loader : Loaded) → IsFirstLoader command loader → IsAnswer command no_loader step.Okay loader store store
-first_answer store (Banks banks) loader is = record { told = go store.held; store = refl; unanswered = refl }
+first_answer store (Banks banks) loader is = record { reported = go store.held; store = refl; unanswered = refl }
   where
-    go : (h : Option FileMap) → OneTold (Banks banks) step.Okay no_loader loader store store h
+    go : (h : Option FileMap) → OneReported (Banks banks) step.Okay no_loader loader store store h
     go None = (0, refl, refl, refl)
     go (Some files) = λ state agrees. (0, 0, empty_of banks, inl ((refl, refl), refl), idle_reads files state (Banks banks) refl, is files, refl, refl)
 first_answer store _ loader is = absurd is
@@ -130,15 +130,15 @@ module _ (s s₁ s₂ : StoreSeen) (k k₁ k₂ : SinkSeen) (commands : List Com
       (stops s s₁ s₂ k k₁ k₂ (take i commands) command old new so_far parts.0 why done)
 
 -- a command behind the first keeps its bounds
-behind : (is_first : Bool) (commands : List Command) (i : ℕ) (c : Command) → AreCommands is_first commands → slice_get commands (suc i) ≡ Some c → IsCommand false c
-behind is_first [] i c are is = absurd (cc)
-behind is_first (d ∷ []) i c are is = absurd (cc)
-behind is_first (d ∷ e ∷ commands) zero c are is = subst (IsCommand false) (same_some e c is) are.1.0
-behind is_first (d ∷ e ∷ commands) (suc i) c are is = behind false (e ∷ commands) i c are.1 is
+following : (is_first : Bool) (commands : List Command) (i : ℕ) (c : Command) → AreCommands is_first commands → slice_get commands (suc i) ≡ Some c → IsCommand false c
+following is_first [] i c are is = absurd (cc)
+following is_first (d ∷ []) i c are is = absurd (cc)
+following is_first (d ∷ e ∷ commands) zero c are is = subst (IsCommand false) (same_some e c is) are.1.0
+following is_first (d ∷ e ∷ commands) (suc i) c are is = following false (e ∷ commands) i c are.1 is
 
 pub later_command : (commands : List Command) (i : ℕ) (c : Command) → AreCommands true commands → 1 ≤ i → slice_get commands i ≡ Some c → IsCommand false c
 later_command commands zero c are some is = absurd (omega arith)
-later_command commands (suc i) c are some is = behind true commands i c are is
+later_command commands (suc i) c are some is = following true commands i c are is
 
 -- and so does the first
 pub first_command : (commands : List Command) (c : Command) → AreCommands true commands → slice_get commands 0 ≡ Some c → IsCommand true c

@@ -79,7 +79,7 @@ pub fn run_script<F: Files, S: Sink>(
 
 /// How a script ends that wasn't read.
 fn refused(fault: ScriptFault) -> ScriptEnd
-    ensures told { (text : List ℕ) → IsRefused fault text → IsNotRun result text }
+    ensures reported { (text : List ℕ) → IsRefused fault text → IsNotRun result text }
     ensures memory { result ≡ ScriptEnd.Memory → fault.cause ≡ ScriptCause.Memory }
 {
     match fault.cause {

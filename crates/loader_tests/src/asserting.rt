@@ -4,6 +4,11 @@ use std::process::Abort;
 
 /// Ends the test where the two aren't equal, and tells at which step. It promises nothing, and an assertion of a test's own would be dearer to
 /// prove.
-pub(crate) fn same<T: Debug + PartialEq + Drop>(rt: &impl Abort, step: usize, told: T, want: T) {
-    assert_eq!(rt; told, want, "at step {step}");
+pub(crate) fn same<T: Debug + PartialEq + Drop>(
+    rt: &impl Abort,
+    step: usize,
+    reported: T,
+    want: T,
+) {
+    assert_eq!(rt; reported, want, "at step {step}");
 }

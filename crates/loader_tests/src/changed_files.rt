@@ -205,7 +205,7 @@ static HEADERS: [(&[(usize, u8)], Facts); 6] = [
 ];
 
 #[test]
-fn a_changed_header_is_told(rt: HostRuntime) -> Result<(), Fail> {
+fn a_changed_header_is_reported(rt: HostRuntime) -> Result<(), Fail> {
     for (n, (changes, found)) in HEADERS.iter().enumerate() {
         answers(&rt, n, changes, is_changed(FIRST, *found))?;
     }
@@ -219,7 +219,7 @@ fn another_body_is_loaded(rt: HostRuntime) -> Result<(), Fail> {
 }
 
 #[test]
-fn a_changed_number_of_segments_is_told(rt: HostRuntime) -> Result<(), Fail> {
+fn a_changed_number_of_segments_is_reported(rt: HostRuntime) -> Result<(), Fail> {
     let fewer = is_changed(many(3), many(2));
     answers_to(&rt, 0, &[&CODE, &DYNAMIC], &[], fewer)?;
     let more = is_changed(many(3), many(4));
@@ -239,7 +239,7 @@ fn a_changed_header_comes_before_the_number_of_segments(rt: HostRuntime) -> Resu
 
 // The file is no load file any more: that comes before what has changed in it.
 #[test]
-fn a_bad_file_is_told_before_a_change(rt: HostRuntime) -> Result<(), Fail> {
+fn a_bad_file_is_reported_before_a_change(rt: HostRuntime) -> Result<(), Fail> {
     let alloc = rt.alloc();
     let later = program(alloc, &[(0x24, 1), (BEFORE_TABLE + 0xF, 7)])?;
     same(&rt, 0, bad_segment(alloc, later.as_slice())?, Some(3));
@@ -269,7 +269,7 @@ fn reads(rt: &(impl Alloc<A = Global> + Abort), loader: &mut Loader) -> Result<(
 
 // The second read fails, and the next one doesn't. A segment that is there isn't read again.
 #[test]
-fn a_read_that_fails_is_told(rt: HostRuntime) -> Result<(), Fail> {
+fn a_read_that_fails_is_reported(rt: HostRuntime) -> Result<(), Fail> {
     let mut loader = loader_of(rt.alloc())?;
     reads(&rt, &mut loader)
 }

@@ -3,7 +3,7 @@ use Rattle.std.proofs.Common.{◌≡◌, inl, inr, ℕ, zero, suc, Bool, true, f
 use Rattle.std.proofs.lemmas.Bool.{cases_lt}
 use Rattle.omf_format.specs.Number.{number_at}
 use Rattle.load_meaning.specs.Table.{entry_start, written_at}
-use Rattle.load_meaning.specs.laws.TableLaws.{length-written_at, written-before, written-behind, length-code_bytes}
+use Rattle.load_meaning.specs.laws.TableLaws.{length-written_at, written-before, written-following, length-code_bytes}
 use Rattle.load_meaning.specs.LoadTable.{target_at}
 use Rattle.loader_users.specs.Renewing.{Choice, is_chosen, code_for, renewed_at, relinked_entries}
 
@@ -20,12 +20,12 @@ module _ (only : Choice) (address : Option ℕ) where
       go true = written-before (at + 10) (code_for address (number_at 4 (at + 6) bytes)) bytes (omega (arith, inside, code_length (number_at 4 (at + 6) bytes))) w n before
       go false = refl
 
-  one_behind : (w n at : ℕ) (bytes : List ℕ) → at + 14 ≤ length bytes → at + 14 ≤ n → number_at w n (renewed_at only address at bytes) ≡ number_at w n bytes
+  one_after : (w n at : ℕ) (bytes : List ℕ) → at + 14 ≤ length bytes → at + 14 ≤ n → number_at w n (renewed_at only address at bytes) ≡ number_at w n bytes
   unfolding renewed_at
-  one_behind w n at bytes inside behind = go (is_chosen only (number_at 2 (at + 2) bytes) (number_at 2 (at + 4) bytes))
+  one_after w n at bytes inside following = go (is_chosen only (number_at 2 (at + 2) bytes) (number_at 2 (at + 4) bytes))
     where
       go : (c : Bool) → number_at w n (cond c (written_at (at + 10) (code_for address (number_at 4 (at + 6) bytes)) bytes) bytes) ≡ number_at w n bytes
-      go true = written-behind (at + 10) (code_for address (number_at 4 (at + 6) bytes)) bytes (omega (arith, inside, code_length (number_at 4 (at + 6) bytes))) w n (omega (arith, behind, code_length (number_at 4 (at + 6) bytes)))
+      go true = written-following (at + 10) (code_for address (number_at 4 (at + 6) bytes)) bytes (omega (arith, inside, code_length (number_at 4 (at + 6) bytes))) w n (omega (arith, following, code_length (number_at 4 (at + 6) bytes)))
       go false = refl
 
   one_length : (at : ℕ) (bytes : List ℕ) → at + 14 ≤ length bytes → length (renewed_at only address at bytes) ≡ length bytes
@@ -39,7 +39,7 @@ module _ (only : Choice) (address : Option ℕ) where
   -- a number in an entry, before its code
   in_entry : (w n k j : ℕ) (bytes : List ℕ) → entry_start k + 14 ≤ length bytes → n + w ≤ 10 → number_at w (entry_start j + n) (renewed_at only address (entry_start k) bytes) ≡ number_at w (entry_start j + n) bytes
   in_entry w n k j bytes inside within = elim (cases_lt k j) [
-    | inl less ↦ one_behind w (entry_start j + n) (entry_start k) bytes inside (omega (arith, less))
+    | inl less ↦ one_after w (entry_start j + n) (entry_start k) bytes inside (omega (arith, less))
     | inr above ↦ one_same w (entry_start j + n) (entry_start k) bytes inside (omega (arith, above, within))
   ]
 

@@ -46,11 +46,11 @@ put_next : (front piece : List ℕ) (rest at : ℕ) → length front ≡ at → 
     → written_at at piece (front ++ replicate rest 0) ≡ (front ++ piece) ++ replicate (rest - length piece) 0
 put_next front piece rest at long room =
     ap (λ (l : List ℕ). l ++ (piece ++ drop (at + length piece) (front ++ replicate rest 0))) (take_at front (replicate rest 0) at long)
-    ∙ ap (λ (l : List ℕ). front ++ (piece ++ l)) (behind ∙ drop-replicate (length piece) rest 0)
+    ∙ ap (λ (l : List ℕ). front ++ (piece ++ l)) (following ∙ drop-replicate (length piece) rest 0)
     ∙ sym (append_assoc front piece (replicate (rest - length piece) 0))
   where
-    behind : drop (at + length piece) (front ++ replicate rest 0) ≡ drop (length piece) (replicate rest 0)
-    behind = sym (drop-drop (length piece) at (front ++ replicate rest 0)) ∙ ap (drop (length piece)) (drop_at front (replicate rest 0) at long)
+    following : drop (at + length piece) (front ++ replicate rest 0) ≡ drop (length piece) (replicate rest 0)
+    following = sym (drop-drop (length piece) at (front ++ replicate rest 0)) ∙ ap (drop (length piece)) (drop_at front (replicate rest 0) at long)
 
 length-front : (user : ℕ) (ts : List Target) (k : ℕ) → k ≤ length ts → length (replicate 8 0 ++ entries user (take k ts)) ≡ 8 + 14 * k
 length-front user ts k few =

@@ -31,8 +31,8 @@ pub fn read_file<F: Files>(alloc: Global, files: &mut F, path: &str) -> Result<V
 
 /// What the loader says of a load file's fault.
 fn bad_file(fault: LoadFault) -> LoaderFault
-    ensures told { (file : List ℕ) → IsRefused fault file → IsBadFile false file result }
-    ensures told_runtime { (file : List ℕ) → IsRuntimeRefused fault file → IsBadFile true file result }
+    ensures reported { (file : List ℕ) → IsRefused fault file → IsBadFile false file result }
+    ensures reported_runtime { (file : List ℕ) → IsRuntimeRefused fault file → IsBadFile true file result }
 {
     match fault.cause {
         LoadCause::Memory => LoaderFault::Memory,

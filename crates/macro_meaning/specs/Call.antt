@@ -21,8 +21,8 @@ is_among names name = list_any (bytes_eq name) names
 abbrev pub keyword_from : List (List ℕ) → ℕ → Found (List ℕ) → Option Binding
 keyword_from parameters place None = None
 keyword_from parameters place (Some (name, [])) = None
-keyword_from parameters place (Some (name, byte ∷ behind)) =
-    if byte == ascii.equals then if is_among parameters name then Some (record { name = name; text = behind; next = place }) else None else None
+keyword_from parameters place (Some (name, byte ∷ following)) =
+    if byte == ascii.equals then if is_among parameters name then Some (record { name = name; text = following; next = place }) else None else None
 
 -- the parameter at a place
 abbrev pub by_place : List ℕ → ℕ → Option (List ℕ) → Option Binding
@@ -63,12 +63,12 @@ no_symbols name = None
 abbrev pub label_bound : Option (List ℕ) → List ℕ → Symbols
 label_bound None label = no_symbols
 label_bound (Some name) [] = no_symbols
-label_bound (Some name) (byte ∷ behind) = with_name name (Own Text (byte ∷ behind)) no_symbols
+label_bound (Some name) (byte ∷ following) = with_name name (Own Text (byte ∷ following)) no_symbols
 
 -- the operands of a call, parted by commas outside quotes and parentheses; none where there is no operand
 abbrev pub arguments : List ℕ → List (List ℕ)
 arguments [] = []
-arguments (byte ∷ behind) = pieces ascii.comma (byte ∷ behind)
+arguments (byte ∷ following) = pieces ascii.comma (byte ∷ following)
 
 abbrev pub all_names : Model → List (List ℕ)
 all_names model = elim model.label [ None ↦ model.parameters | Some name ↦ name ∷ model.parameters ]

@@ -73,9 +73,9 @@ pub data IsNumber (values : Values) (text : List ℕ) (answer : Answer) : Type 0
 abbrev pub comparison_at : List ℕ → Option (Bool × List ℕ)
 comparison_at [] = None
 comparison_at (first ∷ []) = if first == ascii.equals then Some (true, []) else None
-comparison_at (first ∷ second ∷ behind) =
-    if first == ascii.equals then Some (true, second ∷ behind)
-    else if first == ascii.less && second == ascii.greater then Some (false, behind)
+comparison_at (first ∷ second ∷ following) =
+    if first == ascii.equals then Some (true, second ∷ following)
+    else if first == ascii.less && second == ascii.greater then Some (false, following)
     else None
 
 abbrev pub same_as : Bool → List ℕ → Option (List ℕ) → Option Bool
@@ -84,11 +84,11 @@ same_as equal a (Some b) = Some (if equal then bytes_eq a b else not (bytes_eq a
 
 abbrev pub compared_with : List ℕ → Option (Bool × List ℕ) → Option Bool
 compared_with a None = None
-compared_with a (Some (equal, behind)) = same_as equal a (unquoted_text behind)
+compared_with a (Some (equal, following)) = same_as equal a (unquoted_text following)
 
 abbrev pub compared_from : Found (List ℕ) → Option Bool
 compared_from None = None
-compared_from (Some (a, behind)) = compared_with a (comparison_at behind)
+compared_from (Some (a, following)) = compared_with a (comparison_at following)
 
 -- whether a comparison of two texts in quotes holds, where the text is one
 unfoldable pub comparison : List ℕ → Option Bool

@@ -55,12 +55,12 @@ names_of (piece ∷ pieces) = one_more (symbol_name piece) (names_of pieces)
 -- the parameters of an operand, parted by commas; none where there is no operand
 abbrev pub parameters_of : List ℕ → Option (List (List ℕ))
 parameters_of [] = Some []
-parameters_of (byte ∷ behind) = names_of (pieces ascii.comma (byte ∷ behind))
+parameters_of (byte ∷ following) = names_of (pieces ascii.comma (byte ∷ following))
 
 -- a label parameter, which may be missing
 abbrev pub label_of : List ℕ → Option (Option (List ℕ))
 label_of [] = Some None
-label_of (byte ∷ behind) = elim (symbol_name (byte ∷ behind)) [ None ↦ None | Some name ↦ Some (Some name) ]
+label_of (byte ∷ following) = elim (symbol_name (byte ∷ following)) [ None ↦ None | Some name ↦ Some (Some name) ]
 
 abbrev pub model_from : Option (List ℕ) → Option (Option (List ℕ)) → Option (List (List ℕ)) → Option Model
 model_from (Some name) (Some label) (Some parameters) = Some (record { name = name; label = label; parameters = parameters })
@@ -91,21 +91,21 @@ pub record MacroDefinition : Type 0 where
   pub body : Body
 
 abbrev pub definition_by : ℕ → List Line → Line → Option Model → Option MacroDefinition
-definition_by behind inner ends None = None
-definition_by behind inner ends (Some model) = Some (record { model = model; visible_after = behind; body = record { lines = inner ++ ends ∷ []; reach = length inner } })
+definition_by following inner ends None = None
+definition_by following inner ends (Some model) = Some (record { model = model; visible_after = following; body = record { lines = inner ++ ends ∷ []; reach = length inner } })
 
 -- the definition with these lines between MACRO and MEND, of which the first is the model line
 abbrev pub definition_from : ℕ → List Line → Line → Option MacroDefinition
-definition_from behind [] ends = None
-definition_from behind (model ∷ inner) ends = definition_by behind inner ends (model_of model.text)
+definition_from following [] ends = None
+definition_from following (model ∷ inner) ends = definition_by following inner ends (model_of model.text)
 
 -- the line from which a definition counts: in a macro file all count everywhere
-abbrev pub counts_behind : Bool → Line → ℕ
-counts_behind in_source begins = if in_source then begins.number else 0
+abbrev pub counts_after : Bool → Line → ℕ
+counts_after in_source begins = if in_source then begins.number else 0
 
 abbrev pub definition_of : Bool → DefinitionPart → Option MacroDefinition
 definition_of in_source (Plain line) = None
-definition_of in_source (Closed begins inner ends) = definition_from (counts_behind in_source begins) inner ends
+definition_of in_source (Closed begins inner ends) = definition_from (counts_after in_source begins) inner ends
 definition_of in_source (Open begins inner) = None
 
 abbrev pub list_of_option : {A : Type 0} → Option A → List A

@@ -81,15 +81,15 @@ first_time name (Local kind) shared = DeclareSymbol name (Local kind)
 first_time name (Shared kind) None = DeclareSymbol name (Shared kind)
 first_time name (Shared kind) (Some (other, text)) = if is_kind kind other then DeclareSymbol name (Shared kind) else Fail BadSetting
 
-abbrev pub or_deed : Option Effect → Effect → Effect
-or_deed None deed = deed
-or_deed (Some first) deed = first
+abbrev pub or_effect : Option Effect → Effect → Effect
+or_effect None effect_done = effect_done
+or_effect (Some first) effect_done = first
 
 unfoldable pub declaring : Values → Declaration → Option (List ℕ) → Effect
 declaring values declaration None = Fail BadSetting
 declaring values declaration (Some name) =
     if is_count name then Fail BadSetting
-    else or_deed (redeclaration_effect name declaration (values.symbols name)) (first_time name declaration (values.texts name))
+    else or_effect (redeclaration_effect name declaration (values.symbols name)) (first_time name declaration (values.texts name))
 
 -- ---- settings
 
@@ -160,47 +160,47 @@ noting (Err cause) = Fail cause
 
 -- `e,.NAME`
 abbrev pub IsBranchIf : Values → List (List ℕ) → Effect → Type 0
-IsBranchIf values (condition ∷ target ∷ []) deed =
-    (answer : Answer) × IsCondition values condition answer × (deed ≡ going (pair_or_earlier_fault answer (or_bad (target_name target))))
-IsBranchIf values _ deed = deed ≡ Fail BadSetting
+IsBranchIf values (condition ∷ target ∷ []) effect_done =
+    (answer : Answer) × IsCondition values condition answer × (effect_done ≡ going (pair_or_earlier_fault answer (or_bad (target_name target))))
+IsBranchIf values _ effect_done = effect_done ≡ Fail BadSetting
 
 -- `'text',s,n`
 abbrev pub IsMiddle : Values → List ℕ → List (List ℕ) → Effect → Type 0
-IsMiddle values label (text ∷ start ∷ count ∷ []) deed =
+IsMiddle values label (text ∷ start ∷ count ∷ []) effect_done =
     (s n : Answer) × IsNumber values start s × IsNumber values count n
-    × (deed ≡ setting values Text label (middle_of (pair_or_earlier_fault (or_bad (unquoted_text text)) (pair_or_earlier_fault s n))))
-IsMiddle values label _ deed = deed ≡ setting values Text label (Err BadSetting)
+    × (effect_done ≡ setting values Text label (middle_of (pair_or_earlier_fault (or_bad (unquoted_text text)) (pair_or_earlier_fault s n))))
+IsMiddle values label _ effect_done = effect_done ≡ setting values Text label (Err BadSetting)
 
 -- `'text',n`
 abbrev pub IsNote : Values → List (List ℕ) → Effect → Type 0
-IsNote values (text ∷ severity ∷ []) deed =
-    (answer : Answer) × IsNumber values severity answer × (deed ≡ noting (pair_or_earlier_fault (or_bad (unquoted_text text)) answer))
-IsNote values _ deed = deed ≡ Fail BadSetting
+IsNote values (text ∷ severity ∷ []) effect_done =
+    (answer : Answer) × IsNumber values severity answer × (effect_done ≡ noting (pair_or_earlier_fault (or_bad (unquoted_text text)) answer))
+IsNote values _ effect_done = effect_done ≡ Fail BadSetting
 
 abbrev pub IsSetting : Values → Kind → List ℕ → List ℕ → Effect → Type 0
-IsSetting values Number label operand deed =
-    (answer : Answer) × IsCondition values operand answer × (deed ≡ setting values Number label (printed_answer Number answer))
-IsSetting values Flag label operand deed =
-    (answer : Answer) × IsCondition values operand answer × (deed ≡ setting values Flag label (printed_answer Flag answer))
-IsSetting values Text label operand deed = deed ≡ setting values Text label (or_bad (joined_texts (pieces ascii.plus operand)))
+IsSetting values Number label operand effect_done =
+    (answer : Answer) × IsCondition values operand answer × (effect_done ≡ setting values Number label (printed_answer Number answer))
+IsSetting values Flag label operand effect_done =
+    (answer : Answer) × IsCondition values operand answer × (effect_done ≡ setting values Flag label (printed_answer Flag answer))
+IsSetting values Text label operand effect_done = effect_done ≡ setting values Text label (or_bad (joined_texts (pieces ascii.plus operand)))
 
 -- a line without operation, and ANOP: a line is given for an ordinary label
 abbrev pub resting : List ℕ → List ℕ → Effect
 resting [] text = NoEffect
-resting (byte ∷ behind) text = Emit text
+resting (byte ∷ following) text = Emit text
 
 -- what a statement does, by its label and its operand, in a line with this text
 abbrev pub IsDone : Values → Statement → List ℕ → List ℕ → List ℕ → Effect → Type 0
-IsDone values (Declare declaration) text label operand deed = deed ≡ declaring values declaration (symbol_name operand)
-IsDone values (Set kind) text label operand deed = IsSetting values kind label operand deed
-IsDone values Middle text label operand deed = IsMiddle values label (pieces ascii.comma operand) deed
-IsDone values BranchIf text label operand deed = IsBranchIf values (pieces ascii.comma operand) deed
-IsDone values Branch text label operand deed = deed ≡ going_to (target_name operand)
-IsDone values Count text label operand deed = (answer : Answer) × IsNumber values operand answer × (deed ≡ counting answer)
-IsDone values Nothing text label operand deed = deed ≡ resting label text
-IsDone values Leave text label operand deed = deed ≡ Exit
-IsDone values Note text label operand deed = IsNote values (pieces ascii.comma operand) deed
-IsDone values Define text label operand deed = deed ≡ Emit text
+IsDone values (Declare declaration) text label operand effect_done = effect_done ≡ declaring values declaration (symbol_name operand)
+IsDone values (Set kind) text label operand effect_done = IsSetting values kind label operand effect_done
+IsDone values Middle text label operand effect_done = IsMiddle values label (pieces ascii.comma operand) effect_done
+IsDone values BranchIf text label operand effect_done = IsBranchIf values (pieces ascii.comma operand) effect_done
+IsDone values Branch text label operand effect_done = effect_done ≡ going_to (target_name operand)
+IsDone values Count text label operand effect_done = (answer : Answer) × IsNumber values operand answer × (effect_done ≡ counting answer)
+IsDone values Nothing text label operand effect_done = effect_done ≡ resting label text
+IsDone values Leave text label operand effect_done = effect_done ≡ Exit
+IsDone values Note text label operand effect_done = IsNote values (pieces ascii.comma operand) effect_done
+IsDone values Define text label operand effect_done = effect_done ≡ Emit text
 
 -- ---- calls
 
@@ -232,53 +232,53 @@ pub record SymbolSetting : Type 0 where
 
 -- a statement, a call of a macro, or a line that is given; a line without operation is read as ANOP
 abbrev pub IsDoneBy : SymbolSetting → List ℕ → Fields → Option Statement → Effect → Type 0
-IsDoneBy s text fields (Some statement) deed = IsDone s.values statement text (part text fields.label) (part text fields.operand) deed
-IsDoneBy s text fields None deed =
-    deed ≡ calling_at s.definitions s.root text (first_named (folded (part text fields.operation)) s.definitions) (part text fields.label) (part text fields.operand)
+IsDoneBy s text fields (Some statement) effect_done = IsDone s.values statement text (part text fields.label) (part text fields.operand) effect_done
+IsDoneBy s text fields None effect_done =
+    effect_done ≡ calling_at s.definitions s.root text (first_named (folded (part text fields.operation)) s.definitions) (part text fields.label) (part text fields.operand)
 
 abbrev pub operation_or_anop : List ℕ → Option Statement
 operation_or_anop [] = Some Nothing
-operation_or_anop (byte ∷ behind) = statement_of (byte ∷ behind)
+operation_or_anop (byte ∷ following) = statement_of (byte ∷ following)
 
 -- the line behind a sequence symbol in column 1
-abbrev pub behind_sequence : List ℕ → List ℕ → List ℕ
-behind_sequence text label = if is_some (sequence_name label) then drop (length label) text else text
+abbrev pub after_sequence : List ℕ → List ℕ → List ℕ
+after_sequence text label = if is_some (sequence_name label) then drop (length label) text else text
 
 unfoldable pub without_sequence_symbol : List ℕ → List ℕ
-without_sequence_symbol text = behind_sequence text (part text (three_fields text).label)
+without_sequence_symbol text = after_sequence text (part text (three_fields text).label)
 
 abbrev pub IsStatement : SymbolSetting → List ℕ → Fields → Effect → Type 0
-IsStatement s text fields deed = IsDoneBy s text fields (operation_or_anop (part text fields.operation)) deed
+IsStatement s text fields effect_done = IsDoneBy s text fields (operation_or_anop (part text fields.operation)) effect_done
 
 abbrev pub IsAfterCut : SymbolSetting → Bool → List ℕ → Effect → Type 0
-IsAfterCut s true text deed = deed ≡ NoEffect
-IsAfterCut s false text deed = IsStatement s text (three_fields text) deed
+IsAfterCut s true text effect_done = effect_done ≡ NoEffect
+IsAfterCut s false text effect_done = IsStatement s text (three_fields text) effect_done
 
 -- the MACRO line of a definition in the source does nothing more
 abbrev pub IsAfterText : SymbolSetting → Bool → List ℕ → Effect → Type 0
-IsAfterText s true text deed = deed ≡ NoEffect
-IsAfterText s false text deed = IsAfterCut s (is_comment (without_sequence_symbol text)) (without_sequence_symbol text) deed
+IsAfterText s true text effect_done = effect_done ≡ NoEffect
+IsAfterText s false text effect_done = IsAfterCut s (is_comment (without_sequence_symbol text)) (without_sequence_symbol text) effect_done
 
 abbrev pub begins_definition : SymbolSetting → Line → Bool
 begins_definition s line = if s.in_source then operation_is (codes "MACRO") line else false
 
 abbrev pub IsShort : SymbolSetting → Line → Bool → List ℕ → Effect → Type 0
-IsShort s line true text deed = deed ≡ Fail LineTooLong
-IsShort s line false text deed = IsAfterText s (begins_definition s line) text deed
+IsShort s line true text effect_done = effect_done ≡ Fail LineTooLong
+IsShort s line false text effect_done = IsAfterText s (begins_definition s line) text effect_done
 
 -- with the symbols' texts in place
 abbrev pub IsWithTexts : SymbolSetting → Line → Option (List ℕ) → Effect → Type 0
-IsWithTexts s line None deed = deed ≡ Fail NoSuchSymbol
-IsWithTexts s line (Some text) deed = IsShort s line (nat_lt 255 (length text)) text deed
+IsWithTexts s line None effect_done = effect_done ≡ Fail NoSuchSymbol
+IsWithTexts s line (Some text) effect_done = IsShort s line (nat_lt 255 (length text)) text effect_done
 
 -- the text of a line with the symbols' texts in place
 abbrev pub substituted_line : Values → Line → Option (List ℕ)
 substituted_line values line = substituted_from (text_of values) (naming_at line.text line.fields) 0 0 line.text
 
 abbrev pub IsWritten : SymbolSetting → Line → Bool → Effect → Type 0
-IsWritten s line true deed = deed ≡ NoEffect
-IsWritten s line false deed = IsWithTexts s line (substituted_line s.values line) deed
+IsWritten s line true effect_done = effect_done ≡ NoEffect
+IsWritten s line false effect_done = IsWithTexts s line (substituted_line s.values line) effect_done
 
 -- what a visited line does; a comment does nothing
-abbrev pub IsDeed : SymbolSetting → Line → Effect → Type 0
-IsDeed s line deed = IsWritten s line (is_comment line.text) deed
+abbrev pub IsEffect : SymbolSetting → Line → Effect → Type 0
+IsEffect s line effect_done = IsWritten s line (is_comment line.text) effect_done

@@ -2,13 +2,13 @@
 use Rattle.std.specs.Prelude.{ℕ, ◌+◌, ◌-◌, Bool, ◌&&◌, ◌||◌, ◌==◌, nat_lt, List, [], ◌∷◌, ◌++◌, length, take, drop, Option, Some, None, if◌then◌else◌}
 use Rattle.std.specs.List.{position_or_len}
 use Rattle.omf_format.specs.Ascii as ascii
-use Rattle.orca_meaning.specs.Quotes.{quote_behind, is_closed}
+use Rattle.orca_meaning.specs.Quotes.{quote_following, is_closed}
 use Rattle.orca_meaning.specs.Token.{Found}
 
 -- How many parentheses are open behind a byte. In quotes a parenthesis is text, and so is one that closes none.
-abbrev pub open_behind : Option ℕ → ℕ → ℕ → ℕ
-open_behind None count byte = if byte == ascii.opening_round then count + 1 else if byte == ascii.closing_round then count - 1 else count
-open_behind (Some quote) count byte = count
+abbrev pub open_after : Option ℕ → ℕ → ℕ → ℕ
+open_after None count byte = if byte == ascii.opening_round then count + 1 else if byte == ascii.closing_round then count - 1 else count
+open_after (Some quote) count byte = count
 
 -- whether the byte is a separator outside quotes and parentheses
 abbrev pub parts : ℕ → Option ℕ → ℕ → ℕ → Bool
@@ -22,9 +22,9 @@ with_byte byte (piece ∷ pieces) = (byte ∷ piece) ∷ pieces
 -- the pieces between the separators outside quotes and parentheses, where this quote and so many parentheses are open
 unfoldable pub pieces_from : ℕ → Option ℕ → ℕ → List ℕ → List (List ℕ)
 pieces_from separator quote count [] = [] ∷ []
-pieces_from separator quote count (byte ∷ behind) =
-    if parts separator quote count byte then [] ∷ pieces_from separator None 0 behind
-    else with_byte byte (pieces_from separator (quote_behind quote byte) (open_behind quote count byte) behind)
+pieces_from separator quote count (byte ∷ following) =
+    if parts separator quote count byte then [] ∷ pieces_from separator None 0 following
+    else with_byte byte (pieces_from separator (quote_following quote byte) (open_after quote count byte) following)
 
 abbrev pub pieces : ℕ → List ℕ → List (List ℕ)
 pieces separator text = pieces_from separator None 0 text
@@ -33,19 +33,19 @@ pieces separator text = pieces_from separator None 0 text
 
 -- the text between a quote at the front and the next one of its kind, and what stands behind that
 unfoldable pub closed_at : ℕ → List ℕ → Found (List ℕ)
-closed_at quote behind =
-    let n = position_or_len (λ byte. byte == quote) behind in
-    if nat_lt n (length behind) then Some (take n behind, drop (n + 1) behind) else None
+closed_at quote following =
+    let n = position_or_len (λ byte. byte == quote) following in
+    if nat_lt n (length following) then Some (take n following, drop (n + 1) following) else None
 
 unfoldable pub quoted_at : List ℕ → Found (List ℕ)
 quoted_at [] = None
-quoted_at (quote ∷ behind) = if quote == ascii.apostrophe || quote == ascii.double_quote then closed_at quote behind else None
+quoted_at (quote ∷ following) = if quote == ascii.apostrophe || quote == ascii.double_quote then closed_at quote following else None
 
 -- the text in quotes that this is, with nothing behind
 abbrev pub whole_quoted_text : Found (List ℕ) → Option (List ℕ)
 whole_quoted_text None = None
 whole_quoted_text (Some (text, [])) = Some text
-whole_quoted_text (Some (text, byte ∷ behind)) = None
+whole_quoted_text (Some (text, byte ∷ following)) = None
 
 abbrev pub unquoted_text : List ℕ → Option (List ℕ)
 unquoted_text text = whole_quoted_text (quoted_at text)

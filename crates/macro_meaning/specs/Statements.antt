@@ -36,21 +36,21 @@ is_operation spelling operation = bytes_eq (folded operation) spelling
 abbrev pub whole_match : Found (List ℕ) → Option (List ℕ)
 whole_match None = None
 whole_match (Some (name, [])) = Some name
-whole_match (Some (name, byte ∷ behind)) = None
+whole_match (Some (name, byte ∷ following)) = None
 
 -- `&NAME` and nothing else: the name, in upper case
 abbrev pub symbol_name : List ℕ → Option (List ℕ)
 symbol_name text = whole_match (symbol_at text)
 
-abbrev pub behind_dot : List ℕ → Found (List ℕ)
-behind_dot [] = None
-behind_dot (byte ∷ behind) = if byte == ascii.dot then name_at behind else None
+abbrev pub after_dot : List ℕ → Found (List ℕ)
+after_dot [] = None
+after_dot (byte ∷ following) = if byte == ascii.dot then name_at following else None
 
 -- `.NAME` and nothing else: the name of a sequence symbol, in upper case
 abbrev pub sequence_name : List ℕ → Option (List ℕ)
-sequence_name text = whole_match (behind_dot text)
+sequence_name text = whole_match (after_dot text)
 
 -- where a branch goes: a sequence symbol, maybe behind a `^`
 abbrev pub target_name : List ℕ → Option (List ℕ)
 target_name [] = None
-target_name (byte ∷ behind) = if byte == ascii.caret then sequence_name behind else sequence_name (byte ∷ behind)
+target_name (byte ∷ following) = if byte == ascii.caret then sequence_name following else sequence_name (byte ∷ following)

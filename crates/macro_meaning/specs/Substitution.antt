@@ -84,29 +84,29 @@ with_front front (Some text) = Some (front ++ text)
 
 abbrev pub first_passes : (ℕ → Bool) → List ℕ → Bool
 first_passes test [] = false
-first_passes test (byte ∷ behind) = test byte
+first_passes test (byte ∷ following) = test byte
 
 -- behind an `&`: the text in its place, and how many of the bytes behind it go with it; None where the symbol isn't declared
 abbrev pub in_place : (List ℕ → Option (List ℕ)) → Naming → List ℕ → Option (List ℕ × ℕ)
-in_place text_of Replaced behind =
-    if first_passes is_letter behind
-    then elim (text_of (folded (take (name_length behind) behind))) [ None ↦ None | Some text ↦ Some (text, taken_length behind) ]
+in_place text_of Replaced following =
+    if first_passes is_letter following
+    then elim (text_of (folded (take (name_length following) following))) [ None ↦ None | Some text ↦ Some (text, taken_length following) ]
     else Some (ascii.ampersand ∷ [], 0)
-in_place text_of Named behind =
-    if first_passes is_name_start behind
-    then elim (text_of (folded (take (name_length behind) behind))) [ None ↦ None | Some text ↦ Some (ascii.ampersand ∷ [], 0) ]
+in_place text_of Named following =
+    if first_passes is_name_start following
+    then elim (text_of (folded (take (name_length following) following))) [ None ↦ None | Some text ↦ Some (ascii.ampersand ∷ [], 0) ]
     else Some (ascii.ampersand ∷ [], 0)
-in_place text_of Declared behind = Some (ascii.ampersand ∷ [], 0)
+in_place text_of Declared following = Some (ascii.ampersand ∷ [], 0)
 
 -- From a place on: the text with each symbol's text in its place, from left to right. The first so many bytes were taken
 -- already, and what comes in place of a symbol isn't read again. None where a symbol isn't declared.
 unfoldable pub substituted_from : (List ℕ → Option (List ℕ)) → (ℕ → Naming) → ℕ → ℕ → List ℕ → Option (List ℕ)
 substituted_from text_of naming at taken [] = Some []
-substituted_from text_of naming at (suc taken) (byte ∷ behind) = substituted_from text_of naming (at + 1) taken behind
-substituted_from text_of naming at zero (byte ∷ behind) =
+substituted_from text_of naming at (suc taken) (byte ∷ following) = substituted_from text_of naming (at + 1) taken following
+substituted_from text_of naming at zero (byte ∷ following) =
     if byte == ascii.ampersand
-    then elim (in_place text_of (naming at) behind) [
+    then elim (in_place text_of (naming at) following) [
       | None ↦ None
-      | Some found ↦ with_front found.0 (substituted_from text_of naming (at + 1) found.1 behind)
+      | Some found ↦ with_front found.0 (substituted_from text_of naming (at + 1) found.1 following)
     ]
-    else with_front (byte ∷ []) (substituted_from text_of naming (at + 1) 0 behind)
+    else with_front (byte ∷ []) (substituted_from text_of naming (at + 1) 0 following)

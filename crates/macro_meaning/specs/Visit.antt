@@ -7,7 +7,7 @@ use Rattle.macro_meaning.specs.declared.faults.MacroCause.TheVariants.{TooManyLi
 use Rattle.macro_meaning.specs.declared.statements.Kind.{Kind}
 use Rattle.macro_meaning.specs.declared.statements.Declaration.TheVariants.{Local, Shared}
 use Rattle.macro_meaning.specs.Call.{no_symbols}
-use Rattle.macro_meaning.specs.Effect.{Effect, NoEffect, Emit, DeclareSymbol, SetSymbol, BranchTo, SetCounter, Exit, CallMacro, Fail, SymbolSetting, IsDeed}
+use Rattle.macro_meaning.specs.Effect.{Effect, NoEffect, Emit, DeclareSymbol, SetSymbol, BranchTo, SetCounter, Exit, CallMacro, Fail, SymbolSetting, IsEffect}
 use Rattle.macro_meaning.specs.Definition.{Body, MacroDefinition}
 use Rattle.macro_meaning.specs.Statements.{sequence_name}
 use Rattle.macro_meaning.specs.Symbol.{Symbol, Own, Common, Symbols, SharedTexts, with_name, first_text}
@@ -184,7 +184,7 @@ most_visits = 1000000
 abbrev pub IsVisitOf : Program → List Visit → Visit → Line → Bool → List Line → Move → Type 0
 IsVisitOf program before v line true given move = (given ≡ []) × (move ≡ Stops line TooManyLines)
 IsVisitOf program before v line false given move =
-    (deed : Effect) × IsDeed (setting_of program v line.number) line deed × (given ≡ given_by line deed) × (move ≡ move_of program before v line deed)
+    (effect_done : Effect) × IsEffect (setting_of program v line.number) line effect_done × (given ≡ given_by line effect_done) × (move ≡ move_of program before v line effect_done)
 
 abbrev pub IsVisitAt : Program → List Visit → Visit → Option Line → List Line → Move → Type 0
 IsVisitAt program before v None given move = (given ≡ []) × (move ≡ Ends)

@@ -124,8 +124,8 @@ fn put_many(rt: &impl Abort, banks: &mut Banks) {
             slot,
             generation: 0,
         };
-        let told = put(banks, 0x20, 0, false, 1);
-        same(rt, usize::from(slot), told, Some(Ok(h)));
+        let reported = put(banks, 0x20, 0, false, 1);
+        same(rt, usize::from(slot), reported, Some(Ok(h)));
     }
 }
 
@@ -148,8 +148,8 @@ fn put_all(
     locked: bool,
 ) -> (Option<Result<(), PlaceFault>>, [Handle; 3]) {
     let mut handles = [NO_HANDLE; 3];
-    let told = place_all(banks, last, locked, &mut handles);
-    (told, handles)
+    let reported = place_all(banks, last, locked, &mut handles);
+    (reported, handles)
 }
 
 fn replace(banks: &mut Banks, h: Handle, size: u32) -> Option<Result<(), PlaceFault>> {
@@ -236,8 +236,8 @@ fn change(rt: &impl Abort, banks: &mut Banks, n: usize, step: &Step) {
         }
         Step::PutMany => put_many(rt, banks),
         Step::PutAll(last, locked, is, (a, b, c)) => {
-            let told = put_all(banks, *last, *locked);
-            same(rt, n, told, (Some(*is), [*a, *b, *c]))
+            let reported = put_all(banks, *last, *locked);
+            same(rt, n, reported, (Some(*is), [*a, *b, *c]))
         }
         Step::Replace(h, size, is) => same(rt, n, replace(banks, *h, *size), Some(*is)),
         Step::Free(h, is) => same(rt, n, free(banks, *h), *is),
@@ -247,12 +247,12 @@ fn change(rt: &impl Abort, banks: &mut Banks, n: usize, step: &Step) {
         Step::SetLevel(h, level, is) => same(rt, n, set_level(banks, *h, *level), *is),
         Step::Write(h, is) => same(rt, n, write(banks, *h), *is),
         Step::Stale(h) => is_stale(rt, banks, n, *h),
-        _ => tell(rt, banks, n, step),
+        _ => reveal(rt, banks, n, step),
     }
 }
 
 // A step that changes nothing.
-fn tell(rt: &impl Abort, banks: &Banks, n: usize, step: &Step) {
+fn reveal(rt: &impl Abort, banks: &Banks, n: usize, step: &Step) {
     match step {
         Step::Room(count) => same(rt, n, room(banks), *count),
         Step::At(h, is) => same(rt, n, at(banks, *h), *is),
@@ -423,7 +423,7 @@ fn empty_blocks_and_stale_handles_stay(rt: HostRuntime) -> Result<(), Fail> {
     run(&rt, &[2], &REFUSED)
 }
 
-static LENT: [Step; 18] = [
+static BORROWED: [Step; 18] = [
     Step::Put(4, 0, 1, Ok(SLOT_0)),
     Step::Put(4, 1, 1, Ok(SLOT_1)),
     Step::Put(4, 2, 1, Ok(SLOT_2)),
@@ -447,8 +447,8 @@ static LENT: [Step; 18] = [
 // Three blocks of four bytes side by side: what is written into the second leaves the others, and where no block is lent
 // all stay.
 #[test]
-fn a_write_through_a_lent_block_changes_it_alone(rt: HostRuntime) -> Result<(), Fail> {
-    run(&rt, &[2], &LENT)
+fn a_write_through_a_borrowed_block_changes_it_alone(rt: HostRuntime) -> Result<(), Fail> {
+    run(&rt, &[2], &BORROWED)
 }
 
 const BYTE: Want = Want {
@@ -661,8 +661,8 @@ fn bytes_of(banks: &Banks, slot: &Option<Handle>) -> (u64, u64)
 // Whether the bytes from an address up to another lie beside these blocks.
 fn lie_beside(banks: &Banks, there: &[Option<Handle>], at: u64, end: u64) -> bool {
     for slot in there {
-        let (first, behind) = bytes_of(banks, slot);
-        if first < end && at < behind {
+        let (first, following) = bytes_of(banks, slot);
+        if first < end && at < following {
             return false;
         }
     }

@@ -90,11 +90,11 @@ fn change(rt: &impl Abort, banks: &mut Banks, n: usize, step: &Step) {
         Step::Empty(h, is) => same(rt, n, banks.empty(*h), *is),
         Step::Shift(h, to, is) => same(rt, n, banks.shift(*h, *to), *is),
         Step::Write(h, first, last) => write(banks, *h, *first, *last),
-        _ => tell(rt, banks, n, step),
+        _ => reveal(rt, banks, n, step),
     }
 }
 
-fn tell(rt: &impl Abort, banks: &Banks, n: usize, step: &Step) {
+fn reveal(rt: &impl Abort, banks: &Banks, n: usize, step: &Step) {
     match step {
         Step::Kept(h, is) => same(rt, n, kept(banks, *h), *is),
         Step::Count(is) => same(rt, n, banks.count(), *is),

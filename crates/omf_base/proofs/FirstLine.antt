@@ -17,12 +17,12 @@ no_end_before [] (suc i) h = tt
 no_end_before (byte ∷ text) (suc i) h = (h 0 (omega arith), no_end_before text i (λ k less. h (suc k) (omega arith)))
 
 -- the first line stands before the first end
-pub lines_of_first : (text : List ℕ) (i : ℕ) (behind : List ℕ) → position is_end_byte text ≡ Some i
-    → lines_of (drop i text) ≡ [] ∷ lines_of behind → lines_of text ≡ take i text ∷ lines_of behind
-lines_of_first text i behind is ends =
+pub lines_of_first : (text : List ℕ) (i : ℕ) (following : List ℕ) → position is_end_byte text ≡ Some i
+    → lines_of (drop i text) ≡ [] ∷ lines_of following → lines_of text ≡ take i text ∷ lines_of following
+lines_of_first text i following is ends =
     let found = position-Some is_end_byte text i 0 is in
-    subst (λ (t : List ℕ). lines_of t ≡ take i text ∷ lines_of behind) (take-append-drop i text)
-    (lines_of-ended (take i text) (drop i text) behind (no_end_before text i found.2) ends)
+    subst (λ (t : List ℕ). lines_of t ≡ take i text ∷ lines_of following) (take-append-drop i text)
+    (lines_of-ended (take i text) (drop i text) following (no_end_before text i found.2) ends)
 
 none_from : (b : Bool) (n : ℕ) → cond b (Some n) None ≡ None → b ≡ false
 none_from true n e = absurd cc

@@ -13,14 +13,14 @@ fn first_end(text: &[u8]) -> Option<usize>
 
 /// What stands behind the line end at the front, which is LF, CR or CR LF.
 #[tactic(auto, unfolding(omf_format::specs::Lines::lines_of))]
-fn behind_end(text: &[u8]) -> &[u8]
+fn following_end(text: &[u8]) -> &[u8]
     requires end { is_end_byte (slice_index text.now 0) ≡ true }
     ensures lines { lines_of text.now ≡ [] ∷ lines_of result.now }
     ensures shorter { length result.now < length text.now }
 {
     match text.split_first() {
-        Some((b'\r', behind)) => without_lf(behind),
-        Some((_, behind)) => behind,
+        Some((b'\r', following)) => without_lf(following),
+        Some((_, following)) => following,
         None => text,
     }
 }
@@ -32,7 +32,7 @@ fn without_lf(text: &[u8]) -> &[u8]
     ensures no_longer { length result.now ≤ length text.now }
 {
     match text.split_first() {
-        Some((b'\n', behind)) => behind,
+        Some((b'\n', following)) => following,
         Some(_) => text,
         None => text,
     }
@@ -48,7 +48,7 @@ pub fn split_line(text: &[u8]) -> (&[u8], &[u8])
     match first_end(text) {
         Some(end) => {
             let (line, rest) = text.split_at(end);
-            (line, behind_end(rest))
+            (line, following_end(rest))
         }
         None => (text, &[]),
     }

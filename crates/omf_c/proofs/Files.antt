@@ -14,7 +14,7 @@ use Rattle.link_resolve.specs.Resolved.{all_bytes, given_of, HavePaths}
 use Rattle.link_resolve.specs.Runtimes.{files_of}
 use Rattle.omf_c.specs.declared.fault.OmfFault.{OmfFault}
 use Rattle.omf_c.specs.declared.file.OmfFile.{OmfFile}
-use Rattle.omf_c.specs.Handed.{told_outcome}
+use Rattle.omf_c.specs.Handed.{reported_outcome}
 use Rattle.omf_c.specs.Making.{Makes, link_given, library_given, HasName, IsShort}
 
 -- a number of each file that is at most another one in all
@@ -34,8 +34,8 @@ module _ (size : LibraryInput → ℕ) (most : ℕ) where
   to_test [] all = refl
   to_test (f ∷ files) all =
       let here : test f ≡ true = le-leb (size (given f)) most (all 0 (given f) (omega arith)) in
-      let behind : list_all test files ≡ true = to_test files (λ k d less. all (suc k) d (omega (arith, less))) in
-      rw (here, behind) refl
+      let following : list_all test files ≡ true = to_test files (λ k d less. all (suc k) d (omega (arith, less))) in
+      rw (here, following) refl
 
 pub names_all : (files : List OmfFile) → (list_all (λ (f : OmfFile). nat_le (length f.name.now) 255) files ≡ true) ↔ All HasName (library_given files)
 names_all files = (from_test (λ (g : LibraryInput). length g.name) 255 files, to_test (λ (g : LibraryInput). length g.name) 255 files)
@@ -101,7 +101,7 @@ named_paths form bytes files have = paths_named files have.0
 
 -- ---- what is answered where there is a fault
 
-pub told_makes : {F : Type 0} (Can : Type 0) (IsMade : List ℕ → Type 0) (IsFirst : F → Type 0) (Tells : OmfFault → F → Type 0) (fault : F) (o : Option OmfFault) (Lacks Named : Type 0)
-    → Can → (Named → IsFirst fault) → MatchOption o Lacks (λ told. Named × Tells told fault) → Makes Can IsMade IsFirst Tells (told_outcome o)
-told_makes Can IsMade IsFirst Tells fault None Lacks Named can first is = tt
-told_makes Can IsMade IsFirst Tells fault (Some told) Lacks Named can first is = (can, fault, first is.0, is.1)
+pub reported_makes : {F : Type 0} (Can : Type 0) (IsMade : List ℕ → Type 0) (IsFirst : F → Type 0) (Reports : OmfFault → F → Type 0) (fault : F) (o : Option OmfFault) (Lacks Named : Type 0)
+    → Can → (Named → IsFirst fault) → MatchOption o Lacks (λ reported. Named × Reports reported fault) → Makes Can IsMade IsFirst Reports (reported_outcome o)
+reported_makes Can IsMade IsFirst Reports fault None Lacks Named can first is = tt
+reported_makes Can IsMade IsFirst Reports fault (Some reported) Lacks Named can first is = (can, fault, first is.0, is.1)

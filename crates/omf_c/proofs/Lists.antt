@@ -14,5 +14,5 @@ pub put_next : {X Y : Type 0} (f : X → Y) (xs : List X) (room old : List Y) (k
 put_next {Y = Y} f xs room old k x y same found inside is =
     let less : k < k + 1 = omega arith in
     let front = ap (λ (l : List Y). l ++ y ∷ []) is.1 ∙ ap (λ (z : Y). map f (take k xs) ++ z ∷ []) same ∙ sym (map-append f (take k xs) (x ∷ [])) ∙ sym (ap (map f) (take_next xs k x found)) in
-    let behind = sym (drop-drop 1 k room) ∙ ap (drop 1) is.2 ∙ drop-drop 1 k old in
-    (length-set room k y ∙ is.0, take_more_set room k y inside ∙ front, drop-set-lt (k + 1) room k y less ∙ behind)
+    let following = sym (drop-drop 1 k room) ∙ ap (drop 1) is.2 ∙ drop-drop 1 k old in
+    (length-set room k y ∙ is.0, take_more_set room k y inside ∙ front, drop-set-lt (k + 1) room k y less ∙ following)

@@ -11,30 +11,30 @@ use Rattle.load_content.specs.Places.{address_in, Stands}
 use Rattle.omf_cells.specs.Load.{HasFields}
 use Rattle.omf_c.specs.declared.header.OmfHeader.{OmfHeader}
 use Rattle.omf_c.specs.declared.fault.OmfFault.{OmfFault}
-use Rattle.omf_c.specs.Handed.{CallOutcome, Made, Refused, NoMemory, Misused, Room, IsTold, IsHanded, status_done, status_small}
-use Rattle.omf_c.specs.Loaded.{Reads, TellsFields, Places, IsUnread, TooLong, Lacks, Refuses}
+use Rattle.omf_c.specs.Handed.{CallOutcome, Made, Refused, NoMemory, Misused, Room, IsReported, IsHanded, status_done, status_small}
+use Rattle.omf_c.specs.Loaded.{Reads, ReportsFields, Places, IsUnread, TooLong, Lacks, Refuses}
 
 module _ (file : List ℕ) (status : ℕ) (old new : OmfFault) where
-  pub unread_told : {X : Type 0} (Gives : List Segment → X → Type 0) (Misses : List Segment → Type 0) (x : X) → IsUnread file status old new
-      → (outcome : CallOutcome X) × Reads file Gives Misses outcome × IsTold outcome status x x old new
-  unread_told Gives Misses x (TooLong is long same) = (Misused, inl long, (is, refl, same))
-  unread_told Gives Misses x (Lacks is same) = (NoMemory, tt, (is, refl, same))
-  unread_told Gives Misses x (Refuses is short fault first tells) = (Refused new, (short, fault, first, tells), (is, refl, refl))
+  pub unread_reported : {X : Type 0} (Gives : List Segment → X → Type 0) (Misses : List Segment → Type 0) (x : X) → IsUnread file status old new
+      → (outcome : CallOutcome X) × Reads file Gives Misses outcome × IsReported outcome status x x old new
+  unread_reported Gives Misses x (TooLong is long same) = (Misused, inl long, (is, refl, same))
+  unread_reported Gives Misses x (Lacks is same) = (NoMemory, tt, (is, refl, same))
+  unread_reported Gives Misses x (Refuses is short fault first reports) = (Refused new, (short, fault, first, reports), (is, refl, refl))
 
   pub unread_handed : {X : Type 0} (Gives : List Segment → List X → Type 0) (Misses : List Segment → Type 0) (room : Room X) → IsUnread file status old new
       → (outcome : CallOutcome (List X)) × Reads file Gives Misses outcome × IsHanded outcome status room room old new
   unread_handed Gives Misses room (TooLong is long same) = (Misused, inl long, (is, refl, same))
   unread_handed Gives Misses room (Lacks is same) = (NoMemory, tt, (is, refl, same))
-  unread_handed Gives Misses room (Refuses is short fault first tells) = (Refused new, (short, fault, first, tells), (is, refl, refl))
+  unread_handed Gives Misses room (Refuses is short fault first reports) = (Refused new, (short, fault, first, reports), (is, refl, refl))
 
 -- the header that is told is that of the segment
-pub tells_at : (segments : List Segment) (number : ℕ) (header : OmfHeader) (f : Fields) → HasFields segments number f → TellsFields header f
-    → IsSomeAnd (segment_at segments number) (λ s. TellsFields header s.fields)
-tells_at segments number header f has tells = go (segment_at segments number) has
+pub reports_at : (segments : List Segment) (number : ℕ) (header : OmfHeader) (f : Fields) → HasFields segments number f → ReportsFields header f
+    → IsSomeAnd (segment_at segments number) (λ s. ReportsFields header s.fields)
+reports_at segments number header f has reports = go (segment_at segments number) has
   where
-    go : (o : Option Segment) → IsSomeAnd o (λ s. s.fields ≡ f) → IsSomeAnd o (λ s. TellsFields header s.fields)
+    go : (o : Option Segment) → IsSomeAnd o (λ s. s.fields ≡ f) → IsSomeAnd o (λ s. ReportsFields header s.fields)
     go None has = absurd has
-    go (Some s) same = subst (TellsFields header) (sym same) tells
+    go (Some s) same = subst (ReportsFields header) (sym same) reports
 
 -- LENGTH bytes stand for a segment of a load file
 pub stood_long : (file : List ℕ) (segments : List Segment) (number : ℕ) (places : List (Option ℕ)) (f : Fields) (bytes : List ℕ) → IsLoadable file segments → HasFields segments number f

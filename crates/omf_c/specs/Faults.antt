@@ -20,30 +20,30 @@ zero_padded size name = name ++ replicate (size - length name) 0
 
 -- the number is that of the cause with this name; the file from 1, the segment from 1 and the displacement are these, 0 where there is none;
 -- so is the line, from 1; and the name to which the fault belongs has zeros behind it
-pub record Tells (told : OmfFault) (cause : List ℕ) (file segment at line : ℕ) (name : List ℕ) : Type 0 where
-  pub cause' : name_of told.cause ≡ Some cause
-  pub file' : told.file ≡ file
-  pub segment' : told.segment ≡ segment
-  pub at' : told.at ≡ at
-  pub line' : told.line ≡ line
-  pub size' : told.name_size ≡ length name
-  pub name' : told.name ≡ zero_padded 256 name
+pub record Reports (reported : OmfFault) (cause : List ℕ) (file segment at line : ℕ) (name : List ℕ) : Type 0 where
+  pub cause' : name_of reported.cause ≡ Some cause
+  pub file' : reported.file ≡ file
+  pub segment' : reported.segment ≡ segment
+  pub at' : reported.at ≡ at
+  pub line' : reported.line ≡ line
+  pub size' : reported.name_size ≡ length name
+  pub name' : reported.name ≡ zero_padded 256 name
 
 -- a fault of one file, which is file 1
-abbrev pub TellsFile : OmfFault → FileFault → Type 0
-TellsFile told fault = Tells told (cause_name fault.cause) 1 fault.segment fault.at 0 []
+abbrev pub ReportsFile : OmfFault → FileFault → Type 0
+ReportsFile reported fault = Reports reported (cause_name fault.cause) 1 fault.segment fault.at 0 []
 
-abbrev pub TellsLoad : OmfFault → LoadFault → Type 0
-TellsLoad told fault = Tells told (cause_text fault.cause) 1 fault.segment fault.at 0 []
+abbrev pub ReportsLoad : OmfFault → LoadFault → Type 0
+ReportsLoad reported fault = Reports reported (cause_text fault.cause) 1 fault.segment fault.at 0 []
 
 -- a fault of several files
-abbrev pub TellsLib : OmfFault → LibFault → Type 0
-TellsLib told fault = Tells told (lib_cause_name fault.cause) fault.spot.file fault.spot.segment fault.spot.at 0 []
+abbrev pub ReportsLib : OmfFault → LibFault → Type 0
+ReportsLib reported fault = Reports reported (lib_cause_name fault.cause) fault.spot.file fault.spot.segment fault.spot.at 0 []
 
-abbrev pub TellsLink : OmfFault → LinkFault → Type 0
-TellsLink told fault =
-    Tells told (link_cause_name fault.cause) fault.spot.file fault.spot.segment fault.spot.at 0 (option_map_or (λ name. name) fault.name [])
+abbrev pub ReportsLink : OmfFault → LinkFault → Type 0
+ReportsLink reported fault =
+    Reports reported (link_cause_name fault.cause) fault.spot.file fault.spot.segment fault.spot.at 0 (option_map_or (λ name. name) fault.name [])
 
 -- a fault at a line of a file
-abbrev pub TellsAsm : OmfFault → AsmFault → Type 0
-TellsAsm told fault = Tells told (asm_cause_name fault.cause) fault.file 0 0 fault.line []
+abbrev pub ReportsAsm : OmfFault → AsmFault → Type 0
+ReportsAsm reported fault = Reports reported (asm_cause_name fault.cause) fault.file 0 0 fault.line []

@@ -41,25 +41,25 @@ IsPut xs status old new =
 -- a call with a room was answered: only what it made, or its fault, is written
 abbrev pub IsHanded : {X : Type 0} → CallOutcome (List X) → ℕ → Room X → Room X → OmfFault → OmfFault → Type 0
 IsHanded (Made xs) status old new fault after = IsPut xs status old new × (after ≡ fault)
-IsHanded (Refused told) status old new fault after = (status ≡ status_refused) × (new ≡ old) × (after ≡ told)
+IsHanded (Refused reported) status old new fault after = (status ≡ status_refused) × (new ≡ old) × (after ≡ reported)
 IsHanded NoMemory status old new fault after = (status ≡ memory) × (new ≡ old) × (after ≡ fault)
 IsHanded Misused status old new fault after = (status ≡ status_misused) × (new ≡ old) × (after ≡ fault)
 
 -- a call for one value was answered
-abbrev pub IsTold : {X : Type 0} → CallOutcome X → ℕ → X → X → OmfFault → OmfFault → Type 0
-IsTold (Made x) status old new fault after = (status ≡ status_done) × (new ≡ x) × (after ≡ fault)
-IsTold (Refused told) status old new fault after = (status ≡ status_refused) × (new ≡ old) × (after ≡ told)
-IsTold NoMemory status old new fault after = (status ≡ memory) × (new ≡ old) × (after ≡ fault)
-IsTold Misused status old new fault after = (status ≡ status_misused) × (new ≡ old) × (after ≡ fault)
+abbrev pub IsReported : {X : Type 0} → CallOutcome X → ℕ → X → X → OmfFault → OmfFault → Type 0
+IsReported (Made x) status old new fault after = (status ≡ status_done) × (new ≡ x) × (after ≡ fault)
+IsReported (Refused reported) status old new fault after = (status ≡ status_refused) × (new ≡ old) × (after ≡ reported)
+IsReported NoMemory status old new fault after = (status ≡ memory) × (new ≡ old) × (after ≡ fault)
+IsReported Misused status old new fault after = (status ≡ status_misused) × (new ≡ old) × (after ≡ fault)
 
 -- what an answer comes to
 abbrev pub outcome_of : Answer → CallOutcome (List ℕ)
 outcome_of (answer.Made bytes) = Made bytes.items
-outcome_of (answer.Refused told) = Refused told
+outcome_of (answer.Refused reported) = Refused reported
 outcome_of answer.Memory = NoMemory
 outcome_of answer.Misused = Misused
 
 -- a fault as an outcome; none is want of memory
-abbrev pub told_outcome : {X : Type 0} → Option OmfFault → CallOutcome X
-told_outcome None = NoMemory
-told_outcome (Some told) = Refused told
+abbrev pub reported_outcome : {X : Type 0} → Option OmfFault → CallOutcome X
+reported_outcome None = NoMemory
+reported_outcome (Some reported) = Refused reported

@@ -9,7 +9,7 @@ use Rattle.load_content.specs.Places.{Stands}
 use Rattle.omf_cells.specs.Load.{IsOutside, table_targets}
 use Rattle.omf_c.specs.declared.header.OmfHeader.{OmfHeader}
 use Rattle.omf_c.specs.declared.target.OmfTarget.{OmfTarget}
-use Rattle.omf_c.specs.Faults.{zero_padded, TellsLoad}
+use Rattle.omf_c.specs.Faults.{zero_padded, ReportsLoad}
 use Rattle.omf_c.specs.declared.fault.OmfFault.{OmfFault}
 use Rattle.omf_c.specs.Handed.{status_misused, memory, status_refused, CallOutcome, Made, Refused, NoMemory, Misused}
 
@@ -17,7 +17,7 @@ use Rattle.omf_c.specs.Handed.{status_misused, memory, status_refused, CallOutco
 -- file is longer, or where what was asked for doesn't fit the segments.
 abbrev pub Reads : {X : Type 0} → List ℕ → (List Segment → X → Type 0) → (List Segment → Type 0) → CallOutcome X → Type 0
 Reads file Gives Misses (Made x) = (segments : List Segment) × IsLoadable file segments × Gives segments x
-Reads file Gives Misses (Refused told) = (length file < 2 ^ 32) × (fault : LoadFault) × IsFirstLoadFault file fault × TellsLoad told fault
+Reads file Gives Misses (Refused reported) = (length file < 2 ^ 32) × (fault : LoadFault) × IsFirstLoadFault file fault × ReportsLoad reported fault
 Reads file Gives Misses NoMemory = Unit {0}
 Reads file Gives Misses Misused = (2 ^ 32 ≤ length file) ⊎ ((segments : List Segment) × IsLoadable file segments × Misses segments)
 
@@ -25,14 +25,14 @@ Reads file Gives Misses Misused = (2 ^ 32 ≤ length file) ⊎ ((segments : List
 pub data IsUnread (file : List ℕ) (status : ℕ) (old new : OmfFault) : Type 0 where
   TooLong : status ≡ status_misused → 2 ^ 32 ≤ length file → new ≡ old → IsUnread file status old new
   Lacks : status ≡ memory → new ≡ old → IsUnread file status old new
-  Refuses : status ≡ status_refused → length file < 2 ^ 32 → (fault : LoadFault) → IsFirstLoadFault file fault → TellsLoad new fault → IsUnread file status old new
+  Refuses : status ≡ status_refused → length file < 2 ^ 32 → (fault : LoadFault) → IsFirstLoadFault file fault → ReportsLoad new fault → IsUnread file status old new
 
 -- how many segments the file has
 abbrev pub CountsSegments : List ℕ → CallOutcome ℕ → Type 0
 CountsSegments file = Reads file (λ segments count. count ≡ length segments) (λ segments. ⊥)
 
 -- the fields of a header; the name has zeros behind it
-pub record TellsFields (header : OmfHeader) (f : Fields) : Type 0 where
+pub record ReportsFields (header : OmfHeader) (f : Fields) : Type 0 where
   pub byte_count : header.byte_count ≡ f.byte_count
   pub res_spc : header.res_spc ≡ f.res_spc
   pub length' : header.length ≡ f.length
@@ -51,9 +51,9 @@ pub record TellsFields (header : OmfHeader) (f : Fields) : Type 0 where
   pub name : header.name ≡ zero_padded 256 f.name
 
 -- the header of the segment with a number, from 1
-abbrev pub TellsHeader : List ℕ → ℕ → CallOutcome OmfHeader → Type 0
-TellsHeader file number =
-    Reads file (λ segments header. IsSomeAnd (segment_at segments number) (λ s. TellsFields header s.fields)) (λ segments. IsOutside segments number)
+abbrev pub ReportsHeader : List ℕ → ℕ → CallOutcome OmfHeader → Type 0
+ReportsHeader file number =
+    Reads file (λ segments header. IsSomeAnd (segment_at segments number) (λ s. ReportsFields header s.fields)) (λ segments. IsOutside segments number)
 
 -- the bytes that stand in memory for the segment with a number, from 1, where all segments of the file lie at these addresses
 abbrev pub Places : List ℕ → ℕ → List ℕ → CallOutcome (List ℕ) → Type 0
@@ -62,9 +62,9 @@ Places file number addresses =
     (λ segments. (length segments ≢ length addresses) ⊎ IsOutside segments number)
 
 -- a target, as C sees it
-abbrev pub told_target : Target → OmfTarget
-told_target target = record { file = target.file; segment = target.segment; offset = target.offset }
+abbrev pub target_view : Target → OmfTarget
+target_view target = record { file = target.file; segment = target.segment; offset = target.offset }
 
 -- where the entries of the file's jump table lead, in order; none where there is no table
-abbrev pub TellsEntries : List ℕ → CallOutcome (List OmfTarget) → Type 0
-TellsEntries file = Reads file (λ segments targets. targets ≡ map told_target (table_targets segments)) (λ segments. ⊥)
+abbrev pub ReportsEntries : List ℕ → CallOutcome (List OmfTarget) → Type 0
+ReportsEntries file = Reads file (λ segments targets. targets ≡ map target_view (table_targets segments)) (λ segments. ⊥)

@@ -13,15 +13,15 @@ use Rattle.asm_meaning.specs.Object as asm
 use Rattle.omf_c.specs.declared.fault.OmfFault.{OmfFault}
 use Rattle.omf_c.specs.declared.file.OmfBytes.{OmfBytes}
 use Rattle.omf_c.specs.declared.file.OmfFile.{OmfFile}
-use Rattle.omf_c.specs.Faults.{TellsFile, TellsLib, TellsLink, TellsAsm}
+use Rattle.omf_c.specs.Faults.{ReportsFile, ReportsLib, ReportsLink, ReportsAsm}
 use Rattle.omf_c.specs.Handed.{CallOutcome, Made, Refused, NoMemory, Misused}
 
 -- What is given can be taken, and the bytes are made of it, or its first fault is told; a call is misused exactly where it can't be taken.
 abbrev pub Makes : {F : Type 0} → Type 0 → (List ℕ → Type 0) → (F → Type 0) → (OmfFault → F → Type 0) → CallOutcome (List ℕ) → Type 0
-Makes Can IsMade IsFirst Tells (Made bytes) = Can × IsMade bytes
-Makes {F = F} Can IsMade IsFirst Tells (Refused told) = Can × (fault : F) × IsFirst fault × Tells told fault
-Makes Can IsMade IsFirst Tells NoMemory = Unit {0}
-Makes Can IsMade IsFirst Tells Misused = Can → ⊥
+Makes Can IsMade IsFirst Reports (Made bytes) = Can × IsMade bytes
+Makes {F = F} Can IsMade IsFirst Reports (Refused reported) = Can × (fault : F) × IsFirst fault × Reports reported fault
+Makes Can IsMade IsFirst Reports NoMemory = Unit {0}
+Makes Can IsMade IsFirst Reports Misused = Can → ⊥
 
 -- the bytes of files
 abbrev pub contents : List OmfBytes → List (List ℕ)
@@ -29,11 +29,11 @@ contents files = map (λ f. f.bytes.now) files
 
 -- the listing of a file of fewer than 2^32 bytes
 abbrev pub Dumps : List ℕ → CallOutcome (List ℕ) → Type 0
-Dumps bytes = Makes (length bytes < 2 ^ 32) (IsListing bytes) (file.IsFirstFault bytes) TellsFile
+Dumps bytes = Makes (length bytes < 2 ^ 32) (IsListing bytes) (file.IsFirstFault bytes) ReportsFile
 
 -- the object of a source with macro files
 abbrev pub Assembles : List ℕ → List (List ℕ) → CallOutcome (List ℕ) → Type 0
-Assembles source macros = Makes (Unit {0}) (asm.IsObject source macros) (asm.IsFirstFault source macros) TellsAsm
+Assembles source macros = Makes (Unit {0}) (asm.IsObject source macros) (asm.IsFirstFault source macros) ReportsAsm
 
 -- what the linker is given
 abbrev pub link_given : LinkForm → List (List ℕ) → List OmfFile → link.LinkInput
@@ -42,7 +42,7 @@ link_given form inputs runtimes = record { inputs = inputs; runtimes = map (λ f
 -- The load file of what the linker is given: of fewer than 2^32 files with fewer than 2^32 bytes together, and in a program of at most 16
 -- run-time library files with paths.
 abbrev pub Links : link.LinkInput → CallOutcome (List ℕ) → Type 0
-Links given = Makes (FewGiven given × HavePaths given) (IsLinkedTo given) (IsFirstLinkFault given) TellsLink
+Links given = Makes (FewGiven given × HavePaths given) (IsLinkedTo given) (IsFirstLinkFault given) ReportsLink
 
 -- the files of a library
 abbrev pub library_given : List OmfFile → List library.LibraryInput
@@ -65,4 +65,4 @@ pub record CanStand (given : List library.LibraryInput) : Type 0 where
 -- the library of the files
 abbrev pub MakesLibrary : List library.LibraryInput → CallOutcome (List ℕ) → Type 0
 MakesLibrary given =
-    Makes (CanStand given) (library.IsLibraryOf given) (λ fault. IsLibRefused fault given × (fault.cause ≢ lib_causes.Memory)) TellsLib
+    Makes (CanStand given) (library.IsLibraryOf given) (λ fault. IsLibRefused fault given × (fault.cause ≢ lib_causes.Memory)) ReportsLib

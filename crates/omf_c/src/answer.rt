@@ -47,8 +47,8 @@ pub fn hand(answer: Answer, room: &mut [u8], size: &mut usize, fault: &mut OmfFa
 {
     match answer {
         Answer::Made(bytes) => write_answer(&bytes, room, size),
-        Answer::Refused(told) => {
-            *fault = told;
+        Answer::Refused(reported) => {
+            *fault = reported;
             REFUSED
         }
         Answer::Memory => MEMORY,

@@ -8,7 +8,7 @@ ghost use Rattle.lib_dict.specs.declared.fault.LibCause.TheVariants as lib_cause
 ghost use Rattle.link_meaning.specs.declared.fault.LinkCause.TheVariants as link_causes;
 ghost use Rattle.asm_meaning.specs.declared.faults.AsmCause.TheVariants as asm_causes;
 ghost use Rattle.omf_c.specs.Causes.{name_of};
-ghost use Rattle.omf_c.specs.Faults.{zero_padded, Tells, TellsFile, TellsLoad, TellsLib, TellsLink, TellsAsm};
+ghost use Rattle.omf_c.specs.Faults.{zero_padded, Reports, ReportsFile, ReportsLoad, ReportsLib, ReportsLink, ReportsAsm};
 
 use crate::causes::{asm_number, file_number, lib_number, link_number, load_number};
 use lib_dict::LibFault;
@@ -51,7 +51,7 @@ pub fn zero_padded(name: &[u8]) -> [u8; 256]
 /// A fault of a file at a place, of this cause, with this name.
 fn to_omf_fault(cause: u32, spot: Spot, line: u32, name: &[u8]) -> OmfFault
     requires { length name.now ≤ 255 }
-    ensures { (text : List ℕ) → name_of cause ≡ Some text → Tells result text spot.file spot.segment spot.at line name.now }
+    ensures { (text : List ℕ) → name_of cause ≡ Some text → Reports result text spot.file spot.segment spot.at line name.now }
 {
     OmfFault {
         cause,
@@ -66,7 +66,7 @@ fn to_omf_fault(cause: u32, spot: Spot, line: u32, name: &[u8]) -> OmfFault
 
 /// A fault of a listed file, unless memory ran out.
 pub fn file_fault(fault: FileFault) -> Option<OmfFault>
-    ensures { MatchOption result (fault.cause ≡ file_causes.Memory) (λ to_omf_fault. (fault.cause ≢ file_causes.Memory) × TellsFile to_omf_fault fault) }
+    ensures { MatchOption result (fault.cause ≡ file_causes.Memory) (λ to_omf_fault. (fault.cause ≢ file_causes.Memory) × ReportsFile to_omf_fault fault) }
 {
     let spot = Spot {
         file: 1,
@@ -78,7 +78,7 @@ pub fn file_fault(fault: FileFault) -> Option<OmfFault>
 
 /// A fault of a load file, unless memory ran out.
 pub fn load_fault(fault: LoadFault) -> Option<OmfFault>
-    ensures { MatchOption result (fault.cause ≡ load_causes.Memory) (λ to_omf_fault. (fault.cause ≢ load_causes.Memory) × TellsLoad to_omf_fault fault) }
+    ensures { MatchOption result (fault.cause ≡ load_causes.Memory) (λ to_omf_fault. (fault.cause ≢ load_causes.Memory) × ReportsLoad to_omf_fault fault) }
 {
     let spot = Spot {
         file: 1,
@@ -90,7 +90,7 @@ pub fn load_fault(fault: LoadFault) -> Option<OmfFault>
 
 /// A fault of a library's files, unless memory ran out.
 pub fn lib_fault(fault: LibFault) -> Option<OmfFault>
-    ensures { MatchOption result (fault.cause ≡ lib_causes.Memory) (λ to_omf_fault. (fault.cause ≢ lib_causes.Memory) × TellsLib to_omf_fault fault) }
+    ensures { MatchOption result (fault.cause ≡ lib_causes.Memory) (λ to_omf_fault. (fault.cause ≢ lib_causes.Memory) × ReportsLib to_omf_fault fault) }
 {
     Some(to_omf_fault(lib_number(fault.cause)?, fault.spot, 0, &[]))
 }
@@ -108,7 +108,7 @@ fn bytes_of(name: &Option<Name>) -> &[u8]
 
 /// A fault of linked files, unless memory ran out.
 pub fn link_fault(fault: &LinkFault) -> Option<OmfFault>
-    ensures { MatchOption result (fault.now.cause ≡ link_causes.Memory) (λ to_omf_fault. (fault.now.cause ≢ link_causes.Memory) × TellsLink to_omf_fault fault.now) }
+    ensures { MatchOption result (fault.now.cause ≡ link_causes.Memory) (λ to_omf_fault. (fault.now.cause ≢ link_causes.Memory) × ReportsLink to_omf_fault fault.now) }
 {
     let number = link_number(fault.cause)?;
     Some(to_omf_fault(number, fault.spot, 0, bytes_of(&fault.name)))
@@ -116,7 +116,7 @@ pub fn link_fault(fault: &LinkFault) -> Option<OmfFault>
 
 /// A fault of a source, unless memory ran out.
 pub fn asm_fault(fault: AsmFault) -> Option<OmfFault>
-    ensures { MatchOption result (fault.cause ≡ asm_causes.Memory) (λ to_omf_fault. (fault.cause ≢ asm_causes.Memory) × TellsAsm to_omf_fault fault) }
+    ensures { MatchOption result (fault.cause ≡ asm_causes.Memory) (λ to_omf_fault. (fault.cause ≢ asm_causes.Memory) × ReportsAsm to_omf_fault fault) }
 {
     let spot = Spot {
         file: fault.file,

@@ -2,7 +2,7 @@
 
 ghost use Rattle.std.specs.Prelude.{◌≡◌};
 ghost use Rattle.omf_header.specs.View.{fields};
-ghost use Rattle.omf_c.specs.Loaded.{TellsFields};
+ghost use Rattle.omf_c.specs.Loaded.{ReportsFields};
 
 use crate::fault::zero_padded;
 use omf_header::Header;
@@ -47,7 +47,7 @@ pub struct OmfHeader {
 
 /// A header, as C sees it.
 pub fn to_omf_header(header: &Header) -> OmfHeader
-    ensures { TellsFields result (fields header.now) }
+    ensures { ReportsFields result (fields header.now) }
 {
     let name = header.name.bytes();
     OmfHeader {

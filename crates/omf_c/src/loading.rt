@@ -5,8 +5,8 @@ ghost use Rattle.load_meaning.specs.declared.load.LoadCause.TheVariants as cause
 ghost use Rattle.load_meaning.specs.Loadable.{IsLoadable};
 ghost use Rattle.load_content.specs.Places.{Stands};
 ghost use Rattle.omf_cells.specs.Load.{IsOutside, IsRefused, HasLength, table_targets};
-ghost use Rattle.omf_c.specs.Loaded.{CountsSegments, TellsHeader, Places, TellsEntries, IsUnread, told_target};
-ghost use Rattle.omf_c.specs.Handed.{CallOutcome, IsTold, IsHanded, IsPut};
+ghost use Rattle.omf_c.specs.Loaded.{CountsSegments, ReportsHeader, Places, ReportsEntries, IsUnread, target_view};
+ghost use Rattle.omf_c.specs.Handed.{CallOutcome, IsReported, IsHanded, IsPut};
 
 use crate::answer::{DONE, MEMORY, MISUSED, REFUSED, SMALL};
 use crate::fault::{OmfFault, load_fault};
@@ -43,8 +43,8 @@ fn report_load_fault(found: LoadFault, fault: &mut OmfFault) -> u32
     ensures { (file : List ℕ) → length file < 2 ^ 32 → IsRefused found file → IsUnread file result fault.old fault.new }
 {
     match load_fault(found) {
-        Some(told) => {
-            *fault = told;
+        Some(reported) => {
+            *fault = reported;
             REFUSED
         }
         None => MEMORY,
@@ -59,7 +59,7 @@ pub extern "C" fn omf_segments(
     count: &mut u32,
     fault: &mut OmfFault,
 ) -> u32
-    ensures { (outcome : CallOutcome ℕ) × CountsSegments file.now outcome × IsTold outcome result count.old count.new fault.old fault.new }
+    ensures { (outcome : CallOutcome ℕ) × CountsSegments file.now outcome × IsReported outcome result count.old count.new fault.old fault.new }
 {
     match read_load_file(alloc, file, fault) {
         Ok(load) => {
@@ -77,15 +77,15 @@ pub extern "C" fn omf_header(
     alloc: Global,
     file: &[u8],
     number: u32,
-    told: &mut OmfHeader,
+    reported: &mut OmfHeader,
     fault: &mut OmfFault,
 ) -> u32
-    ensures { (outcome : CallOutcome OmfHeader) × TellsHeader file.now number outcome × IsTold outcome result told.old told.new fault.old fault.new }
+    ensures { (outcome : CallOutcome OmfHeader) × ReportsHeader file.now number outcome × IsReported outcome result reported.old reported.new fault.old fault.new }
 {
     match read_load_file(alloc, file, fault) {
         Ok(load) => match load.header(number) {
             Some(header) => {
-                *told = header::to_omf_header(header);
+                *reported = header::to_omf_header(header);
                 DONE
             }
             None => MISUSED,
@@ -161,7 +161,7 @@ pub extern "C" fn omf_place(
 
 /// Writes where the entries of a load file's jump table lead into the caller's room, if they fit.
 fn put_targets(load: &LoadFile<'_>, room: &mut [OmfTarget], size: &mut usize) -> u32
-    ensures { IsPut (map told_target (table_targets load.now)) result (record { items = room.old; size = size.old }) (record { items = room.new; size = size.new }) }
+    ensures { IsPut (map target_view (table_targets load.now)) result (record { items = room.old; size = size.old }) (record { items = room.new; size = size.new }) }
 {
     let count = load.target_count();
     *size = count as usize;
@@ -187,7 +187,7 @@ pub extern "C" fn omf_entries(
     size: &mut usize,
     fault: &mut OmfFault,
 ) -> u32
-    ensures { (outcome : CallOutcome (List OmfTarget)) × TellsEntries file.now outcome
+    ensures { (outcome : CallOutcome (List OmfTarget)) × ReportsEntries file.now outcome
         × IsHanded outcome result (record { items = room.old; size = size.old }) (record { items = room.new; size = size.new }) fault.old fault.new }
 {
     match read_load_file(alloc, file, fault) {

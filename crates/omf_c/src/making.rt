@@ -4,7 +4,7 @@ ghost use Rattle.std.specs.Prelude.{◌≡◌, ◌≢◌, ◌<◌, ◌≤◌, �
 ghost use Rattle.link_meaning.specs.declared.form.LinkForm.TheVariants as forms;
 ghost use Rattle.link_meaning.specs.LinkFaults.{plain};
 ghost use Rattle.omf_c.specs.Making.{contents, link_given, library_given, Dumps, Assembles, Links, MakesLibrary};
-ghost use Rattle.omf_c.specs.Handed.{CallOutcome, IsHanded, outcome_of, told_outcome};
+ghost use Rattle.omf_c.specs.Handed.{CallOutcome, IsHanded, outcome_of, reported_outcome};
 
 use crate::answer::{Answer, hand};
 use crate::fault::{OmfFault, asm_fault, file_fault, lib_fault, link_fault};
@@ -19,10 +19,10 @@ use std::alloc::Global;
 
 /// The answer that tells a fault; none is want of memory.
 fn answer_of_fault(fault: Option<OmfFault>) -> Answer
-    ensures { outcome_of result ≡ told_outcome fault }
+    ensures { outcome_of result ≡ reported_outcome fault }
 {
     match fault {
-        Some(told) => Answer::Refused(told),
+        Some(reported) => Answer::Refused(reported),
         None => Answer::Memory,
     }
 }

@@ -1,7 +1,7 @@
 //! Where entries of a jump table lead, as C sees it.
 
 ghost use Rattle.std.specs.Prelude.{◌≡◌};
-ghost use Rattle.omf_c.specs.Loaded.{told_target};
+ghost use Rattle.omf_c.specs.Loaded.{target_view};
 
 use load_meaning::Target;
 
@@ -19,7 +19,7 @@ pub struct OmfTarget {
 
 /// A target, as C sees it.
 pub fn to_omf_target(target: Target) -> OmfTarget
-    ensures { result ≡ told_target target }
+    ensures { result ≡ target_view target }
 {
     OmfTarget {
         file: target.file,

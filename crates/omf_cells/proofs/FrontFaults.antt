@@ -13,7 +13,7 @@ use Rattle.omf_format.specs.laws.HeaderLaws.{fault_fits}
 use Rattle.omf_format.specs.Reading.{Reader, HandsOut}
 use Rattle.omf_format.specs.File.{body_reader, IsHeader, to_file_header_fault, to_file_record_fault}
 use Rattle.load_meaning.specs.Loadable.{Fault, segment_refusal, as_load, front_fault, HasReadFault, OfFront, OfRecord}
-use Rattle.load_meaning.specs.laws.LoadableLaws.{header_fault-told}
+use Rattle.load_meaning.specs.laws.LoadableLaws.{header_fault-reported}
 use Rattle.omf_header.specs.View.{IsRefused}
 use Rattle.omf_records.specs.Segments.{HasPlace}
 use Rattle.load_content.specs.Views.{UnlessMemory}
@@ -36,7 +36,7 @@ has_place header.Memory start bytes file is inside short refused = tt
 -- a header at fault
 pub of_header : (of : HeaderFault) (start : ℕ) (bytes file : List ℕ) → bytes ≡ drop start file → header_fault bytes ≡ Some of → HasReadFault start file (as_load (to_file_header_fault start (version_of bytes) of))
 of_header of start bytes file is e =
-    subst (λ (b : List ℕ). HasReadFault start file (as_load (to_file_header_fault start (version_of b) of))) (sym is) (header_fault-told of start file (ap header_fault (sym is) ∙ e))
+    subst (λ (b : List ℕ). HasReadFault start file (as_load (to_file_header_fault start (version_of b) of))) (sym is) (header_fault-reported of start file (ap header_fault (sym is) ∙ e))
 
 -- a name or type that is refused
 pub of_kind : (f : Fields) (cause : LoadCause) (start : ℕ) (file : List ℕ) → IsHeader start f file → segment_refusal f ≡ Some cause → HasReadFault start file (cause, start)
@@ -63,7 +63,7 @@ of_body start f file reader fault header' front is has =
     OfRecord f has.before has.at header' front (subst (λ (r : Reader). HandsOut r has.before has.at) is has.run) has.pass has.fails
 
 -- a record's fault is never want of memory
-pub told_named : (of : RecordFault) → (as_load (to_file_record_fault of)).0 ≡ Memory → ⊥
-told_named (record_faults.Truncated at) e = cc
-told_named (record_faults.Unsupported code at) e = cc
-told_named (record_faults.BadRecord at) e = cc
+pub reported_named : (of : RecordFault) → (as_load (to_file_record_fault of)).0 ≡ Memory → ⊥
+reported_named (record_faults.Truncated at) e = cc
+reported_named (record_faults.Unsupported code at) e = cc
+reported_named (record_faults.BadRecord at) e = cc

@@ -6,14 +6,14 @@ use Rattle.std.proofs.lemmas.List.{length-map}
 use Rattle.omf_format.specs.Number.{number_at}
 use Rattle.omf_format.specs.File.{Segment}
 use Rattle.load_meaning.specs.Cells.{segment_bytes}
-use Rattle.load_meaning.specs.Pathnames.{has_pathnames, most_paths, first_path, behind_path, paths_in, paths_of}
+use Rattle.load_meaning.specs.Pathnames.{has_pathnames, most_paths, first_path, after_path, paths_in, paths_of}
 use Rattle.load_tables.specs.View.{seen_paths}
 
 few_in : (n : ℕ) (bytes : List ℕ) → length (paths_in n bytes) ≤ n
 few_in zero bytes = omega arith
-few_in (suc n) bytes = by_end (few_in n (behind_path bytes)) (eqb (number_at 2 0 bytes) 0)
+few_in (suc n) bytes = by_end (few_in n (after_path bytes)) (eqb (number_at 2 0 bytes) 0)
   where
-    by_end : length (paths_in n (behind_path bytes)) ≤ n → (b : Bool) → length (if b then [] else first_path bytes ∷ paths_in n (behind_path bytes)) ≤ suc n
+    by_end : length (paths_in n (after_path bytes)) ≤ n → (b : Bool) → length (if b then [] else first_path bytes ∷ paths_in n (after_path bytes)) ≤ suc n
     by_end more true = omega arith
     by_end more false = omega (arith, more)
 

@@ -3,11 +3,11 @@ use Rattle.std.specs.Prelude.{◌≡◌, ℕ, ◌+◌, ◌-◌, ◌≤◌, List,
 use Rattle.std.specs.Option.{option_map_or}
 use Rattle.omf_format.specs.File.{Segment, segment_at}
 use Rattle.load_meaning.specs.Cells.{Byte, Patch, patched_cells, segment_bytes, cells}
-use Rattle.load_meaning.specs.WrittenBody.{zeros_behind}
+use Rattle.load_meaning.specs.WrittenBody.{zeros_after}
 
 -- how many cells a segment has up to the last one that isn't a byte 0
 abbrev pub front_of : Segment → ℕ
-front_of s = length (cells s) - zeros_behind (cells s)
+front_of s = length (cells s) - zeros_after (cells s)
 
 -- those of the segment with this number; 0 where there is no such segment
 abbrev pub front_at : List Segment → ℕ → ℕ

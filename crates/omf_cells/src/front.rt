@@ -7,7 +7,7 @@ ghost use Rattle.omf_header.specs.View.{fields};
 ghost use Rattle.omf_records.specs.Segments.{HasPlace};
 ghost use Rattle.omf_cells.specs.Load.{IsLoadHeader, IsReadRefused, IsHeaderFault};
 
-use crate::told::load_fault;
+use crate::reported::load_fault;
 use load_meaning::{LoadCause, LoadFault};
 use omf_format::HeaderFault;
 use omf_header::{Header, read_header};

@@ -8,8 +8,8 @@ mod laws;
 mod load;
 mod reading;
 mod records;
+mod reported;
 mod shape;
-mod told;
 mod whole;
 
 pub use laws::{

@@ -6,7 +6,7 @@ ghost use Rattle.omf_format.specs.File.{to_file_record_fault};
 ghost use Rattle.omf_records.specs.View.{view};
 ghost use Rattle.load_content.specs.Walk.{IsLoadBody, HasBodyFault};
 
-use crate::told::load_fault;
+use crate::reported::load_fault;
 use load_meaning::{LoadCause, LoadFault};
 use omf_format::RecordFault;
 use omf_records::{Rec, Records, to_file_record_fault};
@@ -64,7 +64,7 @@ fn refusal(rec: &Rec) -> Option<LoadCause>
 }
 
 /// A record's fault as one of the load file.
-#[tactic(auto, using(crate::proofs::FrontFaults::told_named))]
+#[tactic(auto, using(crate::proofs::FrontFaults::reported_named))]
 fn record_fault(fault: RecordFault, segment: u32) -> LoadFault
     ensures value { result ≡ in_segment segment (as_load (to_file_record_fault fault)) }
     ensures named { result.cause ≡ LoadCause.Memory → ⊥ }

@@ -35,7 +35,7 @@ use Rattle.loader_machine.specs.Heads.{head_of, at_number}
 use Rattle.loader_machine.specs.State.{User, Machine, max_users}
 use Rattle.loader_machine.specs.Commands.{Load, Started, Refused, Reply}
 use Rattle.loader_machine.specs.Refusals.{Refuse, load_refusal, rows_refusal}
-use Rattle.loader_machine.specs.Found.{HoldsFile, HoldsLoad, FileFound, Unread, Good, IsFound, Joined, Stops, Joins, joined_behind, AreJoined}
+use Rattle.loader_machine.specs.Found.{HoldsFile, HoldsLoad, FileFound, Unread, Good, IsFound, Joined, Stops, Joins, joined_after, AreJoined}
 use Rattle.loader_machine.specs.Steps.{Put, NoSlots, Lacks, PutIn, Lands, Begins, Decides, LoadsJoined, LoadsFound, is_reached, lost_from, lost_in, lost_refusal}
 use Rattle.loader_machine.specs.laws.OnceLaws.{found_once, joined_once}
 use Rattle.loader_agrees.specs.Agrees.{Loaded, Meets}
@@ -78,7 +78,7 @@ abbrev Joining : List RuntimeFile → Joined → Type 0
 Joining runtimes (Stops reads why) = why ≡ fault.CannotRead
 Joining runtimes (Joins all) = all ≡ map (λ r. r.segments) runtimes
 
-joining_more : (r : RuntimeFile) (runtimes : List RuntimeFile) (rest : Joined) → Joining runtimes rest → Joining (r ∷ runtimes) (joined_behind r.segments rest)
+joining_more : (r : RuntimeFile) (runtimes : List RuntimeFile) (rest : Joined) → Joining runtimes rest → Joining (r ∷ runtimes) (joined_after r.segments rest)
 joining_more r runtimes (Stops reads why) is = is
 joining_more r runtimes (Joins all) is = ap (λ (l : List (List Segment)). r.segments ∷ l) is
 
@@ -95,7 +95,7 @@ rows_come held (file ∷ files) (r ∷ runtimes) are there = by_size (nat_le (le
     by_size : (b : Bool) → nat_le (length file.1) max_file ≡ b → (joined : Joined) × AreJoined held (map (λ r. r.path) runtimes) joined × Joining runtimes joined
         → (joined : Joined) × AreJoined held (map (λ r. r.path) (r ∷ runtimes)) joined × Joining (r ∷ runtimes) joined
     by_size true e rest = (
-      joined_behind r.segments rest.0,
+      joined_after r.segments rest.0,
       (Good r.segments, record { file = file.1; is_held = (here, leb-true (length file.1) max_file e); runtime = are.1 }, (rest.0, rest.1, refl)),
       joining_more r runtimes rest.0 rest.2,
     )

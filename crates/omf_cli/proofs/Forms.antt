@@ -39,9 +39,9 @@ either : (b : Bool) (x y : Option Form) → HasPaths x → HasPaths y → HasPat
 either true x y p q = p
 either false x y p q = q
 
-paths_behind : (words : List (List ℕ)) → ArePaths (with_output 1 255 words)
-paths_behind [] = tt
-paths_behind (output ∷ inputs) = by_test (is_path output && are_paths 1 255 inputs) refl
+paths_after : (words : List (List ℕ)) → ArePaths (with_output 1 255 words)
+paths_after [] = tt
+paths_after (output ∷ inputs) = by_test (is_path output && are_paths 1 255 inputs) refl
   where
     by_test : (b : Bool) → (is_path output && are_paths 1 255 inputs) ≡ b → ArePaths (cond b (Some (output, inputs)) None)
     by_test true is = (and_parts (is_path output) (are_paths 1 255 inputs) is).1
@@ -183,12 +183,12 @@ paths_in : (words : List (List ℕ)) → HasPaths (form_of words)
 paths_in [] = tt
 paths_in (name ∷ words) =
     either (bytes_eq name (codes "asm")) _ _ (of_asm (source_and_output words))
-    (either (bytes_eq name (codes "link")) _ _ (of_link (with_output 1 255 words) (paths_behind words))
+    (either (bytes_eq name (codes "link")) _ _ (of_link (with_output 1 255 words) (paths_after words))
     (either (bytes_eq name (codes "dump")) _ _ (of_dump words)
     (either (bytes_eq name (codes "run")) _ _ (of_run (inputs_only 1 1 words))
-    (either (bytes_eq name (codes "lib")) _ _ (of_lib (with_output 1 255 words) (paths_behind words))
+    (either (bytes_eq name (codes "lib")) _ _ (of_lib (with_output 1 255 words) (paths_after words))
     (either (bytes_eq name (codes "stress")) _ _ (of_stress words)
-    (either (bytes_eq name (codes "rtl")) _ _ (of_rtl (with_output 1 255 words) (paths_behind words))
+    (either (bytes_eq name (codes "rtl")) _ _ (of_rtl (with_output 1 255 words) (paths_after words))
     (either (bytes_eq name (codes "linkrt")) _ _ (of_linkrt words)
     (either (bytes_eq name (codes "list")) _ _ (of_listing words)
     (either (bytes_eq name (codes "compact")) _ _ (of_compact words) tt)))))))))

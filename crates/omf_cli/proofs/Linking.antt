@@ -69,19 +69,19 @@ paths_with paths files are printing =
     (paths_under paths (drop n files) parts.1 printing, omega (arith, most, (few_under paths (drop n files)).1))
 
 -- the files, parted, are what is given
-pub given_parted : (paths : List (String Global)) (files inputs behind : List (Vec ℕ Global)) (runtimes : List Member) → inputs ≡ take (length files - length paths) files
-    → behind ≡ drop (length files - length paths) files → files_of runtimes ≡ under_paths (words_of paths) (all_bytes behind)
+pub given_parted : (paths : List (String Global)) (files inputs following : List (Vec ℕ Global)) (runtimes : List Member) → inputs ≡ take (length files - length paths) files
+    → following ≡ drop (length files - length paths) files → files_of runtimes ≡ under_paths (words_of paths) (all_bytes following)
     → given_of inputs runtimes Program ≡ given_with (words_of paths) (all_bytes files)
-given_parted paths files inputs behind runtimes front rest under =
+given_parted paths files inputs following runtimes front rest under =
     let n = length files - length paths in
     let bytes = λ (file : Vec ℕ Global). file.items in
     let same : n ≡ length (all_bytes files) - length (words_of paths) = omega (arith, length-map files bytes, length-map paths string_bytes) in
     let inputs_are : all_bytes inputs ≡ take (length (all_bytes files) - length (words_of paths)) (all_bytes files) =
     ap all_bytes front ∙ sym (take-map bytes n files) ∙ ap (λ (k : ℕ). take k (all_bytes files)) same in
-    let behind_are : all_bytes behind ≡ drop (length (all_bytes files) - length (words_of paths)) (all_bytes files) =
+    let after_are : all_bytes following ≡ drop (length (all_bytes files) - length (words_of paths)) (all_bytes files) =
     ap all_bytes rest ∙ sym (drop-map bytes n files) ∙ ap (λ (k : ℕ). drop k (all_bytes files)) same in
     ap (λ (l : List (List ℕ)). made l (files_of runtimes)) inputs_are
-    ∙ ap (λ (l : List (List ℕ × List ℕ)). made (take (length (all_bytes files) - length (words_of paths)) (all_bytes files)) l) (under ∙ ap (under_paths (words_of paths)) behind_are)
+    ∙ ap (λ (l : List (List ℕ × List ℕ)). made (take (length (all_bytes files) - length (words_of paths)) (all_bytes files)) l) (under ∙ ap (under_paths (words_of paths)) after_are)
   where
     made : List (List ℕ) → List (List ℕ × List ℕ) → LinkInput
     made inputs runtimes = record { inputs = inputs; runtimes = runtimes; form = Program }

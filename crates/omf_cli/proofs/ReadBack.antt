@@ -18,7 +18,7 @@ use Rattle.load_meaning.specs.laws.PathTextLaws.{paths_written}
 use Rattle.link_meaning.specs.First.{IsIn}
 use Rattle.link_meaning.specs.Member.{Member, RuntimeFile, setting_in}
 use Rattle.link_meaning.specs.Layout.{load_names, load_fields, load_headers}
-use Rattle.link_meaning.specs.LinkValues.{Told}
+use Rattle.link_meaning.specs.LinkValues.{EquateAnswer}
 use Rattle.link_meaning.specs.Fitting.{load_header, length_of}
 use Rattle.link_meaning.specs.LinkedCells.{table_number, targets}
 use Rattle.link_meaning.specs.LinkFaults.{LinkInput, HasBytes, is_too_long}
@@ -107,7 +107,7 @@ abbrev pub HasTable : ℕ → List Target → List Segment → Type 0
 HasTable count ts segments = (table_of segments ≡ None)
     ⊎ ((s : Segment) × (segment_at segments (suc count) ≡ Some s) × (table_of segments ≡ Some (suc count)) × (targets_of s ≡ ts))
 
-module _ (given : LinkInput) (list : List Member) (table : List Told) (bytes : HasBytes given) (is : IsLinkable given list table) where
+module _ (given : LinkInput) (list : List Member) (table : List EquateAnswer) (bytes : HasBytes given) (is : IsLinkable given list table) where
   -- LENGTH of a load segment
   length_fits : (number : ℕ) → length_of (load_headers list) number ≤ 0xFFFFFF
   length_fits number = by_header (load_header (load_headers list) number) refl
@@ -140,31 +140,31 @@ module _ (given : LinkInput) (list : List Member) (table : List Told) (bytes : H
   -- ---- segments
 
   -- what stands behind so many load segments
-  record Behind (segments : List Segment) (count : ℕ) (rest : List Image) : Type 0 where
-    behind : List Segment
-    paths : paths_of segments ≡ paths_of behind
-    table' : (number : ℕ) → table_from number segments ≡ table_from (number + count) behind
-    at : (k : ℕ) → slice_get segments (count + k) ≡ slice_get behind k
-    written : AreWrittenAs rest behind
+  record After (segments : List Segment) (count : ℕ) (rest : List Image) : Type 0 where
+    following : List Segment
+    paths : paths_of segments ≡ paths_of following
+    table' : (number : ℕ) → table_from number segments ≡ table_from (number + count) following
+    at : (k : ℕ) → slice_get segments (count + k) ≡ slice_get following k
+    written : AreWrittenAs rest following
 
-  behind_loads : (number : ℕ) (xs : List (List ℕ)) (rest : List Image) (segments : List Segment) → ((n : ℕ) (x : List ℕ) → IsIn xs x → PlainKind (load_fields list n x).kind)
-      → AreWrittenAs (load_images list table number xs ++ rest) segments → Behind segments (length xs) rest
+  after_loads : (number : ℕ) (xs : List (List ℕ)) (rest : List Image) (segments : List Segment) → ((n : ℕ) (x : List ℕ) → IsIn xs x → PlainKind (load_fields list n x).kind)
+      → AreWrittenAs (load_images list table number xs ++ rest) segments → After segments (length xs) rest
   unfolding paths_of image_of
-  behind_loads number [] rest segments plain written =
-      record { behind = segments; paths = refl; table' = λ n. ap (λ (m : ℕ). table_from m segments) (omega arith); at = λ k. ap (slice_get segments) (omega arith); written = written }
-  behind_loads number (x ∷ xs) rest [] plain written = absurd written
-  behind_loads number (x ∷ xs) rest (s ∷ segments) plain written =
-      let more = behind_loads (number + 1) xs rest segments (λ n y is'. plain n y (inr is')) written.1 in
+  after_loads number [] rest segments plain written =
+      record { following = segments; paths = refl; table' = λ n. ap (λ (m : ℕ). table_from m segments) (omega arith); at = λ k. ap (slice_get segments) (omega arith); written = written }
+  after_loads number (x ∷ xs) rest [] plain written = absurd written
+  after_loads number (x ∷ xs) rest (s ∷ segments) plain written =
+      let more = after_loads (number + 1) xs rest segments (λ n y is'. plain n y (inr is')) written.1 in
       let kind : s.fields.kind ≡ (load_fields list number x).kind = ap (λ (f : Fields). f.kind) written.0.read.fields in
       let not_one = plain number x (inl refl) in
       record {
-        behind = more.behind;
+        following = more.following;
         paths = ap (λ (k : ℕ). cond (eqb (form_of k) 0x04) (paths_in most_paths (segment_bytes s)) (paths_of segments)) kind
             ∙ ap (λ (b : Bool). cond b (paths_in most_paths (segment_bytes s)) (paths_of segments)) not_one.1 ∙ more.paths;
         table' = λ n.
             ap (λ (k : ℕ). cond (eqb (form_of k) 0x02) (Some n) (table_from (n + 1) segments)) kind
             ∙ ap (λ (b : Bool). cond b (Some n) (table_from (n + 1) segments)) not_one.0 ∙ more.table' (n + 1)
-            ∙ (let place : n + 1 + length xs ≡ n + suc (length xs) = omega arith in ap (λ (m : ℕ). table_from m more.behind) place);
+            ∙ (let place : n + 1 + length xs ≡ n + suc (length xs) = omega arith in ap (λ (m : ℕ). table_from m more.following) place);
         at = λ k. let place : suc (length xs) + k ≡ suc (length xs + k) = omega arith in ap (slice_get (s ∷ segments)) place ∙ more.at k;
         written = more.written;
       }
@@ -174,16 +174,16 @@ module _ (given : LinkInput) (list : List Member) (table : List Told) (bytes : H
   BeginsWithTable number ts segments = (table_from number segments ≡ None)
       ⊎ ((s : Segment) × (slice_get segments 0 ≡ Some s) × (table_from number segments ≡ Some number) × (targets_of s ≡ ts))
 
-  behind_table : (number last : ℕ) (ts : List Target) (segments : List Segment) → AllByRecursion (IsCalled list) ts
+  after_table : (number last : ℕ) (ts : List Target) (segments : List Segment) → AllByRecursion (IsCalled list) ts
       → AreWrittenAs (table_images number ts ++ path_images last (setting_in list).runtimes) segments
       → (paths_of segments ≡ map (λ r. r.path) (setting_in list).runtimes) × ((n : ℕ) → BeginsWithTable n ts segments)
   unfolding paths_of
-  behind_table number last [] segments called written =
+  after_table number last [] segments called written =
       let paths = has_paths given list bytes is.resolved.program in
       let read = rows_read most_paths last (setting_in list).runtimes segments refl paths.paths paths.few written in
       (read.0, λ n. inl (read.1 n))
-  behind_table number last (t ∷ ts) [] called written = absurd written
-  behind_table number last (t ∷ ts) (s ∷ segments) called written =
+  after_table number last (t ∷ ts) [] called written = absurd written
+  after_table number last (t ∷ ts) (s ∷ segments) called written =
       let paths = has_paths given list bytes is.resolved.program in
       let rows = rows_read most_paths last (setting_in list).runtimes segments refl paths.paths paths.few written.1 in
       let kind = (table_read number (map file_entry (t ∷ ts)) s written.0).0 in (
@@ -207,11 +207,11 @@ module _ (given : LinkInput) (list : List Member) (table : List Told) (bytes : H
       let tables = table_images (table_number list) (targets list table) in
       let last = table_number list + length tables in
       let kinds = λ (m : Member) (in' : IsIn list m). read_kind m.segment (members_read given list m bytes is.resolved.program in') in
-      let loads = behind_loads 1 (load_names list) (tables ++ path_images last (setting_in list).runtimes) segments (λ n x in'. load_kind list n x kinds in') written in
-      let rest = behind_table (table_number list) last (targets list table) loads.behind called loads.written in
+      let loads = after_loads 1 (load_names list) (tables ++ path_images last (setting_in list).runtimes) segments (λ n x in'. load_kind list n x kinds in') written in
+      let rest = after_table (table_number list) last (targets list table) loads.following called loads.written in
       record { paths = loads.paths ∙ rest.0; table' = by_table loads (rest.1 (1 + length (load_names list))) }
     where
-      by_table : {more : List Image} (loads : Behind segments (length (load_names list)) more) → BeginsWithTable (1 + length (load_names list)) (targets list table) loads.behind
+      by_table : {more : List Image} (loads : After segments (length (load_names list)) more) → BeginsWithTable (1 + length (load_names list)) (targets list table) loads.following
           → HasTable (length (load_names list)) (targets list table) segments
       by_table loads (inl none) = inl (loads.table' 1 ∙ none)
       by_table loads (inr (s, there, number, leads')) =

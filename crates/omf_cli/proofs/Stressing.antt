@@ -18,7 +18,7 @@ use Rattle.omf_format.specs.laws.FileLaws.{file_same, no_file}
 use Rattle.load_meaning.specs.declared.table.Target.{Target}
 use Rattle.load_meaning.specs.WrittenFile.{Image, AreReadAs}
 use Rattle.link_meaning.specs.Member.{RuntimeFile, Member, setting_in}
-use Rattle.link_meaning.specs.LinkValues.{Told}
+use Rattle.link_meaning.specs.LinkValues.{EquateAnswer}
 use Rattle.link_meaning.specs.Layout.{load_names}
 use Rattle.link_meaning.specs.LinkedCells.{table_number, targets}
 use Rattle.link_meaning.specs.LinkWritten.{load_images, table_images, path_images, images}
@@ -34,7 +34,7 @@ use Rattle.loader_machine.specs.State.{Machine}
 use Rattle.loader_agrees.specs.Agrees.{Loaded, Agrees}
 use Rattle.workload_meaning.specs.Object.{object}
 use Rattle.workload.specs.Rounds.{program}
-use Rattle.workload_meaning.specs.Draws.{behind}
+use Rattle.workload_meaning.specs.Draws.{following}
 use Rattle.workload_meaning.specs.laws.LinkedProofs.{workload_is_linked}
 use Rattle.workload.specs.Work.{HasWorked}
 use Rattle.omf_making.specs.declared.status.Status.{Status}
@@ -44,7 +44,7 @@ use Rattle.omf_cli.specs.Stress.{IsOfWorkload, HasSegments, IsStore, RunsTo, Has
 
 -- ---- the load file's segments
 
-length-loads : (list : List Member) (table : List Told) (number : ℕ) (xs : List (List ℕ)) → length (load_images list table number xs) ≡ length xs
+length-loads : (list : List Member) (table : List EquateAnswer) (number : ℕ) (xs : List (List ℕ)) → length (load_images list table number xs) ≡ length xs
 length-loads list table number [] = refl
 length-loads list table number (x ∷ xs) = ap suc (length-loads list table (number + 1) xs)
 
@@ -56,7 +56,7 @@ length-paths : (number : ℕ) (runtimes : List RuntimeFile) → length (path_ima
 length-paths number [] = omega arith
 length-paths number (r ∷ runtimes) = omega arith
 
-few_images : (given : LinkInput) (list : List Member) (table : List Told) → IsResolved given list → length (images list table) ≤ 256
+few_images : (given : LinkInput) (list : List Member) (table : List EquateAnswer) → IsResolved given list → length (images list table) ≤ 256
 unfolding images
 few_images given list table resolved =
     let tables = table_images (table_number list) (targets list table) in
@@ -113,8 +113,8 @@ no_fault object file fault fits is refused other = by_cause fault.cause refused 
 -- ---- the run
 
 -- the calls were answered over the store of the object's load file
-pub runs_to : (n seed count entered refused sum last : ℕ) (loader : Loaded) (made : List ℕ) (files : FileMap) → made ≡ object n seed → IsStore made files count → last ≡ behind n seed
-    → ((start : ℕ) → last ≡ behind n start → (state : Machine) × Agrees files loader state × HasWorked files n start count entered refused sum state)
+pub runs_to : (n seed count entered refused sum last : ℕ) (loader : Loaded) (made : List ℕ) (files : FileMap) → made ≡ object n seed → IsStore made files count → last ≡ following n seed
+    → ((start : ℕ) → last ≡ following n start → (state : Machine) × Agrees files loader state × HasWorked files n start count entered refused sum state)
     → RunsTo n seed loader count entered refused sum
 runs_to n seed count entered refused sum last loader made files made_is store drawn work =
     let done = work seed drawn in

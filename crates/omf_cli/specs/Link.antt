@@ -37,6 +37,6 @@ given_with paths files =
     record { inputs = take inputs files; runtimes = under_paths paths (drop inputs files); form = Program }
 
 -- the line of a fault that isn't want of memory
-abbrev pub TellsLinkFault : LinkFault → Made → Type 0
-TellsLinkFault fault (Bytes bytes) = ⊥
-TellsLinkFault fault (Refusal text) = (fault.cause ≢ causes.Memory) × (text ≡ link_fault_line fault)
+abbrev pub ReportsLinkFault : LinkFault → Made → Type 0
+ReportsLinkFault fault (Bytes bytes) = ⊥
+ReportsLinkFault fault (Refusal text) = (fault.cause ≢ causes.Memory) × (text ≡ link_fault_line fault)

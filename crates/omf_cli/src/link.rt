@@ -5,7 +5,7 @@ ghost use Rattle.omf_cli.specs.LinkCauses.{link_cause_name};
 ghost use Rattle.link_resolve.specs.Resolved.{given_of, FewGiven, HavePaths};
 ghost use Rattle.link_resolve.specs.Runtimes.{files_of};
 ghost use Rattle.omf_making.specs.Words.{are_printing, are_paths, words_of};
-ghost use Rattle.omf_cli.specs.Link.{link_fault_line, given_alone, given_with, under_paths, LinkMakes, TellsLinkFault};
+ghost use Rattle.omf_cli.specs.Link.{link_fault_line, given_alone, given_with, under_paths, LinkMakes, ReportsLinkFault};
 ghost use Rattle.omf_making.specs.Made.{all_bytes, made_of, AreShort};
 
 use lib_dict::Member;
@@ -74,7 +74,7 @@ fn fault_line(alloc: Global, cause: &str, fault: &LinkFault) -> Result<Line, Lin
 
 /// The line that says why nothing is linked, unless memory ran out.
 pub fn refusal(alloc: Global, fault: LinkFault) -> Result<Making, AllocError>
-    ensures { IfOk result (λ made. TellsLinkFault fault (made_of made)) }
+    ensures { IfOk result (λ made. ReportsLinkFault fault (made_of made)) }
 {
     match cause_name(fault.cause) {
         Some(cause) => {
@@ -141,10 +141,10 @@ fn split_last(
     count: usize,
 ) -> Result<(Vec<Vec<u8>>, Vec<Vec<u8>>), AllocError>
     ensures front { IfOk result (λ parts. parts.0.items ≡ take (length files.items - count) files.items) }
-    ensures behind { IfOk result (λ parts. parts.1.items ≡ drop (length files.items - count) files.items) }
+    ensures following { IfOk result (λ parts. parts.1.items ≡ drop (length files.items - count) files.items) }
 {
-    let behind = files.split_off(files.len().saturating_sub(count))?;
-    Ok((files, behind))
+    let following = files.split_off(files.len().saturating_sub(count))?;
+    Ok((files, following))
 }
 
 /// The load file of all files.
@@ -165,8 +165,8 @@ fn make_with(alloc: Global, files: Vec<Vec<u8>>, paths: &[String]) -> Result<Mak
     requires printing { IsTrue (are_printing (words_of paths.now)) }
     ensures { IfOk result (λ made. LinkMakes (given_with (words_of paths.now) (all_bytes files.items)) (made_of made)) }
 {
-    let (inputs, behind) = split_last(files, paths.len())?;
-    let runtimes = under_paths(alloc, paths, behind)?;
+    let (inputs, following) = split_last(files, paths.len())?;
+    let runtimes = under_paths(alloc, paths, following)?;
     make_of(alloc, &inputs, &runtimes, LinkForm::Program)
 }
 

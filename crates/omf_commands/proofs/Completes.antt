@@ -22,10 +22,10 @@ script_completes inputs status.CannotPrint last o (inl ((wanted, text, is, fails
 script_completes inputs status.CannotPrint last o (inr ran) can =
     absurd (not_printed _ _ o.new_sink can.calm.sink ran.0.run.2.printed)
 script_completes inputs status.CannotRead last o (inl ((text, (path, stops, is), now), none)) can =
-    let held = held_at can.told stops.front stops.rest can.files path (subst (λ (paths : List (List ℕ)). AreHeld can.told paths can.files) stops.inputs' can.held') in
-    absurd (not_unread can.told path held.0 o.store o.new_store.faults can.is_told held.2 held.1 can.calm.store stops.cause)
+    let held = held_at can.reported stops.front stops.rest can.files path (subst (λ (paths : List (List ℕ)). AreHeld can.reported paths can.files) stops.inputs' can.held') in
+    absurd (not_unread can.reported path held.0 o.store o.new_store.faults can.is_reported held.2 held.1 can.calm.store stops.cause)
 script_completes inputs status.Refused last o (inl ((text, (fault, bad, is), now), none)) can =
-    let same = same_files can.told inputs can.files bad.files can.held' (subst (λ (h : Option FileMap). AreRead h inputs bad.files) can.is_told bad.read) in
+    let same = same_files can.reported inputs can.files bad.files can.held' (subst (λ (h : Option FileMap). AreRead h inputs bad.files) can.is_reported bad.read) in
     absurd (no_script (first_of can.files) can.commands fault.line fault.cause can.script (subst (λ (files : List (List ℕ)). HasScriptFault (first_of files) fault) same bad.first))
 script_completes inputs status.Usage last o (inr ran) can = absurd ran
 script_completes inputs status.CannotWrite last o (inr ran) can = absurd ran

@@ -13,7 +13,7 @@ use Rattle.omf_making.specs.Form.{Form, Asm, Link, Dump, Run, Lib, Stress, Rtl, 
 use Rattle.omf_making.specs.Words.{is_path, are_paths, words_of}
 use Rattle.omf_making.specs.declared.making.Making.{Making}
 use Rattle.omf_making.specs.Made.{Made, Bytes, Refusal, made_of, first_of}
-use Rattle.omf_commands.specs.Assemble.{AsmMakes, TellsAsmFault, behind_first}
+use Rattle.omf_commands.specs.Assemble.{AsmMakes, ReportsAsmFault, following_first}
 
 -- ---- inputs
 
@@ -43,9 +43,9 @@ either : (b : Bool) (x y : Option Form) → HasFew x → HasFew y → HasFew (co
 either true x y p q = p
 either false x y p q = q
 
-few_behind : (words : List (List ℕ)) → AreFew (with_output 0 254 words)
-few_behind [] = tt
-few_behind (output ∷ inputs) = by_test (is_path output && are_paths 0 254 inputs) refl
+few_after : (words : List (List ℕ)) → AreFew (with_output 0 254 words)
+few_after [] = tt
+few_after (output ∷ inputs) = by_test (is_path output && are_paths 0 254 inputs) refl
   where
     by_test : (b : Bool) → (is_path output && are_paths 0 254 inputs) ≡ b → AreFew (cond b (Some (output, inputs)) None)
     by_test true is =
@@ -56,7 +56,7 @@ few_behind (output ∷ inputs) = by_test (is_path output && are_paths 0 254 inpu
 
 few_asm : (words : List (List ℕ)) → HasFew (option_map (λ (w : List ℕ × List ℕ × List (List ℕ)). Asm w.0 w.1 w.2) (source_and_output words))
 few_asm [] = omega arith
-few_asm (source ∷ words) = by_path (is_path source) (with_output 0 254 words) (few_behind words)
+few_asm (source ∷ words) = by_path (is_path source) (with_output 0 254 words) (few_after words)
   where
     by_path : (b : Bool) (found : Option (List ℕ × List (List ℕ))) → AreFew found → HasFew (option_map (λ (w : List ℕ × List ℕ × List (List ℕ)). Asm w.0 w.1 w.2) (cond b (option_map (λ (w : List ℕ × List (List ℕ)). (source, w.0, w.1)) found) None))
     by_path true None few = omega arith
@@ -122,14 +122,14 @@ few_macros words source output macros is =
 -- ---- what is made
 
 -- a fault that isn't want of memory is the first fault
-pub told_asm : (files : List (List ℕ)) (fault : AsmFault) (made : Made) → IsAsmFault (first_of files) (behind_first files) fault → TellsAsmFault fault made → AsmMakes files made
-told_asm files fault (Bytes bytes) is tells = absurd tells
-told_asm files fault (Refusal text) (OutOfMemory memory) tells = absurd (tells.0 (ap (λ (f : AsmFault). f.cause) memory))
-told_asm files fault (Refusal text) (First first) tells = (fault, first, tells.1)
+pub reported_asm : (files : List (List ℕ)) (fault : AsmFault) (made : Made) → IsAsmFault (first_of files) (following_first files) fault → ReportsAsmFault fault made → AsmMakes files made
+reported_asm files fault (Bytes bytes) is reports = absurd reports
+reported_asm files fault (Refusal text) (OutOfMemory memory) reports = absurd (reports.0 (ap (λ (f : AsmFault). f.cause) memory))
+reported_asm files fault (Refusal text) (First first) reports = (fault, first, reports.1)
 
 -- and so is what is told of it
-pub told_making : {E : Type 0} → (files macros : List (List ℕ)) (source : List ℕ) (fault : AsmFault) (r : Result Making E) → source ≡ first_of files → macros ≡ behind_first files
-    → IsAsmFault source macros fault → IfOk r (λ made. TellsAsmFault fault (made_of made)) → IfOk r (λ made. AsmMakes files (made_of made))
-told_making files macros source fault (Ok made) source_is macros_is is tells =
-    told_asm files fault (made_of made) (subst (λ (s : List ℕ). IsAsmFault s (behind_first files) fault) source_is (subst (λ (m : List (List ℕ)). IsAsmFault source m fault) macros_is is)) tells
-told_making files macros source fault (Err error) source_is macros_is is tells = tells
+pub reported_making : {E : Type 0} → (files macros : List (List ℕ)) (source : List ℕ) (fault : AsmFault) (r : Result Making E) → source ≡ first_of files → macros ≡ following_first files
+    → IsAsmFault source macros fault → IfOk r (λ made. ReportsAsmFault fault (made_of made)) → IfOk r (λ made. AsmMakes files (made_of made))
+reported_making files macros source fault (Ok made) source_is macros_is is reports =
+    reported_asm files fault (made_of made) (subst (λ (s : List ℕ). IsAsmFault s (following_first files) fault) source_is (subst (λ (m : List (List ℕ)). IsAsmFault source m fault) macros_is is)) reports
+reported_making files macros source fault (Err error) source_is macros_is is reports = reports

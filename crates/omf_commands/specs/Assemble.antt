@@ -8,9 +8,9 @@ use Rattle.omf_making.specs.Lines.{line_fault_line}
 use Rattle.omf_making.specs.Made.{Made, Bytes, Refusal, first_of}
 
 -- the files behind the first
-abbrev pub behind_first : List (List ℕ) → List (List ℕ)
-behind_first [] = []
-behind_first (file ∷ files) = files
+abbrev pub following_first : List (List ℕ) → List (List ℕ)
+following_first [] = []
+following_first (file ∷ files) = files
 
 -- the line of a fault: its cause, its file and its line
 abbrev pub asm_fault_line : AsmFault → List ℕ
@@ -18,10 +18,10 @@ asm_fault_line fault = line_fault_line (asm_cause_name fault.cause) fault.file f
 
 -- the object, or the line of the first fault
 abbrev pub AsmMakes : List (List ℕ) → Made → Type 0
-AsmMakes files (Bytes object) = IsObject (first_of files) (behind_first files) object
-AsmMakes files (Refusal text) = (fault : AsmFault) × IsFirstFault (first_of files) (behind_first files) fault × (text ≡ asm_fault_line fault)
+AsmMakes files (Bytes object) = IsObject (first_of files) (following_first files) object
+AsmMakes files (Refusal text) = (fault : AsmFault) × IsFirstFault (first_of files) (following_first files) fault × (text ≡ asm_fault_line fault)
 
 -- the line of a fault that isn't want of memory
-abbrev pub TellsAsmFault : AsmFault → Made → Type 0
-TellsAsmFault fault (Bytes bytes) = ⊥
-TellsAsmFault fault (Refusal text) = (fault.cause ≢ causes.Memory) × (text ≡ asm_fault_line fault)
+abbrev pub ReportsAsmFault : AsmFault → Made → Type 0
+ReportsAsmFault fault (Bytes bytes) = ⊥
+ReportsAsmFault fault (Refusal text) = (fault.cause ≢ causes.Memory) × (text ≡ asm_fault_line fault)

@@ -8,9 +8,9 @@ use Rattle.omf_making.specs.Lines.{refused_line}
 use Rattle.omf_making.specs.Made.{Made, Bytes, Refusal, first_of}
 
 -- the line of a fault that isn't want of memory; it stands in file 1
-abbrev pub TellsFault : CompactFault → Made → Type 0
-TellsFault fault (Bytes bytes) = ⊥
-TellsFault fault (Refusal text) = (fault.cause ≢ Memory) × (text ≡ refused_line (compact_cause_name fault.cause) None 1 fault.segment fault.at)
+abbrev pub ReportsFault : CompactFault → Made → Type 0
+ReportsFault fault (Bytes bytes) = ⊥
+ReportsFault fault (Refusal text) = (fault.cause ≢ Memory) × (text ≡ refused_line (compact_cause_name fault.cause) None 1 fault.segment fault.at)
 
 -- the canonical file, or why there is none, which isn't want of memory
 abbrev pub CompactMakes : List (List ℕ) → Made → Type 0

@@ -22,6 +22,6 @@ LibMakes paths files (Refusal text) =
     × (text ≡ refused_line (lib_cause_name fault.cause) None fault.spot.file fault.spot.segment fault.spot.at)
 
 -- the line of a fault that isn't want of memory
-abbrev pub TellsFault : LibFault → Made → Type 0
-TellsFault fault (Bytes bytes) = ⊥
-TellsFault fault (Refusal text) = (fault.cause ≢ lib.Memory) × (text ≡ refused_line (lib_cause_name fault.cause) None fault.spot.file fault.spot.segment fault.spot.at)
+abbrev pub ReportsFault : LibFault → Made → Type 0
+ReportsFault fault (Bytes bytes) = ⊥
+ReportsFault fault (Refusal text) = (fault.cause ≢ lib.Memory) × (text ≡ refused_line (lib_cause_name fault.cause) None fault.spot.file fault.spot.segment fault.spot.at)

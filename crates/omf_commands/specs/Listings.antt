@@ -14,6 +14,6 @@ ListMakes files (Refusal text) =
     (fault : ListFault) × IsListFault (first_of files) fault × (fault.cause ≢ list.Memory) × (text ≡ refused_line (list_cause_name fault.cause) None 1 fault.segment fault.at)
 
 -- the line of a fault that isn't want of memory
-abbrev pub TellsListFault : ListFault → Made → Type 0
-TellsListFault fault (Bytes bytes) = ⊥
-TellsListFault fault (Refusal text) = (fault.cause ≢ list.Memory) × (text ≡ refused_line (list_cause_name fault.cause) None 1 fault.segment fault.at)
+abbrev pub ReportsListFault : ListFault → Made → Type 0
+ReportsListFault fault (Bytes bytes) = ⊥
+ReportsListFault fault (Refusal text) = (fault.cause ≢ list.Memory) × (text ≡ refused_line (list_cause_name fault.cause) None 1 fault.segment fault.at)

@@ -51,10 +51,10 @@ ScriptRun inputs result last o =
 
 -- the store tells a script without a bad line
 pub record CanRun (inputs : List (List ℕ)) (o : Outside) : Type 0 where
-  pub told : FileMap
-  pub is_told : o.store.held ≡ Some told
+  pub reported : FileMap
+  pub is_reported : o.store.held ≡ Some reported
   pub files : List (List ℕ)
-  pub held' : AreHeld told inputs files
+  pub held' : AreHeld reported inputs files
   pub commands : List Command
   pub script : IsScript (first_of files) commands
   pub calm : IsCalm o

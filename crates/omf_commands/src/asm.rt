@@ -2,7 +2,7 @@
 
 ghost use Rattle.std.specs.Prelude.{◌≡◌, ◌≢◌, ◌∷◌, IfOk, MatchOption};
 ghost use Rattle.omf_commands.specs.AsmCauses.{asm_cause_name};
-ghost use Rattle.omf_commands.specs.Assemble.{behind_first, AsmMakes, TellsAsmFault};
+ghost use Rattle.omf_commands.specs.Assemble.{following_first, AsmMakes, ReportsAsmFault};
 ghost use Rattle.omf_making.specs.Made.{all_bytes, made_of, first_of};
 ghost use Rattle.omf_making.specs.Words.{words_of};
 
@@ -57,7 +57,7 @@ fn cause_name(cause: AsmCause) -> Option<&'static str>
 
 /// The line that says why nothing is assembled, unless memory ran out.
 fn refusal(alloc: Global, fault: AsmFault) -> Result<Making, AllocError>
-    ensures { IfOk result (λ made. TellsAsmFault fault (made_of made)) }
+    ensures { IfOk result (λ made. ReportsAsmFault fault (made_of made)) }
 {
     match cause_name(fault.cause) {
         Some(name) => {
@@ -71,7 +71,7 @@ fn refusal(alloc: Global, fault: AsmFault) -> Result<Making, AllocError>
 /// Takes the first file out.
 pub fn take_first(alloc: Global, files: &mut Vec<Vec<u8>>) -> Vec<u8>
     ensures first { result.items ≡ first_of (all_bytes files.old.items) }
-    ensures behind { all_bytes files.new.items ≡ behind_first (all_bytes files.old.items) }
+    ensures following { all_bytes files.new.items ≡ following_first (all_bytes files.old.items) }
 {
     if files.is_empty() {
         return Vec::new(alloc);

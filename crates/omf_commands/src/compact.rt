@@ -2,7 +2,7 @@
 
 ghost use Rattle.std.specs.Prelude.{◌≡◌, ◌≢◌, IfOk, MatchOption};
 ghost use Rattle.omf_commands.specs.CompactCauses.{compact_cause_name};
-ghost use Rattle.omf_commands.specs.Compact.{TellsFault};
+ghost use Rattle.omf_commands.specs.Compact.{ReportsFault};
 ghost use Rattle.omf_making.specs.Made.{made_of};
 
 use omf_base::Spot;
@@ -36,7 +36,7 @@ fn cause_name(cause: CompactCause) -> Option<&'static str>
 
 /// The line that says why no file is made, unless memory ran out.
 fn refusal(alloc: Global, fault: CompactFault) -> Result<Making, AllocError>
-    ensures { IfOk result (λ made. TellsFault fault (made_of made)) }
+    ensures { IfOk result (λ made. ReportsFault fault (made_of made)) }
 {
     match cause_name(fault.cause) {
         Some(name) => {

@@ -4,7 +4,7 @@ ghost use Rattle.std.specs.Prelude.{◌≡◌, ◌≢◌, ◌<◌, ◌≤◌, �
 ghost use Rattle.lib_dict.specs.Made.{given_file};
 ghost use Rattle.omf_making.specs.Words.{are_paths, words_of};
 ghost use Rattle.omf_commands.specs.LibCauses.{lib_cause_name};
-ghost use Rattle.omf_commands.specs.Library.{given_of, LibMakes, TellsFault};
+ghost use Rattle.omf_commands.specs.Library.{given_of, LibMakes, ReportsFault};
 ghost use Rattle.omf_making.specs.Made.{all_bytes, made_of, AreShort};
 
 use lib_dict::{LibCause, LibFault, Member, make_library};
@@ -67,7 +67,7 @@ fn cause_name(cause: LibCause) -> Option<&'static str>
 
 /// The line that says why no library is made, unless memory ran out.
 fn refusal(alloc: Global, fault: LibFault) -> Result<Making, AllocError>
-    ensures { IfOk result (λ made. TellsFault fault (made_of made)) }
+    ensures { IfOk result (λ made. ReportsFault fault (made_of made)) }
 {
     match cause_name(fault.cause) {
         Some(name) => {

@@ -2,7 +2,7 @@
 
 ghost use Rattle.std.specs.Prelude.{◌≡◌, ◌≢◌, IfOk, MatchOption};
 ghost use Rattle.omf_commands.specs.ListCauses.{list_cause_name};
-ghost use Rattle.omf_commands.specs.Listings.{TellsListFault};
+ghost use Rattle.omf_commands.specs.Listings.{ReportsListFault};
 ghost use Rattle.omf_making.specs.Made.{made_of};
 
 use omf_base::Spot;
@@ -29,7 +29,7 @@ fn cause_name(cause: ListCause) -> Option<&'static str>
 
 /// The line that says why there is no source, unless memory ran out. The fault stands in file 1.
 fn refusal(alloc: Global, fault: ListFault) -> Result<Making, AllocError>
-    ensures { IfOk result (λ made. TellsListFault fault (made_of made)) }
+    ensures { IfOk result (λ made. ReportsListFault fault (made_of made)) }
 {
     match cause_name(fault.cause) {
         Some(name) => {

@@ -12,7 +12,7 @@ use Rattle.omf_format.specs.Header.{Fields, form_of}
 use Rattle.omf_format.specs.Record.{Record, LongConst, spelling}
 use Rattle.omf_format.specs.File.{Segment, segment_at}
 use Rattle.load_meaning.specs.Cells.{Cell, Byte, Part, Patch, parts_from, segment_bytes, patches_of, cells}
-use Rattle.load_meaning.specs.WrittenBody.{AreWritten, with_stored, zeros_behind, written_cells, written_data, data_records, patches_stored_alone, lone_record, supers_from, body_records, body_text}
+use Rattle.load_meaning.specs.WrittenBody.{AreWritten, with_stored, zeros_after, written_cells, written_data, data_records, patches_stored_alone, lone_record, supers_from, body_records, body_text}
 use Rattle.load_meaning.specs.laws.CellLaws.{length-cells, length-segment_bytes}
 use Rattle.load_meaning.specs.laws.LayingLaws.{get-front, get-take, Missed, same_laid}
 use Rattle.load_meaning.specs.laws.StoredLaws.{zeros-le, written_apart, parts, patched-laid, stored-laid, fit-stored, fit-cells}
@@ -50,17 +50,17 @@ module _ (own : ℕ) (ps : List Patch) (xs ys : List ℕ) (size : length xs ≡ 
   pub same_body : body_records own xs ps ≡ body_records own ys ps
   unfolding body_records written_data
   same_body =
-      ap (λ (l : List Cell). data_records (take (length xs - zeros_behind l) (with_stored own xs ps)) ++ (map (lone_record own) (patches_stored_alone own ps) ++ supers_from own ps 0 38)) same_cells
-      ∙ ap (λ (n : ℕ). data_records (take (n - zeros_behind (written_cells ys ps)) (with_stored own xs ps)) ++ (map (lone_record own) (patches_stored_alone own ps) ++ supers_from own ps 0 38)) size
-      ∙ ap (λ (l : List ℕ). data_records (take (length ys - zeros_behind (written_cells ys ps)) l) ++ (map (lone_record own) (patches_stored_alone own ps) ++ supers_from own ps 0 38)) same_stored
+      ap (λ (l : List Cell). data_records (take (length xs - zeros_after l) (with_stored own xs ps)) ++ (map (lone_record own) (patches_stored_alone own ps) ++ supers_from own ps 0 38)) same_cells
+      ∙ ap (λ (n : ℕ). data_records (take (n - zeros_after (written_cells ys ps)) (with_stored own xs ps)) ++ (map (lone_record own) (patches_stored_alone own ps) ++ supers_from own ps 0 38)) size
+      ∙ ap (λ (l : List ℕ). data_records (take (length ys - zeros_after (written_cells ys ps)) l) ++ (map (lone_record own) (patches_stored_alone own ps) ++ supers_from own ps 0 38)) same_stored
 
 -- ---- the cells up to the last that isn't a byte 0
 
-pub front_length : (of : List Cell) → length (front of) ≡ length of - zeros_behind of
-front_length of = omega (arith, ap length (front-zeros of), length-append (front of) (zero_cells (zeros_behind of)), length-replicate {A = Cell} (zeros_behind of) (Byte 0))
+pub front_length : (of : List Cell) → length (front of) ≡ length of - zeros_after of
+front_length of = omega (arith, ap length (front-zeros of), length-append (front of) (zero_cells (zeros_after of)), length-replicate {A = Cell} (zeros_after of) (Byte 0))
 
 front-get : (of : List Cell) (k : ℕ) → k < length (front of) → slice_get of k ≡ slice_get (front of) k
-front-get of k lt = ap (λ (l : List Cell). slice_get l k) (front-zeros of) ∙ get-front (front of) (zero_cells (zeros_behind of)) k lt
+front-get of k lt = ap (λ (l : List Cell). slice_get l k) (front-zeros of) ∙ get-front (front of) (zero_cells (zeros_after of)) k lt
 
 parts_no_byte : (q : Patch) (n index j b : ℕ) → slice_get (parts_from q index n) j ≡ Some (Byte b) → ⊥
 parts_no_byte q zero index j b e = absurd cc
@@ -131,7 +131,7 @@ module _ (segments : List Segment) (number : ℕ) (s : Segment) (known : IsKnown
   -- what `put_body` is given
   pub content_length : (content : List ℕ) → content ≡ take (front_at segments number) (data_at segments number) → length content ≡ length (front cs)
   content_length content is =
-      let few : length (front cs) ≤ length cs = omega (arith, ap length (front-zeros cs), length-append (front cs) (zero_cells (zeros_behind cs))) in
+      let few : length (front cs) ≤ length cs = omega (arith, ap length (front-zeros cs), length-append (front cs) (zero_cells (zeros_after cs))) in
       omega (arith, ap length is, length-take (front_at segments number) (data_at segments number), front_is, ap length data_is, sized, celled, few)
 
   pub patches_written : (patches : List Patch) (content : List ℕ) → content ≡ take (front_at segments number) (data_at segments number) → patches ≡ stretches cs → AreWritten (length content) 0 patches

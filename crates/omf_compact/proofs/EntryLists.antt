@@ -134,15 +134,15 @@ pub left_more : (segments : List Segment) (number : ℕ) (s : Segment) (place : 
     → new ≡ out ++ spelling written_layout (entry_of e) → Left segments number s (place + 1) old new
 left_more segments number s place old out new e left at is put = by_rest left.rest left.are left.held left.spelled left.whole
   where
-    behind : List Export
-    behind = exports_from (number + 1) (drop number segments)
+    following : List Export
+    following = exports_from (number + 1) (drop number segments)
 
     next : drop place (exports_of segments) ≡ e ∷ drop (place + 1) (exports_of segments)
     next = drop_next (exports_of segments) place e at
 
-    none_behind : (l : List Export) → AllByRecursion (λ x. number + 1 ≤ x.holder) l → l ≡ e ∷ drop (place + 1) (exports_of segments) → ⊥
-    none_behind [] all same = cc
-    none_behind (x ∷ l) all same = let one : x.holder ≡ e.holder = ap (λ (y : Export). y.holder) (head_is x e l (drop (place + 1) (exports_of segments)) same) in omega (arith, all.0, one, is)
+    none_after : (l : List Export) → AllByRecursion (λ x. number + 1 ≤ x.holder) l → l ≡ e ∷ drop (place + 1) (exports_of segments) → ⊥
+    none_after [] all same = cc
+    none_after (x ∷ l) all same = let one : x.holder ≡ e.holder = ap (λ (y : Export). y.holder) (head_is x e l (drop (place + 1) (exports_of segments)) same) in omega (arith, all.0, one, is)
       where
         head_is : (x y : Export) (xs ys : List Export) → x ∷ xs ≡ y ∷ ys → x ≡ y
         head_is x y xs ys same = cc
@@ -150,11 +150,11 @@ left_more segments number s place old out new e left at is put = by_rest left.re
     tail_is : (x y : Export) (xs ys : List Export) → x ∷ xs ≡ y ∷ ys → (x ≡ y) × (xs ≡ ys)
     tail_is x y xs ys same = (cc, cc)
 
-    by_rest : (rest : List Export) → drop place (exports_of segments) ≡ rest ++ behind → AllByRecursion (λ x. x.holder ≡ number) rest → AllByRecursion (IsRecord written_layout) (records_for rest)
+    by_rest : (rest : List Export) → drop place (exports_of segments) ≡ rest ++ following → AllByRecursion (λ x. x.holder ≡ number) rest → AllByRecursion (IsRecord written_layout) (records_for rest)
         → out ++ flat_map (spelling written_layout) (records_for rest) ≡ old ++ entries_text s → Left segments number s (place + 1) old new
-    by_rest [] are held spelled whole = absurd (none_behind behind (later-held (number + 1) (drop number segments)) (sym are ∙ next))
+    by_rest [] are held spelled whole = absurd (none_after following (later-held (number + 1) (drop number segments)) (sym are ∙ next))
     by_rest (x ∷ rest) are held spelled whole =
-        let both = tail_is x e (rest ++ behind) (drop (place + 1) (exports_of segments)) (sym are ∙ next) in
+        let both = tail_is x e (rest ++ following) (drop (place + 1) (exports_of segments)) (sym are ∙ next) in
         record {
           rest = rest;
           are = sym both.1;
@@ -171,8 +171,8 @@ pub left_spelled : (segments : List Segment) (number : ℕ) (s : Segment) (place
     → IsRecord written_layout (entry_of e)
 left_spelled segments number s place old out e left at is = by_rest left.rest left.are left.spelled
   where
-    behind : List Export
-    behind = exports_from (number + 1) (drop number segments)
+    following : List Export
+    following = exports_from (number + 1) (drop number segments)
 
     next : drop place (exports_of segments) ≡ e ∷ drop (place + 1) (exports_of segments)
     next = drop_next (exports_of segments) place e at
@@ -180,21 +180,21 @@ left_spelled segments number s place old out e left at is = by_rest left.rest le
     head_is : (x y : Export) (xs ys : List Export) → x ∷ xs ≡ y ∷ ys → x ≡ y
     head_is x y xs ys same = cc
 
-    none_behind : (l : List Export) → AllByRecursion (λ x. number + 1 ≤ x.holder) l → l ≡ e ∷ drop (place + 1) (exports_of segments) → ⊥
-    none_behind [] all same = cc
-    none_behind (x ∷ l) all same = let one : x.holder ≡ e.holder = ap (λ (y : Export). y.holder) (head_is x e l (drop (place + 1) (exports_of segments)) same) in omega (arith, all.0, one, is)
+    none_after : (l : List Export) → AllByRecursion (λ x. number + 1 ≤ x.holder) l → l ≡ e ∷ drop (place + 1) (exports_of segments) → ⊥
+    none_after [] all same = cc
+    none_after (x ∷ l) all same = let one : x.holder ≡ e.holder = ap (λ (y : Export). y.holder) (head_is x e l (drop (place + 1) (exports_of segments)) same) in omega (arith, all.0, one, is)
 
-    by_rest : (rest : List Export) → drop place (exports_of segments) ≡ rest ++ behind → AllByRecursion (IsRecord written_layout) (records_for rest) → IsRecord written_layout (entry_of e)
-    by_rest [] are spelled = absurd (none_behind behind (later-held (number + 1) (drop number segments)) (sym are ∙ next))
-    by_rest (x ∷ rest) are spelled = subst (λ (y : Export). IsRecord written_layout (entry_of y)) (head_is x e (rest ++ behind) (drop (place + 1) (exports_of segments)) (sym are ∙ next)) spelled.0
+    by_rest : (rest : List Export) → drop place (exports_of segments) ≡ rest ++ following → AllByRecursion (IsRecord written_layout) (records_for rest) → IsRecord written_layout (entry_of e)
+    by_rest [] are spelled = absurd (none_after following (later-held (number + 1) (drop number segments)) (sym are ∙ next))
+    by_rest (x ∷ rest) are spelled = subst (λ (y : Export). IsRecord written_layout (entry_of y)) (head_is x e (rest ++ following) (drop (place + 1) (exports_of segments)) (sym are ∙ next)) spelled.0
 
 -- none of the segment's is left
 pub left_none : (segments : List Segment) (number : ℕ) (s : Segment) (place : ℕ) (old out : List ℕ) → Left segments number s place old out
     → ((e : Export) → slice_get (exports_of segments) place ≡ Some e → e.holder ≡ number → ⊥) → (out ≡ old ++ entries_text s) × AtExports segments (number + 1) place
 left_none segments number s place old out left other = by_rest left.rest left.are left.held left.whole
   where
-    behind : List Export
-    behind = exports_from (number + 1) (drop number segments)
+    following : List Export
+    following = exports_from (number + 1) (drop number segments)
 
     step : number ≡ number + 1 - 1
     step = omega arith
@@ -205,10 +205,10 @@ left_none segments number s place old out left other = by_rest left.rest left.ar
     get_first (y ∷ l) zero x rest e = let same : y ≡ x = cc in ap (λ (z : Export). some_export z) same
     get_first (y ∷ l) (suc i) x rest e = get_first l i x rest e
 
-    by_rest : (rest : List Export) → drop place (exports_of segments) ≡ rest ++ behind → AllByRecursion (λ x. x.holder ≡ number) rest
+    by_rest : (rest : List Export) → drop place (exports_of segments) ≡ rest ++ following → AllByRecursion (λ x. x.holder ≡ number) rest
         → out ++ flat_map (spelling written_layout) (records_for rest) ≡ old ++ entries_text s → (out ≡ old ++ entries_text s) × AtExports segments (number + 1) place
     by_rest [] are held whole = (sym (append-nil out) ∙ whole, are ∙ ap (λ (n : ℕ). exports_from (number + 1) (drop n segments)) step)
-    by_rest (x ∷ rest) are held whole = absurd (other x (get_first (exports_of segments) place x (rest ++ behind) are) held.0)
+    by_rest (x ∷ rest) are held whole = absurd (other x (get_first (exports_of segments) place x (rest ++ following) are) held.0)
 
 -- ---- the export at a place
 

@@ -11,7 +11,7 @@ use Rattle.omf_format.specs.File.{Segment, segment_at}
 use Rattle.load_meaning.specs.Cells.{Cell, Patch, segment_bytes, cells}
 use Rattle.load_meaning.specs.WrittenBody.{written_cells}
 use Rattle.load_meaning.specs.laws.CellLaws.{length-segment_bytes}
-use Rattle.load_meaning.specs.laws.LayingLaws.{get-front, get-behind}
+use Rattle.load_meaning.specs.laws.LayingLaws.{get-front, get-following}
 use Rattle.load_writer.specs.declared.written.Patch as code
 use Rattle.load_writer.specs.WrittenParts.{seen}
 use Rattle.omf_cells.specs.Whole.{AreSpaced, AreWhole, HasWhole}
@@ -96,7 +96,7 @@ judged_more segments n lists new patches so_far pushed here = record {
     | inr last ↦
         let size : length new ≡ n + 1 = omega (arith, ap length pushed, length-append lists (patches ∷ []), so_far.count) in
         let same : k ≡ n = omega (arith, slice_get_within new k ps there, size, last) in
-        let one : patches ≡ ps = list_same patches ps (sym (get-behind lists (patches ∷ []) k 0 (omega (arith, same, so_far.count))) ∙ ap (λ (l : List (Vec code.Patch Global)). slice_get l k) (sym pushed) ∙ there) in
+        let one : patches ≡ ps = list_same patches ps (sym (get-following lists (patches ∷ []) k 0 (omega (arith, same, so_far.count))) ∙ ap (λ (l : List (Vec code.Patch Global)). slice_get l k) (sym pushed) ∙ there) in
         let both = here s (ap (slice_get segments) (sym same) ∙ is) in
         record { whole = both.0; are = ap (λ (v : Vec code.Patch Global). map seen v.items) (sym one) ∙ both.1 }
   ];

@@ -6,7 +6,7 @@ use Rattle.std.proofs.lemmas.List.{drop_at, length-append, length-replicate}
 use Rattle.omf_format.specs.File.{Segment, segment_at}
 use Rattle.load_meaning.specs.Cells.{Cell, Byte, Part, cells, cell_at}
 use Rattle.load_meaning.specs.Cells as format
-use Rattle.load_meaning.specs.WrittenBody.{zeros_behind}
+use Rattle.load_meaning.specs.WrittenBody.{zeros_after}
 use Rattle.omf_cells.specs.Whole.{front_of, front_at}
 use Rattle.omf_compact.specs.Stretches.{first_broken, stretches}
 use Rattle.omf_compact.specs.laws.Walk.{Found, placed, parts_at, with_part, walk, IsNoPart, IsPartAt}
@@ -59,9 +59,9 @@ no_parts at zero = refl
 no_parts at (suc n) = no_parts (at + 1) n
 
 -- behind the front there are none
-pub parts_behind : (segments : List Segment) (number end : ℕ) (s : Segment) → segment_at segments number ≡ Some s → end ≡ front_at segments number → parts_at end (drop end (cells s)) ≡ []
-parts_behind segments number end s is at =
-    ap (parts_at end) (ap (drop end) (front-zeros (cells s)) ∙ drop_at (front (cells s)) (zero_cells (zeros_behind (cells s))) end size) ∙ no_parts end (zeros_behind (cells s))
+pub parts_after : (segments : List Segment) (number end : ℕ) (s : Segment) → segment_at segments number ≡ Some s → end ≡ front_at segments number → parts_at end (drop end (cells s)) ≡ []
+parts_after segments number end s is at =
+    ap (parts_at end) (ap (drop end) (front-zeros (cells s)) ∙ drop_at (front (cells s)) (zero_cells (zeros_after (cells s))) end size) ∙ no_parts end (zeros_after (cells s))
   where
     there : end ≡ front_of s
     there = at ∙ front_is (segment_at segments number) is
@@ -70,7 +70,7 @@ parts_behind segments number end s is at =
         front_is o e = ap (λ (p : Option Segment). option_map_or front_of p 0) e
 
     size : length (front (cells s)) ≡ end
-    size = omega (arith, there, ap length (front-zeros (cells s)), length-append (front (cells s)) (zero_cells (zeros_behind (cells s))), length-replicate {A = Cell} (zeros_behind (cells s)) (Byte 0))
+    size = omega (arith, there, ap length (front-zeros (cells s)), length-append (front (cells s)) (zero_cells (zeros_after (cells s))), length-replicate {A = Cell} (zeros_after (cells s)) (Byte 0))
 
 -- ---- a walk
 
@@ -99,4 +99,4 @@ walked_broken segments number at patches part s is walked here stops =
 pub walked_all : (segments : List Segment) (number end : ℕ) (patches : List format.Patch) (s : Segment) → segment_at segments number ≡ Some s → Walked segments number end patches → end ≡ front_at segments number
     → (first_broken (cells s) ≡ None) × (patches ≡ stretches (cells s))
 walked_all segments number end patches s is walked at =
-    parted_ok (cells s) (parts_at 0 (cells s)) patches (walked s is ∙ ap (walk patches) (parts_behind segments number end s is at)) refl
+    parted_ok (cells s) (parts_at 0 (cells s)) patches (walked s is ∙ ap (walk patches) (parts_after segments number end s is at)) refl

@@ -62,8 +62,8 @@ segment_text number s front body b h =
 
 -- ---- a header is written into the room before a body
 
-pub behind_size : (old body whole : List ℕ) (n : ℕ) → whole ≡ (old ++ replicate n 0) ++ body → length whole ≡ length old + n + length body
-behind_size old body whole n is = omega (arith, ap length is, length-append (old ++ replicate n 0) body, length-append old (replicate n 0), length-replicate {A = ℕ} n 0)
+pub after_size : (old body whole : List ℕ) (n : ℕ) → whole ≡ (old ++ replicate n 0) ++ body → length whole ≡ length old + n + length body
+after_size old body whole n is = omega (arith, ap length is, length-append (old ++ replicate n 0) body, length-append old (replicate n 0), length-replicate {A = ℕ} n 0)
 
 pub closed : (old front body mid new : List ℕ) (start n : ℕ) → start ≡ length old → mid ≡ (old ++ replicate n 0) ++ body → length front ≡ n
     → new ≡ take start mid ++ front ++ drop (start + length front) mid ++ 0 ∷ [] → new ≡ old ++ (front ++ (body ++ 0 ∷ []))
@@ -111,7 +111,7 @@ pub segment_done : (number zeros size start room : ℕ) (s : Segment) (f : Field
     → front ≡ header_bytes (fields_with f zeros) (size + 1) → new ≡ take start r3 ++ front ++ drop (start + length front) r3 ++ 0 ∷ [] → new ≡ out ++ canon_segment number (plain_of s)
 segment_done number zeros size start room s f out r3 front new is own space ten head here mid left top done =
     let body = first_text number (plain_of s) ++ entries_text s in
-    let sizes = behind_size out body r3 room mid in
+    let sizes = after_size out body r3 room mid in
     let long : size ≡ length body = omega (arith, left, here, sizes) in
     let g = fields_are number zeros s f is own space in
     let top' : front ≡ header_bytes (canon_fields number (plain_of s)) (length body + 1) = top ∙ ap (λ (h : Fields). header_bytes h (size + 1)) g ∙ ap (λ (n : ℕ). header_bytes (canon_fields number (plain_of s)) (n + 1)) long in

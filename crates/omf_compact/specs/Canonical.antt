@@ -8,7 +8,7 @@ use Rattle.omf_format.specs.Field.{written_layout}
 use Rattle.omf_format.specs.Record.{Record, spelling, End, Const, LongConst, Align, Org, Space, Reloc, InterSeg, ShortReloc, ShortInterSeg, Super, Using, Strong, Label, Equate, Formula, Entry}
 use Rattle.omf_format.specs.File.{Segment}
 use Rattle.load_meaning.specs.Cells.{Cell, cells}
-use Rattle.load_meaning.specs.WrittenBody.{zeros_behind, body_records}
+use Rattle.load_meaning.specs.WrittenBody.{zeros_after, body_records}
 use Rattle.omf_compact.specs.Stretches.{first_broken, stretches, bytes_in}
 
 -- ---- what is held
@@ -85,7 +85,7 @@ canon_records number p =
 unfoldable pub canon_fields : ℕ → Plain → Fields
 canon_fields number p = record {
   byte_count = 0;
-  res_spc = if is_pathname p then 0 else zeros_behind p.cells';
+  res_spc = if is_pathname p then 0 else zeros_after p.cells';
   length = p.length;
   lab_len = 0;
   version = 2;

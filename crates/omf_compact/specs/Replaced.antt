@@ -14,7 +14,7 @@ use Rattle.omf_compact.specs.Answer.{IsAnswer}
 -- the stores hold the same but for these files at a path
 pub record Replaces (path file other : List ℕ) (held now : FileMap) : Type 0 where
   pub before : get held path ≡ Some file
-  pub behind : get now path ≡ Some other
+  pub following : get now path ≡ Some other
   pub rest : (q : List ℕ) → q ≢ path → get now q ≡ get held q
 
 -- ---- replies

@@ -10,7 +10,7 @@ use Rattle.expand_lines.specs.LinesText.{IsTextOf}
 use Rattle.omf_making.specs.declared.status.Status.{Status}
 use Rattle.omf_making.specs.declared.status.Status.TheVariants as status
 use Rattle.omf_commands.specs.AsmCauses.{asm_cause_name}
-use Rattle.omf_commands.specs.Assemble.{behind_first}
+use Rattle.omf_commands.specs.Assemble.{following_first}
 use Rattle.omf_making.specs.Lines.{line_fault_line}
 use Rattle.omf_making.specs.Made.{Made, Bytes, Refusal, first_of}
 use Rattle.omf_making.specs.Making.{MakesRun, CanMake}
@@ -23,13 +23,13 @@ expand_fault_line fault = line_fault_line (asm_cause_name (cause_of fault.cause)
 
 -- the lines of the first input after expansion with the others as its macro files, or the line of the first fault
 abbrev pub ExpandMakes : List (List ℕ) → Made → Type 0
-ExpandMakes files (Bytes text) = IsTextOf (first_of files) (behind_first files) text
-ExpandMakes files (Refusal text) = (fault : MacroFault) × IsFirstFault (first_of files) (behind_first files) fault × (text ≡ expand_fault_line fault)
+ExpandMakes files (Bytes text) = IsTextOf (first_of files) (following_first files) text
+ExpandMakes files (Refusal text) = (fault : MacroFault) × IsFirstFault (first_of files) (following_first files) fault × (text ≡ expand_fault_line fault)
 
 -- the line of a fault that isn't want of memory
-abbrev pub TellsMacroFault : MacroFault → Made → Type 0
-TellsMacroFault fault (Bytes bytes) = ⊥
-TellsMacroFault fault (Refusal text) = (fault.cause ≢ causes.Memory) × (text ≡ expand_fault_line fault)
+abbrev pub ReportsMacroFault : MacroFault → Made → Type 0
+ReportsMacroFault fault (Bytes bytes) = ⊥
+ReportsMacroFault fault (Refusal text) = (fault.cause ≢ causes.Memory) × (text ≡ expand_fault_line fault)
 
 abbrev pub expand_usage_line : List ℕ
 expand_usage_line = line (codes "usage: omf_expand SRC MACROS..")

@@ -6,7 +6,7 @@ ghost use Rattle.omf_io.specs.Outside.{outside};
 ghost use Rattle.omf_commands.specs.AsmCauses.{asm_cause_name};
 ghost use Rattle.omf_making.specs.Made.{all_bytes, made_of};
 ghost use Rattle.omf_making.specs.Words.{words_of};
-ghost use Rattle.omf_expand.specs.Expanded.{ExpandMakes, TellsMacroFault, expand_usage_line, HasExpanded, CanExpand};
+ghost use Rattle.omf_expand.specs.Expanded.{ExpandMakes, ReportsMacroFault, expand_usage_line, HasExpanded, CanExpand};
 
 use expand_lines::expand_text;
 use macro_meaning::{MacroCause, MacroFault};
@@ -40,7 +40,7 @@ fn cause_name(cause: MacroCause) -> &'static str
 
 /// The line that says why nothing is expanded, unless memory ran out.
 fn refusal(alloc: Global, fault: MacroFault) -> Result<Making, AllocError>
-    ensures { IfOk result (λ made. TellsMacroFault fault (made_of made)) }
+    ensures { IfOk result (λ made. ReportsMacroFault fault (made_of made)) }
 {
     match fault.cause {
         MacroCause::Memory => Err(AllocError),

@@ -6,7 +6,7 @@ use Rattle.omf_format.specs.declared.fault.Flaw.{Flaw}
 use Rattle.omf_format.specs.declared.value.Value.{Value}
 use Rattle.omf_format.specs.declared.value.ValueFault.{ValueFault}
 use Rattle.omf_format.specs.Field.{◌>>=◌}
-use Rattle.omf_format.specs.Expression.{Term, Operator, Location, Constant, Named, Offset, operand_count, operands_of, pending_behind, AreTerms, term_text, terms_text, Tree, terms_of, Spells, IsExpression, term_field, Lead}
+use Rattle.omf_format.specs.Expression.{Term, Operator, Location, Constant, Named, Offset, operand_count, operands_of, pending_after, AreTerms, term_text, terms_text, Tree, terms_of, Spells, IsExpression, term_field, Lead}
 use Rattle.omf_format.specs.laws.TermLaws.{term_takes_some}
 use Rattle.omf_format.specs.laws.TreeLaws.{tree_has_terms, operand_counts}
 use Rattle.omf_format.specs.laws.ExpressionLaws.{tree_leads_to_one, one-tree}
@@ -67,7 +67,7 @@ operator_height env at code pending after some e =
           omega (arith, two_height code pending after (omega (arith, two)) (rw is at e), two)
     ]
 
-step_height : (env : Environment) (at : ℕ) (term : Term) (pending after : List Value) → operands_of term ≤ length pending → step env at term pending ≡ Ok after → length after ≡ pending_behind (length pending) term
+step_height : (env : Environment) (at : ℕ) (term : Term) (pending after : List Value) → operands_of term ≤ length pending → step env at term pending ≡ Ok after → length after ≡ pending_after (length pending) term
 step_height env at (Operator code) pending after some e = operator_height env at code pending after some e
 step_height env at Location pending after some e = omega (arith, bind_value (operand_value env at Location) pending after e)
 step_height env at (Constant n) pending after some e = omega (arith, bind_value (operand_value env at (Constant n)) pending after e)
@@ -85,11 +85,11 @@ pub record Splits (env : Environment) (l : ℕ) (text left : List ℕ) (pending 
   pub spells : Spells l text tree
   pub others : List Term
   pub formed : AreTerms l others
-  pub behind : rest ≡ terms_text l others ++ 0x00 ∷ []
+  pub following : rest ≡ terms_text l others ++ 0x00 ∷ []
   pub size : length left ≡ length (term_text l term) + length rest
   pub some : operands_of term ≤ length pending
-  pub room : pending_behind (length pending) term ≤ 64
-  pub leads : Lead (pending_behind (length pending) term) others 1
+  pub room : pending_after (length pending) term ≤ 64
+  pub leads : Lead (pending_after (length pending) term) others 1
   pub same : (step env (length text - length left) term pending >>= λ after. run_terms env l (length text - length left + length (term_text l term)) others after) ≡ (value env l 0 tree >>= λ v. Ok (v ∷ []))
 
 pub splits : (env : Environment) (l : ℕ) (text left : List ℕ) (pending : List Value) (term : Term) (rest : List ℕ) → Going env l text left pending → term_field l left ≡ Ok (Some term, rest) → Splits env l text left pending term rest
@@ -99,13 +99,13 @@ splits env l text left pending term rest g read = at_first (first_is l left rest
     at_first f =
         let formed : AreTerms l (term ∷ f.others) = subst (AreTerms l) f.split g.formed in
         let leads : Lead (length pending) (term ∷ f.others) 1 = subst (λ (ts : List Term). Lead (length pending) ts 1) f.split g.leads in
-        let parts : left ≡ term_text l term ++ rest = g.parts ∙ ap (λ (ts : List Term). terms_text l ts ++ 0x00 ∷ []) f.split ∙ append_assoc (term_text l term) (terms_text l f.others) (0x00 ∷ []) ∙ ap (λ (b : List ℕ). term_text l term ++ b) (sym f.behind) in
+        let parts : left ≡ term_text l term ++ rest = g.parts ∙ ap (λ (ts : List Term). terms_text l ts ++ 0x00 ∷ []) f.split ∙ append_assoc (term_text l term) (terms_text l f.others) (0x00 ∷ []) ∙ ap (λ (b : List ℕ). term_text l term ++ b) (sym f.following) in
         record {
           tree = g.tree;
           spells = g.spells;
           others = f.others;
           formed = formed.1;
-          behind = f.behind;
+          following = f.following;
           size = ap length parts ∙ length-append (term_text l term) rest;
           some = leads.0;
           room = leads.1;
@@ -116,14 +116,14 @@ splits env l text left pending term rest g read = at_first (first_is l left rest
 pub going_some : (env : Environment) (l : ℕ) (text left : List ℕ) (pending : List Value) (term : Term) (rest : List ℕ) → Going env l text left pending → term_field l left ≡ Ok (Some term, rest) → operands_of term ≤ length pending
 going_some env l text left pending term rest g read = (splits env l text left pending term rest g read).some
 
-pub going_room : (env : Environment) (l : ℕ) (text left : List ℕ) (pending : List Value) (term : Term) (rest : List ℕ) → Going env l text left pending → term_field l left ≡ Ok (Some term, rest) → pending_behind (length pending) term ≤ 64
+pub going_room : (env : Environment) (l : ℕ) (text left : List ℕ) (pending : List Value) (term : Term) (rest : List ℕ) → Going env l text left pending → term_field l left ≡ Ok (Some term, rest) → pending_after (length pending) term ≤ 64
 going_room env l text left pending term rest g read = (splits env l text left pending term rest g read).room
 
 pub going_more : (env : Environment) (l : ℕ) (text left : List ℕ) (pending after : List Value) (term : Term) (rest : List ℕ) → Going env l text left pending → term_field l left ≡ Ok (Some term, rest)
     → step env (length text - length left) term pending ≡ Ok after → Going env l text rest after
 going_more env l text left pending after term rest g read e =
     let s = splits env l text left pending term rest g read in
-    let height : length after ≡ pending_behind (length pending) term = step_height env (length text - length left) term pending after s.some e in
+    let height : length after ≡ pending_after (length pending) term = step_height env (length text - length left) term pending after s.some e in
     let within : length left ≤ length text = g.within in
     let some = term_takes_some l term in
     let place : length text - length left + length (term_text l term) ≡ length text - length rest = omega (arith, s.size) in
@@ -134,7 +134,7 @@ going_more env l text left pending after term rest g read e =
       spells = s.spells;
       terms = s.others;
       formed = s.formed;
-      parts = s.behind;
+      parts = s.following;
       within = omega (arith, s.size);
       room = omega (arith, s.room, height);
       leads = subst (λ (p : ℕ). Lead p s.others 1) (sym height) s.leads;

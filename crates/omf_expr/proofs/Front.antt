@@ -20,18 +20,18 @@ begins l bytes rest fits read =
     rw text (record { expression = t.1; rest = rest; parts = t.2 })
 
 -- where an expression stands at the front, reading ends behind it
-pub ends_behind : (l : ℕ) (bytes text : List ℕ) (b : BeginsWith l bytes text) → read_all l bytes ≡ Ok b.rest
-ends_behind l bytes text b = ap (read_all l) b.parts ∙ read-all-again l text b.rest b.expression
+pub ends_after : (l : ℕ) (bytes text : List ℕ) (b : BeginsWith l bytes text) → read_all l bytes ≡ Ok b.rest
+ends_after l bytes text b = ap (read_all l) b.parts ∙ read-all-again l text b.rest b.expression
 
 pub front_is : (l : ℕ) (bytes rest text : List ℕ) → read_all l bytes ≡ Ok rest → BeginsWith l bytes text → front bytes rest ≡ text
 front_is l bytes rest text read b =
-    let again = ends_behind l bytes text b in
+    let again = ends_after l bytes text b in
     let same : rest ≡ b.rest = cc in
     ap (front bytes) same ∙ text_before bytes text b.rest b.parts
 
 pub none_begins : (l : ℕ) (bytes text : List ℕ) (fault : ExprFault) → read_all l bytes ≡ Err fault → BeginsWith l bytes text → ⊥
 none_begins l bytes text fault read b =
-    let again = ends_behind l bytes text b in
+    let again = ends_after l bytes text b in
     absurd cc
 
 pub drop-front : (bytes rest : List ℕ) (l : ℕ) → IsBytes bytes → read_all l bytes ≡ Ok rest → drop (length (front bytes rest)) bytes ≡ rest

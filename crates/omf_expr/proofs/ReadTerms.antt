@@ -19,15 +19,15 @@ reads_begin l bytes =
     let fuel : suc (length bytes) ≡ length bytes + 1 = omega arith in
     record { fuel = length bytes; enough = omega arith; within = omega arith; room = omega arith; same = rw (place, fuel) refl }
 
-pub reads_more : (l : ℕ) (bytes left : List ℕ) (pending behind : ℕ) (more : List ℕ) → Reads l bytes left pending → term_step l (length bytes - length left) pending left ≡ Ok (Some behind, more)
-    → length more < length left → behind ≤ 64 → Reads l bytes more behind
-reads_more l bytes left pending behind more reads step shorter room = by_fuel reads.fuel reads.enough reads.within reads.same
+pub reads_more : (l : ℕ) (bytes left : List ℕ) (pending following : ℕ) (more : List ℕ) → Reads l bytes left pending → term_step l (length bytes - length left) pending left ≡ Ok (Some following, more)
+    → length more < length left → following ≤ 64 → Reads l bytes more following
+reads_more l bytes left pending following more reads step shorter room = by_fuel reads.fuel reads.enough reads.within reads.same
   where
-    by_fuel : (fuel : ℕ) → length left ≤ fuel → length left ≤ length bytes → read_from (suc fuel) l (length bytes - length left) pending left ≡ read_all l bytes → Reads l bytes more behind
+    by_fuel : (fuel : ℕ) → length left ≤ fuel → length left ≤ length bytes → read_from (suc fuel) l (length bytes - length left) pending left ≡ read_all l bytes → Reads l bytes more following
     by_fuel zero enough within same = absurd (omega arith)
     by_fuel (suc n) enough within same =
         let place : length bytes - length left + (length left - length more) ≡ length bytes - length more = omega arith in
-        record { fuel = n; enough = omega arith; within = omega arith; room = room; same = rw (← place) (sym (read-term l (suc n) (length bytes - length left) pending behind left more step) ∙ same) }
+        record { fuel = n; enough = omega arith; within = omega arith; room = room; same = rw (← place) (sym (read-term l (suc n) (length bytes - length left) pending following left more step) ∙ same) }
 
 pub reads_end : (l : ℕ) (bytes left : List ℕ) (pending : ℕ) (rest : List ℕ) → Reads l bytes left pending → term_step l (length bytes - length left) pending left ≡ Ok (None, rest) → read_all l bytes ≡ Ok rest
 reads_end l bytes left pending rest reads step = sym reads.same ∙ read-end l reads.fuel (length bytes - length left) pending left rest step

@@ -12,7 +12,7 @@ use Rattle.omf_expr.specs.View.{AreLeft}
 pub record First (l : ℕ) (terms : List Term) (term : Term) (rest : List ℕ) : Type 0 where
   pub others : List Term
   pub split : terms ≡ term ∷ others
-  pub behind : rest ≡ terms_text l others ++ 0x00 ∷ []
+  pub following : rest ≡ terms_text l others ++ 0x00 ∷ []
 
 some_same : (t u : Term) → Some t ≡ Some u → t ≡ u
 some_same t u e = cc
@@ -25,7 +25,7 @@ first_is l left rest [] term formed parts read =
 first_is l left rest (t ∷ terms) term formed parts read =
     let more = terms_text l terms ++ 0x00 ∷ [] in
     let both = both_read l left (term_text l t ++ more) (Some term) (Some t) rest more (parts ∙ append_assoc (term_text l t) (terms_text l terms) (0x00 ∷ [])) read (term-again l t more formed.0) in
-    record { others = terms; split = ap (λ (x : Term). x ∷ terms) (sym (some_same term t both.0)); behind = both.1 }
+    record { others = terms; split = ap (λ (x : Term). x ∷ terms) (sym (some_same term t both.0)); following = both.1 }
 
 pub no_terms : (l : ℕ) (left rest : List ℕ) (terms : List Term) → AreTerms l terms → left ≡ terms_text l terms ++ 0x00 ∷ [] → term_field l left ≡ Ok (None, rest) → terms ≡ []
 no_terms l left rest [] formed parts read = refl
@@ -63,19 +63,19 @@ left_more l text left term rest a read =
     let formed : AreTerms l (term ∷ f.others) = subst (AreTerms l) f.split a.formed in
     let parts : left ≡ term_text l term ++ rest =
     a.parts ∙ ap (λ (ts : List Term). terms_text l ts ++ 0x00 ∷ []) f.split
-    ∙ append_assoc (term_text l term) (terms_text l f.others) (0x00 ∷ []) ∙ ap (λ (b : List ℕ). term_text l term ++ b) (sym f.behind) in
+    ∙ append_assoc (term_text l term) (terms_text l f.others) (0x00 ∷ []) ∙ ap (λ (b : List ℕ). term_text l term ++ b) (sym f.following) in
     let size : length left ≡ length (term_text l term) + length rest = ap length parts ∙ length-append (term_text l term) rest in
     let within : length left ≤ length text = a.within in
     let place : at + length (term_text l term) ≡ length text - length rest = omega arith in
-    let behind : terms_in l (length text - length rest) rest ≡ placed_terms l (length text - length rest) f.others =
-    ap (terms_in l (length text - length rest)) f.behind ∙ terms_in-again l (length text - length rest) f.others [] formed.1 in
+    let following : terms_in l (length text - length rest) rest ≡ placed_terms l (length text - length rest) f.others =
+    ap (terms_in l (length text - length rest)) f.following ∙ terms_in-again l (length text - length rest) f.others [] formed.1 in
     record {
-      others = record { terms = f.others; formed = formed.1; parts = f.behind; within = omega arith };
+      others = record { terms = f.others; formed = formed.1; parts = f.following; within = omega arith };
       first =
           ap (terms_in l at) a.parts ∙ terms_in-again l at a.terms [] a.formed
           ∙ ap (placed_terms l at) f.split
           ∙ ap (λ (n : ℕ). (at, term) ∷ placed_terms l n f.others) place
-          ∙ ap (λ (ts : List (ℕ × Term)). (at, term) ∷ ts) (sym behind);
+          ∙ ap (λ (ts : List (ℕ × Term)). (at, term) ∷ ts) (sym following);
     }
 
 pub left_none : (l at : ℕ) (text left rest : List ℕ) → AreLeft l text left → term_field l left ≡ Ok (None, rest) → terms_in l at left ≡ []

@@ -54,19 +54,19 @@ run-tree env l at (Leaf term) more pending is =
     rw (step-operand env l at term pending is, ← size)
     (bind-bind (operand_value env at term) (λ v. Ok (v ∷ pending)) (λ after. run_terms env l (at + length (term_text l term)) more after))
 run-tree env l at (Unary code t) more pending is =
-    let behind = at + size_of l t in
+    let following = at + size_of l t in
     let whole : run_terms env l at (terms_of t ++ (Operator code ∷ more)) pending ≡ (value env l at (Unary code t) >>= λ v. run_terms env l (at + size_of l (Unary code t)) more (v ∷ pending)) =
     run-tree env l at t (Operator code ∷ more) pending is.2
-    ∙ bind_same (value env l at t) _ _ (λ v. run-unary env l behind code v more pending is.1 ∙ ap (λ (k : ℕ). apply_one code v >>= λ x. run_terms env l k more (x ∷ pending)) (size-unary l at code t))
+    ∙ bind_same (value env l at t) _ _ (λ v. run-unary env l following code v more pending is.1 ∙ ap (λ (k : ℕ). apply_one code v >>= λ x. run_terms env l k more (x ∷ pending)) (size-unary l at code t))
     ∙ sym (bind-bind (value env l at t) (λ v. apply_one code v) (λ x. run_terms env l (at + size_of l (Unary code t)) more (x ∷ pending))) in
     rw (append_assoc (terms_of t) (Operator code ∷ []) more) whole
 run-tree env l at (Binary code t u) more pending is =
     let middle = at + size_of l t in
-    let behind = middle + size_of l u in
+    let following = middle + size_of l u in
     let last : (x : Value) → Result (List Value) ValueFault = λ x. run_terms env l (at + size_of l (Binary code t u)) more (x ∷ pending) in
     let right : (a : Value) → run_terms env l middle (terms_of u ++ (Operator code ∷ more)) (a ∷ pending) ≡ ((value env l middle u >>= λ b. apply_two code a b) >>= last) = λ a.
     run-tree env l middle u (Operator code ∷ more) (a ∷ pending) is.3
-    ∙ bind_same (value env l middle u) _ _ (λ b. run-binary env l behind code a b more pending is.1 ∙ ap (λ (k : ℕ). apply_two code a b >>= λ x. run_terms env l k more (x ∷ pending)) (size-binary l at code t u))
+    ∙ bind_same (value env l middle u) _ _ (λ b. run-binary env l following code a b more pending is.1 ∙ ap (λ (k : ℕ). apply_two code a b >>= λ x. run_terms env l k more (x ∷ pending)) (size-binary l at code t u))
     ∙ sym (bind-bind (value env l middle u) (λ b. apply_two code a b) last) in
     let whole : run_terms env l at (terms_of t ++ (terms_of u ++ (Operator code ∷ more))) pending ≡ (value env l at (Binary code t u) >>= last) =
     run-tree env l at t (terms_of u ++ (Operator code ∷ more)) pending is.2

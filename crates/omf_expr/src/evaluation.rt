@@ -1,7 +1,7 @@
 //! The value of an expression, term by term.
 
 ghost use Rattle.std.specs.Prelude.{◌≡◌, ◌≤◌, ◌<◌, ◌-◌, ◌+◌, ℕ, length, Ok, Err, IfErr, OnOk};
-ghost use Rattle.omf_format.specs.Expression.{Tree, Spells, IsExpression, operand_count, operands_of, pending_behind};
+ghost use Rattle.omf_format.specs.Expression.{Tree, Spells, IsExpression, operand_count, operands_of, pending_after};
 ghost use Rattle.omf_format.specs.Value.{named_value, operand_value, value};
 ghost use Rattle.omf_expr.specs.View.{view};
 ghost use Rattle.omf_expr.specs.Machine.{step_one, step_two, step_operand, step};
@@ -113,7 +113,7 @@ fn step_operand<E: Env>(
 fn step<E: Env>(pending: &mut Stack, term: Term, at: usize, env: &E) -> Result<(), ValueFault>
     requires some { operands_of (view term) ≤ length pending.old }
     requires most { length pending.old ≤ 64 }
-    requires room { pending_behind (length pending.old) (view term) ≤ 64 }
+    requires room { pending_after (length pending.old) (view term) ≤ 64 }
     ensures ok { OnOk result (step (E.meaning env.now) at (view term.entry) pending.old ≡ Ok pending.new) }
     ensures err { IfErr result (λ fault. step (E.meaning env.now) at (view term.entry) pending.old ≡ Err fault) }
 {

@@ -41,7 +41,7 @@ impl<'a> Expr<'a> {
         // How a record takes it as one of its fields.
         ensures field { as_field bytes.now result ≡ expression_field lab_len bytes.now }
     {
-        let rest = behind_end(bytes, lab_len)?;
+        let rest = following_end(bytes, lab_len)?;
         Ok(Expr {
             bytes: &bytes[..bytes.len() - rest.len()],
             lab_len,
@@ -85,7 +85,7 @@ impl<'a> Expr<'a> {
 
 /// The bytes behind the expression at the front.
 #[tactic(auto, using(crate::proofs::ReadTerms::reads_begin, crate::proofs::ReadTerms::reads_more, crate::proofs::ReadTerms::reads_end, crate::proofs::ReadTerms::reads_wrong))]
-fn behind_end(bytes: &[u8], lab_len: u8) -> Result<&[u8], ExprFault>
+fn following_end(bytes: &[u8], lab_len: u8) -> Result<&[u8], ExprFault>
     ensures gives { Gives (λ x. x.now) result (read_all lab_len bytes.now) }
     ensures within { IfOk result (λ x. length x.now ≤ length bytes.now) }
 {
@@ -94,10 +94,10 @@ fn behind_end(bytes: &[u8], lab_len: u8) -> Result<&[u8], ExprFault>
     'terms: loop {
         let at = bytes.len() - left.len();
         let (step, rest) = next_step(left, lab_len, at, pending)?;
-        let Some(behind) = step else {
+        let Some(following) = step else {
             return Ok(rest);
         };
-        pending = behind;
+        pending = following;
         left = rest;
     }
 }
@@ -138,7 +138,7 @@ fn pending_after_term(
 ) -> Result<Option<usize>, ExprFault>
     requires { pending ≤ 64 }
     ensures value { result ≡ pending_after_term at pending (view_next next.entry) }
-    ensures bounded { IfOk result (λ behind. IfSome behind (λ n. n ≤ 64)) }
+    ensures bounded { IfOk result (λ following. IfSome following (λ n. n ≤ 64)) }
 {
     let Some(term) = next else {
         if pending == 1 {
@@ -150,11 +150,11 @@ fn pending_after_term(
     if pending < operands {
         return Err(ExprFault::Shape(at));
     }
-    let behind = pending - operands + 1;
-    if MOST_PENDING < behind {
+    let following = pending - operands + 1;
+    if MOST_PENDING < following {
         return Err(ExprFault::TooDeep(at));
     }
-    Ok(Some(behind))
+    Ok(Some(following))
 }
 
 /// The same for the term at the front of the bytes, with the bytes behind it.
@@ -173,8 +173,8 @@ fn next_step(
 {
     match next_term(bytes, lab_len) {
         Ok((next, rest)) => {
-            let behind = pending_after_term(next, at, pending)?;
-            Ok((behind, rest))
+            let following = pending_after_term(next, at, pending)?;
+            Ok((following, rest))
         }
         Err(Flaw::Cut) => Err(ExprFault::Truncated(at)),
         Err(Flaw::Unread) => Err(ExprFault::BadTerm(at)),

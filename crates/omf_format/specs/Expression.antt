@@ -126,9 +126,9 @@ placed_terms lab_len at (term ∷ terms) = (at, term) ∷ placed_terms lab_len (
 
 -- a term that was read, and those behind it, or none at the end
 abbrev pub term_then : ℕ → (List ℕ → List (ℕ × Term)) → Result (Option Term × List ℕ) Flaw → List (ℕ × Term)
-term_then at behind (Err flaw) = []
-term_then at behind (Ok (None, rest)) = []
-term_then at behind (Ok (Some term, rest)) = (at, term) ∷ behind rest
+term_then at following (Err flaw) = []
+term_then at following (Ok (None, rest)) = []
+term_then at following (Ok (Some term, rest)) = (at, term) ∷ following rest
 
 -- the terms at the front, so many at most, with their displacements, of which the first has this one
 unfoldable pub first_terms : ℕ → ℕ → ℕ → List ℕ → List (ℕ × Term)
@@ -148,30 +148,30 @@ operands_of (Operator code) = operand_count code
 operands_of _ = 0
 
 -- how many values are pending behind a term where so many are before it
-abbrev pub pending_behind : ℕ → Term → ℕ
-pending_behind pending term = pending - operands_of term + 1
+abbrev pub pending_after : ℕ → Term → ℕ
+pending_after pending term = pending - operands_of term + 1
 
 -- each of these terms, one behind another, finds its operands, and no 65th value is ever pending: the first finds
 -- so many values pending, and the last leaves so many
 abbrev pub Lead : ℕ → List Term → ℕ → Type 0
 Lead pending [] last = pending ≡ last
 Lead pending (term ∷ terms) last =
-    (operands_of term ≤ pending) × (pending_behind pending term ≤ 64) × Lead (pending_behind pending term) terms last
+    (operands_of term ≤ pending) × (pending_after pending term ≤ 64) × Lead (pending_after pending term) terms last
 
 -- a term, or the end, where so many values are pending: how many are pending behind it, or what is wrong with it first
 abbrev pub pending_after_term : ℕ → ℕ → Option Term → Result (Option ℕ) ExprFault
 pending_after_term at pending None = if pending == 1 then Ok None else Err (Shape at)
 pending_after_term at pending (Some term) =
     if nat_lt pending (operands_of term) then Err (Shape at)
-    else if nat_lt 64 (pending_behind pending term) then Err (TooDeep at)
-    else Ok (Some (pending_behind pending term))
+    else if nat_lt 64 (pending_after pending term) then Err (TooDeep at)
+    else Ok (Some (pending_after pending term))
 
 -- the same for what stands at the front of the bytes, with the bytes behind it
 abbrev pub step_of : ℕ → ℕ → Result (Option Term × List ℕ) Flaw → Result (Option ℕ × List ℕ) ExprFault
 step_of at pending (Err Cut) = Err (Truncated at)
 step_of at pending (Err Unread) = Err (BadTerm at)
 step_of at pending (Err Broken) = Err (BadTerm at)
-step_of at pending (Ok found) = pending_after_term at pending found.0 >>= λ behind. Ok (behind, found.1)
+step_of at pending (Ok found) = pending_after_term at pending found.0 >>= λ following. Ok (following, found.1)
 
 unfoldable pub term_step : ℕ → ℕ → ℕ → List ℕ → Result (Option ℕ × List ℕ) ExprFault
 term_step lab_len at pending bytes = step_of at pending (term_field lab_len bytes)
@@ -200,7 +200,7 @@ read_from zero lab_len at pending bytes = Err (Truncated at)
 read_from (suc n) lab_len at pending bytes =
     term_step lab_len at pending bytes >>= λ found. elim found.0 [
       | None ↦ Ok found.1
-      | Some behind ↦ read_from n lab_len (at + (length bytes - length found.1)) behind found.1
+      | Some following ↦ read_from n lab_len (at + (length bytes - length found.1)) following found.1
     ]
 
 -- a term takes a byte at least, so that many are enough

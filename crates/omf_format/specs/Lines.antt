@@ -5,15 +5,15 @@ use Rattle.omf_format.specs.Ascii as ascii
 
 -- a line ends with LF, or with a CR before no LF
 abbrev pub ends_line : ℕ → List ℕ → Bool
-ends_line byte behind = byte == ascii.line_feed || (byte == ascii.carriage_return && not (slice_index behind 0 == ascii.line_feed))
+ends_line byte following = byte == ascii.line_feed || (byte == ascii.carriage_return && not (slice_index following 0 == ascii.line_feed))
 
 -- The lines of a text, without their ends, which are LF, CR or CR LF. Bytes behind the last end are a line too.
 unfoldable pub lines_of : List ℕ → List (List ℕ)
 lines_of [] = []
-lines_of (byte ∷ behind) =
-    if ends_line byte behind then [] ∷ lines_of behind
-    else if byte == ascii.carriage_return then lines_of behind
-    else onto_first byte (lines_of behind)
+lines_of (byte ∷ following) =
+    if ends_line byte following then [] ∷ lines_of following
+    else if byte == ascii.carriage_return then lines_of following
+    else onto_first byte (lines_of following)
 
 abbrev pub is_end_byte : ℕ → Bool
 is_end_byte byte = byte == ascii.line_feed || byte == ascii.carriage_return

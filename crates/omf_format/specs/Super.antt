@@ -35,14 +35,14 @@ locations_from page (Passed pages ∷ more) = locations_from (page + pages) more
 locations_from page (Located lows ∷ more) = map (λ low. page * 256 + low) lows ++ locations_from (page + 1) more
 
 -- how many low bytes of the current page are still to come behind a byte, where so many were before it
-abbrev pub lows_behind : ℕ → ℕ → ℕ
-lows_behind zero count = if nat_lt count 0x80 then count + 1 else 0
-lows_behind (suc lows) low = lows
+abbrev pub lows_after : ℕ → ℕ → ℕ
+lows_after zero count = if nat_lt count 0x80 then count + 1 else 0
+lows_after (suc lows) low = lows
 
 -- read from left to right, where so many low bytes are still to come, the bytes end with a subrecord
 abbrev pub end_pages : ℕ → List ℕ → Bool
 end_pages lows [] = lows == 0
-end_pages lows (byte ∷ bytes) = end_pages (lows_behind lows byte) bytes
+end_pages lows (byte ∷ bytes) = end_pages (lows_after lows byte) bytes
 
 unfoldable pub are_pages : List ℕ → Bool
 are_pages bytes = end_pages 0 bytes

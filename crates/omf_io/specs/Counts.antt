@@ -15,14 +15,14 @@ abbrev pub Rose : ℕ → ℕ → Type 0
 Rose before now = one_more before ≤ now
 
 -- where the object tells, this holds of what it tells
-abbrev pub Told : {X : Type 0} → Option X → (X → Type 0) → Type 0
-Told None P = Unit {0}
-Told (Some x) P = P x
+abbrev pub IfRevealed : {X : Type 0} → Option X → (X → Type 0) → Type 0
+IfRevealed None P = Unit {0}
+IfRevealed (Some x) P = P x
 
 -- where the object tells, this holds of what it tells, and where it doesn't, the other
-abbrev pub ToldOr : {X : Type 0} → Option X → Type 0 → (X → Type 0) → Type 0
-ToldOr None Q P = Q
-ToldOr (Some x) Q P = P x
+abbrev pub IfRevealedOr : {X : Type 0} → Option X → Type 0 → (X → Type 0) → Type 0
+IfRevealedOr None Q P = Q
+IfRevealedOr (Some x) Q P = P x
 
 -- the bytes begin with these, which may be none or all of them
 abbrev pub IsFront : List ℕ → List ℕ → Type 0

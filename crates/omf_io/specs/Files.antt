@@ -8,7 +8,7 @@ use Rattle.omf_io.specs.declared.files.ReadFault.{ReadFault}
 use Rattle.omf_io.specs.declared.files.ReadFault.TheVariants as read
 use Rattle.omf_io.specs.declared.files.WriteFault.{WriteFault}
 use Rattle.omf_io.specs.declared.files.WriteFault.TheVariants as write
-use Rattle.omf_io.specs.Counts.{one_more, saturating_sum, Told, ToldOr, IsFront}
+use Rattle.omf_io.specs.Counts.{one_more, saturating_sum, IfRevealed, IfRevealedOr, IsFront}
 
 -- files by the bytes of their paths
 abbrev pub FileMap : Type 0
@@ -38,7 +38,7 @@ with_written path bytes store = record store { held = with_file store.held path 
 
 -- the file that a read gave: the held one, where files are told
 abbrev pub IsRead : Option FileMap → List ℕ → List ℕ → Type 0
-IsRead held path file = (length file ≤ max_file) × Told held (λ files. get files path ≡ Some file)
+IsRead held path file = (length file ≤ max_file) × IfRevealed held (λ files. get files path ≡ Some file)
 
 -- a read that gave these bytes
 abbrev pub HasRead : List ℕ → List ℕ → StoreSeen → StoreSeen → Type 0
@@ -47,9 +47,9 @@ HasRead bytes path before now = IsRead before.held path bytes × (now ≡ after_
 -- why a read gave none, by the files and the count before it and after it
 abbrev pub HasCause : ReadFault → Option FileMap → List ℕ → ℕ → ℕ → Type 0
 HasCause read.Absent held path before now =
-    ToldOr held (now ≡ one_more before) (λ files. (get files path ≡ None) × (now ≡ before))
+    IfRevealedOr held (now ≡ one_more before) (λ files. (get files path ≡ None) × (now ≡ before))
 HasCause read.TooLong held path before now =
-    ToldOr held (now ≡ one_more before) (λ files. IsSomeAnd (get files path) (λ bytes. max_file < length bytes) × (now ≡ before))
+    IfRevealedOr held (now ≡ one_more before) (λ files. IsSomeAnd (get files path) (λ bytes. max_file < length bytes) × (now ≡ before))
 HasCause read.Failed held path before now = now ≡ one_more before
 HasCause read.Memory held path before now = now ≡ before
 

@@ -13,4 +13,4 @@ IsLonger left = IfSome left (λ rest. max_file < length rest)
 
 -- a writer took the bytes behind what it held
 abbrev pub HasTaken : Option (List ℕ) → Option (List ℕ) → List ℕ → Type 0
-HasTaken before behind bytes = Appends before behind bytes
+HasTaken before following bytes = Appends before following bytes

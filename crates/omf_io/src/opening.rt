@@ -75,8 +75,8 @@ impl<'a, R: rt::Files> Opens for Host<'a, R> {
     fn open(&mut self, path: &str) -> io::Result<(R::File, u64)> {
         self.asked = self.asked.saturating_add(1);
         let file = File::open(self.rt, path)?;
-        let told = file.metadata()?.len();
-        Ok((file, told))
+        let reported = file.metadata()?.len();
+        Ok((file, reported))
     }
 
     fn create(&mut self, path: &str) -> io::Result<R::File> {

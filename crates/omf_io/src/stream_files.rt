@@ -96,8 +96,8 @@ impl<O: Opens + Drop> Files for StreamFiles<O> {
             (λ fault. WriteFailed fault bytes.now path.now (host_seen self.old) (host_seen self.new)) }
 
         // The writer that was made took them.
-        ensures taken { IfOk result (λ _. (writer behind : O.Writer) × O.writes path.now writer
-            × HasTaken (O.Writer.contents writer) (O.Writer.contents behind) bytes.now) }
+        ensures taken { IfOk result (λ _. (writer following : O.Writer) × O.writes path.now writer
+            × HasTaken (O.Writer.contents writer) (O.Writer.contents following) bytes.now) }
     {
         let written = write_file(&mut self.opens, path, bytes);
         if let Err(WriteFault::Failed) = &written {
@@ -113,18 +113,18 @@ fn read_file<O: Opens>(opens: &mut O, alloc: Global, path: &str) -> Result<Vec<u
     ensures content { IfOk result (λ bytes. (reader : O.Reader) × O.reads path.now reader × HasContent (O.Reader.remaining reader) bytes.items) }
     ensures long { IfErr result (λ fault. fault ≡ ReadFault.TooLong → (reader : O.Reader) × O.reads path.now reader × IsLonger (O.Reader.remaining reader)) }
 {
-    let (reader, told) = match opens.open(path) {
+    let (reader, reported) = match opens.open(path) {
         Ok(found) => found,
         Err(error) => return Err(open_fault(error)),
     };
-    read_whole(alloc, reader, told)
+    read_whole(alloc, reader, reported)
 }
 
 fn write_file<O: Opens>(opens: &mut O, path: &str, bytes: &[u8]) -> Result<(), WriteFault>
     ensures unread { O.asked opens.new ≡ O.asked opens.old }
     ensures failed { IfErr result (λ fault. fault ≡ WriteFault.Failed) }
-    ensures taken { IfOk result (λ _. (writer behind : O.Writer) × O.writes path.now writer
-        × HasTaken (O.Writer.contents writer) (O.Writer.contents behind) bytes.now) }
+    ensures taken { IfOk result (λ _. (writer following : O.Writer) × O.writes path.now writer
+        × HasTaken (O.Writer.contents writer) (O.Writer.contents following) bytes.now) }
 {
     let mut writer = opens.create(path).map_err(|_| WriteFault::Failed)?;
     write_whole(&mut writer, bytes).map_err(|_| WriteFault::Failed)

@@ -36,7 +36,11 @@ pub fn open_fault(error: Error) -> ReadFault
 }
 
 /// All bytes that a reader has left, at most 16,777,216. `told` says how many they are, and may be wrong.
-pub fn read_whole<R: Read + Drop>(alloc: Global, reader: R, told: u64) -> Result<Vec<u8>, ReadFault>
+pub fn read_whole<R: Read + Drop>(
+    alloc: Global,
+    reader: R,
+    reported: u64,
+) -> Result<Vec<u8>, ReadFault>
     // They are all, and not too many.
     ensures bytes { IfOk result (λ bytes. IfSome (R.remaining reader) (λ left. bytes.items ≡ left)) }
     ensures limit { IfOk result (λ bytes. length bytes.items ≤ max_file) }
@@ -46,7 +50,7 @@ pub fn read_whole<R: Read + Drop>(alloc: Global, reader: R, told: u64) -> Result
     ensures present { IfErr result (λ fault. fault ≡ ReadFault.Absent → ⊥) }
 {
     // One byte more than there are leaves room to find the end.
-    let room = told.min(MAX_FILE as u64) as usize + 1;
+    let room = reported.min(MAX_FILE as u64) as usize + 1;
     let mut front = reader.take(MAX_FILE as u64 + 1);
     let mut bytes = front_of(alloc, &mut front, room).map_err(stream_fault)?;
     front.read_to_end(&mut bytes).map_err(stream_fault)?;

@@ -80,16 +80,16 @@ MakesRun makes output inputs status o =
 
 -- these files are held, small enough to be read
 abbrev pub AreHeld : FileMap → List (List ℕ) → List (List ℕ) → Type 0
-AreHeld told [] [] = Unit {0}
-AreHeld told (path ∷ paths) (file ∷ files) = ((length file ≤ max_file) × (get told path ≡ Some file)) × AreHeld told paths files
-AreHeld told _ _ = ⊥
+AreHeld reported [] [] = Unit {0}
+AreHeld reported (path ∷ paths) (file ∷ files) = ((length file ≤ max_file) × (get reported path ≡ Some file)) × AreHeld reported paths files
+AreHeld reported _ _ = ⊥
 
 -- the store tells all inputs, and they have no fault for which they would be refused
 pub record CanMake (makes : List (List ℕ) → Made → Type 0) (inputs : List (List ℕ)) (o : Outside) : Type 0 where
-  pub told : FileMap
-  pub is_told : o.store.held ≡ Some told
+  pub reported : FileMap
+  pub is_reported : o.store.held ≡ Some reported
   pub files : List (List ℕ)
-  pub held' : AreHeld told inputs files
+  pub held' : AreHeld reported inputs files
   pub sound : (text : List ℕ) → makes files (Refusal text) → ⊥
   pub calm : IsCalm o
 

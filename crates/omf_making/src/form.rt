@@ -206,10 +206,10 @@ fn output_and_runtimes(words: &[String]) -> Option<(&str, &[String], &[String])>
 fn input_and_output(words: &[String]) -> Option<(&str, &[String])>
     ensures { option_map (λ w. (w.0.now, words_of w.1.now)) result ≡ input_and_output (words_of words.now) }
 {
-    let (input, behind) = words.split_first()?;
-    let (output, behind) = behind.split_first()?;
+    let (input, following) = words.split_first()?;
+    let (output, following) = following.split_first()?;
     let output = output.as_str();
-    if behind.is_empty() && is_path(input.as_str()) && is_path(output) {
+    if following.is_empty() && is_path(input.as_str()) && is_path(output) {
         Some((output, &words[..1]))
     } else {
         None

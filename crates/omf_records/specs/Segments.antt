@@ -36,13 +36,13 @@ pub record IsView (file : List ℕ) (v : SegmentView) : Type 0 where
   pub segment : IsSegment (segment_of_view v) file
 
 -- the first record that doesn't come, from there on, is told so
-pub record HasRecordFault (reader : Reader) (told : FaultAt) : Type 0 where
+pub record HasRecordFault (reader : Reader) (reported : FaultAt) : Type 0 where
   pub before : List (ℕ × Record)
   pub at : Reader
   pub of : RecordFault
   pub run : HandsOut reader before at
   pub fails : next_answer at ≡ Err of
-  pub told' : told ≡ to_file_record_fault of
+  pub reported' : reported ≡ to_file_record_fault of
 
 -- a fault of want of memory has no place, and every other one is this
 abbrev pub UnlessMemory : FileCause → FileFault → Type 0 → Type 0
@@ -58,9 +58,9 @@ abbrev pub IsSegmentFault : FileFault → ℕ → ℕ → List ℕ → Type 0
 IsSegmentFault fault number start file = UnlessMemory fault.cause fault ((fault.segment ≡ number) × HasFault start file (fault.cause, fault.at))
 
 -- the fault has this cause, and the place is told of the segment with this number, unless memory ran out
-pub record IsTold (told : FaultAt) (number : ℕ) (fault : FileFault) : Type 0 where
-  pub cause : fault.cause ≡ told.0
-  pub place : UnlessMemory told.0 fault ((fault.segment ≡ number) × (fault.at ≡ told.1))
+pub record IsReported (reported : FaultAt) (number : ℕ) (fault : FileFault) : Type 0 where
+  pub cause : fault.cause ≡ reported.0
+  pub place : UnlessMemory reported.0 fault ((fault.segment ≡ number) × (fault.at ≡ reported.1))
 
 -- the place of a header's fault fits 32 bits
 abbrev pub HasPlace : HeaderFault → ℕ → Type 0

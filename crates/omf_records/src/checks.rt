@@ -4,7 +4,7 @@ ghost use Rattle.std.specs.Prelude.{◌≡◌, ◌<◌, ◌≤◌, ◌^◌, leng
 ghost use Rattle.omf_format.specs.Reading.{IsBody};
 ghost use Rattle.omf_format.specs.File.{FaultAt, IsHeader};
 ghost use Rattle.omf_header.specs.View.{fields};
-ghost use Rattle.omf_records.specs.Segments.{IsView, HasRecordFault, IsSegmentFault, IsTold};
+ghost use Rattle.omf_records.specs.Segments.{IsView, HasRecordFault, IsSegmentFault, IsReported};
 
 use crate::file_faults::{to_file_header_fault, to_file_record_fault};
 use crate::reading::Records;
@@ -37,10 +37,10 @@ fn bytes_from(bytes: &[u8], at: usize) -> &[u8]
 }
 
 /// A fault as that of the segment with this number; want of memory is that of none.
-fn in_segment(number: u32, told: (FileCause, u32)) -> FileFault
-    ensures { IsTold told number result }
+fn in_segment(number: u32, reported: (FileCause, u32)) -> FileFault
+    ensures { IsReported reported number result }
 {
-    let (cause, at) = told;
+    let (cause, at) = reported;
     match cause {
         FileCause::Memory => FileFault {
             cause,
@@ -61,7 +61,7 @@ fn in_segment(number: u32, told: (FileCause, u32)) -> FileFault
 /// Goes over the records up to END.
 fn check_records(records: Records, number: u32) -> Result<(), FileFault>
     ensures ok { OnOk result (IsBody records.entry) }
-    ensures err { IfErr result (λ fault. (told : FaultAt) × HasRecordFault records.entry told × IsTold told number fault) }
+    ensures err { IfErr result (λ fault. (reported : FaultAt) × HasRecordFault records.entry reported × IsReported reported number fault) }
 {
     let mut records = records;
     'records: loop {

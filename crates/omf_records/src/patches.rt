@@ -2,7 +2,7 @@
 
 ghost use Rattle.std.specs.Prelude.{◌≡◌, ◌≤◌, ◌-◌, length, IfOk};
 ghost use Rattle.omf_format.specs.Field.{Gives};
-ghost use Rattle.omf_format.specs.Super.{are_pages, lows_behind, is_super};
+ghost use Rattle.omf_format.specs.Super.{are_pages, lows_after, is_super};
 ghost use Rattle.omf_format.specs.Reading.{patch_field, reloc_field, interseg_field, short_reloc_field, short_interseg_field, super_field};
 ghost use Rattle.omf_records.specs.View.{view};
 
@@ -116,7 +116,7 @@ fn are_pages(bytes: &[u8]) -> bool
 #[inline]
 fn lows_after_byte(lows: u32, byte: u8) -> u32
     requires { lows ≤ 128 }
-    ensures value { result ≡ lows_behind lows byte }
+    ensures value { result ≡ lows_after lows byte }
     ensures small { result ≤ 128 }
 {
     if lows > 0 {

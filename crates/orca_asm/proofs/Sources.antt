@@ -19,7 +19,7 @@ use Rattle.orca_object.specs.AssembleView.{IsLastFault, IsAssembled}
 
 pub fault_is : (source : List ℕ) (macros : List (List ℕ)) (lines : List Line) (fault : AsmFault) → IsExpanded source macros lines → IsAssembled lines (Err fault) → IsAsmFault source macros fault
 fault_is source macros lines fault expanded (inl s) =
-    First (InLine s.line s.cause (record { before = s.before; behind = s.behind; last = s.last; expanded = subst (IsExpanded source macros) s.lines_are expanded; steps = s.steps; wrong = s.wrong }) s.fault_is)
+    First (InLine s.line s.cause (record { before = s.before; following = s.following; last = s.last; expanded = subst (IsExpanded source macros) s.lines_are expanded; steps = s.steps; wrong = s.wrong }) s.fault_is)
 fault_is source macros lines fault expanded (inr l) = First (by_segment l.last.segment refl l.is)
   where
     has : HasLines source macros l.last

@@ -43,7 +43,7 @@ fn cause_of(cause: MacroCause) -> AsmCause
 /// A fault of the expansion.
 fn macro_fault(fault: MacroFault) -> AsmFault
     ensures same { result ≡ record { cause = cause_of fault.cause; file = fault.file; line = fault.line } }
-    ensures told { (source : List ℕ) (macros : List (List ℕ)) → IsMacroFault source macros fault → IsAsmFault source macros result }
+    ensures reported { (source : List ℕ) (macros : List (List ℕ)) → IsMacroFault source macros fault → IsAsmFault source macros result }
 {
     AsmFault {
         cause: cause_of(fault.cause),

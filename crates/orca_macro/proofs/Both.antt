@@ -13,11 +13,11 @@ use Rattle.macro_meaning.specs.declared.statements.Statement.{Statement}
 use Rattle.macro_meaning.specs.Statements.{statement_of, target_name, whole_match}
 use Rattle.macro_meaning.specs.Substitution.{naming_at}
 use Rattle.orca_macro.specs.declared.effect.Effect.{Effect}
-use Rattle.orca_macro.specs.DeedView.{effect_view}
+use Rattle.orca_macro.specs.EffectView.{effect_view}
 use Rattle.macro_meaning.specs.declared.faults.MacroCause.{MacroCause}
 use Rattle.macro_meaning.specs.declared.faults.MacroCause.TheVariants.{BadSetting}
 use Rattle.macro_meaning.specs.Effect as meaning
-use Rattle.macro_meaning.specs.Effect.{SymbolSetting, pair_or_earlier_fault, or_bad, going, IsBranchIf, operation_or_anop, IsDone, IsDoneBy, IsStatement, IsShort, IsWithTexts, IsWritten, IsDeed}
+use Rattle.macro_meaning.specs.Effect.{SymbolSetting, pair_or_earlier_fault, or_bad, going, IsBranchIf, operation_or_anop, IsDone, IsDoneBy, IsStatement, IsShort, IsWithTexts, IsWritten, IsEffect}
 
 -- the second one, where the first can only be BadSetting
 pub second_fault : {A B : Type 0} (found : Option A) (cause : MacroCause) → pair_or_earlier_fault {A = A} {B = B} (or_bad found) (Err cause) ≡ Err cause
@@ -26,7 +26,7 @@ second_fault (Some a) cause = refl
 
 pub some_operation : (operation : List ℕ) → eqb (length operation) 0 ≡ false → operation_or_anop operation ≡ statement_of operation
 some_operation [] some = absurd cc
-some_operation (byte ∷ behind) some = refl
+some_operation (byte ∷ following) some = refl
 
 -- a line with a statement
 pub statement_is : (s : SymbolSetting) (text : List ℕ) (fields : Fields) (operation label operand : List ℕ) (found : Statement) (d : meaning.Effect) → fields ≡ three_fields text
@@ -47,7 +47,7 @@ statement_ok s text fields operation label operand found (Err e) fields_are oper
 
 -- a line without `&`
 pub plain_is : (s : SymbolSetting) (l : Line) (text : List ℕ) (d : meaning.Effect) → text ≡ l.text → is_comment text ≡ false → eqb (plain_len text) (length text) ≡ true
-    → IsShort s l (nat_lt 255 (length text)) text d → IsDeed s l d
+    → IsShort s l (nat_lt 255 (length text)) text d → IsEffect s l d
 plain_is s l text d same other plain short =
     let whole_match : plain_len l.text ≡ length l.text = subst (λ (t : List ℕ). plain_len t ≡ length t) same (eqb-true (plain_len text) (length text) plain) in
     let shown_is : meaning.substituted_line s.values l ≡ Some text = plain_text (text_of s.values) (naming_at l.text l.fields) l.text whole_match ∙ ap (λ (t : List ℕ). Some t) (sym same) in
@@ -55,7 +55,7 @@ plain_is s l text d same other plain short =
     subst (λ (b : Bool). IsWritten s l b d) (sym not_comment) (subst (λ (o : Option (List ℕ)). IsWithTexts s l o d) (sym shown_is) short)
 
 pub plain_ok : {E : Type 0} (s : SymbolSetting) (l : Line) (text : List ℕ) (r : Result Effect E) → text ≡ l.text → is_comment text ≡ false → eqb (plain_len text) (length text) ≡ true
-    → IfOk r (λ (d : Effect). IsShort s l (nat_lt 255 (length text)) text (effect_view d)) → IfOk r (λ (d : Effect). IsDeed s l (effect_view d))
+    → IfOk r (λ (d : Effect). IsShort s l (nat_lt 255 (length text)) text (effect_view d)) → IfOk r (λ (d : Effect). IsEffect s l (effect_view d))
 plain_ok s l text (Ok d) same other plain short = plain_is s l text (effect_view d) same other plain short
 plain_ok s l text (Err e) same other plain short = short
 

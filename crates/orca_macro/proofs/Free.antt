@@ -21,7 +21,7 @@ use Rattle.macro_meaning.specs.declared.statements.Statement.{Statement}
 use Rattle.macro_meaning.specs.declared.statements.Statement.TheVariants.{Declare, Set, Middle, BranchIf, Branch, Count, Nothing, Leave, Note, Define}
 use Rattle.macro_meaning.specs.Call.{bound_arguments, names_count}
 use Rattle.macro_meaning.specs.Condition.{Answer, answer_of, number_of, symbol_environment, is_declared, IsNumber, Formula, NoFormula, IsCondition, IsConditionBy, comparison}
-use Rattle.macro_meaning.specs.Effect.{Effect, NoEffect, Emit, DeclareSymbol, SetSymbol, BranchTo, SetCounter, Exit, CallMacro, Fail, SymbolSetting, earlier, pair_or_earlier_fault, or_bad, redeclaration_effect, first_time, or_deed, declaring, of_kind, settable, set_to, setting, printed_answer, middle_from, middle_of, going, going_to, counting, noting, IsBranchIf, IsMiddle, IsNote, IsSetting, IsDone, resting, call_effect, calling_if, calling_at, IsDoneBy, operation_or_anop, IsAfterCut, without_sequence_symbol, IsAfterText, begins_definition, IsShort, IsWithTexts, substituted_line, IsWritten, IsDeed}
+use Rattle.macro_meaning.specs.Effect.{Effect, NoEffect, Emit, DeclareSymbol, SetSymbol, BranchTo, SetCounter, Exit, CallMacro, Fail, SymbolSetting, earlier, pair_or_earlier_fault, or_bad, redeclaration_effect, first_time, or_effect, declaring, of_kind, settable, set_to, setting, printed_answer, middle_from, middle_of, going, going_to, counting, noting, IsBranchIf, IsMiddle, IsNote, IsSetting, IsDone, resting, call_effect, calling_if, calling_at, IsDoneBy, operation_or_anop, IsAfterCut, without_sequence_symbol, IsAfterText, begins_definition, IsShort, IsWithTexts, substituted_line, IsWritten, IsEffect}
 use Rattle.macro_meaning.specs.Definition.{MacroDefinition, DefinitionPart, Plain, Closed, Open, Model, model_of, model_fault, part_fault, first_part_fault, or_else, first_named, is_visible_in}
 use Rattle.macro_meaning.specs.Expansion.{line_fault_of, file_parts, file_part_fault, first_in, first_of_files, next_file, StopsAt}
 use Rattle.macro_meaning.specs.Pieces.{pieces, unquoted_text, joined_texts}
@@ -46,16 +46,16 @@ abbrev Free : {A : Type 0} → Result A MacroCause → Type 0
 Free (Ok a) = Unit {0}
 Free (Err cause) = is_memory cause ≡ false
 
-abbrev DeedFree : Effect → Type 0
-DeedFree NoEffect = Unit {0}
-DeedFree (Emit text) = Unit {0}
-DeedFree (DeclareSymbol name declaration) = Unit {0}
-DeedFree (SetSymbol name kind text) = Unit {0}
-DeedFree (BranchTo name) = Unit {0}
-DeedFree (SetCounter n) = Unit {0}
-DeedFree Exit = Unit {0}
-DeedFree (CallMacro place symbols) = Unit {0}
-DeedFree (Fail cause) = is_memory cause ≡ false
+abbrev EffectFree : Effect → Type 0
+EffectFree NoEffect = Unit {0}
+EffectFree (Emit text) = Unit {0}
+EffectFree (DeclareSymbol name declaration) = Unit {0}
+EffectFree (SetSymbol name kind text) = Unit {0}
+EffectFree (BranchTo name) = Unit {0}
+EffectFree (SetCounter n) = Unit {0}
+EffectFree Exit = Unit {0}
+EffectFree (CallMacro place symbols) = Unit {0}
+EffectFree (Fail cause) = is_memory cause ≡ false
 
 -- ---- answers
 
@@ -122,26 +122,26 @@ condition_free values text a is = by_comparison (comparison text) is
 
 -- ---- deeds
 
-deed_as : (d e : Effect) → d ≡ e → DeedFree e → DeedFree d
-deed_as d e is p = subst DeedFree (sym is) p
+effect_as : (d e : Effect) → d ≡ e → EffectFree e → EffectFree d
+effect_as d e is p = subst EffectFree (sym is) p
 
-cond_deed : (b : Bool) (x y : Effect) → DeedFree x → DeedFree y → DeedFree (cond b x y)
-cond_deed true x y p q = p
-cond_deed false x y p q = q
+cond_effect : (b : Bool) (x y : Effect) → EffectFree x → EffectFree y → EffectFree (cond b x y)
+cond_effect true x y p q = p
+cond_effect false x y p q = q
 
-declaring_free : (values : Values) (declaration : Declaration) (o : Option (List ℕ)) → DeedFree (declaring values declaration o)
+declaring_free : (values : Values) (declaration : Declaration) (o : Option (List ℕ)) → EffectFree (declaring values declaration o)
 unfolding declaring
 declaring_free values declaration None = bad_free
-declaring_free values declaration (Some name) = cond_deed (is_count name) _ _ bad_free (by_symbol (values.symbols name))
+declaring_free values declaration (Some name) = cond_effect (is_count name) _ _ bad_free (by_symbol (values.symbols name))
   where
-    by_text : (d : Declaration) (o : Option (Kind × List ℕ)) → DeedFree (first_time name d o)
+    by_text : (d : Declaration) (o : Option (Kind × List ℕ)) → EffectFree (first_time name d o)
     by_text (Local kind) o = tt
     by_text (Shared kind) None = tt
-    by_text (Shared kind) (Some x) = cond_deed (is_kind kind x.0) _ _ tt bad_free
+    by_text (Shared kind) (Some x) = cond_effect (is_kind kind x.0) _ _ tt bad_free
 
-    by_symbol : (o : Option Symbol) → DeedFree (or_deed (redeclaration_effect name declaration o) (first_time name declaration (values.texts name)))
+    by_symbol : (o : Option Symbol) → EffectFree (or_effect (redeclaration_effect name declaration o) (first_time name declaration (values.texts name)))
     by_symbol None = by_text declaration (values.texts name)
-    by_symbol (Some s) = cond_deed (is_declaration declaration (declaration_of s)) _ _ tt bad_free
+    by_symbol (Some s) = cond_effect (is_declaration declaration (declaration_of s)) _ _ tt bad_free
 
 settable_free : (values : Values) (kind : Kind) (o : Option (List ℕ)) → Free (settable values kind o)
 unfolding settable
@@ -152,11 +152,11 @@ settable_free values kind (Some name) = cond_free (is_count name) _ _ bad_free (
     by_symbol None = lost_free
     by_symbol (Some s) = cond_free (is_kind kind (kind_of s)) _ _ tt bad_free
 
-set_to_free : (kind : Kind) (r : Result (List ℕ × List ℕ) MacroCause) → Free r → DeedFree (set_to kind r)
+set_to_free : (kind : Kind) (r : Result (List ℕ × List ℕ) MacroCause) → Free r → EffectFree (set_to kind r)
 set_to_free kind (Ok x) p = tt
 set_to_free kind (Err c) p = p
 
-setting_free : (values : Values) (kind : Kind) (label : List ℕ) (text : Result (List ℕ) MacroCause) → Free text → DeedFree (setting values kind label text)
+setting_free : (values : Values) (kind : Kind) (label : List ℕ) (text : Result (List ℕ) MacroCause) → Free text → EffectFree (setting values kind label text)
 unfolding setting
 setting_free values kind label text p = set_to_free kind (pair_or_earlier_fault (settable values kind (symbol_name label)) text) (both_free _ text (settable_free values kind (symbol_name label)) p)
 
@@ -174,15 +174,15 @@ middle_free : (r : Result (List ℕ × (ℕ × ℕ)) MacroCause) → Free r → 
 middle_free (Ok x) p = middle_from_free x.0 (signed x.1.0) (signed x.1.1)
 middle_free (Err c) p = p
 
-going_free : (r : Result (ℕ × List ℕ) MacroCause) → Free r → DeedFree (going r)
-going_free (Ok x) p = cond_deed (eqb x.0 0) _ _ tt tt
+going_free : (r : Result (ℕ × List ℕ) MacroCause) → Free r → EffectFree (going r)
+going_free (Ok x) p = cond_effect (eqb x.0 0) _ _ tt tt
 going_free (Err c) p = p
 
-going_to_free : (o : Option (List ℕ)) → DeedFree (going_to o)
+going_to_free : (o : Option (List ℕ)) → EffectFree (going_to o)
 going_to_free None = bad_free
 going_to_free (Some name) = tt
 
-counting_free : (a : Answer) → Free a → DeedFree (counting a)
+counting_free : (a : Answer) → Free a → EffectFree (counting a)
 counting_free (Ok n) p = tt
 counting_free (Err c) p = p
 
@@ -190,97 +190,97 @@ noted_free : (n : ℕ) → is_memory (Noted n) ≡ false
 unfolding is_memory
 noted_free n = refl
 
-noting_free : (r : Result (List ℕ × ℕ) MacroCause) → Free r → DeedFree (noting r)
-noting_free (Ok x) p = cond_deed (int_le (pos 8) (signed x.1)) _ _ (noted_free x.1) tt
+noting_free : (r : Result (List ℕ × ℕ) MacroCause) → Free r → EffectFree (noting r)
+noting_free (Ok x) p = cond_effect (int_le (pos 8) (signed x.1)) _ _ (noted_free x.1) tt
 noting_free (Err c) p = p
 
-branch_if_free : (values : Values) (ps : List (List ℕ)) (d : Effect) → IsBranchIf values ps d → DeedFree d
-branch_if_free values [] d p = deed_as d (Fail BadSetting) p bad_free
-branch_if_free values (a ∷ []) d p = deed_as d (Fail BadSetting) p bad_free
-branch_if_free values (a ∷ b ∷ []) d p = deed_as d _ p.2 (going_free _ (both_free p.0 (or_bad (target_name b)) (condition_free values a p.0 p.1) (or_bad_free (target_name b))))
-branch_if_free values (a ∷ b ∷ c ∷ ps) d p = deed_as d (Fail BadSetting) p bad_free
+branch_if_free : (values : Values) (ps : List (List ℕ)) (d : Effect) → IsBranchIf values ps d → EffectFree d
+branch_if_free values [] d p = effect_as d (Fail BadSetting) p bad_free
+branch_if_free values (a ∷ []) d p = effect_as d (Fail BadSetting) p bad_free
+branch_if_free values (a ∷ b ∷ []) d p = effect_as d _ p.2 (going_free _ (both_free p.0 (or_bad (target_name b)) (condition_free values a p.0 p.1) (or_bad_free (target_name b))))
+branch_if_free values (a ∷ b ∷ c ∷ ps) d p = effect_as d (Fail BadSetting) p bad_free
 
-middle_deed_free : (values : Values) (label : List ℕ) (ps : List (List ℕ)) (d : Effect) → IsMiddle values label ps d → DeedFree d
-middle_deed_free values label [] d p = deed_as d _ p (setting_free values Text label (Err BadSetting) bad_free)
-middle_deed_free values label (a ∷ []) d p = deed_as d _ p (setting_free values Text label (Err BadSetting) bad_free)
-middle_deed_free values label (a ∷ b ∷ []) d p = deed_as d _ p (setting_free values Text label (Err BadSetting) bad_free)
-middle_deed_free values label (a ∷ b ∷ c ∷ []) d p =
-    deed_as d _ p.4 (setting_free values Text label _ (middle_free _ (both_free (or_bad (unquoted_text a)) (pair_or_earlier_fault p.0 p.1) (or_bad_free (unquoted_text a))
+middle_effect_free : (values : Values) (label : List ℕ) (ps : List (List ℕ)) (d : Effect) → IsMiddle values label ps d → EffectFree d
+middle_effect_free values label [] d p = effect_as d _ p (setting_free values Text label (Err BadSetting) bad_free)
+middle_effect_free values label (a ∷ []) d p = effect_as d _ p (setting_free values Text label (Err BadSetting) bad_free)
+middle_effect_free values label (a ∷ b ∷ []) d p = effect_as d _ p (setting_free values Text label (Err BadSetting) bad_free)
+middle_effect_free values label (a ∷ b ∷ c ∷ []) d p =
+    effect_as d _ p.4 (setting_free values Text label _ (middle_free _ (both_free (or_bad (unquoted_text a)) (pair_or_earlier_fault p.0 p.1) (or_bad_free (unquoted_text a))
     (both_free p.0 p.1 (is_number_free values b p.0 p.2) (is_number_free values c p.1 p.3)))))
-middle_deed_free values label (a ∷ b ∷ c ∷ x ∷ ps) d p = deed_as d _ p (setting_free values Text label (Err BadSetting) bad_free)
+middle_effect_free values label (a ∷ b ∷ c ∷ x ∷ ps) d p = effect_as d _ p (setting_free values Text label (Err BadSetting) bad_free)
 
-note_free : (values : Values) (ps : List (List ℕ)) (d : Effect) → IsNote values ps d → DeedFree d
-note_free values [] d p = deed_as d (Fail BadSetting) p bad_free
-note_free values (a ∷ []) d p = deed_as d (Fail BadSetting) p bad_free
-note_free values (a ∷ b ∷ []) d p = deed_as d _ p.2 (noting_free _ (both_free (or_bad (unquoted_text a)) p.0 (or_bad_free (unquoted_text a)) (is_number_free values b p.0 p.1)))
-note_free values (a ∷ b ∷ c ∷ ps) d p = deed_as d (Fail BadSetting) p bad_free
+note_free : (values : Values) (ps : List (List ℕ)) (d : Effect) → IsNote values ps d → EffectFree d
+note_free values [] d p = effect_as d (Fail BadSetting) p bad_free
+note_free values (a ∷ []) d p = effect_as d (Fail BadSetting) p bad_free
+note_free values (a ∷ b ∷ []) d p = effect_as d _ p.2 (noting_free _ (both_free (or_bad (unquoted_text a)) p.0 (or_bad_free (unquoted_text a)) (is_number_free values b p.0 p.1)))
+note_free values (a ∷ b ∷ c ∷ ps) d p = effect_as d (Fail BadSetting) p bad_free
 
-setting_deed_free : (values : Values) (kind : Kind) (label operand : List ℕ) (d : Effect) → IsSetting values kind label operand d → DeedFree d
-setting_deed_free values Number label operand d p = deed_as d _ p.2 (setting_free values Number label _ (printed_free Number p.0 (condition_free values operand p.0 p.1)))
-setting_deed_free values Flag label operand d p = deed_as d _ p.2 (setting_free values Flag label _ (printed_free Flag p.0 (condition_free values operand p.0 p.1)))
-setting_deed_free values Text label operand d p = deed_as d _ p (setting_free values Text label _ (or_bad_free (joined_texts (pieces 0x2B operand))))
+setting_effect_free : (values : Values) (kind : Kind) (label operand : List ℕ) (d : Effect) → IsSetting values kind label operand d → EffectFree d
+setting_effect_free values Number label operand d p = effect_as d _ p.2 (setting_free values Number label _ (printed_free Number p.0 (condition_free values operand p.0 p.1)))
+setting_effect_free values Flag label operand d p = effect_as d _ p.2 (setting_free values Flag label _ (printed_free Flag p.0 (condition_free values operand p.0 p.1)))
+setting_effect_free values Text label operand d p = effect_as d _ p (setting_free values Text label _ (or_bad_free (joined_texts (pieces 0x2B operand))))
 
-resting_free : (label text : List ℕ) → DeedFree (resting label text)
+resting_free : (label text : List ℕ) → EffectFree (resting label text)
 resting_free [] text = tt
 resting_free (byte ∷ label) text = tt
 
-done_free : (values : Values) (s : Statement) (text label operand : List ℕ) (d : Effect) → IsDone values s text label operand d → DeedFree d
-done_free values (Declare declaration) text label operand d p = deed_as d _ p (declaring_free values declaration (symbol_name operand))
-done_free values (Set kind) text label operand d p = setting_deed_free values kind label operand d p
-done_free values Middle text label operand d p = middle_deed_free values label (pieces 0x2C operand) d p
+done_free : (values : Values) (s : Statement) (text label operand : List ℕ) (d : Effect) → IsDone values s text label operand d → EffectFree d
+done_free values (Declare declaration) text label operand d p = effect_as d _ p (declaring_free values declaration (symbol_name operand))
+done_free values (Set kind) text label operand d p = setting_effect_free values kind label operand d p
+done_free values Middle text label operand d p = middle_effect_free values label (pieces 0x2C operand) d p
 done_free values BranchIf text label operand d p = branch_if_free values (pieces 0x2C operand) d p
-done_free values Branch text label operand d p = deed_as d _ p (going_to_free (target_name operand))
-done_free values Count text label operand d p = deed_as d _ p.2 (counting_free p.0 (is_number_free values operand p.0 p.1))
-done_free values Nothing text label operand d p = deed_as d _ p (resting_free label text)
-done_free values Leave text label operand d p = deed_as d Exit p tt
+done_free values Branch text label operand d p = effect_as d _ p (going_to_free (target_name operand))
+done_free values Count text label operand d p = effect_as d _ p.2 (counting_free p.0 (is_number_free values operand p.0 p.1))
+done_free values Nothing text label operand d p = effect_as d _ p (resting_free label text)
+done_free values Leave text label operand d p = effect_as d Exit p tt
 done_free values Note text label operand d p = note_free values (pieces 0x2C operand) d p
-done_free values Define text label operand d p = deed_as d (Emit text) p tt
+done_free values Define text label operand d p = effect_as d (Emit text) p tt
 
 arguments_free : is_memory BadArguments ≡ false
 unfolding is_memory
 arguments_free = refl
 
-calling_free : (definitions : List MacroDefinition) (root : ℕ) (text : List ℕ) (o : Option ℕ) (label operand : List ℕ) → DeedFree (calling_at definitions root text o label operand)
+calling_free : (definitions : List MacroDefinition) (root : ℕ) (text : List ℕ) (o : Option ℕ) (label operand : List ℕ) → EffectFree (calling_at definitions root text o label operand)
 calling_free definitions root text None label operand = tt
 calling_free definitions root text (Some place) label operand = by_definition (slice_get definitions place)
   where
-    by_bound : (o : Option Symbols) → DeedFree (call_effect place o)
+    by_bound : (o : Option Symbols) → EffectFree (call_effect place o)
     by_bound None = arguments_free
     by_bound (Some symbols) = tt
 
-    by_definition : (o : Option MacroDefinition) → DeedFree (calling_if root text place o label operand)
+    by_definition : (o : Option MacroDefinition) → EffectFree (calling_if root text place o label operand)
     by_definition None = tt
-    by_definition (Some d) = cond_deed (is_visible_in root d) _ _ (cond_deed (names_count d.model) _ _ bad_free (by_bound (bound_arguments d.model label operand))) tt
+    by_definition (Some d) = cond_effect (is_visible_in root d) _ _ (cond_effect (names_count d.model) _ _ bad_free (by_bound (bound_arguments d.model label operand))) tt
 
 long_free : is_memory LineTooLong ≡ false
 unfolding is_memory
 long_free = refl
 
-deed_free : (s : SymbolSetting) (line : Line) (d : Effect) → IsDeed s line d → DeedFree d
-deed_free s line d p = by_comment (is_comment line.text) p
+effect_free : (s : SymbolSetting) (line : Line) (d : Effect) → IsEffect s line d → EffectFree d
+effect_free s line d p = by_comment (is_comment line.text) p
   where
-    by_statement : (text : List ℕ) (fields : Fields) (o : Option Statement) → IsDoneBy s text fields o d → DeedFree d
-    by_statement text fields None p = deed_as d _ p (calling_free s.definitions s.root text (first_named (folded (part text fields.operation)) s.definitions) (part text fields.label) (part text fields.operand))
+    by_statement : (text : List ℕ) (fields : Fields) (o : Option Statement) → IsDoneBy s text fields o d → EffectFree d
+    by_statement text fields None p = effect_as d _ p (calling_free s.definitions s.root text (first_named (folded (part text fields.operation)) s.definitions) (part text fields.label) (part text fields.operand))
     by_statement text fields (Some statement) p = done_free s.values statement text (part text fields.label) (part text fields.operand) d p
 
-    by_cut : (b : Bool) (text : List ℕ) → IsAfterCut s b text d → DeedFree d
-    by_cut true text p = deed_as d NoEffect p tt
+    by_cut : (b : Bool) (text : List ℕ) → IsAfterCut s b text d → EffectFree d
+    by_cut true text p = effect_as d NoEffect p tt
     by_cut false text p = by_statement text (three_fields text) (operation_or_anop (part text (three_fields text).operation)) p
 
-    by_begins : (b : Bool) (text : List ℕ) → IsAfterText s b text d → DeedFree d
-    by_begins true text p = deed_as d NoEffect p tt
+    by_begins : (b : Bool) (text : List ℕ) → IsAfterText s b text d → EffectFree d
+    by_begins true text p = effect_as d NoEffect p tt
     by_begins false text p = by_cut (is_comment (without_sequence_symbol text)) (without_sequence_symbol text) p
 
-    by_length : (b : Bool) (text : List ℕ) → IsShort s line b text d → DeedFree d
-    by_length true text p = deed_as d (Fail LineTooLong) p long_free
+    by_length : (b : Bool) (text : List ℕ) → IsShort s line b text d → EffectFree d
+    by_length true text p = effect_as d (Fail LineTooLong) p long_free
     by_length false text p = by_begins (begins_definition s line) text p
 
-    by_texts : (o : Option (List ℕ)) → IsWithTexts s line o d → DeedFree d
-    by_texts None p = deed_as d (Fail NoSuchSymbol) p lost_free
+    by_texts : (o : Option (List ℕ)) → IsWithTexts s line o d → EffectFree d
+    by_texts None p = effect_as d (Fail NoSuchSymbol) p lost_free
     by_texts (Some text) p = by_length (ltb 255 (length text)) text p
 
-    by_comment : (b : Bool) → IsWritten s line b d → DeedFree d
-    by_comment true p = deed_as d NoEffect p tt
+    by_comment : (b : Bool) → IsWritten s line b d → EffectFree d
+    by_comment true p = effect_as d NoEffect p tt
     by_comment false p = by_texts (substituted_line s.values line) p
 
 -- ---- visits
@@ -322,7 +322,7 @@ call_free : (before : List Visit) (v : Visit) (line : Line) (place : ℕ) (symbo
 unfolding is_memory
 call_free before v line place symbols = cond_move (eqb v.depth 32) _ _ refl tt
 
-move_free : (program : Program) (before : List Visit) (v : Visit) (line : Line) (d : Effect) → DeedFree d → MoveFree (move_of program before v line d)
+move_free : (program : Program) (before : List Visit) (v : Visit) (line : Line) (d : Effect) → EffectFree d → MoveFree (move_of program before v line d)
 unfolding move_of
 move_free program before v line NoEffect p = next_free program before v
 move_free program before v line (Emit text) p = next_free program before v
@@ -343,7 +343,7 @@ visit_free program before v given move p = by_line (line_at program v.macro v.li
   where
     by_count : (line : Line) (b : Bool) → IsVisitOf program before v line b given move → MoveFree move
     by_count line true p = subst MoveFree (sym p.1) many_free
-    by_count line false p = subst MoveFree (sym p.3) (move_free program before v line p.0 (deed_free (setting_of program v line.number) line p.0 p.1))
+    by_count line false p = subst MoveFree (sym p.3) (move_free program before v line p.0 (effect_free (setting_of program v line.number) line p.0 p.1))
 
     by_line : (o : Option Line) → IsVisitAt program before v o given move → MoveFree move
     by_line None p = subst MoveFree (sym p.1) tt

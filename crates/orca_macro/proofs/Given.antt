@@ -4,7 +4,7 @@ use Rattle.std.specs.Prelude.{codes, not}
 use Rattle.orca_meaning.specs.Characters.{folded}
 use Rattle.orca_meaning.specs.Line.{Fields, Line, part, three_fields, fields_of, is_comment}
 use Rattle.macro_meaning.specs.Effect as meaning
-use Rattle.macro_meaning.specs.Effect.{SymbolSetting, IsAfterCut, IsDeed, IsDoneBy, IsStatement, calling_at, without_sequence_symbol, operation_or_anop, resting}
+use Rattle.macro_meaning.specs.Effect.{SymbolSetting, IsAfterCut, IsEffect, IsDoneBy, IsStatement, calling_at, without_sequence_symbol, operation_or_anop, resting}
 use Rattle.macro_meaning.specs.Definition.{MacroDefinition, operation_is, first_named}
 use Rattle.macro_meaning.specs.Statements.{is_operation}
 use Rattle.macro_meaning.specs.Substitution.{first_passes}
@@ -75,7 +75,7 @@ module _ (l : Line) (text : List ℕ) (w : IsWrittenOut l text) where
       ap (part text) (sym (label_same text other)) ∙ ap (λ (t : List ℕ). part t (fields_of t).label) w.same ∙ ap (λ (f : Fields). part l.text f.label) (sym w.own)
 
   -- what its statement does it does
-  whole : (s : SymbolSetting) → is_comment text ≡ false → IsStatement s text (three_fields text) (meaning.Emit text) → IsDeed s l (meaning.Emit l.text)
+  whole : (s : SymbolSetting) → is_comment text ≡ false → IsStatement s text (three_fields text) (meaning.Emit text) → IsEffect s l (meaning.Emit l.text)
   whole s other given =
       let cut_off : IsAfterCut s (is_comment text) text (meaning.Emit text) = subst (λ (b : Bool). IsAfterCut s b text (meaning.Emit text)) (sym other) given in
       after_cut s l text (meaning.Emit l.text) w.same w.few other w.plain w.no_macro

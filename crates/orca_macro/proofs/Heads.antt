@@ -13,7 +13,7 @@ use Rattle.macro_meaning.specs.declared.statements.Statement.{Statement}
 use Rattle.macro_meaning.specs.Effect.{SymbolSetting, without_sequence_symbol, operation_or_anop, IsDone, IsDoneBy, IsStatement, IsAfterCut, IsAfterText, IsShort, begins_definition, calling_at}
 use Rattle.macro_meaning.specs.Definition.{first_named}
 use Rattle.macro_meaning.specs.Statements.{statement_of, sequence_name}
-use Rattle.orca_macro.specs.DeedView.{effect_view}
+use Rattle.orca_macro.specs.EffectView.{effect_view}
 use Rattle.orca_symbols.specs.Template.{BeginWith, text_before}
 use Rattle.orca_macro.specs.Head.{HasFields, HasHead, IsHead, MayHaveHead, BeginsSo}
 use Rattle.orca_macro.specs.declared.effect.Effect.{Effect}
@@ -151,12 +151,12 @@ label_ends xs rest rest_is within = by (is_some (sequence_name label)) refl
 
 some_operation : (operation : List ℕ) → eqb (length operation) 0 ≡ false → operation_or_anop operation ≡ statement_of operation
 some_operation [] some = absurd cc
-some_operation (byte ∷ behind) some = refl
+some_operation (byte ∷ following) some = refl
 
-fields_behind : (h : LineHead) (rest ys : List ℕ) → (three_fields rest).operation.to < length rest → eqb (length (part rest (three_fields rest).operation)) 0 ≡ false
+fields_after : (h : LineHead) (rest ys : List ℕ) → (three_fields rest).operation.to < length rest → eqb (length (part rest (three_fields rest).operation)) 0 ≡ false
     → h.label ≡ (three_fields rest).label.to → h.end ≡ (three_fields rest).operation.to → h.operation ≡ folded (part rest (three_fields rest).operation)
     → h.statement ≡ statement_of (part rest (three_fields rest).operation) → HasFields h (rest ++ ys)
-fields_behind h rest ys within some label_is end_is operation_is statement_is =
+fields_after h rest ys within some label_is end_is operation_is statement_is =
     record {
       within = omega (arith, label_is, label_before rest, within, length-append rest ys);
       label = rw ((same rest ys within).label, label_is) (label_take (rest ++ ys) (three_fields rest).label (label_from rest));
@@ -175,14 +175,14 @@ head_is h front rest fields operation rest_is other fields_are operation_is with
     let ends : (three_fields rest).operation.to < length rest = subst (λ (f : Fields). f.operation.to < length rest) fields_are within in
     let c : Cuts front rest h.sequence = cuts_here front rest h.sequence (label_ends front rest rest_is ends) rest_is sequence_is in
     let part_is : operation ≡ part rest (three_fields rest).operation = operation_is ∙ ap (λ (f : Fields). part rest f.operation) fields_are in
-    let behind : (ys : List ℕ) → drop h.sequence (front ++ ys) ≡ rest ++ ys = λ ys. drop-append-le h.sequence front ys c.within ∙ ap (λ (t : List ℕ). t ++ ys) c.front in
+    let following : (ys : List ℕ) → drop h.sequence (front ++ ys) ≡ rest ++ ys = λ ys. drop-append-le h.sequence front ys c.within ∙ ap (λ (t : List ℕ). t ++ ys) c.front in
     record {
       is = λ ys. record {
         within = omega (arith, c.within, length-append front ys);
         cuts = c.all ys;
-        other = ap is_comment (behind ys) ∙ no_comment rest ys other;
-        fields = subst (HasFields h) (sym (behind ys))
-            (fields_behind h rest ys ends (subst (λ (o : List ℕ). eqb (length o) 0 ≡ false) part_is some) (label_is ∙ ap (λ (f : Fields). f.label.to) fields_are)
+        other = ap is_comment (following ys) ∙ no_comment rest ys other;
+        fields = subst (HasFields h) (sym (following ys))
+            (fields_after h rest ys ends (subst (λ (o : List ℕ). eqb (length o) 0 ≡ false) part_is some) (label_is ∙ ap (λ (f : Fields). f.label.to) fields_are)
             (end_is ∙ ap (λ (f : Fields). f.operation.to) fields_are) (folded_is ∙ ap folded part_is) (statement_is ∙ ap statement_of part_is));
       };
     }
@@ -201,8 +201,8 @@ no_head parts = record { is = λ text_of text are. tt }
 pub begins_so : (parts : List TemplatePart) (head : Option LineHead) (text_of : List ℕ → Option (List ℕ)) (text shown : List ℕ) → BeginsSo parts head → text_before text_of parts (Some []) ≡ Some text → shown ≡ text → MayHaveHead head shown
 begins_so parts head text_of text shown begin are same = subst (MayHaveHead head) (sym same) (begin.is text_of text are)
 
-pub behind_has : (h : LineHead) (text rest : List ℕ) → HasHead h text → rest ≡ drop h.sequence text → HasFields h rest
-behind_has h text rest head is = subst (HasFields h) (sym is) head.fields
+pub after_has : (h : LineHead) (text rest : List ℕ) → HasHead h text → rest ≡ drop h.sequence text → HasFields h rest
+after_has h text rest head is = subst (HasFields h) (sym is) head.fields
 
 pub statement_ok : {E : Type 0} (s : SymbolSetting) (h : LineHead) (text label operand : List ℕ) (found : Statement) (r : Result Effect E) → HasFields h text → h.statement ≡ Some found → label ≡ take h.label text
     → operand ≡ part text (three_fields text).operand → IfOk r (λ (d : Effect). IsDone s.values found text label operand (effect_view d)) → IfOk r (λ (d : Effect). IsStatement s text (three_fields text) (effect_view d))

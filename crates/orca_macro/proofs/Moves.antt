@@ -7,7 +7,7 @@ use Rattle.macro_meaning.specs.declared.faults.MacroCause.TheVariants.{Counter, 
 use Rattle.macro_meaning.specs.declared.statements.Kind.{Kind}
 use Rattle.macro_meaning.specs.declared.statements.Declaration.{Declaration}
 use Rattle.macro_meaning.specs.declared.statements.Declaration.TheVariants.{Local, Shared}
-use Rattle.macro_meaning.specs.Effect as deeds
+use Rattle.macro_meaning.specs.Effect as effects
 use Rattle.macro_meaning.specs.Symbol.{Symbol, Own, Common, Symbols, SharedTexts, with_name, first_text}
 use Rattle.macro_meaning.specs.Visit.{Program, Visit, Move, On, Stops, line_at, body_of, target_of, if_line, next_visit, visit_after, move_after_expansion, next_line, branch_to, call_of, move_of, root_by, shared_first, set_by}
 use Rattle.orca_macro.specs.declared.visits.Flow.{Flow}
@@ -67,9 +67,9 @@ left_goes before v last w line move f f' fs fs' texts calls s is back = (
 -- ---- the next line
 
 -- the line behind a visit, by the code's place
-line_behind : (program : Program) (before : List Visit) (v : Visit) (f : Frame) (fs : List Frame) (texts : SharedTexts) (calls : ℕ) → Stands before v f fs texts calls
+line_after : (program : Program) (before : List Visit) (v : Visit) (f : Frame) (fs : List Frame) (texts : SharedTexts) (calls : ℕ) → Stands before v f fs texts calls
     → line_at program v.macro (v.line + 1) ≡ line_at program f.macro (f.line + 1)
-line_behind program before v f fs texts calls s =
+line_after program before v f fs texts calls s =
     ap (λ (m : Option ℕ). line_at program m (v.line + 1)) s.macro ∙ ap (λ (k : ℕ). line_at program f.macro (k + 1)) s.line
 
 pub onward_goes : (program : Program) (before : List Visit) (v last : Visit) (line found : Line) (f : Frame) (fs : List Frame) (texts : SharedTexts) (calls : ℕ) → Stands before v f fs texts calls
@@ -78,7 +78,7 @@ pub onward_goes : (program : Program) (before : List Visit) (v last : Visit) (li
 unfolding next_line
 onward_goes program before v last line found f fs texts calls s is =
     let goes : next_line program before v ≡ On (next_visit v) =
-    ap (λ (o : Option Line). if_line o (On (next_visit v)) (move_after_expansion program before v v.depth v.caller)) (line_behind program before v f fs texts calls s ∙ is) in (
+    ap (λ (o : Option Line). if_line o (On (next_visit v)) (move_after_expansion program before v v.depth v.caller)) (line_after program before v f fs texts calls s ∙ is) in (
       next_visit v,
       goes,
       record {
@@ -97,7 +97,7 @@ pub onward_ends : (program : Program) (before : List Visit) (v : Visit) (f : Fra
     → line_at program f.macro (f.line + 1) ≡ None → move_after_expansion program before v v.depth v.caller ≡ next_line program before v
 unfolding next_line
 onward_ends program before v f fs texts calls s is =
-    sym (ap (λ (o : Option Line). if_line o (On (next_visit v)) (move_after_expansion program before v v.depth v.caller)) (line_behind program before v f fs texts calls s ∙ is))
+    sym (ap (λ (o : Option Line). if_line o (On (next_visit v)) (move_after_expansion program before v v.depth v.caller)) (line_after program before v f fs texts calls s ∙ is))
 
 -- ---- branches
 
@@ -176,7 +176,7 @@ call_goes before v line place symbols f fs texts calls root s few root_is =
 
 pub declared_stands : (before : List Visit) (v : Visit) (name : List ℕ) (declaration : Declaration) (f : Frame) (fs : List Frame) (texts texts' : SharedTexts) (calls : ℕ) (symbols' : Symbols)
     → Stands before v f fs texts calls → IsDeclared name declaration f.symbols symbols' texts texts'
-    → Stands before (visit_after v (deeds.DeclareSymbol name declaration)) (record f { symbols = symbols' }) fs texts' calls
+    → Stands before (visit_after v (effects.DeclareSymbol name declaration)) (record f { symbols = symbols' }) fs texts' calls
 declared_stands before v name (Local kind) f fs texts texts' calls symbols' s is = record {
   macro = s.macro;
   line = s.line;
@@ -200,7 +200,7 @@ declared_stands before v name (Shared kind) f fs texts texts' calls symbols' s i
 
 pub assigned_stands : (before : List Visit) (v : Visit) (name : List ℕ) (kind : Kind) (text : List ℕ) (f : Frame) (fs : List Frame) (texts texts' : SharedTexts) (calls : ℕ) (symbols' : Symbols)
     → Stands before v f fs texts calls → IsAssigned name kind text (f.symbols name) f.symbols symbols' texts texts'
-    → Stands before (visit_after v (deeds.SetSymbol name kind text)) (record f { symbols = symbols' }) fs texts' calls
+    → Stands before (visit_after v (effects.SetSymbol name kind text)) (record f { symbols = symbols' }) fs texts' calls
 assigned_stands before v name kind text f fs texts texts' calls symbols' s is =
     by_symbol (v.symbols name) (subst (λ (o : Option Symbol). IsAssigned name kind text o f.symbols symbols' texts texts') (sym (ap (λ (m : Symbols). m name) s.symbols)) is)
   where
@@ -237,7 +237,7 @@ assigned_stands before v name kind text f fs texts texts' calls symbols' s is =
     }
 
 pub counted_stands : (before : List Visit) (v : Visit) (n : ℕ) (f : Frame) (fs : List Frame) (texts : SharedTexts) (calls : ℕ) → Stands before v f fs texts calls
-    → Stands before (visit_after v (deeds.SetCounter n)) (record f { counter = n }) fs texts calls
+    → Stands before (visit_after v (effects.SetCounter n)) (record f { counter = n }) fs texts calls
 counted_stands before v n f fs texts calls s = record {
   macro = s.macro;
   line = s.line;
@@ -250,15 +250,15 @@ counted_stands before v n f fs texts calls s = record {
 }
 
 -- what follows, by what the code has as its deed
-pub at_deed : (program : Program) (before : List Visit) (v : Visit) (line : Line) (d e : deeds.Effect) (outcome : Flow) (f : Frame) (fs : List Frame) (texts : SharedTexts) (calls : ℕ) → d ≡ e
+pub at_effect : (program : Program) (before : List Visit) (v : Visit) (line : Line) (d e : effects.Effect) (outcome : Flow) (f : Frame) (fs : List Frame) (texts : SharedTexts) (calls : ℕ) → d ≡ e
     → MovesTo (move_of program before v line e) (before ++ v ∷ []) line outcome f fs texts calls → MovesTo (move_of program before v line d) (before ++ v ∷ []) line outcome f fs texts calls
-at_deed program before v line d e outcome f fs texts calls is moves =
-    subst (λ (x : deeds.Effect). MovesTo (move_of program before v line x) (before ++ v ∷ []) line outcome f fs texts calls) (sym is) moves
+at_effect program before v line d e outcome f fs texts calls is moves =
+    subst (λ (x : effects.Effect). MovesTo (move_of program before v line x) (before ++ v ∷ []) line outcome f fs texts calls) (sym is) moves
 
 -- a call, as the code leaves the stack
 pub called : (program : Program) (before : List Visit) (v : Visit) (line : Line) (place : ℕ) (symbols : Symbols) (f f' : Frame) (fs fs' : List Frame) (texts : SharedTexts) (calls calls' root : ℕ) → Stands before v f fs texts calls
     → length fs ≢ 32 → root ≡ root_by v.caller v.root line.number → f' ≡ record { macro = Some place; line = 0; root = root; counter = 255; symbols = symbols } → fs' ≡ record f { line = f.line + 1 } ∷ fs → calls' ≡ calls + 1
-    → MovesTo (move_of program before v line (deeds.CallMacro place symbols)) (before ++ v ∷ []) line outcomes.Goes f' fs' texts calls'
+    → MovesTo (move_of program before v line (effects.CallMacro place symbols)) (before ++ v ∷ []) line outcomes.Goes f' fs' texts calls'
 unfolding move_of
 called program before v line place symbols f f' fs fs' texts calls calls' root s few root_is now stack more =
     subst (λ (n : ℕ). MovesTo (call_of before v line place symbols) (before ++ v ∷ []) line outcomes.Goes f' fs' texts n) (sym more)

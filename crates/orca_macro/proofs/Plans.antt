@@ -4,7 +4,7 @@ use Rattle.std.specs.Prelude.{Result, Ok, Err, IfOk, nat_lt, slice_get, codes}
 use Rattle.std.proofs.lemmas.Bool.{le-ltb, eqb-true}
 use Rattle.orca_meaning.specs.Line.{Fields, Line, part, three_fields, is_comment}
 use Rattle.macro_meaning.specs.Effect as meaning
-use Rattle.macro_meaning.specs.Effect.{SymbolSetting, IsStatement, IsDeed, IsShort, IsAfterText, IsAfterCut, IsWritten, IsWithTexts, begins_definition, without_sequence_symbol}
+use Rattle.macro_meaning.specs.Effect.{SymbolSetting, IsStatement, IsEffect, IsShort, IsAfterText, IsAfterCut, IsWritten, IsWithTexts, begins_definition, without_sequence_symbol}
 use Rattle.macro_meaning.specs.Definition.{operation_is}
 use Rattle.macro_meaning.specs.Statements.{statement_of}
 use Rattle.macro_meaning.specs.Substitution.{naming_at, substituted_from}
@@ -13,7 +13,7 @@ use Rattle.macro_meaning.specs.Visit.{Program, line_at, body_of}
 use Rattle.macro_meaning.specs.declared.statements.Statement.{Statement}
 use Rattle.orca_symbols.specs.Plain.{plain_len}
 use Rattle.orca_macro.specs.Plan.{known_effect, FitsDone, FitsStatement, FitsLine, IsAlways, IsPlain, Fits, FitsAt, HavePlans}
-use Rattle.orca_macro.specs.DeedView.{effect_view}
+use Rattle.orca_macro.specs.EffectView.{effect_view}
 use Rattle.orca_macro.specs.declared.effect.Effect.{Effect}
 use Rattle.orca_macro.specs.declared.plan.KnownHead.{KnownHead}
 use Rattle.orca_macro.specs.declared.plan.LinePlan.{LinePlan}
@@ -22,20 +22,20 @@ use Rattle.orca_symbols.proofs.Fronts.{plain_text}
 
 -- ---- what is known of a line does it here
 
-pub always : (s : SymbolSetting) (l : Line) (said : Option meaning.Effect) (d : meaning.Effect) → FitsLine l said → said ≡ Some d → IsDeed s l d
+pub always : (s : SymbolSetting) (l : Line) (said : Option meaning.Effect) (d : meaning.Effect) → FitsLine l said → said ≡ Some d → IsEffect s l d
 always s l None d fits none = absurd cc
 always s l (Some e) d fits some = subst (λ (x : Option meaning.Effect). of x) some (fits.is s)
   where
     of : Option meaning.Effect → Type 0
     of None = ⊥
-    of (Some x) = IsDeed s l x
+    of (Some x) = IsEffect s l x
 
-pub comment_rests : (s : SymbolSetting) (l : Line) → is_comment l.text ≡ true → IsDeed s l meaning.NoEffect
+pub comment_rests : (s : SymbolSetting) (l : Line) → is_comment l.text ≡ true → IsEffect s l meaning.NoEffect
 comment_rests s l comment = subst (λ (b : Bool). IsWritten s l b meaning.NoEffect) (sym comment) refl
 
 -- a line without `&`
 pub plain_does : {E : Type 0} (s : SymbolSetting) (l : Line) (text : List ℕ) (r : Result Effect E) → text ≡ l.text → IsPlain l
-    → IfOk r (λ (d : Effect). IsShort s l (nat_lt 255 (length text)) text (effect_view d)) → IfOk r (λ (d : Effect). IsDeed s l (effect_view d))
+    → IfOk r (λ (d : Effect). IsShort s l (nat_lt 255 (length text)) text (effect_view d)) → IfOk r (λ (d : Effect). IsEffect s l (effect_view d))
 plain_does s l text (Err e) same plain short = short
 plain_does s l text (Ok d) same plain short =
     subst (λ (b : Bool). IsWritten s l b (effect_view d)) (sym plain.0) (subst (λ (o : Option (List ℕ)). IsWithTexts s l o (effect_view d)) (sym (shown_is l.text l.fields plain.1 ∙ ap (λ (t : List ℕ). Some t) (sym same))) short)
@@ -49,11 +49,11 @@ pub statement_fits : {E : Type 0} (text : List ℕ) (fields : Fields) (operation
     → operation ≡ part text fields.operation → label ≡ part text fields.label → operand ≡ part text fields.operand → eqb (length operation) 0 ≡ false → Some found ≡ statement_of operation
     → IfOk r (λ (p : KnownHead). FitsDone found text label operand (known_effect p)) → IfOk r (λ (p : KnownHead). FitsStatement text (known_effect p))
 statement_fits text fields operation label operand found (Err e) fields_are operation_is label_is operand_is some is done = done
-statement_fits text fields operation label operand found (Ok p) fields_are operation_is label_is operand_is some is done = of_deed (known_effect p) done
+statement_fits text fields operation label operand found (Ok p) fields_are operation_is label_is operand_is some is done = of_effect (known_effect p) done
   where
-    of_deed : (o : Option meaning.Effect) → FitsDone found text label operand o → FitsStatement text o
-    of_deed None so = tt
-    of_deed (Some d) so = record { is = λ s. statement_is s text fields operation label operand found d fields_are operation_is label_is operand_is some is (so.is s.values) }
+    of_effect : (o : Option meaning.Effect) → FitsDone found text label operand o → FitsStatement text o
+    of_effect None so = tt
+    of_effect (Some d) so = record { is = λ s. statement_is s text fields operation label operand found d fields_are operation_is label_is operand_is some is (so.is s.values) }
 
 -- no line of a definition begins there
 none_begins : (s : SymbolSetting) (l : Line) → operation_is (codes "MACRO") l ≡ false → begins_definition s l ≡ false
@@ -68,7 +68,7 @@ short_text text few = le-ltb 255 (length text) few
 
 -- what stands behind the sequence symbol of a line without `&`
 pub after_cut : (s : SymbolSetting) (l : Line) (text : List ℕ) (d : meaning.Effect) → text ≡ l.text → length text ≤ 255 → is_comment text ≡ false → eqb (plain_len text) (length text) ≡ true
-    → operation_is (codes "MACRO") l ≡ false → IsAfterCut s (is_comment (without_sequence_symbol text)) (without_sequence_symbol text) d → IsDeed s l d
+    → operation_is (codes "MACRO") l ≡ false → IsAfterCut s (is_comment (without_sequence_symbol text)) (without_sequence_symbol text) d → IsEffect s l d
 after_cut s l text d same few other plain no_macro after =
     plain_is s l text d same other plain
     (subst (λ (b : Bool). IsShort s l b text d) (sym (short_text text few)) (subst (λ (b : Bool). IsAfterText s b text d) (sym (none_begins s l no_macro)) after))
@@ -81,11 +81,11 @@ rest_fits l text rest same few other plain no_macro cut_is comment =
 pub line_fits : {E : Type 0} (l : Line) (text rest : List ℕ) (r : Result KnownHead E) → text ≡ l.text → length text ≤ 255 → is_comment text ≡ false → eqb (plain_len text) (length text) ≡ true
     → operation_is (codes "MACRO") l ≡ false → rest ≡ without_sequence_symbol text → is_comment rest ≡ false → IfOk r (λ (p : KnownHead). FitsStatement rest (known_effect p)) → IfOk r (λ (p : KnownHead). FitsLine l (known_effect p))
 line_fits l text rest (Err e) same few other plain no_macro cut_is statement fits = fits
-line_fits l text rest (Ok p) same few other plain no_macro cut_is statement fits = of_deed (known_effect p) fits
+line_fits l text rest (Ok p) same few other plain no_macro cut_is statement fits = of_effect (known_effect p) fits
   where
-    of_deed : (o : Option meaning.Effect) → FitsStatement rest o → FitsLine l o
-    of_deed None so = tt
-    of_deed (Some d) so =
+    of_effect : (o : Option meaning.Effect) → FitsStatement rest o → FitsLine l o
+    of_effect None so = tt
+    of_effect (Some d) so =
         record {
           is = λ s. after_cut s l text d same few other plain no_macro
               (subst (λ (b : Bool). IsAfterCut s b (without_sequence_symbol text) d) (sym (ap is_comment (sym cut_is) ∙ statement)) (subst (λ (t : List ℕ). IsStatement s t (three_fields t) d) cut_is (so.is s)));

@@ -7,7 +7,7 @@ use Rattle.macro_meaning.specs.declared.faults.MacroCause.{MacroCause}
 use Rattle.macro_meaning.specs.declared.faults.MacroCause.TheVariants.{TooManyLines}
 use Rattle.macro_meaning.specs.declared.faults.MacroFault.{MacroFault}
 use Rattle.macro_meaning.specs.Call.{no_symbols}
-use Rattle.macro_meaning.specs.Effect.{Effect, IsDeed}
+use Rattle.macro_meaning.specs.Effect.{Effect, IsEffect}
 use Rattle.macro_meaning.specs.Expansion.{HasVisits, fault_at}
 use Rattle.macro_meaning.specs.Visit.{Program, Visit, Move, Ends, Stops, line_at, setting_of, given_by, move_of, most_visits, IsVisitOf, IsVisitAt, IsVisit, Follow, no_texts, first_visit}
 use Rattle.orca_symbols.specs.declared.frames.ExpansionState.{ExpansionState}
@@ -21,11 +21,11 @@ use Rattle.orca_symbols.specs.View.{texts_of}
 -- ---- where a line stands
 
 -- what a visit gives, and what follows on it
-pub visit_is : (program : Program) (before : List Visit) (v : Visit) (line : Line) (deed : Effect) → line_at program v.macro v.line ≡ Some line → (length before == most_visits) ≡ false
-    → IsDeed (setting_of program v line.number) line deed → IsVisit program before v (given_by line deed) (move_of program before v line deed)
-visit_is program before v line deed here few is =
-    subst (λ (o : Option Line). IsVisitAt program before v o (given_by line deed) (move_of program before v line deed)) (sym here)
-    (subst (λ (b : Bool). IsVisitOf program before v line b (given_by line deed) (move_of program before v line deed)) (sym few) (deed, is, refl, refl))
+pub visit_is : (program : Program) (before : List Visit) (v : Visit) (line : Line) (effect_done : Effect) → line_at program v.macro v.line ≡ Some line → (length before == most_visits) ≡ false
+    → IsEffect (setting_of program v line.number) line effect_done → IsVisit program before v (given_by line effect_done) (move_of program before v line effect_done)
+visit_is program before v line effect_done here few is =
+    subst (λ (o : Option Line). IsVisitAt program before v o (given_by line effect_done) (move_of program before v line effect_done)) (sym here)
+    (subst (λ (b : Bool). IsVisitOf program before v line b (given_by line effect_done) (move_of program before v line effect_done)) (sym few) (effect_done, is, refl, refl))
 
 -- ---- the visits so far
 

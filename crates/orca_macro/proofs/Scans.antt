@@ -8,7 +8,7 @@ use Rattle.macro_meaning.specs.declared.faults.MacroFault.{MacroFault}
 use Rattle.macro_meaning.specs.declared.faults.MacroCause.{MacroCause}
 use Rattle.macro_meaning.specs.declared.faults.MacroCause.TheVariants.{Unclosed, BadArguments}
 use Rattle.macro_meaning.specs.Definition as meaning
-use Rattle.macro_meaning.specs.Definition.{DefinitionPart, Plain, Closed, Open, Begun, Model, operation_is, parts_of, source_line, definitions_in, definition_of, definition_from, definition_by, counts_behind, first_part_fault, part_fault, model_fault, model_of, list_of_option, or_else}
+use Rattle.macro_meaning.specs.Definition.{DefinitionPart, Plain, Closed, Open, Begun, Model, operation_is, parts_of, source_line, definitions_in, definition_of, definition_from, definition_by, counts_after, first_part_fault, part_fault, model_fault, model_of, list_of_option, or_else}
 use Rattle.macro_meaning.specs.Expansion.{fault_at, line_fault_of}
 use Rattle.orca_macro.specs.declared.definitions.MacroDefinition.{MacroDefinition}
 use Rattle.orca_macro.specs.Parts.{definition, IsBegun, Judged, IsScanned, open_lines, Scanned}
@@ -44,35 +44,35 @@ front_line lines begins mend model is more =
     ap (λ (k : ℕ). take k (drop (begins + 1) lines)) size ∙ ap (take (suc (mend - (begins + 2)))) (drop_next lines (begins + 1) model is)
     ∙ ap (λ (k : ℕ). model ∷ take (mend - (begins + 2)) (drop k lines)) on
 
-pub judged_empty : (behind : ℕ) (m e model : Line) (lines : List Line) (begins mend : ℕ) (fault : MacroFault) → slice_get lines (begins + 1) ≡ Some model → slice_get lines mend ≡ Some e → begins + 1 ≡ mend
-    → fault ≡ fault_at model BadArguments → Judged behind m (take (mend - begins - 1) (drop (begins + 1) lines)) e (Err fault)
-judged_empty behind m e model lines begins mend fault is end same fault_is =
+pub judged_empty : (following : ℕ) (m e model : Line) (lines : List Line) (begins mend : ℕ) (fault : MacroFault) → slice_get lines (begins + 1) ≡ Some model → slice_get lines mend ≡ Some e → begins + 1 ≡ mend
+    → fault ≡ fault_at model BadArguments → Judged following m (take (mend - begins - 1) (drop (begins + 1) lines)) e (Err fault)
+judged_empty following m e model lines begins mend fault is end same fault_is =
     let none : mend - begins - 1 ≡ 0 = omega (arith, same) in
     let one : e ≡ model = some_line e model (sym end ∙ ap (slice_get lines) (sym same) ∙ is) in
     ap (λ (k : ℕ). line_fault_of (part_fault (Closed m (take k (drop (begins + 1) lines)) e))) none
     ∙ ap (λ (l : Line). Some (fault_at l BadArguments)) one ∙ ap (λ (f : MacroFault). Some f) (sym fault_is)
 
-pub judged_bad : (behind : ℕ) (m e model : Line) (lines : List Line) (begins mend : ℕ) (fault : MacroFault) → slice_get lines (begins + 1) ≡ Some model → begins + 1 < mend
-    → model_of model.text ≡ None → fault ≡ fault_at model BadArguments → Judged behind m (take (mend - begins - 1) (drop (begins + 1) lines)) e (Err fault)
-judged_bad behind m e model lines begins mend fault is more none fault_is =
+pub judged_bad : (following : ℕ) (m e model : Line) (lines : List Line) (begins mend : ℕ) (fault : MacroFault) → slice_get lines (begins + 1) ≡ Some model → begins + 1 < mend
+    → model_of model.text ≡ None → fault ≡ fault_at model BadArguments → Judged following m (take (mend - begins - 1) (drop (begins + 1) lines)) e (Err fault)
+judged_bad following m e model lines begins mend fault is more none fault_is =
     ap (λ (inner : List Line). line_fault_of (part_fault (Closed m inner e))) (front_line lines begins mend model is more)
     ∙ ap (λ (o : Option Model). line_fault_of (model_fault model o)) none ∙ ap (λ (f : MacroFault). Some f) (sym fault_is)
 
-pub judged_good : (behind : ℕ) (m e model : Line) (lines : List Line) (begins mend : ℕ) (found : Model) (d : MacroDefinition) → slice_get lines (begins + 1) ≡ Some model → slice_get lines mend ≡ Some e
+pub judged_good : (following : ℕ) (m e model : Line) (lines : List Line) (begins mend : ℕ) (found : Model) (d : MacroDefinition) → slice_get lines (begins + 1) ≡ Some model → slice_get lines mend ≡ Some e
     → begins + 1 < mend → mend < length lines → model_of model.text ≡ Some found
-    → definition d ≡ record { model = found; behind = behind; body = record { lines = take (mend + 1 - (begins + 2)) (drop (begins + 2) lines); reach = mend - (begins + 2) } }
-    → Judged behind m (take (mend - begins - 1) (drop (begins + 1) lines)) e (Ok d)
-judged_good behind m e model lines begins mend found d is end more within some d_is =
+    → definition d ≡ record { model = found; following = following; body = record { lines = take (mend + 1 - (begins + 2)) (drop (begins + 2) lines); reach = mend - (begins + 2) } }
+    → Judged following m (take (mend - begins - 1) (drop (begins + 1) lines)) e (Ok d)
+judged_good following m e model lines begins mend found d is end more within some d_is =
     let front = front_line lines begins mend model is more in
     let rest : List Line = take (mend - (begins + 2)) (drop (begins + 2) lines) in
     let whole : rest ++ e ∷ [] ≡ take (mend + 1 - (begins + 2)) (drop (begins + 2) lines) = copy_more lines (begins + 2) mend e rest (rest ++ e ∷ []) (omega (arith, more)) end refl refl in
     let size : length rest ≡ mend - (begins + 2) = omega (arith, within, more, length-take (mend - (begins + 2)) (drop (begins + 2) lines), length-drop (begins + 2) lines) in
-    let made : definition_from behind (model ∷ rest) e ≡ Some (record { model = found; behind = behind; body = record { lines = rest ++ e ∷ []; reach = length rest } }) = ap (definition_by behind rest e) some in
-    let same : Some (record { model = found; behind = behind; body = record { lines = rest ++ e ∷ []; reach = length rest } }) ≡ Some (definition d) =
-    ap (λ (l : List Line). Some (record { model = found; behind = behind; body = record { lines = l; reach = length rest } })) whole
-    ∙ ap (λ (k : ℕ). Some (record { model = found; behind = behind; body = record { lines = take (mend + 1 - (begins + 2)) (drop (begins + 2) lines); reach = k } })) size
+    let made : definition_from following (model ∷ rest) e ≡ Some (record { model = found; following = following; body = record { lines = rest ++ e ∷ []; reach = length rest } }) = ap (definition_by following rest e) some in
+    let same : Some (record { model = found; following = following; body = record { lines = rest ++ e ∷ []; reach = length rest } }) ≡ Some (definition d) =
+    ap (λ (l : List Line). Some (record { model = found; following = following; body = record { lines = l; reach = length rest } })) whole
+    ∙ ap (λ (k : ℕ). Some (record { model = found; following = following; body = record { lines = take (mend + 1 - (begins + 2)) (drop (begins + 2) lines); reach = k } })) size
     ∙ ap (λ (x : meaning.MacroDefinition). Some x) (sym d_is) in (
-      ap (λ (inner : List Line). definition_from behind inner e) front ∙ made ∙ same,
+      ap (λ (inner : List Line). definition_from following inner e) front ∙ made ∙ same,
       ap (λ (inner : List Line). part_fault (Closed m inner e)) front ∙ ap (model_fault model) some,
     )
 
@@ -221,7 +221,7 @@ module _ (s : Bool) (lines : List Line) (at : ℕ) (l : Line) (plain : List Line
       ∙ ap (λ (p : List DefinitionPart). is.parts ++ p) rest
 
   pub inside_end : (begins : ℕ) (m : Line) (d : MacroDefinition) (new' : List meaning.MacroDefinition) → IsScanned s lines at plain old new (Some begins) → slice_get lines at ≡ Some l → slice_get lines begins ≡ Some m
-      → operation_is (codes "MEND") l ≡ true → Judged (counts_behind s m) m (take (at - begins - 1) (drop (begins + 1) lines)) l (Ok d) → new' ≡ new ++ definition d ∷ []
+      → operation_is (codes "MEND") l ≡ true → Judged (counts_after s m) m (take (at - begins - 1) (drop (begins + 1) lines)) l (Ok d) → new' ≡ new ++ definition d ∷ []
       → IsScanned s lines (at + 1) plain old new' None
   inside_end begins m d new' is there first test judged push =
       let i = inside_of begins is.begun is.is_begun in
@@ -242,10 +242,10 @@ module _ (s : Bool) (lines : List Line) (at : ℕ) (l : Line) (plain : List Line
             ∙ ap (λ (n : List meaning.MacroDefinition). old ++ n) (ap (λ (o : Option meaning.MacroDefinition). definitions_in s is.parts ++ list_of_option o) (sym defined) ∙ sym (definitions_push s is.parts p));
       }
 
-  pub inside_bad : (begins : ℕ) (m : Line) (behind : ℕ) (fault : MacroFault) → IsScanned s lines at plain old new (Some begins) → slice_get lines at ≡ Some l → slice_get lines begins ≡ Some m
-      → operation_is (codes "MEND") l ≡ true → Judged behind m (take (at - begins - 1) (drop (begins + 1) lines)) l (Err fault) → line_fault_of (first_part_fault (parts_of None lines)) ≡ Some fault
+  pub inside_bad : (begins : ℕ) (m : Line) (following : ℕ) (fault : MacroFault) → IsScanned s lines at plain old new (Some begins) → slice_get lines at ≡ Some l → slice_get lines begins ≡ Some m
+      → operation_is (codes "MEND") l ≡ true → Judged following m (take (at - begins - 1) (drop (begins + 1) lines)) l (Err fault) → line_fault_of (first_part_fault (parts_of None lines)) ≡ Some fault
   unfolding first_part_fault
-  inside_bad begins m behind fault is there first test judged =
+  inside_bad begins m following fault is there first test judged =
       let i = inside_of begins is.begun is.is_begun in
       let m_is : i.first ≡ m = some_line i.first m (sym i.there ∙ first) in
       let same : Closed i.first i.inner l ≡ Closed m (take (at - begins - 1) (drop (begins + 1) lines)) l = ap (λ (x : Line). Closed x i.inner l) m_is ∙ ap (λ (k : List Line). Closed m k l) i.inner_is in
@@ -259,18 +259,18 @@ module _ (s : Bool) (lines : List Line) (at : ℕ) (l : Line) (plain : List Line
       comes_first (Some x) other h = h
 
 -- as the code has it
-pub end_line : (s : Bool) (lines : List Line) (at : ℕ) (l : Line) (plain : List Line) (old new : List meaning.MacroDefinition) (opened : Option ℕ) (begins behind : ℕ) (m : Line) (d : MacroDefinition) (new' : List meaning.MacroDefinition)
-    → opened ≡ Some begins → behind ≡ counts_behind s m → IsScanned s lines at plain old new opened → slice_get lines at ≡ Some l → slice_get lines begins ≡ Some m → operation_is (codes "MEND") l ≡ true
-    → Judged behind m (take (at - begins - 1) (drop (begins + 1) lines)) l (Ok d) → new' ≡ new ++ definition d ∷ [] → IsScanned s lines (at + 1) plain old new' None
-end_line s lines at l plain old new opened begins behind m d new' some same is there first test judged push =
+pub end_line : (s : Bool) (lines : List Line) (at : ℕ) (l : Line) (plain : List Line) (old new : List meaning.MacroDefinition) (opened : Option ℕ) (begins following : ℕ) (m : Line) (d : MacroDefinition) (new' : List meaning.MacroDefinition)
+    → opened ≡ Some begins → following ≡ counts_after s m → IsScanned s lines at plain old new opened → slice_get lines at ≡ Some l → slice_get lines begins ≡ Some m → operation_is (codes "MEND") l ≡ true
+    → Judged following m (take (at - begins - 1) (drop (begins + 1) lines)) l (Ok d) → new' ≡ new ++ definition d ∷ [] → IsScanned s lines (at + 1) plain old new' None
+end_line s lines at l plain old new opened begins following m d new' some same is there first test judged push =
     inside_end s lines at l plain old new begins m d new' (subst (λ (o : Option ℕ). IsScanned s lines at plain old new o) some is) there first test
     (subst (λ (k : ℕ). Judged k m (take (at - begins - 1) (drop (begins + 1) lines)) l (Ok d)) same judged) push
 
-pub bad_line : (s : Bool) (lines : List Line) (at : ℕ) (l : Line) (plain : List Line) (old new : List meaning.MacroDefinition) (opened : Option ℕ) (begins behind : ℕ) (m : Line) (fault : MacroFault)
+pub bad_line : (s : Bool) (lines : List Line) (at : ℕ) (l : Line) (plain : List Line) (old new : List meaning.MacroDefinition) (opened : Option ℕ) (begins following : ℕ) (m : Line) (fault : MacroFault)
     → opened ≡ Some begins → IsScanned s lines at plain old new opened → slice_get lines at ≡ Some l → slice_get lines begins ≡ Some m → operation_is (codes "MEND") l ≡ true
-    → Judged behind m (take (at - begins - 1) (drop (begins + 1) lines)) l (Err fault) → line_fault_of (first_part_fault (parts_of None lines)) ≡ Some fault
-bad_line s lines at l plain old new opened begins behind m fault some is there first test judged =
-    inside_bad s lines at l plain old new begins m behind fault (subst (λ (o : Option ℕ). IsScanned s lines at plain old new o) some is) there first test judged
+    → Judged following m (take (at - begins - 1) (drop (begins + 1) lines)) l (Err fault) → line_fault_of (first_part_fault (parts_of None lines)) ≡ Some fault
+bad_line s lines at l plain old new opened begins following m fault some is there first test judged =
+    inside_bad s lines at l plain old new begins m following fault (subst (λ (o : Option ℕ). IsScanned s lines at plain old new o) some is) there first test judged
 
 pub scan_starts : (s : Bool) (lines plain : List Line) (old : List meaning.MacroDefinition) → plain ≡ [] → IsScanned s lines 0 plain old old None
 unfolding first_part_fault definitions_in

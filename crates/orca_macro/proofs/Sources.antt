@@ -96,14 +96,14 @@ module _ (lines : List Line) (own : HaveOwn lines) (are : AreUntouched lines) wh
       )
   follow before place (l ∷ next ∷ rest) count few same =
       let here : slice_get lines place ≡ Some l = same 0 place (omega arith) in
-      let behind : slice_get lines (place + 1) ≡ Some next = same 1 (place + 1) refl in
+      let following : slice_get lines (place + 1) ≡ Some next = same 1 (place + 1) refl in
       let others = follow (before ++ at place ∷ []) (place + 1) (next ∷ rest) (omega (arith, count, length-append before (at place ∷ []))) (omega (arith, few))
       (λ k n is. same (suc k) n (omega (arith, is))) in (
         at (place + 1) ∷ others.0,
         (
           if_statement (is_comment l.text) l,
           statements (next ∷ rest),
-          subst (λ (m : Move). IsVisit (plain lines) before (at place) (if_statement (is_comment l.text) l) m) (goes before place next behind) (gives before place l count (omega (arith, few)) here),
+          subst (λ (m : Move). IsVisit (plain lines) before (at place) (if_statement (is_comment l.text) l) m) (goes before place next following) (gives before place l count (omega (arith, few)) here),
           first_of l (next ∷ rest),
           others.1,
         ),

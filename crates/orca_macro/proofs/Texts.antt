@@ -5,10 +5,10 @@ use Rattle.std.proofs.lemmas.Bool.{ltb-true}
 use Rattle.std.proofs.lemmas.Int.{ints}
 use Rattle.std.specs.List.{position_or_len}
 use Rattle.std.specs.Prelude.{Ok, Err, ◌||◌, unsigned_abs}
-use Rattle.orca_meaning.specs.Quotes.{quote_behind}
+use Rattle.orca_meaning.specs.Quotes.{quote_following}
 use Rattle.macro_meaning.specs.declared.faults.MacroCause.TheVariants.{BadSetting}
 use Rattle.macro_meaning.specs.Effect.{middle_from}
-use Rattle.macro_meaning.specs.Pieces.{pieces_from, pieces, parts, open_behind, with_byte, closed_at, quoted_at, unquoted_text, whole_quoted_text, joined_texts, appended_texts}
+use Rattle.macro_meaning.specs.Pieces.{pieces_from, pieces, parts, open_after, with_byte, closed_at, quoted_at, unquoted_text, whole_quoted_text, joined_texts, appended_texts}
 
 -- how many bytes pieces have
 total : List (List ℕ) → ℕ
@@ -23,23 +23,23 @@ total-with_byte byte (p ∷ ps) = omega arith
 total-pieces : (separator : ℕ) (quote : Option ℕ) (count : ℕ) (text : List ℕ) → total (pieces_from separator quote count text) ≤ length text
 unfolding total pieces_from
 total-pieces separator quote count [] = omega arith
-total-pieces separator quote count (byte ∷ behind) =
-    by_test (parts separator quote count byte) (total-pieces separator None 0 behind) (total-pieces separator (quote_behind quote byte) (open_behind quote count byte) behind)
+total-pieces separator quote count (byte ∷ following) =
+    by_test (parts separator quote count byte) (total-pieces separator None 0 following) (total-pieces separator (quote_following quote byte) (open_after quote count byte) following)
   where
-    by_test : (b : Bool) → total (pieces_from separator None 0 behind) ≤ length behind → total (pieces_from separator (quote_behind quote byte) (open_behind quote count byte) behind) ≤ length behind
-        → total (cond b ([] ∷ pieces_from separator None 0 behind) (with_byte byte (pieces_from separator (quote_behind quote byte) (open_behind quote count byte) behind))) ≤ length (byte ∷ behind)
+    by_test : (b : Bool) → total (pieces_from separator None 0 following) ≤ length following → total (pieces_from separator (quote_following quote byte) (open_after quote count byte) following) ≤ length following
+        → total (cond b ([] ∷ pieces_from separator None 0 following) (with_byte byte (pieces_from separator (quote_following quote byte) (open_after quote count byte) following))) ≤ length (byte ∷ following)
     by_test true p q = omega arith
-    by_test false p q = omega (arith, q, total-with_byte byte (pieces_from separator (quote_behind quote byte) (open_behind quote count byte) behind))
+    by_test false p q = omega (arith, q, total-with_byte byte (pieces_from separator (quote_following quote byte) (open_after quote count byte) following))
 
-closed_short : (quote : ℕ) (behind : List ℕ) (a b : List ℕ) → closed_at quote behind ≡ Some (a, b) → length a ≤ length behind
+closed_short : (quote : ℕ) (following : List ℕ) (a b : List ℕ) → closed_at quote following ≡ Some (a, b) → length a ≤ length following
 unfolding closed_at
-closed_short quote behind a b is = by_test (position_or_len (λ (byte : ℕ). eqb byte quote) behind) (ltb (position_or_len (λ (byte : ℕ). eqb byte quote) behind) (length behind)) refl is
+closed_short quote following a b is = by_test (position_or_len (λ (byte : ℕ). eqb byte quote) following) (ltb (position_or_len (λ (byte : ℕ). eqb byte quote) following) (length following)) refl is
   where
-    by_test : (n : ℕ) (t : Bool) → ltb n (length behind) ≡ t → cond {A = Option (List ℕ × List ℕ)} t (Some (take n behind, drop (n + 1) behind)) None ≡ Some (a, b) → length a ≤ length behind
+    by_test : (n : ℕ) (t : Bool) → ltb n (length following) ≡ t → cond {A = Option (List ℕ × List ℕ)} t (Some (take n following, drop (n + 1) following)) None ≡ Some (a, b) → length a ≤ length following
     by_test n true within is =
-        let same : take n behind ≡ a = first_of (take n behind) a (drop (n + 1) behind) b is in
-        let most : n < length behind = ltb-true n (length behind) within in
-        omega (arith, most, ap length same, length-take-le n behind (omega (arith, most)))
+        let same : take n following ≡ a = first_of (take n following) a (drop (n + 1) following) b is in
+        let most : n < length following = ltb-true n (length following) within in
+        omega (arith, most, ap length same, length-take-le n following (omega (arith, most)))
       where
         first_of : (x y p q : List ℕ) → ◌≡◌ {A = Option (List ℕ × List ℕ)} (Some (x, p)) (Some (y, q)) → x ≡ y
         first_of x y p q e = ap (λ (r : List ℕ × List ℕ). r.0) (inner (x, p) (y, q) e)
@@ -51,10 +51,10 @@ closed_short quote behind a b is = by_test (position_or_len (λ (byte : ℕ). eq
 quoted_at_short : (p x rest : List ℕ) → quoted_at p ≡ Some (x, rest) → length x ≤ length p
 unfolding quoted_at
 quoted_at_short [] x rest is = absurd cc
-quoted_at_short (quote ∷ behind) x rest is = by_test (eqb quote 0x27 || eqb quote 0x22) is
+quoted_at_short (quote ∷ following) x rest is = by_test (eqb quote 0x27 || eqb quote 0x22) is
   where
-    by_test : (b : Bool) → cond {A = Option (List ℕ × List ℕ)} b (closed_at quote behind) None ≡ Some (x, rest) → length x ≤ length (quote ∷ behind)
-    by_test true is = omega (arith, closed_short quote behind x rest is)
+    by_test : (b : Bool) → cond {A = Option (List ℕ × List ℕ)} b (closed_at quote following) None ≡ Some (x, rest) → length x ≤ length (quote ∷ following)
+    by_test true is = omega (arith, closed_short quote following x rest is)
     by_test false is = absurd cc
 
 quoted_short : (p a : List ℕ) → unquoted_text p ≡ Some a → length a ≤ length p

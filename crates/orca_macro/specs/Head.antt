@@ -24,7 +24,7 @@ pub record HasHead (h : LineHead) (text : List ℕ) : Type 0 where
 
 -- each text that begins with these bytes begins so
 pub record IsHead (h : LineHead) (front : List ℕ) : Type 0 where
-  pub is : (behind : List ℕ) → HasHead h (front ++ behind)
+  pub is : (following : List ℕ) → HasHead h (front ++ following)
 
 abbrev pub MayHaveHead : Option LineHead → List ℕ → Type 0
 MayHaveHead None text = Unit {0}

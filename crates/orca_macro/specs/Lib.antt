@@ -1,6 +1,6 @@
 pub mod DefinitionView
 pub mod Parts
-pub mod DeedView
+pub mod EffectView
 pub mod Stacks
 pub mod StateView
 pub mod Files

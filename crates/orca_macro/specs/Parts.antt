@@ -17,8 +17,8 @@ HaveOwn lines = (k : ℕ) (l : Line) → slice_get lines k ≡ Some l → l.fiel
 
 -- the definition from a MACRO line to a MEND line, or what is wrong with it
 abbrev pub Judged : ℕ → Line → List Line → Line → Result MacroDefinition MacroFault → Type 0
-Judged behind begins inner ends (Ok d) = (definition_from behind inner ends ≡ Some (definition d)) × (part_fault (Closed begins inner ends) ≡ None)
-Judged behind begins inner ends (Err fault) = line_fault_of (part_fault (Closed begins inner ends)) ≡ Some fault
+Judged following begins inner ends (Ok d) = (definition_from following inner ends ≡ Some (definition d)) × (part_fault (Closed begins inner ends) ≡ None)
+Judged following begins inner ends (Err fault) = line_fault_of (part_fault (Closed begins inner ends)) ≡ Some fault
 
 -- the definition that is open at a place, where it begins at that of its MACRO line
 abbrev pub IsBegun : List Line → ℕ → Option ℕ → Begun → Type 0

@@ -2,7 +2,7 @@
 use Rattle.std.specs.Prelude.{◌≡◌, ℕ, List, Option, Some, None, true, false, length, slice_get}
 use Rattle.macro_meaning.specs.Effect as meaning
 use Rattle.macro_meaning.specs.Definition.{MacroDefinition}
-use Rattle.macro_meaning.specs.Effect.{SymbolSetting, IsDeed, IsDone, IsStatement}
+use Rattle.macro_meaning.specs.Effect.{SymbolSetting, IsEffect, IsDone, IsStatement}
 use Rattle.macro_meaning.specs.Symbol.{Values}
 use Rattle.macro_meaning.specs.declared.statements.Statement.{Statement}
 use Rattle.orca_meaning.specs.Line.{Line, three_fields, is_comment}
@@ -22,32 +22,32 @@ known_effect (Goes name) = Some (meaning.BranchTo name)
 known_effect Leaves = Some meaning.Exit
 
 -- a statement does this wherever it stands
-pub record IsAlwaysDone (statement : Statement) (text label operand : List ℕ) (deed : meaning.Effect) : Type 0 where
-  pub is : (values : Values) → IsDone values statement text label operand deed
+pub record IsAlwaysDone (statement : Statement) (text label operand : List ℕ) (effect_done : meaning.Effect) : Type 0 where
+  pub is : (values : Values) → IsDone values statement text label operand effect_done
 
 abbrev pub FitsDone : Statement → List ℕ → List ℕ → List ℕ → Option meaning.Effect → Type 0
 FitsDone statement text label operand None = Unit {0}
-FitsDone statement text label operand (Some deed) = IsAlwaysDone statement text label operand deed
+FitsDone statement text label operand (Some effect_done) = IsAlwaysDone statement text label operand effect_done
 
 -- a line behind its sequence symbol does this wherever it stands
-pub record IsAlwaysStatement (text : List ℕ) (deed : meaning.Effect) : Type 0 where
-  pub is : (s : SymbolSetting) → IsStatement s text (three_fields text) deed
+pub record IsAlwaysStatement (text : List ℕ) (effect_done : meaning.Effect) : Type 0 where
+  pub is : (s : SymbolSetting) → IsStatement s text (three_fields text) effect_done
 
 abbrev pub FitsStatement : List ℕ → Option meaning.Effect → Type 0
 FitsStatement text None = Unit {0}
-FitsStatement text (Some deed) = IsAlwaysStatement text deed
+FitsStatement text (Some effect_done) = IsAlwaysStatement text effect_done
 
 -- a line does this wherever it stands
-pub record IsAlways (line : Line) (deed : meaning.Effect) : Type 0 where
-  pub is : (s : SymbolSetting) → IsDeed s line deed
+pub record IsAlways (line : Line) (effect_done : meaning.Effect) : Type 0 where
+  pub is : (s : SymbolSetting) → IsEffect s line effect_done
 
 -- where these are the macros, a line is given as it stands, whatever the symbols are
 pub record IsGiven (definitions : List MacroDefinition) (line : Line) : Type 0 where
-  pub is : (s : SymbolSetting) → s.definitions ≡ definitions → IsDeed s line (meaning.Emit line.text)
+  pub is : (s : SymbolSetting) → s.definitions ≡ definitions → IsEffect s line (meaning.Emit line.text)
 
 abbrev pub FitsLine : Line → Option meaning.Effect → Type 0
 FitsLine line None = Unit {0}
-FitsLine line (Some deed) = IsAlways line deed
+FitsLine line (Some effect_done) = IsAlways line effect_done
 
 -- the line is no comment and has no `&`
 abbrev pub IsPlain : Line → Type 0
@@ -56,7 +56,7 @@ IsPlain line = (is_comment line.text ≡ false) × (plain_len line.text ≡ leng
 -- the plan is right of a line
 abbrev pub Fits : Line → LinePlan → Type 0
 Fits line Comment = is_comment line.text ≡ true
-Fits line (Plain deed) = IsPlain line × FitsLine line (known_effect deed)
+Fits line (Plain effect_done) = IsPlain line × FitsLine line (known_effect effect_done)
 Fits line (Parts parts head) = (is_comment line.text ≡ false) × HasParts line parts.items × BeginsSo parts.items head
 
 -- the plan fits the line at a place

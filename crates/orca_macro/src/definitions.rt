@@ -4,7 +4,7 @@ ghost use Rattle.std.specs.Prelude.{◌≡◌, ◌≤◌, ◌<◌, ◌+◌, ◌-
 ghost use Rattle.std.specs.List.{list_any};
 ghost use Rattle.orca_meaning.specs.Line.{HaveFields, fields_of};
 ghost use Rattle.orca_meaning.specs.Line as meaning;
-ghost use Rattle.macro_meaning.specs.Definition.{operation_is, parts_of, source_line, definitions_in, first_part_fault, definition_of, part_fault, Closed, counts_behind};
+ghost use Rattle.macro_meaning.specs.Definition.{operation_is, parts_of, source_line, definitions_in, first_part_fault, definition_of, part_fault, Closed, counts_after};
 ghost use Rattle.macro_meaning.specs.Expansion.{fault_at, line_fault_of};
 ghost use Rattle.macro_meaning.specs.Definition as macros;
 ghost use Rattle.std.specs.Prelude.{Bool};
@@ -72,7 +72,7 @@ pub(crate) fn fault_at(of: &SourceLine, cause: MacroCause) -> MacroFault
 /// The definition with this model line, whose lines behind it go up to the MEND line at a place.
 fn closed_with(
     alloc: Global,
-    behind: u32,
+    following: u32,
     said: ModelLine,
     lines: &Lines,
     from: u32,
@@ -84,7 +84,7 @@ fn closed_with(
     requires bound { length lines.now < 2 ^ 32 }
     ensures { IfOk result (λ d. definition d ≡ record {
       model = model said;
-      visible_after = behind;
+      visible_after = following;
       body = record { lines = take (mend + 1 - from) (drop from lines.now); reach = mend - from };
     }) }
 {
@@ -92,7 +92,7 @@ fn closed_with(
     let body = Body::of_macro(alloc, inner, mend - from)?;
     Ok(MacroDefinition {
         model: said,
-        visible_after: behind,
+        visible_after: following,
         body,
     })
 }
@@ -101,7 +101,7 @@ fn closed_with(
 #[tactic(auto, using(crate::proofs::Scans::judged_empty, crate::proofs::Scans::judged_bad, crate::proofs::Scans::judged_good))]
 fn close_definition(
     alloc: Global,
-    behind: u32,
+    following: u32,
     lines: &Lines,
     begins: u32,
     mend: u32,
@@ -111,7 +111,7 @@ fn close_definition(
     requires within { mend < length lines.now }
     requires bound { length lines.now < 2 ^ 32 }
     ensures { IfOk result (λ found. (m e : meaning.Line) → slice_get lines.now begins ≡ Some m → slice_get lines.now mend ≡ Some e
-        → Judged behind m (take (mend - begins - 1) (drop (begins + 1) lines.now)) e found) }
+        → Judged following m (take (mend - begins - 1) (drop (begins + 1) lines.now)) e found) }
 {
     let Some(model) = lines.get(begins + 1) else {
         unreachable!();
@@ -124,7 +124,7 @@ fn close_definition(
     };
     match model_of(alloc, text)? {
         Some(found) => {
-            let d = closed_with(alloc, behind, found, lines, begins + 2, mend)?;
+            let d = closed_with(alloc, following, found, lines, begins + 2, mend)?;
             Ok(Ok(d))
         }
         None => Ok(Err(fault_at(model, MacroCause::BadArguments))),
@@ -132,8 +132,8 @@ fn close_definition(
 }
 
 /// The line behind which the definition that begins at a line counts.
-fn counts_behind(in_source: bool, begins: &SourceLine) -> u32
-    ensures { result ≡ counts_behind in_source (line begins.now) }
+fn counts_after(in_source: bool, begins: &SourceLine) -> u32
+    ensures { result ≡ counts_after in_source (line begins.now) }
 {
     if in_source { begins.line } else { 0 }
 }
@@ -197,7 +197,7 @@ fn take_line(
     let Some(first) = lines.get(begins) else {
         return Ok(None);
     };
-    match close_definition(alloc, counts_behind(in_source, first), lines, begins, at)? {
+    match close_definition(alloc, counts_after(in_source, first), lines, begins, at)? {
         Ok(d) => {
             definitions.push(d)?;
             scan.begun = None;

@@ -4,7 +4,7 @@ ghost use Rattle.std.specs.Prelude.{◌≡◌, ◌==◌, ◌≤◌, ◌<◌, [],
 ghost use Rattle.macro_meaning.specs.Effect.{earlier, pair_or_earlier_fault, or_bad, first_time, declaring, settable, setting, printed_number, printed_answer, middle_from, middle_of, going, going_to, counting, note_effect, noting, IsBranchIf, IsMiddle, IsNote, IsSetting, IsDone, resting};
 ghost use Rattle.macro_meaning.specs.Pieces.{pieces, unquoted_text, joined_texts};
 ghost use Rattle.orca_symbols.specs.View.{values, texts_of};
-ghost use Rattle.orca_macro.specs.DeedView.{effect_view};
+ghost use Rattle.orca_macro.specs.EffectView.{effect_view};
 ghost use Rattle.macro_meaning.specs.Condition.{Answer, IsCondition};
 
 use crate::effect::Effect;
@@ -240,13 +240,13 @@ fn front_of(text: &[u8], count: usize) -> &[u8]
 
 /// What stands behind the first so many bytes.
 #[tactic(auto, using(orca_symbols::proofs::Parted::drop_all))]
-fn behind_first(text: &[u8], count: usize) -> &[u8]
+fn following_first(text: &[u8], count: usize) -> &[u8]
     ensures value { result.now ≡ drop count text.now }
     ensures bound { length result.now ≤ length text.now }
 {
     if count < text.len() {
-        let (_, behind) = text.split_at(count);
-        return behind;
+        let (_, following) = text.split_at(count);
+        return following;
     }
     &[]
 }
@@ -267,9 +267,9 @@ fn middle_from(
     if count < 0 {
         return Ok(Err(MacroCause::BadSetting));
     }
-    let behind = behind_first(text.bytes, start.unsigned_abs() as usize - 1);
+    let following = following_first(text.bytes, start.unsigned_abs() as usize - 1);
     let middle = LinePart {
-        bytes: front_of(behind, count.unsigned_abs() as usize),
+        bytes: front_of(following, count.unsigned_abs() as usize),
     };
     let found = SymbolText::of(alloc, middle)?;
     Ok(Ok(found))

@@ -3,12 +3,12 @@
 ghost use Rattle.std.specs.Prelude.{◌≡◌, ◌≤◌, ◌<◌, ◌+◌, ◌++◌, ◌^◌, ◌==◌, [], List, ℕ, map, length, false, Some, None, IfOk, IfErr, IfSome, OnOk, MatchOption};
 ghost use Rattle.std.specs.Prelude.{IfNone, Ok, Err};
 ghost use Rattle.macro_meaning.specs.Call.{no_symbols};
-ghost use Rattle.macro_meaning.specs.Effect as deeds;
+ghost use Rattle.macro_meaning.specs.Effect as effects;
 ghost use Rattle.macro_meaning.specs.Expansion.{IsExpanded, IsMacroFault, fault_at, file_text_fault, first_in};
 ghost use Rattle.macro_meaning.specs.Visit.{Visit, no_texts, line_at, given_by, root_by, setting_of, most_visits};
 ghost use Rattle.omf_format.specs.Lines.{lines_of};
 ghost use Rattle.orca_meaning.specs.Line.{HaveFields, fields_of, numbered_lines};
-ghost use Rattle.orca_macro.specs.DeedView.{effect_view};
+ghost use Rattle.orca_macro.specs.EffectView.{effect_view};
 ghost use Rattle.orca_macro.specs.Files.{texts_of_files, CanRead, lines_from, IsTextFault, AllOwn, first_part_in, definitions_of, IsProgram, HasVisited};
 ghost use Rattle.orca_macro.specs.Parts.{definition, HaveOwn};
 ghost use Rattle.orca_macro.specs.Plan.{Fits, IsGiven};
@@ -45,7 +45,7 @@ fn no_memory() -> MacroFault
 /// A fault of reading.
 fn text_fault(fault: TextFault) -> MacroFault
     requires { CanRead fault.cause }
-    ensures told { (file : ℕ) (source : List ℕ) → IsRefused file source fault → IsTextFault (file_text_fault file source) result }
+    ensures reported { (file : ℕ) (source : List ℕ) → IsRefused file source fault → IsTextFault (file_text_fault file source) result }
     ensures memory { result.cause ≡ MacroCause.Memory → fault.cause ≡ TextCause.Memory }
 {
     match fault.cause {
@@ -168,7 +168,7 @@ fn root_of(state: &ExpansionState, number: u32) -> u32
 }
 
 /// What a line does.
-fn deed_at<'a>(
+fn effect_at<'a>(
     alloc: Global,
     program: &Program,
     state: &ExpansionState,
@@ -181,7 +181,7 @@ fn deed_at<'a>(
     requires fields { HaveFields of.now.text (line of.now).fields }
     requires plan { IfSome plan (λ p. Fits (line of.now) p.now) }
     ensures { IfOk result (λ d. (before : List Visit) (v : Visit) → StandsIn before v state.now → root ≡ root_by v.caller v.root (line of.now).number
-        → deeds.IsDeed (setting_of program.now v (line of.now).number) (line of.now) (effect_view d)) }
+        → effects.IsEffect (setting_of program.now v (line of.now).number) (line of.now) (effect_view d)) }
 {
     let at = Standing {
         program,
@@ -273,7 +273,7 @@ fn carry_out(
     ensures few { IfOk result (λ outcome. length out.new ≤ length out.old + 1) }
 {
     let root = root_of(state, of.line);
-    let found = deed_at(alloc, program, state, root, of, plan, buffer, spare)?;
+    let found = effect_at(alloc, program, state, root, of, plan, buffer, spare)?;
     match give(alloc, out, of, &found) {
         Ok(()) => {}
         Err(error) => {

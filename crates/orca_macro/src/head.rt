@@ -26,13 +26,13 @@ pub(crate) struct LineHead {
 
 impl LineHead {
     /// What stands behind the sequence symbol.
-    pub(crate) fn behind_sequence<'a>(&self, text: LinePart<'a>) -> LinePart<'a>
+    pub(crate) fn after_sequence<'a>(&self, text: LinePart<'a>) -> LinePart<'a>
         requires { self.now.sequence ≤ length text.bytes.now }
         ensures value { result.bytes.now ≡ drop self.now.sequence text.entry.bytes.now }
         ensures bound { length result.bytes.now ≤ length text.entry.bytes.now }
     {
-        let (_, behind) = text.bytes.split_at(self.sequence);
-        LinePart { bytes: behind }
+        let (_, following) = text.bytes.split_at(self.sequence);
+        LinePart { bytes: following }
     }
 
     /// The label, in a text behind its sequence symbol.

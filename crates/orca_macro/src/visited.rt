@@ -1,10 +1,10 @@
 //! What a visited line does (ORCA/M reference manual, "Conditional assembly directives").
 
 ghost use Rattle.std.specs.Prelude.{IsTrue, ◌≡◌, ◌==◌, ◌<◌, nat_lt, length, take, slice_get, Some, None, Ok, IfOk, MatchOption, false};
-ghost use Rattle.macro_meaning.specs.Effect.{calling_if, calling_at, begins_definition, IsDeed, IsStatement, IsShort, without_sequence_symbol};
+ghost use Rattle.macro_meaning.specs.Effect.{calling_if, calling_at, begins_definition, IsEffect, IsStatement, IsShort, without_sequence_symbol};
 ghost use Rattle.macro_meaning.specs.Substitution.{first_passes};
 ghost use Rattle.orca_symbols.specs.View.{values};
-ghost use Rattle.orca_macro.specs.DeedView.{effect_view, where_};
+ghost use Rattle.orca_macro.specs.EffectView.{effect_view, where_};
 ghost use Rattle.orca_macro.specs.Parts.{definition};
 ghost use Rattle.orca_macro.specs.Plan.{Fits, FitsLine, IsGiven, IsPlain, known_effect};
 ghost use Rattle.orca_macro.specs.Head.{HasFields, HasHead, MayHaveHead, BeginsSo};
@@ -26,7 +26,7 @@ use orca_symbols::{
     Symbols, TemplatePart, Values, Word, bind_arguments, instantiate, is_folded, is_operation,
     is_plain, names_count, skip_sequence_symbol, statement_of, substitute,
 };
-use orca_text::{LinePart, SourceLine, folded, is_comment, operand_behind, part, three_fields};
+use orca_text::{LinePart, SourceLine, folded, is_comment, operand_after, part, three_fields};
 use std::alloc::{AllocError, Global};
 
 /// Where a line stands.
@@ -195,7 +195,7 @@ fn headed_call<'a>(
 {
     match at.program.named(head.operation.bytes()) {
         Some((place, found)) => {
-            let operand = operand_behind(text, head.end);
+            let operand = operand_after(text, head.end);
             effect_of_call(
                 alloc,
                 at,
@@ -225,7 +225,7 @@ fn headed_statement<'a>(
 {
     match head.statement {
         Some(statement) => {
-            let operand = operand_behind(text, head.end);
+            let operand = operand_after(text, head.end);
             effect_of_statement(
                 alloc,
                 at.values,
@@ -240,7 +240,7 @@ fn headed_statement<'a>(
 }
 
 /// What a line does that has a head.
-#[tactic(auto, using(crate::proofs::Heads::after_cut, crate::proofs::Heads::behind_has))]
+#[tactic(auto, using(crate::proofs::Heads::after_cut, crate::proofs::Heads::after_has))]
 fn effect_of_head<'a>(
     alloc: Global,
     at: Standing<'_>,
@@ -259,8 +259,8 @@ fn effect_of_head<'a>(
     if begins_definition(at, of) {
         return Ok(Effect::NoEffect);
     }
-    let behind = head.behind_sequence(LinePart { bytes: text });
-    headed_statement(alloc, at, behind, head, spare)
+    let following = head.after_sequence(LinePart { bytes: text });
+    headed_statement(alloc, at, following, head, spare)
 }
 
 /// What a visited line does. The buffer takes its text, so that not each line takes memory anew.
@@ -272,7 +272,7 @@ pub(crate) fn effect_of<'a>(
     spare: &mut Symbols,
 ) -> Result<Effect<'a>, AllocError>
     requires { HaveFields of.now.text (line of.now).fields }
-    ensures { IfOk result (λ d. IsDeed (where_ at.entry) (line of.now) (effect_view d)) }
+    ensures { IfOk result (λ d. IsEffect (where_ at.entry) (line of.now) (effect_view d)) }
 {
     let text = of.text.bytes();
     if is_comment(text) {
@@ -303,7 +303,7 @@ fn effect_of_known<'a>(
     requires fields { HaveFields of.now.text (line of.now).fields }
     requires plain { IsPlain (line of.now) }
     requires known_effect { FitsLine (line of.now) (known_effect said.now) }
-    ensures { IfOk result (λ d. IsDeed (where_ at.entry) (line of.now) (effect_view d)) }
+    ensures { IfOk result (λ d. IsEffect (where_ at.entry) (line of.now) (effect_view d)) }
 {
     match said {
         KnownHead::Rests => Ok(Effect::NoEffect),
@@ -352,7 +352,7 @@ fn effect_of_fields<'a>(
     requires other { is_comment of.now.text ≡ false }
     requires parts { HasParts (line of.now) parts.now }
     requires head { BeginsSo parts.now head.now }
-    ensures { IfOk result (λ d. IsDeed (where_ at.entry) (line of.now) (effect_view d)) }
+    ensures { IfOk result (λ d. IsEffect (where_ at.entry) (line of.now) (effect_view d)) }
 {
     if !instantiate(at.values, parts, buffer)? {
         return Ok(Effect::Fail(MacroCause::NoSuchSymbol));
@@ -372,7 +372,7 @@ pub(crate) fn effect_of_template<'a>(
 ) -> Result<Effect<'a>, AllocError>
     requires fields { HaveFields of.now.text (line of.now).fields }
     requires plan { Fits (line of.now) plan.now }
-    ensures { IfOk result (λ d. IsDeed (where_ at.entry) (line of.now) (effect_view d)) }
+    ensures { IfOk result (λ d. IsEffect (where_ at.entry) (line of.now) (effect_view d)) }
 {
     match plan {
         LinePlan::Comment => Ok(Effect::NoEffect),

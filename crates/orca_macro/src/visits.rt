@@ -3,10 +3,10 @@
 ghost use Rattle.std.specs.Prelude.{◌≡◌, ◌≤◌, ◌<◌, ◌+◌, ◌^◌, ◌∷◌, ◌++◌, [], List, ℕ, Option, length, Some, None, IfOk, OnOk, IfSome, MatchOption};
 ghost use Rattle.macro_meaning.specs.Symbol.{SharedTexts};
 ghost use Rattle.macro_meaning.specs.Visit.{Visit, On, Ends, Program, move_after_expansion, next_line, line_at, root_by, branch_to, call_of, target_of, body_of, move_of, shared_first};
-ghost use Rattle.macro_meaning.specs.Effect as deeds;
+ghost use Rattle.macro_meaning.specs.Effect as effects;
 ghost use Rattle.orca_meaning.specs.Line as meaning;
 ghost use Rattle.orca_symbols.specs.Changes.{IsDeclared, IsAssigned};
-ghost use Rattle.orca_macro.specs.DeedView.{effect_view};
+ghost use Rattle.orca_macro.specs.EffectView.{effect_view};
 ghost use Rattle.orca_symbols.specs.Frame.{Frame, frame, stack_of};
 ghost use Rattle.orca_macro.specs.Stacks.{Stacks, Stands, IsBack, MovesTo};
 ghost use Rattle.orca_macro.specs.StateView.{StandsIn, MovesIn};
@@ -181,7 +181,7 @@ fn call(
     requires line { state.old.scope.line + 1 < 2 ^ 32 }
     requires calls { state.old.calls + 1 < 2 ^ 32 }
     ensures moves { IfOk result (λ outcome. (before : List Visit) (v : Visit) (line : meaning.Line) → StandsIn before v state.old → root ≡ root_by v.caller v.root line.number
-        → MovesIn (move_of program.now before v line (deeds.CallMacro place (symbols_of symbols))) (before ++ v ∷ []) line outcome state.new) }
+        → MovesIn (move_of program.now before v line (effects.CallMacro place (symbols_of symbols))) (before ++ v ∷ []) line outcome state.new) }
     ensures calls { IfOk result (λ outcome. state.new.calls ≤ state.old.calls + 1) }
 {
     if state.frames.count() == MOST_NESTED {
@@ -211,7 +211,7 @@ fn declare_symbol(
 ) -> Result<Flow, AllocError>
     requires { state.old.scope.line + 1 < 2 ^ 32 }
     ensures moves { IfOk result (λ outcome. (before : List Visit) (v : Visit) (line : meaning.Line) → StandsIn before v state.old
-        → MovesIn (move_of program.now before v line (deeds.DeclareSymbol name.now declaration)) (before ++ v ∷ []) line outcome state.new) }
+        → MovesIn (move_of program.now before v line (effects.DeclareSymbol name.now declaration)) (before ++ v ∷ []) line outcome state.new) }
     ensures calls { IfOk result (λ outcome. state.new.calls ≤ state.old.calls + 1) }
 {
     declare(
@@ -236,7 +236,7 @@ fn assign_symbol(
 ) -> Result<Flow, AllocError>
     requires { state.old.scope.line + 1 < 2 ^ 32 }
     ensures moves { IfOk result (λ outcome. (before : List Visit) (v : Visit) (line : meaning.Line) → StandsIn before v state.old
-        → MovesIn (move_of program.now before v line (deeds.SetSymbol name.now kind text)) (before ++ v ∷ []) line outcome state.new) }
+        → MovesIn (move_of program.now before v line (effects.SetSymbol name.now kind text)) (before ++ v ∷ []) line outcome state.new) }
     ensures calls { IfOk result (λ outcome. state.new.calls ≤ state.old.calls + 1) }
 {
     assign(

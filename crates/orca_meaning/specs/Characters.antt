@@ -24,7 +24,7 @@ is_name_byte byte = is_name_start byte || is_decimal_digit byte
 
 unfoldable pub is_name : List ℕ → Bool
 is_name [] = false
-is_name (byte ∷ behind) = is_name_start byte && list_all is_name_byte behind
+is_name (byte ∷ following) = is_name_start byte && list_all is_name_byte following
 
 -- letters are folded to upper case in names and operations
 abbrev pub folded : List ℕ → List ℕ

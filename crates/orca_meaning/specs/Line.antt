@@ -20,7 +20,7 @@ is_ink byte = not (is_blank byte)
 -- a line that is blank, or begins with `*`, `;` or `!`
 abbrev pub is_comment : List ℕ → Bool
 is_comment [] = true
-is_comment (first ∷ behind) = first == ascii.star || first == ascii.semicolon || first == ascii.exclamation || list_all is_blank (first ∷ behind)
+is_comment (first ∷ following) = first == ascii.star || first == ascii.semicolon || first == ascii.exclamation || list_all is_blank (first ∷ following)
 
 -- the places of a line's fields
 pub record Fields : Type 0 where
@@ -120,8 +120,8 @@ pub record HaveFields (text : List ℕ) (fields : Fields) : Type 0 where
 pub record AreParted (text : List ℕ) (fields : Fields) : Type 0 where
   pub before : List ℕ
   pub between : List ℕ
-  pub behind : List ℕ
-  pub whole : text ≡ part text fields.label ++ (before ++ (part text fields.operation ++ (between ++ (part text fields.operand ++ behind))))
+  pub following : List ℕ
+  pub whole : text ≡ part text fields.label ++ (before ++ (part text fields.operation ++ (between ++ (part text fields.operand ++ following))))
   pub label : AllByRecursion (λ byte. is_blank byte ≡ false) (part text fields.label)
   pub first_blanks : AllByRecursion (λ byte. is_blank byte ≡ true) before
   pub operation : AllByRecursion (λ byte. is_blank byte ≡ false) (part text fields.operation)

@@ -28,17 +28,17 @@ use Rattle.orca_meaning.specs.Operation.{use_of}
 -- `#` and `[` open an operand, and `(` where the operation is an instruction; elsewhere `(` belongs to the formula
 abbrev pub opening_of : Bool → List ℕ → Opening
 opening_of is_instruction [] = Open
-opening_of is_instruction (byte ∷ behind) =
+opening_of is_instruction (byte ∷ following) =
     if byte == ascii.number_sign then Hash
     else if byte == ascii.opening_round && is_instruction then Round
     else if byte == ascii.opening_square then Square
     else Open
 
-abbrev pub behind_opening : Opening → List ℕ → List ℕ
-behind_opening Open text = text
-behind_opening Hash text = drop 1 text
-behind_opening Round text = drop 1 text
-behind_opening Square text = drop 1 text
+abbrev pub after_opening : Opening → List ℕ → List ℕ
+after_opening Open text = text
+after_opening Hash text = drop 1 text
+after_opening Round text = drop 1 text
+after_opening Square text = drop 1 text
 
 -- `<`, `>` and `^` behind `#`
 abbrev pub immediate_prefix : ℕ → Prefix
@@ -57,14 +57,14 @@ prefix_by Square byte = address_prefix byte
 
 abbrev pub prefix_of : Opening → List ℕ → Prefix
 prefix_of opening [] = Bare
-prefix_of opening (byte ∷ behind) = prefix_by opening byte
+prefix_of opening (byte ∷ following) = prefix_by opening byte
 
-abbrev pub behind_prefix : Prefix → List ℕ → List ℕ
-behind_prefix Bare text = text
-behind_prefix Less text = drop 1 text
-behind_prefix Bar text = drop 1 text
-behind_prefix Greater text = drop 1 text
-behind_prefix Caret text = drop 1 text
+abbrev pub after_prefix : Prefix → List ℕ → List ℕ
+after_prefix Bare text = text
+after_prefix Less text = drop 1 text
+after_prefix Bar text = drop 1 text
+after_prefix Greater text = drop 1 text
+after_prefix Caret text = drop 1 text
 
 -- ---- behind the formula
 
@@ -75,20 +75,20 @@ register_of letter =
     if capital == ascii.capital_x then Some X else if capital == ascii.capital_y then Some Y else if capital == ascii.capital_s then Some S else None
 
 abbrev pub index_or : Option Index → List ℕ → List ℕ → Index × List ℕ
-index_or (Some index) text behind = (index, behind)
-index_or None text behind = (Absent, text)
+index_or (Some index) text following = (index, following)
+index_or None text following = (Absent, text)
 
 -- the index at the front, a comma and a register, and what stands behind it
 unfoldable pub index_at : List ℕ → Index × List ℕ
 index_at [] = (Absent, [])
 index_at (byte ∷ []) = (Absent, byte ∷ [])
-index_at (comma ∷ letter ∷ behind) =
-    index_or (if comma == ascii.comma then register_of letter else None) (comma ∷ letter ∷ behind) behind
+index_at (comma ∷ letter ∷ following) =
+    index_or (if comma == ascii.comma then register_of letter else None) (comma ∷ letter ∷ following) following
 
 -- the index of a whole text, if it is one or nothing
 abbrev pub index_alone : Index × List ℕ → Option Index
 index_alone (index, []) = Some index
-index_alone (index, byte ∷ behind) = None
+index_alone (index, byte ∷ following) = None
 
 unfoldable pub whole_index : List ℕ → Option Index
 whole_index text = index_alone (index_at text)
@@ -96,7 +96,7 @@ whole_index text = index_alone (index_at text)
 -- an index or none, the closing byte, and an index or none up to the end
 abbrev pub closed_by : ℕ → Index × List ℕ → Option (Index × Index)
 closed_by close (inner, []) = None
-closed_by close (inner, byte ∷ behind) = if byte == close then option_map (λ outer. (inner, outer)) (whole_index behind) else None
+closed_by close (inner, byte ∷ following) = if byte == close then option_map (λ outer. (inner, outer)) (whole_index following) else None
 
 unfoldable pub indexes_around : ℕ → List ℕ → Option (Index × Index)
 indexes_around close text = closed_by close (index_at text)
@@ -122,14 +122,14 @@ square_form _ = Other
 
 abbrev pub immediate_form : List ℕ → Option Form
 immediate_form [] = Some Immediate
-immediate_form (byte ∷ behind) = None
+immediate_form (byte ∷ following) = None
 
 -- the form of an operand by its opening and what stands behind its formula
-abbrev pub form_behind : Opening → List ℕ → Option Form
-form_behind Open rest = option_map plain_form (whole_index rest)
-form_behind Hash rest = immediate_form rest
-form_behind Round rest = option_map round_form (indexes_around ascii.closing_round rest)
-form_behind Square rest = option_map square_form (indexes_around ascii.closing_square rest)
+abbrev pub form_after : Opening → List ℕ → Option Form
+form_after Open rest = option_map plain_form (whole_index rest)
+form_after Hash rest = immediate_form rest
+form_after Round rest = option_map round_form (indexes_around ascii.closing_round rest)
+form_after Square rest = option_map square_form (indexes_around ascii.closing_square rest)
 
 -- ---- operands
 
@@ -154,11 +154,11 @@ abbrev pub opening : Option Mnemonic → List ℕ → Opening
 opening mnemonic text = opening_of (is_some mnemonic) text
 
 abbrev pub prefix : Option Mnemonic → List ℕ → Prefix
-prefix mnemonic text = prefix_of (opening mnemonic text) (behind_opening (opening mnemonic text) text)
+prefix mnemonic text = prefix_of (opening mnemonic text) (after_opening (opening mnemonic text) text)
 
 -- where the formula begins
 abbrev pub body : Option Mnemonic → List ℕ → List ℕ
-body mnemonic text = behind_prefix (prefix mnemonic text) (behind_opening (opening mnemonic text) text)
+body mnemonic text = after_prefix (prefix mnemonic text) (after_opening (opening mnemonic text) text)
 
 -- what an operand's text is, in a line with this mnemonic or none
 pub data IsOperand (mnemonic : Option Mnemonic) (text : List ℕ) (meaning : Meaning) : Type 0 where
@@ -166,11 +166,11 @@ pub data IsOperand (mnemonic : Option Mnemonic) (text : List ℕ) (meaning : Mea
   IsInAccumulator : is_accumulator mnemonic text ≡ true → meaning ≡ record { form = Accumulator; prefix = Bare; trees = [] }
       → IsOperand mnemonic text meaning
   IsOne : is_accumulator mnemonic text ≡ false → (tree : Tree) (rest : List ℕ) (form : Form)
-      → MeansAt Labels (body mnemonic text) tree rest → form_behind (opening mnemonic text) rest ≡ Some form
+      → MeansAt Labels (body mnemonic text) tree rest → form_after (opening mnemonic text) rest ≡ Some form
       → meaning ≡ record { form = form; prefix = prefix mnemonic text; trees = tree ∷ [] } → IsOperand mnemonic text meaning
-  IsTwo : is_accumulator mnemonic text ≡ false → opening mnemonic text ≡ Open → (first second : Tree) (behind : List ℕ)
-      → MeansAt Labels (body mnemonic text) first (ascii.comma ∷ behind) → whole_index (ascii.comma ∷ behind) ≡ None
-      → MeansAt Labels behind second [] → meaning ≡ record { form = Pair; prefix = prefix mnemonic text; trees = first ∷ second ∷ [] }
+  IsTwo : is_accumulator mnemonic text ≡ false → opening mnemonic text ≡ Open → (first second : Tree) (following : List ℕ)
+      → MeansAt Labels (body mnemonic text) first (ascii.comma ∷ following) → whole_index (ascii.comma ∷ following) ≡ None
+      → MeansAt Labels following second [] → meaning ≡ record { form = Pair; prefix = prefix mnemonic text; trees = first ∷ second ∷ [] }
       → IsOperand mnemonic text meaning
 
 -- how many values the location counter counts: in an instruction it is written as two

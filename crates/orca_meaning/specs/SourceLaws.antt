@@ -13,16 +13,16 @@ use Rattle.orca_meaning.specs.Operand.{Meaning, IsOperand}
 
 -- bytes without LF and CR, and then LF, are a line; the lines behind are those of the rest
 abbrev pub LfEndsLine : Type 0
-LfEndsLine = (line behind : List ℕ) → HasNoEnd line → lines_of (line ++ 0x0A ∷ behind) ≡ line ∷ lines_of behind
+LfEndsLine = (line following : List ℕ) → HasNoEnd line → lines_of (line ++ 0x0A ∷ following) ≡ line ∷ lines_of following
 
 -- the same before CR LF
 abbrev pub CrLfEndsLine : Type 0
-CrLfEndsLine = (line behind : List ℕ) → HasNoEnd line → lines_of (line ++ 0x0D ∷ 0x0A ∷ behind) ≡ line ∷ lines_of behind
+CrLfEndsLine = (line following : List ℕ) → HasNoEnd line → lines_of (line ++ 0x0D ∷ 0x0A ∷ following) ≡ line ∷ lines_of following
 
 -- and before CR, where no LF comes next
 abbrev pub CrEndsLine : Type 0
-CrEndsLine = (line behind : List ℕ) → HasNoEnd line → (slice_index behind 0 == 0x0A) ≡ false
-    → lines_of (line ++ 0x0D ∷ behind) ≡ line ∷ lines_of behind
+CrEndsLine = (line following : List ℕ) → HasNoEnd line → (slice_index following 0 == 0x0A) ≡ false
+    → lines_of (line ++ 0x0D ∷ following) ≡ line ∷ lines_of following
 
 -- bytes without an end, of which there is one at least, are a line too
 abbrev pub LastNeedsNoEnd : Type 0

@@ -47,33 +47,33 @@ digits_at base text =
 
 -- the number of one to four bytes up to the closing quote, the first of them lowest
 unfoldable pub text_at : ℕ → List ℕ → Found ℕ
-text_at quote behind =
-    let n = position_or_len (λ byte. byte == quote) behind in
-    if nat_le 1 n && nat_le n 4 && nat_lt n (length behind) then Some (little_number n behind, drop (n + 1) behind) else None
+text_at quote following =
+    let n = position_or_len (λ byte. byte == quote) following in
+    if nat_le 1 n && nat_le n 4 && nat_lt n (length following) then Some (little_number n following, drop (n + 1) following) else None
 
 -- a number: hexadecimal behind `$`, binary behind `%`, octal behind `@`, a text in quotes, or decimal
 unfoldable pub number_at : List ℕ → Found ℕ
 number_at [] = None
-number_at (byte ∷ behind) =
-    if byte == ascii.dollar then digits_at 16 behind
-    else if byte == ascii.percent then digits_at 2 behind
-    else if byte == ascii.at_sign then digits_at 8 behind
-    else if byte == ascii.apostrophe || byte == ascii.double_quote then text_at byte behind
-    else digits_at 10 (byte ∷ behind)
+number_at (byte ∷ following) =
+    if byte == ascii.dollar then digits_at 16 following
+    else if byte == ascii.percent then digits_at 2 following
+    else if byte == ascii.at_sign then digits_at 8 following
+    else if byte == ascii.apostrophe || byte == ascii.double_quote then text_at byte following
+    else digits_at 10 (byte ∷ following)
 
 -- ---- names
 
 -- the longest name at the front, in upper case
 unfoldable pub name_at : List ℕ → Found (List ℕ)
 name_at [] = None
-name_at (byte ∷ behind) =
-    let n = prefix_len is_name_byte behind in
-    if is_name_start byte then Some (folded (byte ∷ take n behind), drop n behind) else None
+name_at (byte ∷ following) =
+    let n = prefix_len is_name_byte following in
+    if is_name_start byte then Some (folded (byte ∷ take n following), drop n following) else None
 
 -- the name of a symbol behind `&`
 unfoldable pub symbol_at : List ℕ → Found (List ℕ)
 symbol_at [] = None
-symbol_at (byte ∷ behind) = if byte == ascii.ampersand then name_at behind else None
+symbol_at (byte ∷ following) = if byte == ascii.ampersand then name_at following else None
 
 -- what is asked of a name by this letter before a colon
 abbrev pub asked_by : ℕ → Found (List ℕ) → Found Operand
@@ -86,14 +86,14 @@ asked_by letter name =
 unfoldable pub attribute_at : (List ℕ → Found (List ℕ)) → List ℕ → Found Operand
 attribute_at name [] = None
 attribute_at name (letter ∷ []) = None
-attribute_at name (letter ∷ colon ∷ behind) = if colon == ascii.colon then asked_by letter (name behind) else None
+attribute_at name (letter ∷ colon ∷ following) = if colon == ascii.colon then asked_by letter (name following) else None
 
 -- ---- operands
 
 -- the location counter `*`
 unfoldable pub location_at : List ℕ → Found Operand
 location_at [] = None
-location_at (byte ∷ behind) = if byte == ascii.star then Some (Here, behind) else None
+location_at (byte ∷ following) = if byte == ascii.star then Some (Here, following) else None
 
 -- the operand at the front that isn't a number
 abbrev pub other_operand_at : Operands → List ℕ → Found Operand
@@ -132,7 +132,7 @@ operator_at text = spelled_at operators text
 -- this token, where this byte stands at the front
 unfoldable pub byte_at : ℕ → Token → List ℕ → Found Token
 byte_at wanted token [] = None
-byte_at wanted token (byte ∷ behind) = if byte == wanted then Some (token, behind) else None
+byte_at wanted token (byte ∷ following) = if byte == wanted then Some (token, following) else None
 
 -- the token at the front where an operand is expected: a parenthesis, an operator before an operand, or an operand
 unfoldable pub operand_token_at : Operands → List ℕ → Found Token
@@ -148,15 +148,15 @@ token_at operands true text = operand_token_at operands text
 token_at operands false text = operator_token_at text
 
 -- whether an operand is expected behind a token
-abbrev pub expects_behind : Token → Bool
-expects_behind (Value operand) = false
-expects_behind (Before sign) = true
-expects_behind (Between operator) = true
-expects_behind Opens = true
-expects_behind Closes = false
+abbrev pub expects_following : Token → Bool
+expects_following (Value operand) = false
+expects_following (Before sign) = true
+expects_following (Between operator) = true
+expects_following Opens = true
+expects_following Closes = false
 
 -- these tokens stand one behind another at the front of the text, and then the rest
 abbrev pub Stand : Operands → Bool → List ℕ → List Token → List ℕ → Type 0
 Stand operands expects text [] rest = rest ≡ text
 Stand operands expects text (token ∷ tokens) rest =
-    (behind : List ℕ) × (token_at operands expects text ≡ Some (token, behind)) × Stand operands (expects_behind token) behind tokens rest
+    (following : List ℕ) × (token_at operands expects text ≡ Some (token, following)) × Stand operands (expects_following token) following tokens rest

@@ -49,7 +49,7 @@ pub stops : (lines : List Line) (place : ℕ) (k : AsmState) (line : Line) (caus
 stops lines place k line cause fault u here wrong is = record {
   before = take place lines;
   line = line;
-  behind = drop (place + 1) lines;
+  following = drop (place + 1) lines;
   cause = cause;
   last = u.state;
   lines_are = split_at lines place line here;

@@ -11,7 +11,7 @@ use Rattle.orca_text.specs.FormulaAt.{IsFormulaAt, HasNoFormula}
 use Rattle.orca_text.specs.Kept.{fitting}
 use Rattle.asm_meaning.specs.Answer.{Answer}
 use Rattle.asm_meaning.specs.Constant.{Constants}
-use Rattle.asm_meaning.specs.Elements.{Repeat, Digits, Computed, behind_parenthesis, IsRepeatBy, IsRepeatAt, count_of}
+use Rattle.asm_meaning.specs.Elements.{Repeat, Digits, Computed, after_parenthesis, IsRepeatBy, IsRepeatAt, count_of}
 use Rattle.orca_object.specs.DcView.{IsComputed, IsCounted, HasCount, count_by}
 
 pub if_some : {A : Type 0} (P Q : A → Type 0) (o : Option A) → IfSome o P → ((x : A) → P x → Q x) → IfSome o Q
@@ -24,23 +24,23 @@ if_none P Q (Some x) is step = tt
 
 -- ---- a formula in parentheses
 
-pub computed_is : (cs : Constants) (text behind : List ℕ) (answer : Answer ℕ) (rest : List ℕ) → behind_parenthesis text ≡ Some behind → IsComputed cs behind answer rest → HasCount cs text answer rest
-computed_is cs text behind answer rest opens c = record {
+pub computed_is : (cs : Constants) (text following : List ℕ) (answer : Answer ℕ) (rest : List ℕ) → after_parenthesis text ≡ Some following → IsComputed cs following answer rest → HasCount cs text answer rest
+computed_is cs text following answer rest opens c = record {
   repeat = Computed c.tree;
   is = subst (λ (o : Option (List ℕ)). IsRepeatBy o (digits_at 10 text) text (Computed c.tree) rest) (sym opens) (c.tree, c.means, refl);
   gives = c.gives;
 }
 
-pub computed_none : (text behind : List ℕ) → behind_parenthesis text ≡ Some behind → ((tree : Tree) (rest : List ℕ) → MeansAt Labels behind tree (0x29 ∷ rest) → ⊥) → (repeat : Repeat) (rest : List ℕ) → IsRepeatAt text repeat rest → ⊥
-computed_none text behind opens none repeat rest is =
+pub computed_none : (text following : List ℕ) → after_parenthesis text ≡ Some following → ((tree : Tree) (rest : List ℕ) → MeansAt Labels following tree (0x29 ∷ rest) → ⊥) → (repeat : Repeat) (rest : List ℕ) → IsRepeatAt text repeat rest → ⊥
+computed_none text following opens none repeat rest is =
     let there = subst (λ (o : Option (List ℕ)). IsRepeatBy o (digits_at 10 text) text repeat rest) opens is in
     none there.0 rest there.1
 
-pub no_computed : (behind : List ℕ) → HasNoFormula Labels behind → (tree : Tree) (rest : List ℕ) → MeansAt Labels behind tree (0x29 ∷ rest) → ⊥
-no_computed behind none tree rest is = none tree (0x29 ∷ rest) is
+pub no_computed : (following : List ℕ) → HasNoFormula Labels following → (tree : Tree) (rest : List ℕ) → MeansAt Labels following tree (0x29 ∷ rest) → ⊥
+no_computed following none tree rest is = none tree (0x29 ∷ rest) is
 
-pub not_closed : (behind : List ℕ) (terms : List Term) (large : Bool) (r : List ℕ) → IsFormulaAt Labels behind terms large r → ((s : List ℕ) → r ≢ 0x29 ∷ s) → (tree : Tree) (rest : List ℕ) → MeansAt Labels behind tree (0x29 ∷ rest) → ⊥
-not_closed behind terms large r f other tree rest is = other rest (one_tree Labels behind f.tree tree r (0x29 ∷ rest) f.means is).1
+pub not_closed : (following : List ℕ) (terms : List Term) (large : Bool) (r : List ℕ) → IsFormulaAt Labels following terms large r → ((s : List ℕ) → r ≢ 0x29 ∷ s) → (tree : Tree) (rest : List ℕ) → MeansAt Labels following tree (0x29 ∷ rest) → ⊥
+not_closed following terms large r f other tree rest is = other rest (one_tree Labels following f.tree tree r (0x29 ∷ rest) f.means is).1
 
 -- ---- digits
 
@@ -68,7 +68,7 @@ counted text n answer rest seen is = by_digits (digits_at 10 text) refl seen
         there : ℕ → List ℕ → Found ℕ
         there m r = Some (m, r)
 
-pub digits_are : (cs : Constants) (text : List ℕ) (answer : Answer ℕ) (rest : List ℕ) → behind_parenthesis text ≡ None → IsCounted text answer rest → HasCount cs text answer rest
+pub digits_are : (cs : Constants) (text : List ℕ) (answer : Answer ℕ) (rest : List ℕ) → after_parenthesis text ≡ None → IsCounted text answer rest → HasCount cs text answer rest
 digits_are cs text answer rest none c = record {
   repeat = Digits c.n;
   is = subst (λ (o : Option (List ℕ)). IsRepeatBy o (digits_at 10 text) text (Digits c.n) rest) (sym none)

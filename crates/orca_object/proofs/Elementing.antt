@@ -6,7 +6,7 @@ use Rattle.omf_format.specs.Expression.{Leaf, Named, term_text}
 use Rattle.orca_meaning.specs.Token.{digits_at}
 use Rattle.asm_meaning.specs.Answer.{Answer}
 use Rattle.asm_meaning.specs.Constant.{Constants}
-use Rattle.asm_meaning.specs.Elements.{Repeat, Numbers, Fixed, Text, Asked, Weak, Element, Kind, Number, Hexadecimal, Binary, Characters, References, WeakReferences, closed_at, text_at, kind_at, bytes_of_digits, AreNames, IsRepeatAt, IsElementAt, IsValueAt, behind_parenthesis, text_byte, strong_piece, weak_piece, element_pieces}
+use Rattle.asm_meaning.specs.Elements.{Repeat, Numbers, Fixed, Text, Asked, Weak, Element, Kind, Number, Hexadecimal, Binary, Characters, References, WeakReferences, closed_at, text_at, kind_at, bytes_of_digits, AreNames, IsRepeatAt, IsElementAt, IsValueAt, after_parenthesis, text_byte, strong_piece, weak_piece, element_pieces}
 use Rattle.asm_meaning.specs.Formulas.{expression_text}
 use Rattle.asm_meaning.specs.laws.GivenLaws.{IsNameLength, closed-le, names_length, repeat-le, kind_is, IsWidth}
 use Rattle.asm_meaning.specs.Pieces.{Piece, Bytes}
@@ -67,23 +67,23 @@ width_by kind_names.Characters is = tt
 width_by kind_names.References is = tt
 width_by kind_names.WeakReferences is = tt
 
-pub has_width : (behind quote : List ℕ) (kind : kinds.ElementKind) → kind_at behind ≡ Some (element_kind kind, quote) → HasWidth kind
-has_width behind quote kind is = width_by kind (kind_is behind (element_kind kind) quote is).0
+pub has_width : (following quote : List ℕ) (kind : kinds.ElementKind) → kind_at following ≡ Some (element_kind kind, quote) → HasWidth kind
+has_width following quote kind is = width_by kind (kind_is following (element_kind kind) quote is).0
 
-pub inner_short : (cs : Constants) (text behind quote inner : List ℕ) (kind : kinds.ElementKind) (count : Answer ℕ) → length text ≤ 255 → HasCount cs text count behind → kind_at behind ≡ Some (element_kind kind, quote) → quote ≡ 0x27 ∷ inner
+pub inner_short : (cs : Constants) (text following quote inner : List ℕ) (kind : kinds.ElementKind) (count : Answer ℕ) → length text ≤ 255 → HasCount cs text count following → kind_at following ≡ Some (element_kind kind, quote) → quote ≡ 0x27 ∷ inner
     → length inner ≤ 255
-inner_short cs text behind quote inner kind count short h is parts =
-    omega (arith, short, repeat-le (behind_parenthesis text) (digits_at 10 text) text h.repeat behind refl refl h.is, (kind_is behind (element_kind kind) quote is).1, ap length parts)
+inner_short cs text following quote inner kind count short h is parts =
+    omega (arith, short, repeat-le (after_parenthesis text) (digits_at 10 text) text h.repeat following refl refl h.is, (kind_is following (element_kind kind) quote is).1, ap length parts)
 
-pub has_element : (cs : Constants) (msb : Bool) (text behind quote inner rest : List ℕ) (kind : kinds.ElementKind) (count : Answer ℕ) (value part : Answer (List Piece)) → HasCount cs text count behind
-    → kind_at behind ≡ Some (element_kind kind, quote) → quote ≡ 0x27 ∷ inner → HasValue cs msb (element_kind kind) inner value rest → part ≡ repeated_pieces count value → HasElement cs msb text part rest
+pub has_element : (cs : Constants) (msb : Bool) (text following quote inner rest : List ℕ) (kind : kinds.ElementKind) (count : Answer ℕ) (value part : Answer (List Piece)) → HasCount cs text count following
+    → kind_at following ≡ Some (element_kind kind, quote) → quote ≡ 0x27 ∷ inner → HasValue cs msb (element_kind kind) inner value rest → part ≡ repeated_pieces count value → HasElement cs msb text part rest
 unfolding element_pieces
-has_element cs msb text behind quote inner rest kind count value part h kind_is' parts v is = record {
+has_element cs msb text following quote inner rest kind count value part h kind_is' parts v is = record {
   element = record { repeat = h.repeat; value = v.value };
   is = record {
-    behind_repeat = behind;
+    after_repeat = following;
     kind = element_kind kind;
-    behind_quote = inner;
+    after_quote = inner;
     repeat = h.is;
     of_kind = kind_is' ∙ ap (λ (q : List ℕ). found (element_kind kind) q) parts;
     value = v.is;
@@ -95,31 +95,31 @@ has_element cs msb text behind quote inner rest kind count value part h kind_is'
     found k q = Some (k, q)
 
 pub no_count : (text : List ℕ) → ((repeat : Repeat) (rest : List ℕ) → IsRepeatAt text repeat rest → ⊥) → (element : Element) (rest : List ℕ) → IsElementAt text element rest → ⊥
-no_count text none element rest is = none element.repeat is.behind_repeat is.repeat
+no_count text none element rest is = none element.repeat is.after_repeat is.repeat
 
-same_front : (cs : Constants) (text behind : List ℕ) (count : Answer ℕ) (element : Element) (rest : List ℕ) → HasCount cs text count behind → (e : IsElementAt text element rest) → e.behind_repeat ≡ behind
-same_front cs text behind count element rest h e = (repeat_once (behind_parenthesis text) (digits_at 10 text) text element.repeat h.repeat e.behind_repeat behind e.repeat h.is).1
+same_front : (cs : Constants) (text following : List ℕ) (count : Answer ℕ) (element : Element) (rest : List ℕ) → HasCount cs text count following → (e : IsElementAt text element rest) → e.after_repeat ≡ following
+same_front cs text following count element rest h e = (repeat_once (after_parenthesis text) (digits_at 10 text) text element.repeat h.repeat e.after_repeat following e.repeat h.is).1
 
-pub no_kind : (cs : Constants) (text behind : List ℕ) (count : Answer ℕ) → HasCount cs text count behind → kind_at behind ≡ None → (element : Element) (rest : List ℕ) → IsElementAt text element rest → ⊥
-no_kind cs text behind count h none element rest e =
-    let there = sym (ap kind_at (same_front cs text behind count element rest h e)) ∙ e.of_kind in
-    no_some (e.kind, 0x27 ∷ e.behind_quote) (sym none ∙ there)
+pub no_kind : (cs : Constants) (text following : List ℕ) (count : Answer ℕ) → HasCount cs text count following → kind_at following ≡ None → (element : Element) (rest : List ℕ) → IsElementAt text element rest → ⊥
+no_kind cs text following count h none element rest e =
+    let there = sym (ap kind_at (same_front cs text following count element rest h e)) ∙ e.of_kind in
+    no_some (e.kind, 0x27 ∷ e.after_quote) (sym none ∙ there)
   where
     no_some : (x : Kind × List ℕ) → None ≡ Some x → ⊥
     no_some x e = cc
 
-pub no_quote : (cs : Constants) (text behind quote : List ℕ) (kind : kinds.ElementKind) (count : Answer ℕ) → HasCount cs text count behind → kind_at behind ≡ Some (element_kind kind, quote) → ((inner : List ℕ) → quote ≢ 0x27 ∷ inner)
+pub no_quote : (cs : Constants) (text following quote : List ℕ) (kind : kinds.ElementKind) (count : Answer ℕ) → HasCount cs text count following → kind_at following ≡ Some (element_kind kind, quote) → ((inner : List ℕ) → quote ≢ 0x27 ∷ inner)
     → (element : Element) (rest : List ℕ) → IsElementAt text element rest → ⊥
-no_quote cs text behind quote kind count h is other element rest e =
-    let there = sym (ap kind_at (same_front cs text behind count element rest h e)) ∙ e.of_kind in
-    other e.behind_quote (same_found (kind_at behind) (element_kind kind) e.kind quote (0x27 ∷ e.behind_quote) is there).1
+no_quote cs text following quote kind count h is other element rest e =
+    let there = sym (ap kind_at (same_front cs text following count element rest h e)) ∙ e.of_kind in
+    other e.after_quote (same_found (kind_at following) (element_kind kind) e.kind quote (0x27 ∷ e.after_quote) is there).1
 
-pub no_value : (cs : Constants) (text behind quote inner : List ℕ) (kind : kinds.ElementKind) (count : Answer ℕ) → HasCount cs text count behind → kind_at behind ≡ Some (element_kind kind, quote) → quote ≡ 0x27 ∷ inner
+pub no_value : (cs : Constants) (text following quote inner : List ℕ) (kind : kinds.ElementKind) (count : Answer ℕ) → HasCount cs text count following → kind_at following ≡ Some (element_kind kind, quote) → quote ≡ 0x27 ∷ inner
     → HasNoValue (element_kind kind) inner → (element : Element) (rest : List ℕ) → IsElementAt text element rest → ⊥
-no_value cs text behind quote inner kind count h is parts none element rest e =
-    let there = sym (ap kind_at (same_front cs text behind count element rest h e)) ∙ e.of_kind in
-    let both = same_found (kind_at behind) (element_kind kind) e.kind quote (0x27 ∷ e.behind_quote) is there in
-    let inner_is : inner ≡ e.behind_quote = same_inner inner e.behind_quote (sym parts ∙ both.1) in
+no_value cs text following quote inner kind count h is parts none element rest e =
+    let there = sym (ap kind_at (same_front cs text following count element rest h e)) ∙ e.of_kind in
+    let both = same_found (kind_at following) (element_kind kind) e.kind quote (0x27 ∷ e.after_quote) is there in
+    let inner_is : inner ≡ e.after_quote = same_inner inner e.after_quote (sym parts ∙ both.1) in
     none element.value rest (subst (λ (k : Kind). IsValueAt k inner element.value rest) (sym both.0) (subst (λ (t : List ℕ). IsValueAt e.kind t element.value rest) (sym inner_is) e.value))
   where
     same_inner : (a b : List ℕ) → 0x27 ∷ a ≡ 0x27 ∷ b → a ≡ b

@@ -5,7 +5,7 @@ use Rattle.std.specs.Global.{Vec}
 use Rattle.byteorder.specs.Endian.{little_bytes}
 use Rattle.omf_format.specs.Record.{Const, Formula, spelling}
 use Rattle.asm_meaning.specs.Object.{records_text}
-use Rattle.asm_meaning.specs.Pieces.{constant_records, records_behind}
+use Rattle.asm_meaning.specs.Pieces.{constant_records, records_after}
 use Rattle.orca_object.specs.declared.short_bytes.ShortBytes.{ShortBytes}
 use Rattle.orca_object.specs.declared.encoding.Encoding.{Encoding}
 use Rattle.orca_object.specs.declared.encoding.Encoding.TheVariants.{Bytes, Operand}
@@ -61,10 +61,10 @@ near_text opcode code count n expr other = by_code (eqb code 0xEE) refl ∙ oper
 
 -- the records of what an instruction gives
 pub given_few : (g : Encoding) (few : ShortBytes) → g ≡ Bytes few → records_text (constant_records (few_bytes few)) ≡ records_text (given_records g)
-unfolding records_behind
+unfolding records_after
 given_few g few is = ap (λ (x : Encoding). records_text (given_records x)) (sym is)
 
 pub given_operand : (g : Encoding) (opcode code count n : ℕ) (expr : Vec ℕ) (e : List ℕ) → g ≡ Operand opcode code count n expr → e ≡ expr.items
     → records_text (Const (opcode ∷ []) ∷ Formula code count n e ∷ []) ≡ records_text (given_records g)
-unfolding records_behind
+unfolding records_after
 given_operand g opcode code count n expr e is same = ap (operand_text opcode code count n) same ∙ ap (λ (x : Encoding). records_text (given_records x)) (sym is)

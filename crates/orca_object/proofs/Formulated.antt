@@ -34,8 +34,8 @@ pub no_formula : (text : List ℕ) → HasNoFormula Labels text → IsTerms text
 no_formula text none = record { found = None; formula = λ tree means. none tree [] means; terms = refl }
 
 -- more than a formula
-pub more_behind : (text rest : List ℕ) (terms : List Term) (large : Bool) → IsFormulaAt Labels text terms large rest → eqb (length rest) 0 ≡ false → IsTerms text (Err BadOperand)
-more_behind text rest terms large f some = record { found = None; formula = λ tree means. not_empty rest some (one_tree Labels text f.tree tree rest [] f.means means).1; terms = refl }
+pub more_after : (text rest : List ℕ) (terms : List Term) (large : Bool) → IsFormulaAt Labels text terms large rest → eqb (length rest) 0 ≡ false → IsTerms text (Err BadOperand)
+more_after text rest terms large f some = record { found = None; formula = λ tree means. not_empty rest some (one_tree Labels text f.tree tree rest [] f.means means).1; terms = refl }
   where
     not_empty : (l : List ℕ) → eqb (length l) 0 ≡ false → l ≡ [] → ⊥
     not_empty [] is e = absurd cc

@@ -5,7 +5,7 @@ use Rattle.std.proofs.lemmas.Bool.{ltb-true, ltb-false, lt-ltb, le-ltb}
 use Rattle.std.proofs.lemmas.List.{map-append}
 use Rattle.asm_meaning.specs.declared.faults.AsmCause.{AsmCause}
 use Rattle.asm_meaning.specs.Answer.{Answer, rank, earlier, pair_or_earlier_fault, with_first, all_of}
-use Rattle.orca_object.specs.DcView.{map_answer, fault_behind, all_behind, all_or}
+use Rattle.orca_object.specs.DcView.{map_answer, fault_after, all_following, all_or}
 
 -- ---- the earliest fault
 
@@ -41,7 +41,7 @@ bad cause = Err cause
 
 -- one more answer
 pub rest_more : {T B : Type 0} (v : T → B) (fault : Option AsmCause) (out : List T) (r : Result T AsmCause) (more : Answer (List B))
-    → with_rest (fault_behind fault r) (map v (all_behind out r)) more ≡ with_rest fault (map v out) (with_first (pair_or_earlier_fault (map_answer v r) more))
+    → with_rest (fault_after fault r) (map v (all_following out r)) more ≡ with_rest fault (map v out) (with_first (pair_or_earlier_fault (map_answer v r) more))
 unfolding with_rest
 rest_more v None out (Ok x) (Ok bs) = ap list (ap (λ l. l ++ bs) (map-append v out (x ∷ [])) ∙ append_assoc (map v out) (v x ∷ []) bs)
 rest_more v None out (Ok x) (Err cause) = refl
@@ -71,7 +71,7 @@ all_mapped v fault out = rest_none fault (map v out)
 abbrev pub AreItems : {A : Type 0} → (List ℕ → A → List ℕ → Type 0) → List ℕ → List A → Type 0
 AreItems At text [] = ⊥
 AreItems At text (a ∷ []) = At text a []
-AreItems At text (a ∷ next ∷ as') = (behind : List ℕ) × At text a (0x2C ∷ behind) × AreItems At behind (next ∷ as')
+AreItems At text (a ∷ next ∷ as') = (following : List ℕ) × At text a (0x2C ∷ following) × AreItems At following (next ∷ as')
 
 -- no two items stand at one front
 abbrev pub IsOnce : {A : Type 0} → (List ℕ → A → List ℕ → Type 0) → Type 0
@@ -90,35 +90,35 @@ gathers_nothing At f text = record {
   short = omega arith;
 }
 
-same_behind : (r s : List ℕ) → 0x2C ∷ r ≡ 0x2C ∷ s → r ≡ s
-same_behind r s e = cc
+same_after : (r s : List ℕ) → 0x2C ∷ r ≡ 0x2C ∷ s → r ≡ s
+same_after r s e = cc
 
 -- one more
-pub gathers_more : {A B T : Type 0} (At : List ℕ → A → List ℕ → Type 0) (f : A → Answer B) (v : T → B) (once : IsOnce At) (text : List ℕ) (fault fault' : Option AsmCause) (out new : List T) (r : Result T AsmCause) (left rest behind : List ℕ) (a : A)
-    → Gathers At f text fault (map v out) left → At left a rest → map_answer v r ≡ f a → fault' ≡ fault_behind fault r → new ≡ all_behind out r → rest ≡ 0x2C ∷ behind → length behind < length left
-    → Gathers At f text fault' (map v new) behind
-gathers_more {A = A} {B = B} {T = T} At f v once text fault fault' out new r left rest behind a g is answer told all' comma less =
-    let here : At left a (0x2C ∷ behind) = subst (At left a) comma is in
+pub gathers_more : {A B T : Type 0} (At : List ℕ → A → List ℕ → Type 0) (f : A → Answer B) (v : T → B) (once : IsOnce At) (text : List ℕ) (fault fault' : Option AsmCause) (out new : List T) (r : Result T AsmCause) (left rest following : List ℕ) (a : A)
+    → Gathers At f text fault (map v out) left → At left a rest → map_answer v r ≡ f a → fault' ≡ fault_after fault r → new ≡ all_following out r → rest ≡ 0x2C ∷ following → length following < length left
+    → Gathers At f text fault' (map v new) following
+gathers_more {A = A} {B = B} {T = T} At f v once text fault fault' out new r left rest following a g is answer reported all' comma less =
+    let here : At left a (0x2C ∷ following) = subst (At left a) comma is in
     record {
-      makes = λ b bs are. next here b bs are (g.makes a (b ∷ bs) (behind, here, are));
+      makes = λ b bs are. next here b bs are (g.makes a (b ∷ bs) (following, here, are));
       only = λ all are. let found = g.only all are in first here found.0 found.1;
       short = omega (arith, less, g.short);
     }
   where
     step : (more : Answer (List B)) → with_rest fault' (map v new) more ≡ with_rest fault (map v out) (with_first (pair_or_earlier_fault (f a) more))
     step more =
-        ap (λ (x : Option AsmCause). with_rest x (map v new) more) told ∙ ap (λ (l : List T). with_rest (fault_behind fault r) (map v l) more) all'
+        ap (λ (x : Option AsmCause). with_rest x (map v new) more) reported ∙ ap (λ (l : List T). with_rest (fault_after fault r) (map v l) more) all'
         ∙ rest_more v fault out r more ∙ ap (λ (x : Answer B). with_rest fault (map v out) (with_first (pair_or_earlier_fault x more))) answer
 
-    next : At left a (0x2C ∷ behind) → (b : A) (bs : List A) → AreItems At behind (b ∷ bs) → ((all : List A) × AreItems At text all × (with_rest fault (map v out) (all_of f (a ∷ b ∷ bs)) ≡ all_of f all))
+    next : At left a (0x2C ∷ following) → (b : A) (bs : List A) → AreItems At following (b ∷ bs) → ((all : List A) × AreItems At text all × (with_rest fault (map v out) (all_of f (a ∷ b ∷ bs)) ≡ all_of f all))
         → (all : List A) × AreItems At text all × (with_rest fault' (map v new) (all_of f (b ∷ bs)) ≡ all_of f all)
     next here b bs are found = (found.0, found.1, step (all_of f (b ∷ bs)) ∙ found.2)
 
-    first : At left a (0x2C ∷ behind) → (as' : List A) → AreItems At left as' → (bs : List A) × AreItems At behind bs
+    first : At left a (0x2C ∷ following) → (as' : List A) → AreItems At left as' → (bs : List A) × AreItems At following bs
     first here [] are = absurd are
-    first here (b ∷ []) are = let same : 0x2C ∷ behind ≡ [] = once left a b (0x2C ∷ behind) [] here are in absurd cc
+    first here (b ∷ []) are = let same : 0x2C ∷ following ≡ [] = once left a b (0x2C ∷ following) [] here are in absurd cc
     first here (b ∷ c ∷ bs) are =
-        let same = same_behind behind are.0 (once left a b (0x2C ∷ behind) (0x2C ∷ are.0) here are.1) in
+        let same = same_after following are.0 (once left a b (0x2C ∷ following) (0x2C ∷ are.0) here are.1) in
         (c ∷ bs, subst (λ (t : List ℕ). AreItems At t (c ∷ bs)) (sym same) are.2)
 
 -- what all items give
@@ -129,15 +129,15 @@ pub record GathersAll {A B : Type 0} (At : List ℕ → A → List ℕ → Type 
 
 -- the last
 pub gathers_last : {A B T : Type 0} (At : List ℕ → A → List ℕ → Type 0) (f : A → Answer B) (v : T → B) (text : List ℕ) (fault fault' : Option AsmCause) (out new : List T) (r : Result T AsmCause) (left rest : List ℕ) (a : A)
-    → Gathers At f text fault (map v out) left → At left a rest → map_answer v r ≡ f a → fault' ≡ fault_behind fault r → new ≡ all_behind out r → rest ≡ []
+    → Gathers At f text fault (map v out) left → At left a rest → map_answer v r ≡ f a → fault' ≡ fault_after fault r → new ≡ all_following out r → rest ≡ []
     → GathersAll At f text (all_or fault' (map v new))
-gathers_last {B = B} {T = T} At f v text fault fault' out new r left rest a g is answer told all' end =
+gathers_last {B = B} {T = T} At f v text fault fault' out new r left rest a g is answer reported all' end =
     let found = g.makes a [] (subst (At left a) end is) in
     record {
       all = found.0;
       are = found.1;
       gives =
-          sym (all_mapped v fault' new) ∙ ap (λ (x : Option AsmCause). with_rest x (map v new) (Ok [])) told ∙ ap (λ (l : List T). with_rest (fault_behind fault r) (map v l) (Ok [])) all'
+          sym (all_mapped v fault' new) ∙ ap (λ (x : Option AsmCause). with_rest x (map v new) (Ok [])) reported ∙ ap (λ (l : List T). with_rest (fault_after fault r) (map v l) (Ok [])) all'
           ∙ rest_more v fault out r (Ok []) ∙ ap (λ (x : Answer B). with_rest fault (map v out) (with_first (pair_or_earlier_fault x (Ok [])))) answer ∙ found.2;
     }
 
@@ -153,7 +153,7 @@ gathers_none {A = A} At f text fault out left g none all are = let found = g.onl
 
 -- something else than a comma
 pub gathers_wrong : {A B : Type 0} (At : List ℕ → A → List ℕ → Type 0) (f : A → Answer B) (once : IsOnce At) (text : List ℕ) (fault : Option AsmCause) (out : List B) (left rest : List ℕ) (a : A)
-    → Gathers At f text fault out left → At left a rest → rest ≢ [] → ((behind : List ℕ) → rest ≢ 0x2C ∷ behind) → (all : List A) → AreItems At text all → ⊥
+    → Gathers At f text fault out left → At left a rest → rest ≢ [] → ((following : List ℕ) → rest ≢ 0x2C ∷ following) → (all : List A) → AreItems At text all → ⊥
 gathers_wrong {A = A} At f once text fault out left rest a g is some other all are = let found = g.only all are in by_count found.0 found.1
   where
     by_count : (as' : List A) → AreItems At left as' → ⊥

@@ -113,18 +113,18 @@ meant_fault cause = Err cause
 same_cause : (c d : AsmCause) → kept_fault c ≡ kept_fault d → c ≡ d
 same_cause c d e = cc
 
-told : (c d cause : AsmCause) → c ≡ d → code_fault c ≡ code_fault cause → meant_fault d ≡ meant_fault cause
-told c d cause same b = cc
+reported : (c d cause : AsmCause) → c ≡ d → code_fault c ≡ code_fault cause → meant_fault d ≡ meant_fault cause
+reported c d cause same b = cc
 
 fault_of_both : (label : Answer (List ℕ)) (a : Result Amount AsmCause) (meant : Answer meaning.Amount) (cause : AsmCause) → amount_view a ≡ kept_answer 0 meant → pair_or_earlier_fault label a ≡ Err cause → pair_or_earlier_fault label meant ≡ Err cause
 fault_of_both (Ok name) (Ok x) (Ok m) cause e b = absurd cc
 fault_of_both (Ok name) (Ok x) (Err d) cause e b = absurd cc
 fault_of_both (Ok name) (Err c) (Ok m) cause e b = absurd cc
-fault_of_both (Ok name) (Err c) (Err d) cause e b = told c d cause (same_cause c d e) b
-fault_of_both (Err other) (Ok x) (Ok m) cause e b = told other other cause refl b
+fault_of_both (Ok name) (Err c) (Err d) cause e b = reported c d cause (same_cause c d e) b
+fault_of_both (Err other) (Ok x) (Ok m) cause e b = reported other other cause refl b
 fault_of_both (Err other) (Ok x) (Err d) cause e b = absurd cc
 fault_of_both (Err other) (Err c) (Ok m) cause e b = absurd cc
-fault_of_both (Err other) (Err c) (Err d) cause e b = told (earlier other c) (earlier other d) cause (ap (earlier other) (same_cause c d e)) b
+fault_of_both (Err other) (Err c) (Err d) cause e b = reported (earlier other c) (earlier other d) cause (ap (earlier other) (same_cause c d e)) b
 
 pub equ_fault : (state : State) (cs : Constants) (global : Bool) (label : Answer (List ℕ)) (a : Result Amount AsmCause) (text : List ℕ) (k : AsmState) (cause : AsmCause) → HasAmount cs text a → cs ≡ constants_of state → pair_or_earlier_fault label a ≡ Err cause
     → IsEquated {U = Unit {0}} state global label text (Err cause) k

@@ -58,8 +58,8 @@ pub limited_room : (bytes : List ℕ) (size : ℕ) → bytes ≡ replicate size 
 limited_room bytes size is few = ap Some is ∙ sym (is_limited (replicate size 0) (omega (arith, length-replicate {A = ℕ} size 0, few)))
 
 -- what stands behind may be too long by itself
-pub long_behind : (text more : List ℕ) → None ≡ text_within_limit more → None ≡ text_within_limit (text ++ more)
-long_behind text more e = sym (is_too_long (text ++ more) (omega (arith, length-append text more, long_text more e)))
+pub long_after : (text more : List ℕ) → None ≡ text_within_limit more → None ≡ text_within_limit (text ++ more)
+long_after text more e = sym (is_too_long (text ++ more) (omega (arith, length-append text more, long_text more e)))
 
 -- one text in the place of none
 pub joins_first : (text more bytes : List ℕ) (kept : Option (List ℕ)) → Some bytes ≡ text_within_limit text → bytes ≡ [] → kept ≡ text_within_limit more → kept ≡ text_within_limit (text ++ more)

@@ -25,39 +25,39 @@ found x = Some x
 pub name_shorter : (text name rest : List ℕ) → name_at text ≡ Some (name, rest) → length rest < length text
 unfolding name_at
 name_shorter [] name rest e = absurd cc
-name_shorter (byte ∷ behind) name rest e = by_start (is_name_start byte) e
+name_shorter (byte ∷ following) name rest e = by_start (is_name_start byte) e
   where
     n : ℕ
-    n = prefix_len is_name_byte behind
+    n = prefix_len is_name_byte following
 
     there : List ℕ × List ℕ
-    there = (folded (byte ∷ take n behind), drop n behind)
+    there = (folded (byte ∷ take n following), drop n following)
 
     same : found there ≡ Some (name, rest) → there ≡ (name, rest)
     same e = cc
 
-    by_start : (b : Bool) → cond b (found there) None ≡ Some (name, rest) → length rest < length (byte ∷ behind)
-    by_start true e = omega (arith, ap (λ (x : List ℕ × List ℕ). length x.1) (same e), length-drop n behind)
+    by_start : (b : Bool) → cond b (found there) None ≡ Some (name, rest) → length rest < length (byte ∷ following)
+    by_start true e = omega (arith, ap (λ (x : List ℕ × List ℕ). length x.1) (same e), length-drop n following)
     by_start false e = absurd cc
 
-pub reads_more : (text : List ℕ) (out new : List (List ℕ)) (left rest behind name : List ℕ) → Reads text out left → name_at left ≡ Some (name, rest) → new ≡ out ++ name ∷ [] → rest ≡ 0x2C ∷ behind → Reads text new behind
-reads_more text out new left rest behind name reads is push comma =
-    let here : name_at left ≡ Some (name, 0x2C ∷ behind) = is ∙ ap (λ (r : List ℕ). found (name, r)) comma in
+pub reads_more : (text : List ℕ) (out new : List (List ℕ)) (left rest following name : List ℕ) → Reads text out left → name_at left ≡ Some (name, rest) → new ≡ out ++ name ∷ [] → rest ≡ 0x2C ∷ following → Reads text new following
+reads_more text out new left rest following name reads is push comma =
+    let here : name_at left ≡ Some (name, 0x2C ∷ following) = is ∙ ap (λ (r : List ℕ). found (name, r)) comma in
     record {
       makes = λ n ns are. subst (λ (o : List (List ℕ)). AreNames text (o ++ n ∷ ns)) (sym push)
-          (subst (AreNames text) (sym (append_assoc out (name ∷ []) (n ∷ ns))) (reads.makes name (n ∷ ns) (behind, here, are)));
-      only = λ all are. let found' = reads.only all are in behind_first left behind name found'.0 here found'.1;
+          (subst (AreNames text) (sym (append_assoc out (name ∷ []) (n ∷ ns))) (reads.makes name (n ∷ ns) (following, here, are)));
+      only = λ all are. let found' = reads.only all are in following_first left following name found'.0 here found'.1;
       short = omega (arith, name_shorter left name rest is, ap length comma, reads.short);
     }
   where
-    same_behind : (r s : List ℕ) → 0x2C ∷ r ≡ 0x2C ∷ s → r ≡ s
-    same_behind r s e = cc
+    same_after : (r s : List ℕ) → 0x2C ∷ r ≡ 0x2C ∷ s → r ≡ s
+    same_after r s e = cc
 
-    behind_first : (left behind name : List ℕ) (ns : List (List ℕ)) → name_at left ≡ Some (name, 0x2C ∷ behind) → AreNames left ns → (us : List (List ℕ)) × AreNames behind us
-    behind_first left behind name [] here are = absurd are
-    behind_first left behind name (u ∷ []) here are = let same : 0x2C ∷ behind ≡ [] = one_found (name_at left) name u (0x2C ∷ behind) [] here are in absurd cc
-    behind_first left behind name (u ∷ v ∷ us) here are =
-        let same = same_behind behind are.0 (one_found (name_at left) name u (0x2C ∷ behind) (0x2C ∷ are.0) here are.1) in
+    following_first : (left following name : List ℕ) (ns : List (List ℕ)) → name_at left ≡ Some (name, 0x2C ∷ following) → AreNames left ns → (us : List (List ℕ)) × AreNames following us
+    following_first left following name [] here are = absurd are
+    following_first left following name (u ∷ []) here are = let same : 0x2C ∷ following ≡ [] = one_found (name_at left) name u (0x2C ∷ following) [] here are in absurd cc
+    following_first left following name (u ∷ v ∷ us) here are =
+        let same = same_after following are.0 (one_found (name_at left) name u (0x2C ∷ following) (0x2C ∷ are.0) here are.1) in
         (v ∷ us, subst (λ (b : List ℕ). AreNames b (v ∷ us)) (sym same) are.2)
 
 pub reads_none : (text : List ℕ) (out : List (List ℕ)) (left : List ℕ) → Reads text out left → name_at left ≡ None → (all : List (List ℕ)) → AreNames text all → ⊥
@@ -71,7 +71,7 @@ reads_none text out left reads none all are = let found' = reads.only all are in
     by_count (n ∷ []) are = clash (n, []) are
     by_count (n ∷ u ∷ ns) are = clash (n, 0x2C ∷ are.0) are.1
 
-pub reads_wrong : (text : List ℕ) (out : List (List ℕ)) (left rest name : List ℕ) → Reads text out left → name_at left ≡ Some (name, rest) → rest ≢ [] → ((behind : List ℕ) → rest ≢ 0x2C ∷ behind)
+pub reads_wrong : (text : List ℕ) (out : List (List ℕ)) (left rest name : List ℕ) → Reads text out left → name_at left ≡ Some (name, rest) → rest ≢ [] → ((following : List ℕ) → rest ≢ 0x2C ∷ following)
     → (all : List (List ℕ)) → AreNames text all → ⊥
 reads_wrong text out left rest name reads is some other all are = let found' = reads.only all are in by_count found'.0 found'.1
   where

@@ -59,13 +59,13 @@ put_closed t e f count front new is ten short shows few n written put =
     let name : length e.header.name ≡ length f.name = ap (λ (h : Fields). length h.name) is in
     let size : length front ≡ length room = omega (arith, ap length written, length-header f count ten, length-replicate {A = ℕ} (0x37 + length e.header.name) 0, name) in
     let number : count ≡ length records = omega (arith, n, open_length e, ap length bytes, name) in
-    let behind : drop (length front) t.bytes.items ≡ records =
+    let following : drop (length front) t.bytes.items ≡ records =
     ap (λ (l : List ℕ). drop (length front) l) (sym bytes) ∙ ap (λ (k : ℕ). drop k (room ++ records)) size ∙ drop-append_seam room records in
     let whole : new ≡ segment_text e =
-    put ∙ ap (λ (l : List ℕ). front ++ l) behind ∙ ap (λ (l : List ℕ). l ++ records) (written ∙ ap (header_bytes f) number ∙ ap (λ (h : Fields). header_bytes h (length records)) (sym is)) in
+    put ∙ ap (λ (l : List ℕ). front ++ l) following ∙ ap (λ (l : List ℕ). l ++ records) (written ∙ ap (header_bytes f) number ∙ ap (λ (h : Fields). header_bytes h (length records)) (sym is)) in
     ap (λ (b : Bool). kept_by b new) short ∙ ap Some whole
     ∙ sym (is_limited (segment_text e) (omega (arith, same_length e (has_ten e f is ten), ap length bytes, few)))
 
 -- behind those that have ended
-pub one_behind : (segments : List Ended) (e : Ended) → text_within_limit (object_text segments ++ segment_text e) ≡ text_within_limit (object_text (segments ++ e ∷ []))
-one_behind segments e = ap text_within_limit (sym (object_more segments e))
+pub one_after : (segments : List Ended) (e : Ended) → text_within_limit (object_text segments ++ segment_text e) ≡ text_within_limit (object_text (segments ++ e ∷ []))
+one_after segments e = ap text_within_limit (sym (object_more segments e))

@@ -2,7 +2,7 @@
 use Rattle.std.proofs.Common.{◌≡◌, ℕ, List, [], ◌∷◌, ◌++◌, None, sym, ap, subst, ◌∙◌, append_assoc, append-nil, arith}
 use Rattle.omf_format.specs.Record.{Record}
 use Rattle.object_meaning.specs.Sizes.{size_at}
-use Rattle.asm_meaning.specs.Pieces.{place_behind, length_at}
+use Rattle.asm_meaning.specs.Pieces.{place_after, length_at}
 use Rattle.asm_meaning.specs.State.{Segment, cells_of, with_label, local_of, with_local_record}
 use Rattle.orca_object.specs.declared.state.OpenSegment.{OpenSegment}
 use Rattle.orca_object.specs.StateView.{ShowsSegment, with_records, with_local_label}
@@ -16,11 +16,11 @@ no_records_more s o shows = subst (λ (t : Segment). ShowsSegment t o) (sym (no_
 
 -- the length of one record, and of none
 pub length_at-one : (at : ℕ) (r : Record) → length_at at (r ∷ []) ≡ size_at at r
-unfolding length_at place_behind
+unfolding length_at place_after
 length_at-one at r = omega arith
 
 pub length_at-none : (at : ℕ) → length_at at [] ≡ 0
-unfolding length_at place_behind
+unfolding length_at place_after
 length_at-none at = omega arith
 
 -- records behind a label's LOCAL, whose length is theirs

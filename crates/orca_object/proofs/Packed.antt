@@ -31,15 +31,15 @@ pub record GroupLeft (base each : ℕ) (digits left : List ℕ) (value count : �
   pub rest : drop count left ≡ drop each digits
   pub fine : are_digits base left ≡ true
 
-pub group_more : (base each : ℕ) (digits left behind : List ℕ) (byte value count k more : ℕ) → count ≡ k + 1 → left ≡ byte ∷ behind → more ≡ digit_value byte → GroupLeft base each digits left value count
-    → GroupLeft base each digits behind (value * base + more) k
-group_more base each digits left behind byte value count k more is parts more_is g =
+pub group_more : (base each : ℕ) (digits left following : List ℕ) (byte value count k more : ℕ) → count ≡ k + 1 → left ≡ byte ∷ following → more ≡ digit_value byte → GroupLeft base each digits left value count
+    → GroupLeft base each digits following (value * base + more) k
+group_more base each digits left following byte value count k more is parts more_is g =
     let next : count ≡ suc k = omega (arith, is) in
     let g' = subst (λ (l : List ℕ). GroupLeft base each digits l value (suc k)) parts (subst (λ (n : ℕ). GroupLeft base each digits left value n) next g) in
-    subst (λ (d : ℕ). GroupLeft base each digits behind (value * base + d) k) (sym more_is) (record {
-      number = ap (digits_value_after base (value * base + digit_value byte)) (sym (pad k (suc k) behind (omega arith))) ∙ g'.number;
+    subst (λ (d : ℕ). GroupLeft base each digits following (value * base + d) k) (sym more_is) (record {
+      number = ap (digits_value_after base (value * base + digit_value byte)) (sym (pad k (suc k) following (omega arith))) ∙ g'.number;
       rest = g'.rest;
-      fine = (and_parts (is_digit byte base) (are_digits base behind) g'.fine).1;
+      fine = (and_parts (is_digit byte base) (are_digits base following) g'.fine).1;
     })
 
 after-le : (base n : ℕ) (digits : List ℕ) → 1 ≤ base → n ≤ digits_value_after base n digits
@@ -140,18 +140,18 @@ pub record FoundLeft (base : ℕ) (text out left : List ℕ) : Type 0 where
   pub same : out ++ without_spaces left ≡ without_spaces text
   pub fine : are_digits base out ≡ true
 
-kept : (byte : ℕ) (behind : List ℕ) → byte ≢ 0x20 → without_spaces (byte ∷ behind) ≡ byte ∷ without_spaces behind
-kept byte behind other = let is : eqb byte 0x20 ≡ false = neq-eqb byte 0x20 other in rw is refl
+kept : (byte : ℕ) (following : List ℕ) → byte ≢ 0x20 → without_spaces (byte ∷ following) ≡ byte ∷ without_spaces following
+kept byte following other = let is : eqb byte 0x20 ≡ false = neq-eqb byte 0x20 other in rw is refl
 
 found_none : (base each : ℕ) (l : List ℕ) → are_digits base l ≡ false → packed_digits base each l ≡ None
 found_none base each [] is = absurd cc
 found_none base each (c ∷ l) is = rw is refl
 
-pub found_other : (base : ℕ) (text out left behind : List ℕ) (byte : ℕ) → FoundLeft base text out left → left ≡ byte ∷ behind → byte ≢ 0x20 → is_digit byte base ≡ false
+pub found_other : (base : ℕ) (text out left following : List ℕ) (byte : ℕ) → FoundLeft base text out left → left ≡ byte ∷ following → byte ≢ 0x20 → is_digit byte base ≡ false
     → (each : ℕ) → packed_digits base each (without_spaces text) ≡ None
-found_other base text out left behind byte f parts other is each =
-    found_none base each (without_spaces text) (sym (ap (are_digits base) (ap (λ (l : List ℕ). out ++ l) (sym (kept byte behind other)) ∙ ap (λ (l : List ℕ). out ++ without_spaces l) (sym parts) ∙ f.same))
-    ∙ list_all-append (λ byte. is_digit byte base) out (byte ∷ without_spaces behind) ∙ neither (are_digits base out) (is_digit byte base) (are_digits base (without_spaces behind)) is)
+found_other base text out left following byte f parts other is each =
+    found_none base each (without_spaces text) (sym (ap (are_digits base) (ap (λ (l : List ℕ). out ++ l) (sym (kept byte following other)) ∙ ap (λ (l : List ℕ). out ++ without_spaces l) (sym parts) ∙ f.same))
+    ∙ list_all-append (λ byte. is_digit byte base) out (byte ∷ without_spaces following) ∙ neither (are_digits base out) (is_digit byte base) (are_digits base (without_spaces following)) is)
   where
     neither : (a b c : Bool) → b ≡ false → (a && (b && c)) ≡ false
     neither true b c p = rw p refl

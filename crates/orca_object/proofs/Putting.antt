@@ -9,7 +9,7 @@ use Rattle.omf_format.specs.Field.{written_layout}
 use Rattle.omf_format.specs.Record.{Record, Const, LongConst, spelling}
 use Rattle.asm_meaning.specs.Object.{records_text, most_bytes}
 use Rattle.asm_meaning.specs.laws.PieceLaws.{IsPlainPiece, ArePlainPieces}
-use Rattle.asm_meaning.specs.Pieces.{Piece, Bytes, Whole, constant_records, records_behind, copies}
+use Rattle.asm_meaning.specs.Pieces.{Piece, Bytes, Whole, constant_records, records_after, copies}
 use Rattle.std.specs.Global.{Vec}
 use Rattle.omf_format.specs.Record as record_
 use Rattle.orca_object.specs.declared.encoding.RepeatedPieces.{RepeatedPieces}
@@ -82,35 +82,35 @@ flush_nothing pending old none text is =
 -- ---- pieces
 
 pub wrote_bytes : (whole : List ℕ) (kept : Option (List ℕ)) (pending more new : List ℕ) (rest : List Piece) → new ≡ pending ++ more → Wrote whole kept pending (Bytes more ∷ rest) → Wrote whole kept new rest
-unfolding records_behind
+unfolding records_after
 wrote_bytes whole kept pending more new rest is w = record {
   text = w.text;
   kept_is = w.kept_is;
-  whole_is = ap (λ (p : List ℕ). w.text ++ records_text (records_behind p rest)) is ∙ w.whole_is;
+  whole_is = ap (λ (p : List ℕ). w.text ++ records_text (records_after p rest)) is ∙ w.whole_is;
 }
 
 pub wrote_record : (whole : List ℕ) (kept one two : Option (List ℕ)) (pending new : List ℕ) (r : Record) (rest : List Piece) → Grows kept one (records_text (constant_records pending)) → Grows one two (spelling written_layout r) → new ≡ []
     → Wrote whole kept pending (Whole r ∷ rest) → Wrote whole two new rest
-unfolding records_behind
+unfolding records_after
 wrote_record whole kept one two pending new r rest first second none w =
     let front = records_text (constant_records pending) in
     let spelled = spelling written_layout r in
-    let behind = records_text (records_behind [] rest) in
-    let parts : records_text (constant_records pending ++ r ∷ records_behind [] rest) ≡ front ++ (spelled ++ behind) =
-    text_append (constant_records pending) (r ∷ records_behind [] rest) ∙ ap (λ (l : List ℕ). front ++ l) (text_cons r (records_behind [] rest)) in
+    let following = records_text (records_after [] rest) in
+    let parts : records_text (constant_records pending ++ r ∷ records_after [] rest) ≡ front ++ (spelled ++ following) =
+    text_append (constant_records pending) (r ∷ records_after [] rest) ∙ ap (λ (l : List ℕ). front ++ l) (text_cons r (records_after [] rest)) in
     subst (λ (p : List ℕ). Wrote whole two p rest) (sym none) (record {
       text = (w.text ++ front) ++ spelled;
       kept_is = second (w.text ++ front) (first w.text w.kept_is);
-      whole_is = append_assoc (w.text ++ front) spelled behind ∙ append_assoc w.text front (spelled ++ behind) ∙ ap (λ (l : List ℕ). w.text ++ l) (sym parts) ∙ w.whole_is;
+      whole_is = append_assoc (w.text ++ front) spelled following ∙ append_assoc w.text front (spelled ++ following) ∙ ap (λ (l : List ℕ). w.text ++ l) (sym parts) ∙ w.whole_is;
     })
 
 pub wrote_end : (whole : List ℕ) (kept new : Option (List ℕ)) (pending : List ℕ) → Grows kept new (records_text (constant_records pending)) → Wrote whole kept pending [] → new ≡ text_within_limit whole
-unfolding records_behind
+unfolding records_after
 wrote_end whole kept new pending grows w = grows w.text w.kept_is ∙ ap text_within_limit w.whole_is
 
-pub wrote_start : (text : List ℕ) (kept : Option (List ℕ)) (pending : List ℕ) (rest : List Piece) → kept ≡ text_within_limit text → pending ≡ [] → Wrote (text ++ records_text (records_behind [] rest)) kept pending rest
+pub wrote_start : (text : List ℕ) (kept : Option (List ℕ)) (pending : List ℕ) (rest : List Piece) → kept ≡ text_within_limit text → pending ≡ [] → Wrote (text ++ records_text (records_after [] rest)) kept pending rest
 wrote_start text kept pending rest is none =
-    record { text = text; kept_is = is; whole_is = ap (λ (p : List ℕ). text ++ records_text (records_behind p rest)) none }
+    record { text = text; kept_is = is; whole_is = ap (λ (p : List ℕ). text ++ records_text (records_after p rest)) none }
 
 -- ---- copies and parts
 
@@ -174,9 +174,9 @@ left_more old now new pending waits more all left a others l parts step = record
 }
 
 pub put_all : (text : List ℕ) (old mid new : Option (List ℕ)) (pending waits : List ℕ) (pieces : List Piece) → Puts old pending pieces mid waits → Grows mid new (records_text (constant_records waits)) → pending ≡ [] → old ≡ text_within_limit text
-    → new ≡ text_within_limit (text ++ records_text (records_behind [] pieces))
+    → new ≡ text_within_limit (text ++ records_text (records_after [] pieces))
 put_all text old mid new pending waits pieces puts grows none is =
-    let whole = text ++ records_text (records_behind [] pieces) in
+    let whole = text ++ records_text (records_after [] pieces) in
     let start : Wrote whole old pending (pieces ++ []) = subst (λ (l : List Piece). Wrote whole old pending l) (sym (append-nil pieces)) (wrote_start text old pending pieces is none) in
     wrote_end whole mid new waits grows (puts whole [] start)
 

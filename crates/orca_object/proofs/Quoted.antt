@@ -62,9 +62,9 @@ unfolding text_at
 another byte [] is = rw is refl
 another byte (next ∷ others) is = rw is refl
 
-quote_then : (byte next : ℕ) (behind : List ℕ) (b : Bool) → eqb byte 0x27 ≡ true → eqb next 0x27 ≡ b → text_at (byte ∷ next ∷ behind) ≡ cond b (with_byte 0x27 (text_at behind)) (found [] (next ∷ behind))
+quote_then : (byte next : ℕ) (following : List ℕ) (b : Bool) → eqb byte 0x27 ≡ true → eqb next 0x27 ≡ b → text_at (byte ∷ next ∷ following) ≡ cond b (with_byte 0x27 (text_at following)) (found [] (next ∷ following))
 unfolding text_at
-quote_then byte next behind b is e = rw (is, e) refl
+quote_then byte next following b is e = rw (is, e) refl
 
 quote_last : (byte : ℕ) → eqb byte 0x27 ≡ true → text_at (byte ∷ []) ≡ found [] []
 unfolding text_at
@@ -85,15 +85,15 @@ text_last text left others out byte is parts quote none =
     sym is ∙ ap (λ (l : List ℕ). with_bytes out (text_at l)) (parts ∙ ap (λ (l : List ℕ). byte ∷ l) end) ∙ ap (with_bytes out) (quote_last byte (eq-eqb byte 0x27 quote))
     ∙ with_some out [] [] ∙ ap (λ (l : List ℕ). found l []) (append-nil out) ∙ ap (found out) (sym end)
 
-pub text_stops : (text left others behind out : List ℕ) (byte next : ℕ) → with_bytes out (text_at left) ≡ text_at text → left ≡ byte ∷ others → byte ≡ 0x27 → others ≡ next ∷ behind → next ≢ 0x27 → text_at text ≡ Some (out, others)
-text_stops text left others behind out byte next is parts quote split other =
+pub text_stops : (text left others following out : List ℕ) (byte next : ℕ) → with_bytes out (text_at left) ≡ text_at text → left ≡ byte ∷ others → byte ≡ 0x27 → others ≡ next ∷ following → next ≢ 0x27 → text_at text ≡ Some (out, others)
+text_stops text left others following out byte next is parts quote split other =
     sym is ∙ ap (λ (l : List ℕ). with_bytes out (text_at l)) (parts ∙ ap (λ (l : List ℕ). byte ∷ l) split)
-    ∙ ap (with_bytes out) (quote_then byte next behind false (eq-eqb byte 0x27 quote) (neq-eqb next 0x27 other))
-    ∙ with_some out [] (next ∷ behind) ∙ ap (λ (l : List ℕ). found l (next ∷ behind)) (append-nil out) ∙ ap (found out) (sym split)
+    ∙ ap (with_bytes out) (quote_then byte next following false (eq-eqb byte 0x27 quote) (neq-eqb next 0x27 other))
+    ∙ with_some out [] (next ∷ following) ∙ ap (λ (l : List ℕ). found l (next ∷ following)) (append-nil out) ∙ ap (found out) (sym split)
 
-pub text_quotes : (text left others behind out new : List ℕ) (byte next : ℕ) → with_bytes out (text_at left) ≡ text_at text → left ≡ byte ∷ others → byte ≡ 0x27 → others ≡ next ∷ behind → next ≡ 0x27
-    → new ≡ out ++ 0x27 ∷ [] → with_bytes new (text_at behind) ≡ text_at text
-text_quotes text left others behind out new byte next is parts quote split second push =
-    ap (λ (l : List ℕ). with_bytes l (text_at behind)) push ∙ with_push out 0x27 (text_at behind)
-    ∙ ap (with_bytes out) (sym (quote_then byte next behind true (eq-eqb byte 0x27 quote) (eq-eqb next 0x27 second)))
+pub text_quotes : (text left others following out new : List ℕ) (byte next : ℕ) → with_bytes out (text_at left) ≡ text_at text → left ≡ byte ∷ others → byte ≡ 0x27 → others ≡ next ∷ following → next ≡ 0x27
+    → new ≡ out ++ 0x27 ∷ [] → with_bytes new (text_at following) ≡ text_at text
+text_quotes text left others following out new byte next is parts quote split second push =
+    ap (λ (l : List ℕ). with_bytes l (text_at following)) push ∙ with_push out 0x27 (text_at following)
+    ∙ ap (with_bytes out) (sym (quote_then byte next following true (eq-eqb byte 0x27 quote) (eq-eqb next 0x27 second)))
     ∙ ap (λ (l : List ℕ). with_bytes out (text_at l)) (sym (parts ∙ ap (λ (l : List ℕ). byte ∷ l) split)) ∙ is

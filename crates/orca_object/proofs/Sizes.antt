@@ -4,9 +4,9 @@ use Rattle.std.proofs.lemmas.List.{map-append, length-append}
 use Rattle.std.proofs.lemmas.List.Concat.{flat_map-cons}
 use Rattle.omf_format.specs.Record as record_
 use Rattle.omf_format.specs.Record.{Const, LongConst}
-use Rattle.asm_meaning.specs.laws.PieceLaws.{place_behind-append}
+use Rattle.asm_meaning.specs.laws.PieceLaws.{place_after-append}
 use Rattle.asm_meaning.specs.Pieces as meaning
-use Rattle.asm_meaning.specs.Pieces.{constant_records, records_behind, copies, place_behind, length_at}
+use Rattle.asm_meaning.specs.Pieces.{constant_records, records_after, copies, place_after, length_at}
 use Rattle.std.specs.Global.{Vec}
 use Rattle.orca_object.specs.declared.short_bytes.ShortBytes.{ShortBytes}
 use Rattle.orca_object.specs.FewView.{few_bytes}
@@ -19,28 +19,28 @@ use Rattle.orca_object.specs.GivenView.{part_pieces, all_pieces, given_records}
 use Rattle.orca_object.specs.PieceView.{piece}
 use Rattle.orca_object.specs.PutView.{pieces_size, parts_size}
 
-place_constant : (at : ℕ) (bytes : List ℕ) → place_behind at (constant_records bytes) ≡ at + length bytes
-unfolding place_behind
+place_constant : (at : ℕ) (bytes : List ℕ) → place_after at (constant_records bytes) ≡ at + length bytes
+unfolding place_after
 place_constant at [] = omega arith
 place_constant at (byte ∷ bytes) = by_size (leb (length (byte ∷ bytes)) 223)
   where
-    by_size : (b : Bool) → place_behind at (cond b (Const (byte ∷ bytes)) (LongConst (byte ∷ bytes)) ∷ []) ≡ at + length (byte ∷ bytes)
+    by_size : (b : Bool) → place_after at (cond b (Const (byte ∷ bytes)) (LongConst (byte ∷ bytes)) ∷ []) ≡ at + length (byte ∷ bytes)
     by_size true = refl
     by_size false = refl
 
-place_pieces : (at : ℕ) (bytes : List ℕ) (l : List Piece) → place_behind at (records_behind bytes (map piece l)) ≡ at + length bytes + pieces_size l
-unfolding place_behind records_behind
+place_pieces : (at : ℕ) (bytes : List ℕ) (l : List Piece) → place_after at (records_after bytes (map piece l)) ≡ at + length bytes + pieces_size l
+unfolding place_after records_after
 place_pieces at bytes [] = omega (arith, place_constant at bytes)
 place_pieces at bytes (Bytes more ∷ l) = omega (arith, place_pieces at (bytes ++ more.items) l, length-append bytes more.items)
 place_pieces at bytes (Formula code count n expr ∷ l) =
     let front = place_constant at bytes in
-    let rest = place_pieces (place_behind at (constant_records bytes) + count) [] l in
-    let both = place_behind-append at (constant_records bytes) (record_.Formula code count n expr.items ∷ records_behind [] (map piece l)) in
+    let rest = place_pieces (place_after at (constant_records bytes) + count) [] l in
+    let both = place_after-append at (constant_records bytes) (record_.Formula code count n expr.items ∷ records_after [] (map piece l)) in
     omega (arith, front, rest, both)
 place_pieces at bytes (Strong name ∷ l) =
     let front = place_constant at bytes in
-    let rest = place_pieces (place_behind at (constant_records bytes) + 0) [] l in
-    let both = place_behind-append at (constant_records bytes) (record_.Strong name ∷ records_behind [] (map piece l)) in
+    let rest = place_pieces (place_after at (constant_records bytes) + 0) [] l in
+    let both = place_after-append at (constant_records bytes) (record_.Strong name ∷ records_after [] (map piece l)) in
     omega (arith, front, rest, both)
 
 -- the same over the pieces as they are kept
@@ -81,11 +81,11 @@ unfolding kept_pieces
 size_parts [] = refl
 size_parts (p ∷ parts) = omega (arith, size_append (kept_copies p.count p.pieces.items) (kept_pieces parts), size_copies p.count p.pieces.items, size_parts parts)
 
-length_is : (at : ℕ) (parts : List RepeatedPieces) → length_at at (records_behind [] (all_pieces parts)) ≡ parts_size parts
+length_is : (at : ℕ) (parts : List RepeatedPieces) → length_at at (records_after [] (all_pieces parts)) ≡ parts_size parts
 unfolding length_at
 length_is at parts =
-    let place : place_behind at (records_behind [] (all_pieces parts)) ≡ at + 0 + pieces_size (kept_pieces parts) =
-    ap (λ (l : List meaning.Piece). place_behind at (records_behind [] l)) (pieces_are parts) ∙ place_pieces at [] (kept_pieces parts) in
+    let place : place_after at (records_after [] (all_pieces parts)) ≡ at + 0 + pieces_size (kept_pieces parts) =
+    ap (λ (l : List meaning.Piece). place_after at (records_after [] l)) (pieces_are parts) ∙ place_pieces at [] (kept_pieces parts) in
     omega (arith, place, size_parts parts)
 
 -- parts
@@ -103,7 +103,7 @@ few_size (suc (suc (suc (suc (suc count))))) a b c d few = absurd (omega (arith,
 
 -- few bytes
 pub cells_few : (at n : ℕ) (g : Encoding) (few : ShortBytes) → g ≡ given_names.Bytes few → n ≡ few.count → n ≡ min (length_at at (given_records g)) 0x1000000
-unfolding length_at records_behind
+unfolding length_at records_after
 cells_few at n g few g_is is =
     let place = place_constant at (few_bytes few) in
     let size : length (few_bytes few) ≡ few.count = few_size few.count few.first few.second few.third few.fourth few.few in
@@ -112,7 +112,7 @@ cells_few at n g few g_is is =
 
 -- an opcode and its operand
 pub cells_operand : (at n opcode code count distance : ℕ) (g : Encoding) (expr : Vec ℕ) → g ≡ given_names.Operand opcode code count distance expr → count < 2 ^ 8 → n ≡ count + 1 → n ≡ min (length_at at (given_records g)) 0x1000000
-unfolding length_at place_behind records_behind
+unfolding length_at place_after records_after
 cells_operand at n opcode code count distance g expr g_is small is =
     let length_is : n ≡ min (length_at at (given_records (given_names.Operand opcode code count distance expr))) 0x1000000 = omega (arith, small, is) in
     length_is ∙ ap (λ (x : Encoding). min (length_at at (given_records x)) 0x1000000) (sym g_is)

@@ -8,7 +8,7 @@ use Rattle.omf_format.specs.Record.{Equate, spelling}
 use Rattle.asm_meaning.specs.declared.directives.Class.{Class}
 use Rattle.asm_meaning.specs.Formulas.{expression_text}
 use Rattle.asm_meaning.specs.Object.{records_text, object_text}
-use Rattle.asm_meaning.specs.Pieces.{place_behind}
+use Rattle.asm_meaning.specs.Pieces.{place_after}
 use Rattle.asm_meaning.specs.State.{Segment, Ended, State, start, no_constants, kind_of, bank_size_of, header_of, state_after_end, ended_of, cells_of, in_segment}
 use Rattle.std.specs.Option.{option_map}
 use Rattle.std.proofs.lemmas.List.{length-append}
@@ -50,8 +50,8 @@ no_object : text_within_limit (object_text []) ≡ text_within_limit []
 unfolding object_text
 no_object = refl
 
-pub no_cells : place_behind 0 [] ≡ 0
-unfolding place_behind
+pub no_cells : place_after 0 [] ≡ 0
+unfolding place_after
 no_cells = refl
 
 pub shows_start : (outside : OutsideConstants) (front object : RecordBytes) → outside_of outside ≡ no_constants → kept_text front ≡ text_within_limit [] → kept_text object ≡ text_within_limit []
@@ -78,7 +78,7 @@ constant_more state old new name n expr is shows put =
     put (records_text state.front) shows ∙ ap (λ (e : List ℕ). text_within_limit (records_text state.front ++ spelling written_layout (Equate true name 0 0x4E 0 e))) is
     ∙ ap text_within_limit (sym (records_text-one state.front (equate true name (Leaf (Constant n)))))
 
-pub constant_waits : (state : State) (name : List ℕ) (n : ℕ) → place_behind 0 state.front ≡ 0 → place_behind 0 (with_constant name n state).front ≡ 0
+pub constant_waits : (state : State) (name : List ℕ) (n : ℕ) → place_after 0 state.front ≡ 0 → place_after 0 (with_constant name n state).front ≡ 0
 constant_waits state name n none = omega (arith, cells-one 0 state.front (equate true name (Leaf (Constant n))), none)
 
 -- ---- a segment begins

@@ -15,10 +15,10 @@ use Rattle.orca_object.specs.StateView.{ShowsState}
 pub record Stops (lines : List Line) (fault : AsmFault) : Type 0 where
   pub before : List Line
   pub line : Line
-  pub behind : List Line
+  pub following : List Line
   pub cause : AsmCause
   pub last : State
-  pub lines_are : lines ≡ before ++ line ∷ behind
+  pub lines_are : lines ≡ before ++ line ∷ following
   pub steps : AreSteps start before last
   pub wrong : IsStep last line (Err cause)
   pub fault_is : fault ≡ record { cause = cause; file = line.file; line = line.number }

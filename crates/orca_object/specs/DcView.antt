@@ -26,16 +26,16 @@ map_answer v (Ok x) = Ok (v x)
 map_answer v (Err cause) = Err cause
 
 -- the fault that is told behind one more answer
-abbrev pub fault_behind : {T : Type 0} → Option AsmCause → Result T AsmCause → Option AsmCause
-fault_behind None (Ok x) = None
-fault_behind None (Err cause) = Some cause
-fault_behind (Some before) (Ok x) = Some before
-fault_behind (Some before) (Err cause) = Some (earlier before cause)
+abbrev pub fault_after : {T : Type 0} → Option AsmCause → Result T AsmCause → Option AsmCause
+fault_after None (Ok x) = None
+fault_after None (Err cause) = Some cause
+fault_after (Some before) (Ok x) = Some before
+fault_after (Some before) (Err cause) = Some (earlier before cause)
 
 -- what was given so far, with one more
-abbrev pub all_behind : {T : Type 0} → List T → Result T AsmCause → List T
-all_behind out (Ok x) = out ++ x ∷ []
-all_behind out (Err cause) = out
+abbrev pub all_following : {T : Type 0} → List T → Result T AsmCause → List T
+all_following out (Ok x) = out ++ x ∷ []
+all_following out (Err cause) = out
 
 -- all that was given, unless there is a fault
 abbrev pub all_or : {T : Type 0} → Option AsmCause → T → Result T AsmCause
@@ -65,9 +65,9 @@ pub record HasNumbers (constants : Constants) (width : ℕ) (text : List ℕ) (a
 -- ---- counts
 
 -- a formula in parentheses, behind the first of them
-pub record IsComputed (constants : Constants) (behind : List ℕ) (answer : Answer ℕ) (rest : List ℕ) : Type 0 where
+pub record IsComputed (constants : Constants) (following : List ℕ) (answer : Answer ℕ) (rest : List ℕ) : Type 0 where
   pub tree : Tree
-  pub means : MeansAt Labels behind tree (0x29 ∷ rest)
+  pub means : MeansAt Labels following tree (0x29 ∷ rest)
   pub gives : answer ≡ (number_of constants tree >>= in_range)
 
 -- decimal digits

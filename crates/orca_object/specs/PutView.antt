@@ -2,7 +2,7 @@
 use Rattle.std.specs.Prelude.{◌≡◌, ℕ, ◌+◌, ◌*◌, List, [], ◌∷◌, ◌++◌, length, Option}
 use Rattle.asm_meaning.specs.Object.{records_text}
 use Rattle.asm_meaning.specs.Pieces as meaning
-use Rattle.asm_meaning.specs.Pieces.{records_behind}
+use Rattle.asm_meaning.specs.Pieces.{records_after}
 use Rattle.orca_object.specs.declared.encoding.RepeatedPieces.{RepeatedPieces}
 use Rattle.orca_object.specs.declared.piece.Piece as piece_type
 use Rattle.orca_object.specs.declared.piece.Piece.TheVariants.{Bytes, Formula, Strong}
@@ -27,7 +27,7 @@ parts_size (p ∷ ps) = p.count * pieces_size p.pieces.items + parts_size ps
 pub record Wrote (whole : List ℕ) (kept : Option (List ℕ)) (pending : List ℕ) (rest : List meaning.Piece) : Type 0 where
   pub text : List ℕ
   pub kept_is : kept ≡ text_within_limit text
-  pub whole_is : text ++ records_text (records_behind pending rest) ≡ whole
+  pub whole_is : text ++ records_text (records_after pending rest) ≡ whole
 
 -- the same of a writer
 abbrev pub HasWritten : List ℕ → Writer → List meaning.Piece → Type 0

@@ -6,7 +6,7 @@ use Rattle.asm_meaning.specs.Answer.{Answer}
 use Rattle.asm_meaning.specs.declared.faults.AsmCause.{AsmCause}
 use Rattle.asm_meaning.specs.declared.faults.AsmCause.TheVariants.{SegmentTooLong}
 use Rattle.asm_meaning.specs.Object.{records_text, object_text}
-use Rattle.asm_meaning.specs.Pieces.{place_behind}
+use Rattle.asm_meaning.specs.Pieces.{place_after}
 use Rattle.omf_format.specs.Field.{◌>>=◌}
 use Rattle.orca_meaning.specs.Line.{Line}
 use Rattle.asm_meaning.specs.declared.directives.Operation.{Operation}
@@ -62,7 +62,7 @@ pub record ShowsState (state : State) (k : AsmState) : Type 0 where
   pub org : k.org ≡ state.org
   pub align : k.align ≡ state.align
   pub front : kept_text k.front ≡ text_within_limit (records_text state.front)
-  pub waiting : place_behind 0 state.front ≡ 0
+  pub waiting : place_after 0 state.front ≡ 0
   pub segment : ShowsOption state.segment k.segment
   pub number : k.number ≡ (length state.ended + 1) % 0x10000
   pub object : kept_text k.object ≡ text_within_limit (object_text state.ended)

@@ -183,7 +183,7 @@ pub(crate) enum Amount {
 }
 
 /// The value of terms that all are numbers and operators, whose text stands there. The end is put behind them and taken away again.
-fn value_behind(out: &mut Vec<u8>) -> Result<KnownValue, AllocError>
+fn value_after(out: &mut Vec<u8>) -> Result<KnownValue, AllocError>
     ensures text { OnOk result (out.new.items ≡ out.old.items) }
     ensures value { IfOk result (λ w. (tree : Tree) → Spells 0 (out.old.items ++ 0x00 ∷ []) tree → worth_view w ≡ worth_of_value (value no_environment 0 0 tree)) }
 {
@@ -238,7 +238,7 @@ pub(crate) fn amount_of(
     if !all {
         return Ok(Ok(Amount::Written(out)));
     }
-    let worth = value_behind(&mut out)?;
+    let worth = value_after(&mut out)?;
     match worth {
         KnownValue::Number(n) => Ok(Ok(Amount::Known(n))),
         KnownValue::Divided => Ok(Err(AsmCause::DivideByZero)),

@@ -2,7 +2,7 @@
 
 ghost use Rattle.std.specs.Prelude.{◌≡◌, Err, OnOk, Some};
 ghost use Rattle.asm_meaning.specs.Answer.{rank, earlier, pair_or_earlier_fault};
-ghost use Rattle.orca_object.specs.DcView.{fault_behind, all_behind, all_or};
+ghost use Rattle.orca_object.specs.DcView.{fault_after, all_following, all_or};
 
 use asm_meaning::AsmCause;
 use std::alloc::AllocError;
@@ -73,8 +73,8 @@ pub(crate) fn gather_answer<T: Drop>(
     fault: &mut Option<AsmCause>,
     answer: Result<T, AsmCause>,
 ) -> Result<(), AllocError>
-    ensures fault { OnOk result (fault.new ≡ fault_behind fault.old answer) }
-    ensures all { OnOk result (out.new.items ≡ all_behind out.old.items answer) }
+    ensures fault { OnOk result (fault.new ≡ fault_after fault.old answer) }
+    ensures all { OnOk result (out.new.items ≡ all_following out.old.items answer) }
 {
     match answer {
         Ok(value) => {
@@ -90,7 +90,7 @@ pub(crate) fn gather_answer<T: Drop>(
 
 /// The earlier of two faults, if there are two.
 fn first_of(before: Option<AsmCause>, cause: AsmCause) -> AsmCause
-    ensures { Some result ≡ fault_behind {T = Unit {0}} before (Err cause) }
+    ensures { Some result ≡ fault_after {T = Unit {0}} before (Err cause) }
 {
     match before {
         Some(before) => earlier(before, cause),

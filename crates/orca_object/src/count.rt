@@ -9,11 +9,11 @@ ghost use Rattle.asm_meaning.specs.Elements.{Repeat, IsRepeatAt, in_range};
 ghost use Rattle.orca_object.specs.DcView.{IsKeptOf, IsComputed, IsCounted, HasCount, checked_count};
 ghost use Rattle.orca_object.specs.NamesView.{constants};
 
-use crate::element::{behind_parenthesis, in_range};
+use crate::element::{after_parenthesis, in_range};
 use crate::names::KnownConstants;
 use crate::numbers::number_of;
 use asm_meaning::AsmCause;
-use orca_text::{LinePart, Operands, behind_byte, digits_at, formula_at};
+use orca_text::{LinePart, Operands, after_byte, digits_at, formula_at};
 use std::alloc::{AllocError, Global};
 
 /// A count, which is 1 to 65,535.
@@ -30,15 +30,15 @@ fn check_count(n: Result<u32, AsmCause>) -> Result<u32, AsmCause>
 fn computed_count<'a>(
     alloc: Global,
     known: KnownConstants<'_>,
-    behind: LinePart<'a>,
+    following: LinePart<'a>,
 ) -> Result<Option<(Result<u32, AsmCause>, &'a [u8])>, AllocError>
-    ensures found { IfOk result (λ found. IfSome found (λ x. IsComputed (constants known.entry) behind.entry.bytes.now x.0 x.1.now)) }
-    ensures none { IfOk result (λ found. IfNone found ((tree : Tree) (rest : List ℕ) → MeansAt Labels behind.entry.bytes.now tree (0x29 ∷ rest) → ⊥)) }
+    ensures found { IfOk result (λ found. IfSome found (λ x. IsComputed (constants known.entry) following.entry.bytes.now x.0 x.1.now)) }
+    ensures none { IfOk result (λ found. IfNone found ((tree : Tree) (rest : List ℕ) → MeansAt Labels following.entry.bytes.now tree (0x29 ∷ rest) → ⊥)) }
 {
-    let Some(found) = formula_at(alloc, Operands::Labels, behind)? else {
+    let Some(found) = formula_at(alloc, Operands::Labels, following)? else {
         return Ok(None);
     };
-    let Some(rest) = behind_byte(found.rest, b')') else {
+    let Some(rest) = after_byte(found.rest, b')') else {
         return Ok(None);
     };
     let n = number_of(alloc, known, &found.formula, found.large)?;
@@ -74,8 +74,8 @@ pub(crate) fn count_at<'a>(
     ensures found { IfOk result (λ found. IfSome found (λ x. HasCount (constants known.entry) text.entry.bytes.now x.0 x.1.now)) }
     ensures none { IfOk result (λ found. IfNone found ((repeat : Repeat) (rest : List ℕ) → IsRepeatAt text.entry.bytes.now repeat rest → ⊥)) }
 {
-    if let Some(behind) = behind_parenthesis(text.bytes) {
-        let found = computed_count(alloc, known, LinePart { bytes: behind })?;
+    if let Some(following) = after_parenthesis(text.bytes) {
+        let found = computed_count(alloc, known, LinePart { bytes: following })?;
         return Ok(found);
     }
     if let Some((answer, rest)) = digits_count(text.bytes) {

@@ -27,7 +27,7 @@ use crate::piece::Piece;
 use asm_meaning::AsmCause;
 use omf_base::{Name, NameFault};
 use omf_expr::{Term, put_term};
-use orca_text::{LinePart, behind_byte};
+use orca_text::{LinePart, after_byte};
 use std::alloc::{AllocError, Global};
 
 /// What constant bytes give.
@@ -300,13 +300,13 @@ pub(crate) fn element_at<'a>(
     ensures none { IfOk result (λ found. IfNone found ((element : Element) (rest : List ℕ) → IsElementAt text.entry.bytes.now element rest → ⊥)) }
 {
     let counted = count_at(alloc, known, text)?;
-    let Some((count, behind)) = counted else {
+    let Some((count, following)) = counted else {
         return Ok(None);
     };
-    let Some((kind, quote)) = kind_at(behind) else {
+    let Some((kind, quote)) = kind_at(following) else {
         return Ok(None);
     };
-    let Some(inner) = behind_byte(quote, b'\'') else {
+    let Some(inner) = after_byte(quote, b'\'') else {
         return Ok(None);
     };
     let found = value_at(alloc, known, msb, kind, LinePart { bytes: inner })?;

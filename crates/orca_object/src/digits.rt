@@ -60,10 +60,10 @@ fn group(base: u32, each: u32, digits: &[u8]) -> (u8, &[u8])
     'digits: while count > 0 {
         count -= 1;
         match left.split_first() {
-            Some((byte, behind)) => {
+            Some((byte, following)) => {
                 let more = digit_of(*byte, base);
                 value = value * base + more;
-                left = behind;
+                left = following;
             }
             None => value *= base,
         }

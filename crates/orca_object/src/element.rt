@@ -1,7 +1,7 @@
 //! The parts of DC's elements (ORCA/M reference manual, "Declare Constant").
 
 ghost use Rattle.std.specs.Prelude.{◌≡◌, ◌≢◌, ◌≤◌, ◌<◌, ◌+◌, ◌∷◌, ◌++◌, ◌&&◌, ◌||◌, ◌==◌, [], List, ℕ, length, take, drop, map, position, Some, None, IfOk, IfSome, MatchOption};
-ghost use Rattle.asm_meaning.specs.Elements.{behind_parenthesis, closed_at, text_at, width_at, kind_at, text_byte, in_range};
+ghost use Rattle.asm_meaning.specs.Elements.{after_parenthesis, closed_at, text_at, width_at, kind_at, text_byte, in_range};
 ghost use Rattle.orca_object.specs.ElementView.{element_kind, with_bytes};
 
 use asm_meaning::AsmCause;
@@ -25,14 +25,14 @@ pub(crate) enum ElementKind {
 }
 
 /// What stands behind a parenthesis that opens at the front.
-pub(crate) fn behind_parenthesis(text: &[u8]) -> Option<&[u8]>
-    ensures { MatchOption result (behind_parenthesis text.now ≡ None) (λ behind. behind_parenthesis text.now ≡ Some behind.now) }
+pub(crate) fn after_parenthesis(text: &[u8]) -> Option<&[u8]>
+    ensures { MatchOption result (after_parenthesis text.now ≡ None) (λ following. after_parenthesis text.now ≡ Some following.now) }
 {
-    let Some((first, behind)) = text.split_first() else {
+    let Some((first, following)) = text.split_first() else {
         return None;
     };
     if *first == b'(' {
-        return Some(behind);
+        return Some(following);
     }
     None
 }
@@ -57,16 +57,16 @@ pub(crate) fn closed_at(text: &[u8]) -> Option<(&[u8], &[u8])>
 }
 
 /// The bytes of each number behind I and A.
-fn width_at(behind: &[u8]) -> (ElementKind, &[u8])
-    ensures { (element_kind result.0, result.1.now) ≡ width_at behind.now }
+fn width_at(following: &[u8]) -> (ElementKind, &[u8])
+    ensures { (element_kind result.0, result.1.now) ≡ width_at following.now }
 {
-    let Some((digit, others)) = behind.split_first() else {
-        return (ElementKind::Number(2), behind);
+    let Some((digit, others)) = following.split_first() else {
+        return (ElementKind::Number(2), following);
     };
     if *digit >= b'1' && *digit <= b'4' {
         return (ElementKind::Number(*digit - b'0'), others);
     }
-    (ElementKind::Number(2), behind)
+    (ElementKind::Number(2), following)
 }
 
 /// The type at the front, in upper or lower case.
@@ -74,27 +74,27 @@ fn width_at(behind: &[u8]) -> (ElementKind, &[u8])
 pub(crate) fn kind_at(text: &[u8]) -> Option<(ElementKind, &[u8])>
     ensures { MatchOption result (kind_at text.now ≡ None) (λ x. kind_at text.now ≡ Some (element_kind x.0, x.1.now)) }
 {
-    let Some((letter, behind)) = text.split_first() else {
+    let Some((letter, following)) = text.split_first() else {
         return None;
     };
     let capital = letter.to_ascii_uppercase();
     if capital == b'I' || capital == b'A' {
-        return Some(width_at(behind));
+        return Some(width_at(following));
     }
     if capital == b'H' {
-        return Some((ElementKind::Hexadecimal, behind));
+        return Some((ElementKind::Hexadecimal, following));
     }
     if capital == b'B' {
-        return Some((ElementKind::Binary, behind));
+        return Some((ElementKind::Binary, following));
     }
     if capital == b'C' {
-        return Some((ElementKind::Characters, behind));
+        return Some((ElementKind::Characters, following));
     }
     if capital == b'R' {
-        return Some((ElementKind::References, behind));
+        return Some((ElementKind::References, following));
     }
     if capital == b'S' {
-        return Some((ElementKind::WeakReferences, behind));
+        return Some((ElementKind::WeakReferences, following));
     }
     None
 }
@@ -132,13 +132,13 @@ pub(crate) fn text_at(alloc: Global, text: &[u8]) -> Result<Option<(Vec<u8>, &[u
             left = others;
             continue;
         }
-        let Some((next, behind)) = others.split_first() else {
+        let Some((next, following)) = others.split_first() else {
             return Ok(Some((out, others)));
         };
         if *next != b'\'' {
             return Ok(Some((out, others)));
         }
         out.push(b'\'')?;
-        left = behind;
+        left = following;
     }
 }

@@ -4,7 +4,7 @@ ghost use Rattle.std.specs.Prelude.{◌≡◌, ◌∷◌, ◌++◌, [], List, �
 ghost use Rattle.asm_meaning.specs.Elements.{AreNames};
 
 use omf_base::Name;
-use orca_text::{LinePart, behind_byte, name_at};
+use orca_text::{LinePart, after_byte, name_at};
 use std::alloc::{AllocError, Global};
 
 /// The names that a text is, parted by commas.
@@ -22,9 +22,9 @@ pub(crate) fn names_in(alloc: Global, text: LinePart<'_>) -> Result<Option<Vec<N
         if rest.is_empty() {
             return Ok(Some(out));
         }
-        let Some(behind) = behind_byte(rest, b',') else {
+        let Some(following) = after_byte(rest, b',') else {
             return Ok(None);
         };
-        left = behind;
+        left = following;
     }
 }

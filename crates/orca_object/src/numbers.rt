@@ -18,7 +18,7 @@ use crate::causes::{answer_or_fault, gather_answer};
 use crate::names::KnownConstants;
 use crate::piece::{Piece, number_bytes, shift_and_end};
 use asm_meaning::AsmCause;
-use orca_text::{Formula, LinePart, Operands, behind_byte, formula_at, is_too_deep};
+use orca_text::{Formula, LinePart, Operands, after_byte, formula_at, is_too_deep};
 use std::alloc::{AllocError, Global};
 
 /// What a formula amounts to, unless it is too deep or has a number that is too large.
@@ -136,9 +136,9 @@ pub(crate) fn numbers_in(
         if rest.is_empty() {
             return Ok(Some(answer_or_fault(fault, out)));
         }
-        let Some(behind) = behind_byte(rest, b',') else {
+        let Some(following) = after_byte(rest, b',') else {
             return Ok(None);
         };
-        left = behind;
+        left = following;
     }
 }

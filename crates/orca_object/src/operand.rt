@@ -2,7 +2,7 @@
 
 ghost use Rattle.std.specs.Prelude.{◌≡◌, Some, None, IfOk, MatchOption};
 ghost use Rattle.orca_meaning.specs.Characters.{is_name};
-ghost use Rattle.asm_meaning.specs.Statement.{behind_here, name_of};
+ghost use Rattle.asm_meaning.specs.Statement.{following_here, name_of};
 ghost use Rattle.orca_object.specs.OperandView.{name_answer};
 
 use asm_meaning::AsmCause;
@@ -15,24 +15,24 @@ use std::alloc::{AllocError, Global};
 pub(crate) fn is_name(text: &[u8]) -> bool
     ensures { result ≡ is_name text.now }
 {
-    let Some((first, behind)) = text.split_first() else {
+    let Some((first, following)) = text.split_first() else {
         return false;
     };
-    is_name_start(*first) && name_len(behind) == behind.len()
+    is_name_start(*first) && name_len(following) == following.len()
 }
 
 /// What stands behind `*+` at the front, with which ORG moves the location counter.
-pub(crate) fn behind_here(text: &[u8]) -> Option<&[u8]>
-    ensures { MatchOption result (behind_here text.now ≡ None) (λ behind. behind_here text.now ≡ Some behind.now) }
+pub(crate) fn following_here(text: &[u8]) -> Option<&[u8]>
+    ensures { MatchOption result (following_here text.now ≡ None) (λ following. following_here text.now ≡ Some following.now) }
 {
     let Some((first, others)) = text.split_first() else {
         return None;
     };
-    let Some((second, behind)) = others.split_first() else {
+    let Some((second, following)) = others.split_first() else {
         return None;
     };
     if *first == b'*' && *second == b'+' {
-        return Some(behind);
+        return Some(following);
     }
     None
 }

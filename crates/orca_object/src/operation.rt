@@ -6,13 +6,13 @@ ghost use Rattle.orca_meaning.specs.Characters.{folded};
 ghost use Rattle.orca_meaning.specs.Operation.{value_of_spelling};
 ghost use Rattle.asm_meaning.specs.Operations.{directives, ignored_directives, as_ignored, operation_of};
 ghost use Rattle.orca_object.specs.Tables.{directives_after_gequ};
-ghost use Rattle.asm_meaning.specs.Statement.{behind_here, is_some_text, is_labelled, needs_segment, begins_segment, needs_label, label_of};
+ghost use Rattle.asm_meaning.specs.Statement.{following_here, is_some_text, is_labelled, needs_segment, begins_segment, needs_label, label_of};
 ghost use Rattle.orca_object.specs.OperandView.{name_answer, no_label};
 ghost use Rattle.asm_meaning.specs.State.{State};
 ghost use Rattle.orca_object.specs.DoneView.{IsSome};
 ghost use Rattle.orca_object.specs.StateView.{ShowsState};
 
-use crate::operand::{behind_here, is_name};
+use crate::operand::{following_here, is_name};
 use crate::state::AsmState;
 use asm_meaning::{AsmCause, Class, Directive, Operation, Switch};
 use omf_base::Name;
@@ -167,9 +167,9 @@ fn is_labelled(label: &[u8]) -> bool
 
 /// Whether an operand begins with `*+`.
 fn begins_here(operand: &[u8]) -> bool
-    ensures { result ≡ is_some_text (behind_here operand.now) }
+    ensures { result ≡ is_some_text (following_here operand.now) }
 {
-    match behind_here(operand) {
+    match following_here(operand) {
         Some(_) => true,
         None => false,
     }

@@ -12,7 +12,7 @@ ghost use Rattle.orca_object.specs.DoingView.{HasDistance};
 
 use crate::amount::number_in;
 use crate::causes::pair_or_earlier_fault;
-use crate::operand::behind_here;
+use crate::operand::following_here;
 use crate::state::AsmState;
 use asm_meaning::AsmCause;
 use omf_base::{Name, padding};
@@ -143,8 +143,8 @@ fn distance_in(
     if kept.segment.is_none() {
         return number_in(alloc, kept.known(), text);
     }
-    match behind_here(text.bytes) {
-        Some(behind) => number_in(alloc, kept.known(), LinePart { bytes: behind }),
+    match following_here(text.bytes) {
+        Some(following) => number_in(alloc, kept.known(), LinePart { bytes: following }),
         None => Ok(Err(AsmCause::BadOperand)),
     }
 }

@@ -145,7 +145,7 @@ impl RecordBytes {
     }
 
     /// Appends another, which is all where nothing stands before it.
-    #[tactic(auto, using(crate::proofs::Limited::long_behind, crate::proofs::Limited::joins_first, crate::proofs::Limited::joins))]
+    #[tactic(auto, using(crate::proofs::Limited::long_after, crate::proofs::Limited::joins_first, crate::proofs::Limited::joins))]
     pub(crate) fn join(&mut self, other: RecordBytes) -> Result<(), AllocError>
         ensures { OnOk result ((text more : List ℕ) → kept_text self.old ≡ text_within_limit text → kept_text other ≡ text_within_limit more → kept_text self.new ≡ text_within_limit (text ++ more)) }
     {

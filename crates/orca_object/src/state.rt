@@ -81,14 +81,14 @@ impl Body {
     ghost use Rattle.object_meaning.specs.Sizes.{size_at};
     ghost use Rattle.asm_meaning.specs.declared.faults.AsmCause.TheVariants.{SegmentTooLong};
     ghost use Rattle.asm_meaning.specs.Object.{records_text};
-    ghost use Rattle.asm_meaning.specs.Pieces.{place_behind};
+    ghost use Rattle.asm_meaning.specs.Pieces.{place_after};
     ghost use Rattle.orca_object.specs.BodyView.{ShowsBody};
     ghost use Rattle.orca_object.specs.TextView.{text_within_limit, kept_text};
 
     /// Records that give no cells, behind room for a header.
     #[tactic(auto, using(crate::proofs::Bodies::begins))]
     pub(crate) fn new(alloc: Global, text: RecordBytes) -> Body
-        ensures { (room : ℕ) (records : List Record) → kept_text text ≡ text_within_limit (replicate room 0 ++ records_text records) → place_behind 0 records ≡ 0 → ShowsBody room records result }
+        ensures { (room : ℕ) (records : List Record) → kept_text text ≡ text_within_limit (replicate room 0 ++ records_text records) → place_after 0 records ≡ 0 → ShowsBody room records result }
     {
         Body {
             writer: Writer::new(alloc, text),

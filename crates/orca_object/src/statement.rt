@@ -18,7 +18,7 @@ use crate::instruct::instruct;
 use crate::mode::Widths;
 use crate::names::KnownConstants;
 use asm_meaning::AsmCause;
-use orca_text::{LinePart, Mnemonic, SourceLine, TextCause, behind_byte, read_operand};
+use orca_text::{LinePart, Mnemonic, SourceLine, TextCause, after_byte, read_operand};
 use std::alloc::{AllocError, Global};
 
 /// The operand of a line has at most 255 bytes.
@@ -82,10 +82,10 @@ fn parts_in(
         if rest.is_empty() {
             return Ok(Some(answer_or_fault(fault, out)));
         }
-        let Some(behind) = behind_byte(rest, b',') else {
+        let Some(following) = after_byte(rest, b',') else {
             return Ok(None);
         };
-        left = behind;
+        left = following;
     }
 }
 

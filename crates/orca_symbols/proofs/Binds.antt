@@ -100,7 +100,7 @@ next_is parameters place piece b is = by_keyword (name_at piece) is
         → (b.next ≡ place) ⊎ ((b.next ≡ place + 1) × (slice_get parameters place ≡ Some b.name))
     by_keyword None e = inr (by_turn (slice_get parameters place) e)
     by_keyword (Some (name, [])) e = inr (by_turn (slice_get parameters place) e)
-    by_keyword (Some (name, byte ∷ behind)) e = by_tests (eqb byte 0x3D) (is_among parameters name) name behind e
+    by_keyword (Some (name, byte ∷ following)) e = by_tests (eqb byte 0x3D) (is_among parameters name) name following e
 
 pub next_reached : (parameters : List (List ℕ)) (place : ℕ) (piece : List ℕ) (b : Binding) (old now : Symbols) → binding parameters place piece ≡ Some b → bound_once b.name b.text old ≡ Some now
     → AreBound parameters place old → AreBound parameters b.next now
@@ -185,31 +185,31 @@ bound_none m label operand p s0 p_is first none =
 
 -- ---- the name before `=`
 
-name_front : (piece behind name rest : List ℕ) (first n : ℕ) → piece ≡ first ∷ behind → is_name_start first ≡ true → n ≡ prefix_len is_name_byte behind → name ≡ take (n + 1) piece → rest ≡ drop (n + 1) piece
+name_front : (piece following name rest : List ℕ) (first n : ℕ) → piece ≡ first ∷ following → is_name_start first ≡ true → n ≡ prefix_len is_name_byte following → name ≡ take (n + 1) piece → rest ≡ drop (n + 1) piece
     → name_at piece ≡ Some (folded name, rest)
 unfolding name_at
-name_front piece behind name rest first n is starts n_is name_is rest_is =
-    let more : prefix_len is_name_byte behind + 1 ≡ suc (prefix_len is_name_byte behind) = omega arith in
+name_front piece following name rest first n is starts n_is name_is rest_is =
+    let more : prefix_len is_name_byte following + 1 ≡ suc (prefix_len is_name_byte following) = omega arith in
     rw (name_is, rest_is, n_is, is, starts, more) refl
 
-pub has_name : (piece behind name rest text : List ℕ) (first n : ℕ) → piece ≡ first ∷ behind → is_name_start first ≡ true → n ≡ prefix_len is_name_byte behind → name ≡ take (n + 1) piece → rest ≡ drop (n + 1) piece
+pub has_name : (piece following name rest text : List ℕ) (first n : ℕ) → piece ≡ first ∷ following → is_name_start first ≡ true → n ≡ prefix_len is_name_byte following → name ≡ take (n + 1) piece → rest ≡ drop (n + 1) piece
     → rest ≡ 0x3D ∷ text → name_at piece ≡ Some (folded name, 0x3D ∷ text)
-has_name piece behind name rest text first n is starts n_is name_is rest_is equals =
-    name_front piece behind name rest first n is starts n_is name_is rest_is ∙ ap (λ (r : List ℕ). Some (folded name, r)) equals
+has_name piece following name rest text first n is starts n_is name_is rest_is equals =
+    name_front piece following name rest first n is starts n_is name_is rest_is ∙ ap (λ (r : List ℕ). Some (folded name, r)) equals
 
 pub no_bytes : (parameters : List (List ℕ)) (place : ℕ) (piece : List ℕ) → length piece ≡ 0 → keyword_from parameters place (name_at piece) ≡ None
 unfolding name_at
 no_bytes parameters place [] none = refl
 no_bytes parameters place (byte ∷ piece) none = absurd (omega (arith, none))
 
-pub no_start : (parameters : List (List ℕ)) (place : ℕ) (piece behind : List ℕ) (first : ℕ) → piece ≡ first ∷ behind → is_name_start first ≡ false → keyword_from parameters place (name_at piece) ≡ None
+pub no_start : (parameters : List (List ℕ)) (place : ℕ) (piece following : List ℕ) (first : ℕ) → piece ≡ first ∷ following → is_name_start first ≡ false → keyword_from parameters place (name_at piece) ≡ None
 unfolding name_at
-no_start parameters place piece behind first is other = rw (is, other) refl
+no_start parameters place piece following first is other = rw (is, other) refl
 
-pub no_equals : (parameters : List (List ℕ)) (place : ℕ) (piece behind name rest : List ℕ) (first n : ℕ) → piece ≡ first ∷ behind → is_name_start first ≡ true → n ≡ prefix_len is_name_byte behind
+pub no_equals : (parameters : List (List ℕ)) (place : ℕ) (piece following name rest : List ℕ) (first n : ℕ) → piece ≡ first ∷ following → is_name_start first ≡ true → n ≡ prefix_len is_name_byte following
     → name ≡ take (n + 1) piece → rest ≡ drop (n + 1) piece → ((text : List ℕ) → rest ≢ 0x3D ∷ text) → keyword_from parameters place (name_at piece) ≡ None
-no_equals parameters place piece behind name rest first n is starts n_is name_is rest_is other =
-    ap (keyword_from parameters place) (name_front piece behind name rest first n is starts n_is name_is rest_is) ∙ by_rest rest other
+no_equals parameters place piece following name rest first n is starts n_is name_is rest_is other =
+    ap (keyword_from parameters place) (name_front piece following name rest first n is starts n_is name_is rest_is) ∙ by_rest rest other
   where
     by_rest : (r : List ℕ) → ((text : List ℕ) → r ≢ 0x3D ∷ text) → keyword_from parameters place (Some (folded name, r)) ≡ None
     by_rest [] none = refl

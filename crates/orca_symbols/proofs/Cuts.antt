@@ -2,16 +2,16 @@
 use Rattle.std.proofs.Common.{◌≡◌, ℕ, zero, suc, ◌-◌, Bool, false, cond, take, eqb, List, [], ◌∷◌, None, refl, ap}
 use Rattle.orca_meaning.specs.Line.{three_fields}
 use Rattle.orca_meaning.specs.Token.{name_at}
-use Rattle.macro_meaning.specs.Statements.{behind_dot}
+use Rattle.macro_meaning.specs.Statements.{after_dot}
 use Rattle.macro_meaning.specs.Substitution.{first_passes}
 use Rattle.macro_meaning.specs.Effect.{without_sequence_symbol}
 
 -- a line without a dot at its front has no sequence symbol
-no_dot : (n : ℕ) (text : List ℕ) → first_passes (λ (byte : ℕ). eqb byte 0x2E) text ≡ false → behind_dot (take n text) ≡ None
+no_dot : (n : ℕ) (text : List ℕ) → first_passes (λ (byte : ℕ). eqb byte 0x2E) text ≡ false → after_dot (take n text) ≡ None
 no_dot zero [] other = refl
 no_dot (suc n) [] other = refl
-no_dot zero (byte ∷ behind) other = refl
-no_dot (suc n) (byte ∷ behind) other = ap (λ (b : Bool). cond b (name_at (take n behind)) None) other
+no_dot zero (byte ∷ following) other = refl
+no_dot (suc n) (byte ∷ following) other = ap (λ (b : Bool). cond b (name_at (take n following)) None) other
 
 pub cut_none : (text : List ℕ) → first_passes (λ (byte : ℕ). eqb byte 0x2E) text ≡ false → text ≡ without_sequence_symbol text
 unfolding without_sequence_symbol three_fields

@@ -25,8 +25,8 @@ use Rattle.orca_text.proofs.OperandIs.{peak_is, terms_are}
 pub no_formula : (values : Values) (text : List ℕ) → HasNoFormula Symbols text → IsNumber values text (Err BadSetting)
 no_formula values text none = NoFormula (λ tree means. none tree [] means) refl
 
-pub more_behind : (values : Values) (text : List ℕ) (terms : List Term) (large : Bool) (rest : List ℕ) → IsFormulaAt Symbols text terms large rest → rest ≢ [] → IsNumber values text (Err BadSetting)
-more_behind values text terms large rest f some = NoFormula (λ tree means. some (sym (one_tree Symbols text tree f.tree [] rest means f.means).1)) refl
+pub more_after : (values : Values) (text : List ℕ) (terms : List Term) (large : Bool) (rest : List ℕ) → IsFormulaAt Symbols text terms large rest → rest ≢ [] → IsNumber values text (Err BadSetting)
+more_after values text terms large rest f some = NoFormula (λ tree means. some (sym (one_tree Symbols text tree f.tree [] rest means f.means).1)) refl
 
 -- what is kept of terms asks for the same symbols
 declared_kept : (values : Values) (terms : List Term) → list_all (is_declared values) (kept_terms terms) ≡ list_all (is_declared values) terms

@@ -3,8 +3,8 @@ use Rattle.std.proofs.Common.{◌≡◌, ℕ, zero, suc, ◌+◌, ◌<◌, ◌�
 use Rattle.std.specs.Prelude.{position, slice_get}
 use Rattle.std.specs.List.{position_or_len}
 use Rattle.std.proofs.lemmas.List.{drop_more}
-use Rattle.orca_meaning.specs.Quotes.{quote_behind}
-use Rattle.macro_meaning.specs.Pieces.{parts, open_behind, with_byte, pieces_from, pieces, closed_at, unquoted_text, appended_texts, joined_texts}
+use Rattle.orca_meaning.specs.Quotes.{quote_following}
+use Rattle.macro_meaning.specs.Pieces.{parts, open_after, with_byte, pieces_from, pieces, closed_at, unquoted_text, appended_texts, joined_texts}
 use Rattle.orca_symbols.specs.Piece.{piece_len, AreNotTwo}
 
 -- ---- elements from a place on
@@ -27,24 +27,24 @@ drop_read {A = A} l i x less is = (refl, drop_more l i x less ∙ ap (λ (y : A)
 -- the first piece, and the pieces of what stands behind its separator
 after_first : ℕ → List ℕ → List (List ℕ)
 after_first separator [] = []
-after_first separator (byte ∷ behind) = pieces separator behind
+after_first separator (byte ∷ following) = pieces separator following
 
 front : (separator : ℕ) (quote : Option ℕ) (count : ℕ) (text : List ℕ)
     → pieces_from separator quote count text ≡ take (piece_len separator quote count text) text ∷ after_first separator (drop (piece_len separator quote count text) text)
 unfolding pieces_from piece_len after_first
 front separator quote count [] = refl
-front separator quote count (byte ∷ behind) = by_test (parts separator quote count byte) (front separator (quote_behind quote byte) (open_behind quote count byte) behind)
+front separator quote count (byte ∷ following) = by_test (parts separator quote count byte) (front separator (quote_following quote byte) (open_after quote count byte) following)
   where
     n : ℕ
-    n = piece_len separator (quote_behind quote byte) (open_behind quote count byte) behind
+    n = piece_len separator (quote_following quote byte) (open_after quote count byte) following
 
-    more : (k : ℕ) → k ≡ suc n → pieces_from separator (quote_behind quote byte) (open_behind quote count byte) behind ≡ take n behind ∷ after_first separator (drop n behind)
-        → with_byte byte (pieces_from separator (quote_behind quote byte) (open_behind quote count byte) behind) ≡ take k (byte ∷ behind) ∷ after_first separator (drop k (byte ∷ behind))
+    more : (k : ℕ) → k ≡ suc n → pieces_from separator (quote_following quote byte) (open_after quote count byte) following ≡ take n following ∷ after_first separator (drop n following)
+        → with_byte byte (pieces_from separator (quote_following quote byte) (open_after quote count byte) following) ≡ take k (byte ∷ following) ∷ after_first separator (drop k (byte ∷ following))
     more k e is = rw e (ap (with_byte byte) is)
 
-    by_test : (b : Bool) → pieces_from separator (quote_behind quote byte) (open_behind quote count byte) behind ≡ take n behind ∷ after_first separator (drop n behind)
-        → cond b ([] ∷ pieces separator behind) (with_byte byte (pieces_from separator (quote_behind quote byte) (open_behind quote count byte) behind))
-        ≡ take (cond b 0 (n + 1)) (byte ∷ behind) ∷ after_first separator (drop (cond b 0 (n + 1)) (byte ∷ behind))
+    by_test : (b : Bool) → pieces_from separator (quote_following quote byte) (open_after quote count byte) following ≡ take n following ∷ after_first separator (drop n following)
+        → cond b ([] ∷ pieces separator following) (with_byte byte (pieces_from separator (quote_following quote byte) (open_after quote count byte) following))
+        ≡ take (cond b 0 (n + 1)) (byte ∷ following) ∷ after_first separator (drop (cond b 0 (n + 1)) (byte ∷ following))
     by_test true is = refl
     by_test false is = more (n + 1) (omega arith) is
 
@@ -83,18 +83,18 @@ none_found true n e = absurd cc
 none_found false n e = refl
 
 -- the quote stands at a place
-pub closes : (quote : ℕ) (behind text others : List ℕ) (close : ℕ) → position (λ b. eqb b quote) behind ≡ Some close → text ≡ take close behind → others ≡ drop (close + 1) behind
-    → closed_at quote behind ≡ Some (text, others)
+pub closes : (quote : ℕ) (following text others : List ℕ) (close : ℕ) → position (λ b. eqb b quote) following ≡ Some close → text ≡ take close following → others ≡ drop (close + 1) following
+    → closed_at quote following ≡ Some (text, others)
 unfolding closed_at
-closes quote behind text others close at text_is rest_is =
-    let n = position_or_len (λ b. eqb b quote) behind in
-    let found = by_found (ltb n (length behind)) n close at in
-    rw found.0 (ap (λ (t : List ℕ). Some (t, drop (n + 1) behind)) (ap (λ (k : ℕ). take k behind) found.1 ∙ sym text_is)
-    ∙ ap (λ (r : List ℕ). Some (text, r)) (ap (λ (k : ℕ). drop (k + 1) behind) found.1 ∙ sym rest_is))
+closes quote following text others close at text_is rest_is =
+    let n = position_or_len (λ b. eqb b quote) following in
+    let found = by_found (ltb n (length following)) n close at in
+    rw found.0 (ap (λ (t : List ℕ). Some (t, drop (n + 1) following)) (ap (λ (k : ℕ). take k following) found.1 ∙ sym text_is)
+    ∙ ap (λ (r : List ℕ). Some (text, r)) (ap (λ (k : ℕ). drop (k + 1) following) found.1 ∙ sym rest_is))
 
-pub never_closes : (quote : ℕ) (behind : List ℕ) → position (λ b. eqb b quote) behind ≡ None → closed_at quote behind ≡ None
+pub never_closes : (quote : ℕ) (following : List ℕ) → position (λ b. eqb b quote) following ≡ None → closed_at quote following ≡ None
 unfolding closed_at
-never_closes quote behind none = rw (none_found (ltb (position_or_len (λ b. eqb b quote) behind) (length behind)) (position_or_len (λ b. eqb b quote) behind) none) refl
+never_closes quote following none = rw (none_found (ltb (position_or_len (λ b. eqb b quote) following) (length following)) (position_or_len (λ b. eqb b quote) following) none) refl
 
 -- ---- joined texts
 

@@ -9,30 +9,30 @@ use Rattle.orca_symbols.specs.Template.{where_some, part_text, join, text_before
 use Rattle.orca_symbols.specs.declared.template.TemplatePart.{TemplatePart}
 use Rattle.orca_symbols.specs.declared.template.TemplatePart.TheVariants.{Plain, Need}
 use Rattle.orca_symbols.specs.declared.template.Replacement.{Replacement}
-use Rattle.orca_symbols.proofs.Fronts.{front_more, front_start, plain_front, plain_most, behind_run, skipped, nothing_left}
+use Rattle.orca_symbols.proofs.Fronts.{front_more, front_start, plain_front, plain_most, after_run, skipped, nothing_left}
 
 -- ---- what comes in place of an `&`
 
-pub ampersand : (text_of : List ℕ → Option (List ℕ)) (behind : List ℕ) → in_place text_of Declared behind ≡ with_more 0 (Some (0x26 ∷ []))
-ampersand text_of behind = refl
+pub ampersand : (text_of : List ℕ → Option (List ℕ)) (following : List ℕ) → in_place text_of Declared following ≡ with_more 0 (Some (0x26 ∷ []))
+ampersand text_of following = refl
 
-pub not_letter : (text_of : List ℕ → Option (List ℕ)) (behind : List ℕ) → first_passes is_letter behind ≡ false → in_place text_of Replaced behind ≡ with_more 0 (Some (0x26 ∷ []))
-not_letter text_of behind other = rw other refl
+pub not_letter : (text_of : List ℕ → Option (List ℕ)) (following : List ℕ) → first_passes is_letter following ≡ false → in_place text_of Replaced following ≡ with_more 0 (Some (0x26 ∷ []))
+not_letter text_of following other = rw other refl
 
-pub not_name : (text_of : List ℕ → Option (List ℕ)) (behind : List ℕ) → first_passes is_name_start behind ≡ false → in_place text_of Named behind ≡ with_more 0 (Some (0x26 ∷ []))
-not_name text_of behind other = rw other refl
+pub not_name : (text_of : List ℕ → Option (List ℕ)) (following : List ℕ) → first_passes is_name_start following ≡ false → in_place text_of Named following ≡ with_more 0 (Some (0x26 ∷ []))
+not_name text_of following other = rw other refl
 
-pub text : (text_of : List ℕ → Option (List ℕ)) (behind name : List ℕ) (more : ℕ) → first_passes is_letter behind ≡ true → name ≡ folded (take (name_length behind) behind) → more ≡ taken_length behind
-    → in_place text_of Replaced behind ≡ with_more more (text_of name)
-text text_of behind name more letter name_is more_is = rw letter (by_text (text_of (folded (take (name_length behind) behind))) ∙ ap (λ (n : List ℕ). with_more (taken_length behind) (text_of n)) (sym name_is) ∙ ap (λ (m : ℕ). with_more m (text_of name)) (sym more_is))
+pub text : (text_of : List ℕ → Option (List ℕ)) (following name : List ℕ) (more : ℕ) → first_passes is_letter following ≡ true → name ≡ folded (take (name_length following) following) → more ≡ taken_length following
+    → in_place text_of Replaced following ≡ with_more more (text_of name)
+text text_of following name more letter name_is more_is = rw letter (by_text (text_of (folded (take (name_length following) following))) ∙ ap (λ (n : List ℕ). with_more (taken_length following) (text_of n)) (sym name_is) ∙ ap (λ (m : ℕ). with_more m (text_of name)) (sym more_is))
   where
-    by_text : (found : Option (List ℕ)) → (elim found [ None ↦ None | Some t ↦ Some (t, taken_length behind) ]) ≡ with_more (taken_length behind) found
+    by_text : (found : Option (List ℕ)) → (elim found [ None ↦ None | Some t ↦ Some (t, taken_length following) ]) ≡ with_more (taken_length following) found
     by_text None = refl
     by_text (Some t) = refl
 
-pub asked : (text_of : List ℕ → Option (List ℕ)) (behind name : List ℕ) → first_passes is_name_start behind ≡ true → name ≡ folded (take (name_length behind) behind)
-    → in_place text_of Named behind ≡ with_more 0 (where_some (0x26 ∷ []) (text_of name))
-asked text_of behind name start name_is = rw start (by_text (text_of (folded (take (name_length behind) behind))) ∙ ap (λ (n : List ℕ). with_more 0 (where_some (0x26 ∷ []) (text_of n))) (sym name_is))
+pub asked : (text_of : List ℕ → Option (List ℕ)) (following name : List ℕ) → first_passes is_name_start following ≡ true → name ≡ folded (take (name_length following) following)
+    → in_place text_of Named following ≡ with_more 0 (where_some (0x26 ∷ []) (text_of name))
+asked text_of following name start name_is = rw start (by_text (text_of (folded (take (name_length following) following))) ∙ ap (λ (n : List ℕ). with_more 0 (where_some (0x26 ∷ []) (text_of n))) (sym name_is))
   where
     by_text : (found : Option (List ℕ)) → (elim found [ None ↦ None | Some t ↦ Some (0x26 ∷ [], 0) ]) ≡ with_more 0 (where_some (0x26 ∷ []) found)
     by_text None = refl
@@ -94,26 +94,26 @@ parts_run naming text left rest run new parts within so rest_is copied = λ text
     ap (λ (n : List ℕ). text_before text_of parts (with_front n tail)) copied ∙ ap (text_before text_of parts) (front_more run (take (plain_len left) left) tail ∙ ap (with_front run) (sym here)) ∙ so text_of
 
 -- an `&` with what comes in its place
-join_more : (text_of : List ℕ → Option (List ℕ)) (naming : ℕ → Naming) (at byte : ℕ) (behind : List ℕ) (more : ℕ) (text : Option (List ℕ)) → byte ≡ 0x26
-    → in_place text_of (naming at) behind ≡ with_more more text → substituted_from text_of naming at 0 (byte ∷ behind) ≡ join text (substituted_from text_of naming (at + 1) more behind)
+join_more : (text_of : List ℕ → Option (List ℕ)) (naming : ℕ → Naming) (at byte : ℕ) (following : List ℕ) (more : ℕ) (text : Option (List ℕ)) → byte ≡ 0x26
+    → in_place text_of (naming at) following ≡ with_more more text → substituted_from text_of naming at 0 (byte ∷ following) ≡ join text (substituted_from text_of naming (at + 1) more following)
 unfolding substituted_from
-join_more text_of naming at byte behind more None ampersand is = ap (λ (b : ℕ). substituted_from text_of naming at 0 (b ∷ behind)) ampersand ∙ rw is refl
-join_more text_of naming at byte behind more (Some text) ampersand is = ap (λ (b : ℕ). substituted_from text_of naming at 0 (b ∷ behind)) ampersand ∙ rw is refl
+join_more text_of naming at byte following more None ampersand is = ap (λ (b : ℕ). substituted_from text_of naming at 0 (b ∷ following)) ampersand ∙ rw is refl
+join_more text_of naming at byte following more (Some text) ampersand is = ap (λ (b : ℕ). substituted_from text_of naming at 0 (b ∷ following)) ampersand ∙ rw is refl
 
-pub parts_more : (naming : ℕ → Naming) (text left rest run copied longer behind others : List ℕ) (old new : List TemplatePart) (byte : ℕ) (place : Replacement) (more : ℕ) → length left ≤ length text → AreSoFar naming text left old run
-    → rest ≡ drop (plain_len left) left → copied ≡ run ++ take (plain_len left) left → rest ≡ byte ∷ behind
-    → ((text_of : List ℕ → Option (List ℕ)) → in_place text_of (naming (length text - length rest)) behind ≡ with_more (more_of place) (replacement_text text_of place))
-    → more ≡ more_of place → more ≤ length behind → others ≡ drop more behind
+pub parts_more : (naming : ℕ → Naming) (text left rest run copied longer following others : List ℕ) (old new : List TemplatePart) (byte : ℕ) (place : Replacement) (more : ℕ) → length left ≤ length text → AreSoFar naming text left old run
+    → rest ≡ drop (plain_len left) left → copied ≡ run ++ take (plain_len left) left → rest ≡ byte ∷ following
+    → ((text_of : List ℕ → Option (List ℕ)) → in_place text_of (naming (length text - length rest)) following ≡ with_more (more_of place) (replacement_text text_of place))
+    → more ≡ more_of place → more ≤ length following → others ≡ drop more following
     → ((text_of : List ℕ → Option (List ℕ)) (tail : Option (List ℕ)) → text_before text_of new (with_front longer tail) ≡ text_before text_of old (with_front copied (join (replacement_text text_of place) tail)))
     → AreSoFar naming text others new longer
-parts_more naming text left rest run copied longer behind others old new byte place more within so rest_is copied_is first is more_is few others_are added = λ text_of.
+parts_more naming text left rest run copied longer following others old new byte place more within so rest_is copied_is first is more_is few others_are added = λ text_of.
     let most : length rest ≤ length text = omega (arith, within, ap length rest_is, length-drop (plain_len left) left) in
-    let at : length text - length rest + 1 + more ≡ length text - length others = omega (arith, most, few, ap length first, ap length others_are, length-drop more behind) in
+    let at : length text - length rest + 1 + more ≡ length text - length others = omega (arith, most, few, ap length first, ap length others_are, length-drop more following) in
     let tail = substituted_from text_of naming (length text - length others) 0 others in
     let here : substituted_from text_of naming (length text - length rest) 0 rest ≡ join (replacement_text text_of place) tail =
     ap (substituted_from text_of naming (length text - length rest) 0) first
-    ∙ join_more text_of naming (length text - length rest) byte behind more (replacement_text text_of place) (behind_run left byte behind (sym rest_is ∙ first)) (is text_of ∙ ap (λ (m : ℕ). with_more m (replacement_text text_of place)) (sym more_is))
-    ∙ ap (join (replacement_text text_of place)) (skipped text_of naming (length text - length rest + 1) more behind few ∙ ap (λ (p : ℕ). substituted_from text_of naming p 0 (drop more behind)) at ∙ ap (substituted_from text_of naming (length text - length others) 0) (sym others_are)) in
+    ∙ join_more text_of naming (length text - length rest) byte following more (replacement_text text_of place) (after_run left byte following (sym rest_is ∙ first)) (is text_of ∙ ap (λ (m : ℕ). with_more m (replacement_text text_of place)) (sym more_is))
+    ∙ ap (join (replacement_text text_of place)) (skipped text_of naming (length text - length rest + 1) more following few ∙ ap (λ (p : ℕ). substituted_from text_of naming p 0 (drop more following)) at ∙ ap (substituted_from text_of naming (length text - length others) 0) (sym others_are)) in
     added text_of tail ∙ ap (λ (o : Option (List ℕ)). text_before text_of old (with_front copied o)) (sym here) ∙ parts_run naming text left rest run copied old within so rest_is copied_is text_of
 
 pub parts_end : (naming : ℕ → Naming) (text left rest run copied : List ℕ) (old new : List TemplatePart) → length left ≤ length text → AreSoFar naming text left old run

@@ -35,23 +35,23 @@ no_start text first others starts is test other =
     let no_name : is_name_start first ≡ false = sym test ∙ other in
     rw (other, is, no_name) refl
 
-some_whole : (byte n : ℕ) (behind rest : List ℕ) → rest ≡ drop n behind → is_some (whole_match (Some (folded (byte ∷ take n behind), rest))) ≡ true
-    → whole_match (Some (folded (byte ∷ take n behind), rest)) ≡ Some (folded (byte ∷ behind))
-some_whole byte n behind [] none some =
-    ap (λ (t : List ℕ). Some (folded (byte ∷ t))) (sym (append-nil (take n behind)) ∙ ap (λ (r : List ℕ). take n behind ++ r) none ∙ take-append-drop n behind)
-some_whole byte n behind (x ∷ rest) none some = absurd cc
+some_whole : (byte n : ℕ) (following rest : List ℕ) → rest ≡ drop n following → is_some (whole_match (Some (folded (byte ∷ take n following), rest))) ≡ true
+    → whole_match (Some (folded (byte ∷ take n following), rest)) ≡ Some (folded (byte ∷ following))
+some_whole byte n following [] none some =
+    ap (λ (t : List ℕ). Some (folded (byte ∷ t))) (sym (append-nil (take n following)) ∙ ap (λ (r : List ℕ). take n following ++ r) none ∙ take-append-drop n following)
+some_whole byte n following (x ∷ rest) none some = absurd cc
 
 name_is : (text : List ℕ) → is_some (whole_match (name_at text)) ≡ true → whole_match (name_at text) ≡ Some (folded text)
 unfolding name_at
 name_is [] some = absurd cc
-name_is (byte ∷ behind) some = by_start (is_name_start byte) some
+name_is (byte ∷ following) some = by_start (is_name_start byte) some
   where
     n : ℕ
-    n = prefix_len is_name_byte behind
+    n = prefix_len is_name_byte following
 
-    by_start : (b : Bool) → is_some (whole_match (cond b (Some (folded (byte ∷ take n behind), drop n behind)) None)) ≡ true
-        → whole_match (cond b (Some (folded (byte ∷ take n behind), drop n behind)) None) ≡ Some (folded (byte ∷ behind))
-    by_start true so = some_whole byte n behind (drop n behind) refl so
+    by_start : (b : Bool) → is_some (whole_match (cond b (Some (folded (byte ∷ take n following), drop n following)) None)) ≡ true
+        → whole_match (cond b (Some (folded (byte ∷ take n following), drop n following)) None) ≡ Some (folded (byte ∷ following))
+    by_start true so = some_whole byte n following (drop n following) refl so
     by_start false so = absurd cc
 
 pub some_name : (text word : List ℕ) (b : Bool) → b ≡ is_some (whole_match (name_at text)) → b ≡ true → word ≡ folded text → Some word ≡ whole_match (name_at text)

@@ -1,13 +1,13 @@
 -- The first piece of a text.
 use Rattle.std.specs.Prelude.{ℕ, ◌+◌, List, [], ◌∷◌, Option, Some, None, if◌then◌else◌}
-use Rattle.orca_meaning.specs.Quotes.{quote_behind}
-use Rattle.macro_meaning.specs.Pieces.{parts, open_behind, pieces}
+use Rattle.orca_meaning.specs.Quotes.{quote_following}
+use Rattle.macro_meaning.specs.Pieces.{parts, open_after, pieces}
 
 -- how many bytes stand before the first separator outside quotes and parentheses
 unfoldable pub piece_len : ℕ → Option ℕ → ℕ → List ℕ → ℕ
 piece_len separator quote count [] = 0
-piece_len separator quote count (byte ∷ behind) =
-    if parts separator quote count byte then 0 else piece_len separator (quote_behind quote byte) (open_behind quote count byte) behind + 1
+piece_len separator quote count (byte ∷ following) =
+    if parts separator quote count byte then 0 else piece_len separator (quote_following quote byte) (open_after quote count byte) following + 1
 
 -- the pieces of a text that may be missing
 abbrev pub more_pieces : ℕ → Option (List ℕ) → List (List ℕ)

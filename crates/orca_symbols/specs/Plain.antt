@@ -4,4 +4,4 @@ use Rattle.std.specs.Prelude.{ℕ, ◌+◌, ◌==◌, List, [], ◌∷◌, if◌
 -- how many bytes stand before the first `&`
 unfoldable pub plain_len : List ℕ → ℕ
 plain_len [] = 0
-plain_len (byte ∷ behind) = if byte == 0x26 then 0 else plain_len behind + 1
+plain_len (byte ∷ following) = if byte == 0x26 then 0 else plain_len following + 1

@@ -18,7 +18,7 @@ use crate::symbols::{Symbol, Symbols, is_count};
 use crate::text::SymbolText;
 use macro_meaning::Kind;
 use omf_base::Name;
-use orca_text::{LinePart, behind_byte, is_name_start, is_spelled, name_len};
+use orca_text::{LinePart, after_byte, is_name_start, is_spelled, name_len};
 use std::alloc::{AllocError, Global};
 
 /// A parameter, the text that it gets, and the place of the parameter that the next operand without keyword gets.
@@ -49,14 +49,14 @@ fn named(piece: &[u8]) -> Option<(&[u8], &[u8])>
     ensures found { MatchOption result ((parameters : List (List ℕ)) (place : ℕ) → keyword_from parameters place (name_at piece.now) ≡ None)
         (λ x. name_at piece.now ≡ Some (folded x.0.now, 0x3D ∷ x.1.now)) }
 {
-    let Some((first, behind)) = piece.split_first() else {
+    let Some((first, following)) = piece.split_first() else {
         return None;
     };
     if !is_name_start(*first) {
         return None;
     }
-    let (name, rest) = piece.split_at(name_len(behind) + 1);
-    match behind_byte(rest, b'=') {
+    let (name, rest) = piece.split_at(name_len(following) + 1);
+    match after_byte(rest, b'=') {
         Some(text) => Some((name, text)),
         None => None,
     }
@@ -130,7 +130,7 @@ fn bind_pieces(
     let mut place = 0;
     let mut left = operand.bytes;
     'operands: loop {
-        let (piece, behind) = first_piece(b',', LinePart { bytes: left });
+        let (piece, following) = first_piece(b',', LinePart { bytes: left });
         let Some(found) = binding(parameters, place, piece) else {
             return Ok(None);
         };
@@ -138,7 +138,7 @@ fn bind_pieces(
             return Ok(None);
         }
         place = found.next;
-        let Some(others) = behind else {
+        let Some(others) = following else {
             return Ok(Some(place));
         };
         left = others;

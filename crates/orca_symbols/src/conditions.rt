@@ -223,13 +223,13 @@ fn long_number(
 fn comparison_at(text: &[u8]) -> Option<(bool, &[u8])>
     ensures { MatchOption result (comparison_at text.now ≡ None) (λ x. comparison_at text.now ≡ Some (x.0, x.1.now)) }
 {
-    let Some((first, behind)) = text.split_first() else {
+    let Some((first, following)) = text.split_first() else {
         return None;
     };
     if *first == b'=' {
-        return Some((true, behind));
+        return Some((true, following));
     }
-    let Some((second, rest)) = behind.split_first() else {
+    let Some((second, rest)) = following.split_first() else {
         return None;
     };
     if *first == b'<' && *second == b'>' {
@@ -239,10 +239,10 @@ fn comparison_at(text: &[u8]) -> Option<(bool, &[u8])>
 }
 
 /// Whether a text compared with the text in quotes that stands there is as is asked.
-fn compared_with(a: &[u8], behind: &[u8]) -> Option<bool>
-    ensures { result ≡ compared_with a.now (comparison_at behind.now) }
+fn compared_with(a: &[u8], following: &[u8]) -> Option<bool>
+    ensures { result ≡ compared_with a.now (comparison_at following.now) }
 {
-    let Some((equal, rest)) = comparison_at(behind) else {
+    let Some((equal, rest)) = comparison_at(following) else {
         return None;
     };
     match unquote(rest) {
@@ -257,7 +257,7 @@ fn comparison(text: &[u8]) -> Option<bool>
     ensures { result ≡ comparison text.now }
 {
     match quoted_at(text) {
-        Some((a, behind)) => compared_with(a, behind),
+        Some((a, following)) => compared_with(a, following),
         None => None,
     }
 }

@@ -65,13 +65,13 @@ const FEW: usize = 8;
 fn is_same(name: &[u8], other: &[u8]) -> bool
     ensures { result ≡ bytes_eq name.now other.now }
 {
-    let Some((first, behind)) = name.split_first() else {
+    let Some((first, following)) = name.split_first() else {
         return other.is_empty();
     };
     let Some((second, rest)) = other.split_first() else {
         return false;
     };
-    *first == *second && behind == rest
+    *first == *second && following == rest
 }
 
 /// The value of a name in a map that has few.

@@ -8,13 +8,13 @@ ghost use Rattle.orca_meaning.specs.Operation.{value_of_spelling};
 ghost use Rattle.orca_meaning.specs.Token.{Found};
 ghost use Rattle.orca_symbols.specs.Letters.{with_a, with_s, with_l, with_m, with_g};
 ghost use Rattle.macro_meaning.specs.Definition.{operation_is};
-ghost use Rattle.macro_meaning.specs.Statements.{statement_of, is_operation, whole_match, behind_dot, symbol_name, sequence_name, target_name};
+ghost use Rattle.macro_meaning.specs.Statements.{statement_of, is_operation, whole_match, after_dot, symbol_name, sequence_name, target_name};
 ghost use Rattle.orca_text.specs.View.{line};
 
 use macro_meaning::{Declaration, Kind, Statement};
 use omf_base::Name;
 use orca_text::{
-    LinePart, SourceLine, behind_byte, is_name_start, is_spelled, name_at, name_len, symbol_at,
+    LinePart, SourceLine, after_byte, is_name_start, is_spelled, name_at, name_len, symbol_at,
 };
 use std::alloc::{AllocError, Global};
 
@@ -181,10 +181,10 @@ pub(crate) fn symbol_name(alloc: Global, text: LinePart<'_>) -> Result<Option<Na
 pub fn sequence_name(alloc: Global, text: LinePart<'_>) -> Result<Option<Name>, AllocError>
     ensures { IfOk result (λ name. name ≡ sequence_name text.entry.bytes.now) }
 {
-    let Some(behind) = behind_byte(text.bytes, b'.') else {
+    let Some(following) = after_byte(text.bytes, b'.') else {
         return Ok(None);
     };
-    let found = name_at(alloc, LinePart { bytes: behind })?;
+    let found = name_at(alloc, LinePart { bytes: following })?;
     Ok(whole_match(found))
 }
 
@@ -203,8 +203,8 @@ pub(crate) fn is_name(text: &[u8]) -> bool
 pub(crate) fn is_sequence(text: &[u8]) -> bool
     ensures { result ≡ is_some (sequence_name text.now) }
 {
-    match behind_byte(text, b'.') {
-        Some(behind) => is_name(behind),
+    match after_byte(text, b'.') {
+        Some(following) => is_name(following),
         None => false,
     }
 }
@@ -213,8 +213,8 @@ pub(crate) fn is_sequence(text: &[u8]) -> bool
 pub fn target_name(alloc: Global, text: LinePart<'_>) -> Result<Option<Name>, AllocError>
     ensures { IfOk result (λ name. name ≡ target_name text.entry.bytes.now) }
 {
-    match behind_byte(text.bytes, b'^') {
-        Some(behind) => sequence_name(alloc, LinePart { bytes: behind }),
+    match after_byte(text.bytes, b'^') {
+        Some(following) => sequence_name(alloc, LinePart { bytes: following }),
         None => sequence_name(alloc, text),
     }
 }
@@ -223,8 +223,8 @@ pub fn target_name(alloc: Global, text: LinePart<'_>) -> Result<Option<Name>, Al
 pub fn is_target(text: &[u8]) -> bool
     ensures { result ≡ is_some (target_name text.now) }
 {
-    match behind_byte(text, b'^') {
-        Some(behind) => is_sequence(behind),
+    match after_byte(text, b'^') {
+        Some(following) => is_sequence(following),
         None => is_sequence(text),
     }
 }

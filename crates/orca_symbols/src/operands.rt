@@ -1,10 +1,10 @@
 //! Texts parted by commas or plus signs, and texts in quotes.
 
 ghost use Rattle.std.specs.Prelude.{◌≡◌, ◌≤◌, ◌<◌, ◌+◌, ◌^◌, ◌∷◌, [], List, ℕ, map, length, take, drop, position, nat_eq, slice_get, Some, None, IfOk, IfSome, MatchOption, option_copied};
-ghost use Rattle.macro_meaning.specs.Pieces.{open_behind, parts, pieces, closed_at, quoted_at, unquoted_text, joined_texts, appended_texts};
+ghost use Rattle.macro_meaning.specs.Pieces.{open_after, parts, pieces, closed_at, quoted_at, unquoted_text, joined_texts, appended_texts};
 ghost use Rattle.orca_symbols.specs.Piece.{piece_len, more_pieces, AreNotTwo};
 
-use orca_text::{LinePart, quote_behind};
+use orca_text::{LinePart, quote_following};
 use std::alloc::{AllocError, Global};
 use std::marker::Model;
 
@@ -50,9 +50,9 @@ pub(crate) fn piece_at<'a, 'b>(
 }
 
 /// How many parentheses are open behind a byte.
-fn open_behind(quote: Option<u8>, count: usize, byte: u8) -> usize
+fn open_after(quote: Option<u8>, count: usize, byte: u8) -> usize
     requires { count + 1 < 2 ^ 63 }
-    ensures value { result ≡ open_behind quote count byte }
+    ensures value { result ≡ open_after quote count byte }
     ensures most { result ≤ count + 1 }
 {
     if quote.is_some() {
@@ -78,8 +78,8 @@ fn piece_len(separator: u8, text: LinePart<'_>) -> usize
         if quote.is_none() && open == 0 && *byte == separator {
             return count;
         }
-        open = open_behind(quote, open, *byte);
-        quote = quote_behind(quote, *byte);
+        open = open_after(quote, open, *byte);
+        quote = quote_following(quote, *byte);
         count += 1;
     }
     count
@@ -97,9 +97,9 @@ pub fn pieces<'a>(
     let mut found = Vec::new(alloc);
     let mut left = text.bytes;
     'pieces: loop {
-        let (piece, behind) = left.split_at(piece_len(separator, LinePart { bytes: left }));
+        let (piece, following) = left.split_at(piece_len(separator, LinePart { bytes: left }));
         found.push(OperandPiece::of(LinePart { bytes: piece }))?;
-        let Some((_, others)) = behind.split_first() else {
+        let Some((_, others)) = following.split_first() else {
             return Ok(found);
         };
         left = others;
@@ -109,12 +109,12 @@ pub fn pieces<'a>(
 /// The first piece, and the text behind its separator, if there is one.
 #[tactic(auto, using(crate::proofs::Parted::and_more, crate::proofs::Parted::alone))]
 pub(crate) fn first_piece(separator: u8, text: LinePart<'_>) -> (LinePart<'_>, Option<&[u8]>)
-    ensures behind { IfSome result.1 (λ rest. length rest.now < length text.entry.bytes.now) }
+    ensures following { IfSome result.1 (λ rest. length rest.now < length text.entry.bytes.now) }
     ensures pieces { pieces separator text.entry.bytes.now ≡ result.0.bytes.now ∷ more_pieces separator (option_copied result.1) }
 {
-    let (first, behind) = text.bytes.split_at(piece_len(separator, text));
+    let (first, following) = text.bytes.split_at(piece_len(separator, text));
     let piece = LinePart { bytes: first };
-    match behind.split_first() {
+    match following.split_first() {
         Some((_, rest)) => (piece, Some(rest)),
         None => (piece, None),
     }
@@ -125,8 +125,8 @@ pub(crate) fn first_piece(separator: u8, text: LinePart<'_>) -> (LinePart<'_>, O
 pub fn two_pieces(separator: u8, text: LinePart<'_>) -> Option<(LinePart<'_>, LinePart<'_>)>
     ensures { MatchOption result (AreNotTwo (pieces separator text.entry.bytes.now)) (λ x. pieces separator text.entry.bytes.now ≡ x.0.bytes.now ∷ x.1.bytes.now ∷ []) }
 {
-    let (first, behind) = text.bytes.split_at(piece_len(separator, text));
-    let Some((_, rest)) = behind.split_first() else {
+    let (first, following) = text.bytes.split_at(piece_len(separator, text));
+    let Some((_, rest)) = following.split_first() else {
         return None;
     };
     let second = LinePart { bytes: rest };
@@ -137,24 +137,24 @@ pub fn two_pieces(separator: u8, text: LinePart<'_>) -> Option<(LinePart<'_>, Li
 }
 
 /// Where the first quote of this kind stands.
-fn closing(quote: u8, behind: &[u8]) -> Option<usize>
-    ensures bound { IfSome result (λ i. i < length behind.now) }
-    ensures value { result ≡ position (λ byte. nat_eq byte quote) behind.now }
+fn closing(quote: u8, following: &[u8]) -> Option<usize>
+    ensures bound { IfSome result (λ i. i < length following.now) }
+    ensures value { result ≡ position (λ byte. nat_eq byte quote) following.now }
 {
-    behind.iter().position(|byte| *byte == quote)
+    following.iter().position(|byte| *byte == quote)
 }
 
 /// The text up to the closing quote, and what stands behind that.
 #[tactic(auto, unfolding(macro_meaning::specs::Pieces::closed_at), using(crate::proofs::Parted::closes, crate::proofs::Parted::never_closes))]
-fn closed_at(quote: u8, behind: &[u8]) -> Option<(&[u8], &[u8])>
-    ensures bound { IfSome result (λ x. length x.0.now ≤ length behind.now) }
-    ensures text { MatchOption result (closed_at quote behind.now ≡ None) (λ x. closed_at quote behind.now ≡ Some (x.0.now, x.1.now)) }
+fn closed_at(quote: u8, following: &[u8]) -> Option<(&[u8], &[u8])>
+    ensures bound { IfSome result (λ x. length x.0.now ≤ length following.now) }
+    ensures text { MatchOption result (closed_at quote following.now ≡ None) (λ x. closed_at quote following.now ≡ Some (x.0.now, x.1.now)) }
 {
-    let Some(close) = closing(quote, behind) else {
+    let Some(close) = closing(quote, following) else {
         return None;
     };
-    let (text, _) = behind.split_at(close);
-    match behind.get(close + 1..) {
+    let (text, _) = following.split_at(close);
+    match following.get(close + 1..) {
         Some(others) => Some((text, others)),
         None => unreachable!(),
     }
@@ -166,11 +166,11 @@ pub(crate) fn quoted_at(text: &[u8]) -> Option<(&[u8], &[u8])>
     ensures bound { IfSome result (λ x. length x.0.now ≤ length text.now) }
     ensures text { MatchOption result (quoted_at text.now ≡ None) (λ x. quoted_at text.now ≡ Some (x.0.now, x.1.now)) }
 {
-    let Some((quote, behind)) = text.split_first() else {
+    let Some((quote, following)) = text.split_first() else {
         return None;
     };
     if *quote == b'\'' || *quote == b'"' {
-        return closed_at(*quote, behind);
+        return closed_at(*quote, following);
     }
     None
 }

@@ -29,8 +29,8 @@ pub fn skip_sequence_symbol(text: LinePart<'_>) -> LinePart<'_>
     }
     let label = label_in(text);
     if is_sequence(label.bytes) {
-        let (_, behind) = text.bytes.split_at(label.bytes.len());
-        return LinePart { bytes: behind };
+        let (_, following) = text.bytes.split_at(label.bytes.len());
+        return LinePart { bytes: following };
     }
     text
 }

@@ -15,7 +15,9 @@ ghost use Rattle.orca_text.specs.View.{line};
 use crate::names::statement_of;
 use crate::symbols::{Values, text_of};
 use macro_meaning::{Kind, Statement};
-use orca_text::{LinePart, SourceLine, Span, folded, is_name_start, name_len, part, quote_behind};
+use orca_text::{
+    LinePart, SourceLine, Span, folded, is_name_start, name_len, part, quote_following,
+};
 use std::alloc::{AllocError, Global};
 
 /// What `&NAME` is at a place.
@@ -52,7 +54,7 @@ fn is_outside(front: &[u8]) -> bool
 {
     let mut quote = None;
     'bytes: for byte in front {
-        quote = quote_behind(quote, *byte);
+        quote = quote_following(quote, *byte);
     }
     quote.is_none()
 }
@@ -153,20 +155,20 @@ fn naming_by(statement: Option<Statement>, of: &SourceLine, at: u32) -> Naming
 }
 
 /// Whether a letter stands at the front.
-pub(crate) fn begins_letter(behind: &[u8]) -> bool
-    ensures { result ≡ first_passes is_letter behind.now }
+pub(crate) fn begins_letter(following: &[u8]) -> bool
+    ensures { result ≡ first_passes is_letter following.now }
 {
-    match behind.split_first() {
+    match following.split_first() {
         Some((byte, _)) => byte.is_ascii_alphabetic(),
         None => false,
     }
 }
 
 /// Whether the start of a name stands at the front.
-pub(crate) fn begins_name(behind: &[u8]) -> bool
-    ensures { result ≡ first_passes is_name_start behind.now }
+pub(crate) fn begins_name(following: &[u8]) -> bool
+    ensures { result ≡ first_passes is_name_start following.now }
 {
-    match behind.split_first() {
+    match following.split_first() {
         Some((byte, _)) => is_name_start(*byte),
         None => false,
     }
@@ -174,12 +176,12 @@ pub(crate) fn begins_name(behind: &[u8]) -> bool
 
 /// How many bytes go with the name at the front: its own, and a dot directly behind it.
 #[tactic(auto, unfolding(macro_meaning::specs::Substitution::taken_length))]
-pub(crate) fn taken_length(behind: &[u8]) -> usize
-    ensures value { result ≡ taken_length behind.now }
-    ensures bound { result ≤ length behind.now }
+pub(crate) fn taken_length(following: &[u8]) -> usize
+    ensures value { result ≡ taken_length following.now }
+    ensures bound { result ≤ length following.now }
 {
-    let length = name_len(behind);
-    if length < behind.len() && behind[length] == b'.' {
+    let length = name_len(following);
+    if length < following.len() && following[length] == b'.' {
         return length + 1;
     }
     length
@@ -196,12 +198,12 @@ pub fn is_folded(name: &[u8]) -> bool
 fn named_text<'a>(
     alloc: Global,
     of: Values<'a>,
-    behind: LinePart<'_>,
+    following: LinePart<'_>,
 ) -> Result<Option<&'a [u8]>, AllocError>
-    ensures { IfOk result (λ found. MatchOption found (text_of (values of.entry) (Rattle.orca_meaning.specs.Characters.folded (take (name_length behind.entry.bytes.now) behind.entry.bytes.now)) ≡ None)
-        (λ t. text_of (values of.entry) (Rattle.orca_meaning.specs.Characters.folded (take (name_length behind.entry.bytes.now) behind.entry.bytes.now)) ≡ Some t.now)) }
+    ensures { IfOk result (λ found. MatchOption found (text_of (values of.entry) (Rattle.orca_meaning.specs.Characters.folded (take (name_length following.entry.bytes.now) following.entry.bytes.now)) ≡ None)
+        (λ t. text_of (values of.entry) (Rattle.orca_meaning.specs.Characters.folded (take (name_length following.entry.bytes.now) following.entry.bytes.now)) ≡ Some t.now)) }
 {
-    let (bytes, _) = behind.bytes.split_at(name_len(behind.bytes));
+    let (bytes, _) = following.bytes.split_at(name_len(following.bytes));
     if is_folded(bytes) {
         return Ok(text_of(of, bytes));
     }
@@ -214,27 +216,27 @@ pub(crate) fn in_place<'a>(
     alloc: Global,
     of: Values<'a>,
     at: Naming,
-    behind: LinePart<'_>,
+    following: LinePart<'_>,
 ) -> Result<Option<(&'a [u8], usize)>, AllocError>
-    ensures place { IfOk result (λ found. MatchOption found (in_place (text_of (values of.entry)) (naming at) behind.entry.bytes.now ≡ None)
-        (λ x. in_place (text_of (values of.entry)) (naming at) behind.entry.bytes.now ≡ Some (x.0.now, x.1))) }
-    ensures bound { IfOk result (λ found. IfSome found (λ x. x.1 ≤ length behind.entry.bytes.now)) }
+    ensures place { IfOk result (λ found. MatchOption found (in_place (text_of (values of.entry)) (naming at) following.entry.bytes.now ≡ None)
+        (λ x. in_place (text_of (values of.entry)) (naming at) following.entry.bytes.now ≡ Some (x.0.now, x.1))) }
+    ensures bound { IfOk result (λ found. IfSome found (λ x. x.1 ≤ length following.entry.bytes.now)) }
 {
     match at {
         Naming::Replaced => {
-            if !begins_letter(behind.bytes) {
+            if !begins_letter(following.bytes) {
                 return Ok(Some((b"&", 0)));
             }
-            match named_text(alloc, of, behind)? {
-                Some(text) => Ok(Some((text, taken_length(behind.bytes)))),
+            match named_text(alloc, of, following)? {
+                Some(text) => Ok(Some((text, taken_length(following.bytes)))),
                 None => Ok(None),
             }
         }
         Naming::Named => {
-            if !begins_name(behind.bytes) {
+            if !begins_name(following.bytes) {
                 return Ok(Some((b"&", 0)));
             }
-            match named_text(alloc, of, behind)? {
+            match named_text(alloc, of, following)? {
                 Some(_) => Ok(Some((b"&", 0))),
                 None => Ok(None),
             }
@@ -307,15 +309,15 @@ pub fn substitute(
     let mut left = text;
     'runs: loop {
         let rest = copy_plain(&mut out, left)?;
-        let Some((_, behind)) = rest.split_first() else {
+        let Some((_, following)) = rest.split_first() else {
             return Ok(Some(out));
         };
         let at = (text.len() - rest.len()) as u32;
         let named = naming_at(source, statement, at);
-        match in_place(alloc, of, named, LinePart { bytes: behind })? {
+        match in_place(alloc, of, named, LinePart { bytes: following })? {
             Some((put, more)) => {
                 out.extend_from_slice(put)?;
-                let (_, others) = behind.split_at(more);
+                let (_, others) = following.split_at(more);
                 left = others;
             }
             None => return Ok(None),

@@ -42,32 +42,32 @@ pub(crate) enum Replacement {
 }
 
 /// The name at the front, in upper case.
-fn front_name(alloc: Global, behind: LinePart<'_>) -> Result<Name, AllocError>
-    ensures { IfOk result (λ name. name ≡ characters.folded (take (name_length behind.entry.bytes.now) behind.entry.bytes.now)) }
+fn front_name(alloc: Global, following: LinePart<'_>) -> Result<Name, AllocError>
+    ensures { IfOk result (λ name. name ≡ characters.folded (take (name_length following.entry.bytes.now) following.entry.bytes.now)) }
 {
-    let (bytes, _) = behind.bytes.split_at(name_len(behind.bytes));
+    let (bytes, _) = following.bytes.split_at(name_len(following.bytes));
     folded(alloc, LinePart { bytes })
 }
 
 /// What comes in place of an `&` before these bytes.
 #[tactic(auto, using(crate::proofs::Templates::ampersand, crate::proofs::Templates::not_letter, crate::proofs::Templates::not_name, crate::proofs::Templates::text, crate::proofs::Templates::asked))]
-fn place_of(alloc: Global, at: Naming, behind: LinePart<'_>) -> Result<Replacement, AllocError>
-    ensures place { IfOk result (λ p. (text_of : List ℕ → Option (List ℕ)) → in_place text_of (naming at) behind.entry.bytes.now ≡ with_more (more_of p) (replacement_text text_of p)) }
-    ensures bound { IfOk result (λ p. more_of p ≤ length behind.entry.bytes.now) }
+fn place_of(alloc: Global, at: Naming, following: LinePart<'_>) -> Result<Replacement, AllocError>
+    ensures place { IfOk result (λ p. (text_of : List ℕ → Option (List ℕ)) → in_place text_of (naming at) following.entry.bytes.now ≡ with_more (more_of p) (replacement_text text_of p)) }
+    ensures bound { IfOk result (λ p. more_of p ≤ length following.entry.bytes.now) }
 {
     match at {
         Naming::Replaced => {
-            if !begins_letter(behind.bytes) {
+            if !begins_letter(following.bytes) {
                 return Ok(Replacement::Ampersand);
             }
-            let name = front_name(alloc, behind)?;
-            Ok(Replacement::Text(name, taken_length(behind.bytes)))
+            let name = front_name(alloc, following)?;
+            Ok(Replacement::Text(name, taken_length(following.bytes)))
         }
         Naming::Named => {
-            if !begins_name(behind.bytes) {
+            if !begins_name(following.bytes) {
                 return Ok(Replacement::Ampersand);
             }
-            let name = front_name(alloc, behind)?;
+            let name = front_name(alloc, following)?;
             Ok(Replacement::Asked(name))
         }
         Naming::Declared => Ok(Replacement::Ampersand),
@@ -135,7 +135,7 @@ pub fn parts_of(alloc: Global, of: &SourceLine) -> Result<Vec<TemplatePart>, All
     let mut left = text;
     'runs: loop {
         let rest = copy_plain(&mut run, left)?;
-        let Some((_, behind)) = rest.split_first() else {
+        let Some((_, following)) = rest.split_first() else {
             let last = LinePart {
                 bytes: run.as_slice(),
             };
@@ -144,9 +144,9 @@ pub fn parts_of(alloc: Global, of: &SourceLine) -> Result<Vec<TemplatePart>, All
         };
         let at = (text.len() - rest.len()) as u32;
         let named = naming_at(of, statement, at);
-        let place = place_of(alloc, named, LinePart { bytes: behind })?;
+        let place = place_of(alloc, named, LinePart { bytes: following })?;
         let more = add(alloc, &mut parts, &mut run, place)?;
-        let (_, others) = behind.split_at(more);
+        let (_, others) = following.split_at(more);
         left = others;
     }
 }

@@ -8,7 +8,7 @@ ghost use Rattle.orca_meaning.specs.Token.{name_at};
 use crate::names::is_name;
 use crate::substitution::is_folded;
 use omf_base::Name;
-use orca_text::{LinePart, behind_byte, folded};
+use orca_text::{LinePart, after_byte, folded};
 use std::alloc::{AllocError, Global};
 use std::marker::Model;
 
@@ -92,8 +92,8 @@ fn whole_word<'a>(alloc: Global, text: LinePart<'a>) -> Result<Option<Word<'a>>,
 pub fn symbol_word<'a>(alloc: Global, text: LinePart<'a>) -> Result<Option<Word<'a>>, AllocError>
     ensures { IfOk result (λ word. word ≡ symbol_name text.entry.bytes.now) }
 {
-    match behind_byte(text.bytes, b'&') {
-        Some(behind) => whole_word(alloc, LinePart { bytes: behind }),
+    match after_byte(text.bytes, b'&') {
+        Some(following) => whole_word(alloc, LinePart { bytes: following }),
         None => Ok(None),
     }
 }
@@ -103,8 +103,8 @@ pub fn symbol_word<'a>(alloc: Global, text: LinePart<'a>) -> Result<Option<Word<
 fn sequence_word<'a>(alloc: Global, text: LinePart<'a>) -> Result<Option<Word<'a>>, AllocError>
     ensures { IfOk result (λ word. word ≡ sequence_name text.entry.bytes.now) }
 {
-    match behind_byte(text.bytes, b'.') {
-        Some(behind) => whole_word(alloc, LinePart { bytes: behind }),
+    match after_byte(text.bytes, b'.') {
+        Some(following) => whole_word(alloc, LinePart { bytes: following }),
         None => Ok(None),
     }
 }
@@ -114,8 +114,8 @@ fn sequence_word<'a>(alloc: Global, text: LinePart<'a>) -> Result<Option<Word<'a
 pub fn target_word<'a>(alloc: Global, text: LinePart<'a>) -> Result<Option<Word<'a>>, AllocError>
     ensures { IfOk result (λ word. word ≡ target_name text.entry.bytes.now) }
 {
-    match behind_byte(text.bytes, b'^') {
-        Some(behind) => sequence_word(alloc, LinePart { bytes: behind }),
+    match after_byte(text.bytes, b'^') {
+        Some(following) => sequence_word(alloc, LinePart { bytes: following }),
         None => sequence_word(alloc, text),
     }
 }

@@ -141,7 +141,7 @@ no_row word i is =
     by_place : (i ≤ length (keys mnemonics)) × ((k : ℕ) → k < i → get_or (keys mnemonics) k 0 < key_of word) × ((k : ℕ) → i ≤ k → k < length (keys mnemonics) → key_of word < get_or (keys mnemonics) k 0)
         → (k : ℕ) → k < length (keys mnemonics) → get_or (keys mnemonics) k 0 ≡ key_of word → (k < i) ⊎ (i ≤ k) → ⊥
     by_place found k less same (inl before) = omega (arith, found.1 k before)
-    by_place found k less same (inr behind) = omega (arith, found.2 k behind less)
+    by_place found k less same (inr following) = omega (arith, found.2 k following less)
 
 no_three : (word : List ℕ) → length word ≢ 3 → value_of_spelling word mnemonics ≡ None
 no_three word long = beside-other word mnemonics all_three long

@@ -22,7 +22,7 @@ use Rattle.orca_meaning.specs.declared.operators.Operands.{Operands}
 use Rattle.orca_meaning.specs.Token as token
 use Rattle.orca_meaning.specs.Formula.{Formula, Single, Group, Signed, Joined, tree_of, sign_code, operator_code, pending, is_large, has_large, MeansAt}
 use Rattle.orca_meaning.specs.laws.FormulaLaws.{one_tree, sign_has_one, operator_has_two}
-use Rattle.orca_meaning.specs.Operand.{Meaning, is_accumulator, opening, prefix, body, form_behind, plain_form, whole_index, IsOperand, IsMissing, IsInAccumulator, IsOne, IsTwo, values_here, AreShallow, IsBadOperand, IsRefusedFor}
+use Rattle.orca_meaning.specs.Operand.{Meaning, is_accumulator, opening, prefix, body, form_after, plain_form, whole_index, IsOperand, IsMissing, IsInAccumulator, IsOne, IsTwo, values_here, AreShallow, IsBadOperand, IsRefusedFor}
 use Rattle.orca_meaning.specs.laws.OperandLaws.{one_operand}
 use Rattle.orca_text.specs.declared.operand.Operand.{Operand}
 use Rattle.orca_text.specs.FormulaAt.{IsFormulaAt, HasNoFormula}
@@ -131,10 +131,10 @@ pub record IsOneOf (m : Option Mnemonic) (text : List ℕ) (form : Form) (p : Pr
   pub terms_of_it : large ≡ false → terms ≡ terms_of tree
 
 pub is_one : (m : Option Mnemonic) (text at : List ℕ) (o : Opening) (p : Prefix) (form : Form) (terms : List Term) (large : Bool) (rest : List ℕ) → is_accumulator m text ≡ false
-    → o ≡ opening m text → p ≡ prefix m text → at ≡ body m text → IsFormulaAt Labels at terms large rest → Some form ≡ form_behind o rest → IsOneOf m text form p terms large
+    → o ≡ opening m text → p ≡ prefix m text → at ≡ body m text → IsFormulaAt Labels at terms large rest → Some form ≡ form_after o rest → IsOneOf m text form p terms large
 is_one m text at o p form terms large rest not_a o_is p_is at_is f form_is = record {
   tree = f.tree;
-  is = IsOne not_a f.tree rest form (subst (λ (t : List ℕ). MeansAt Labels t f.tree rest) at_is f.means) (subst (λ (x : Opening). form_behind x rest ≡ Some form) o_is (sym form_is))
+  is = IsOne not_a f.tree rest form (subst (λ (t : List ℕ). MeansAt Labels t f.tree rest) at_is f.means) (subst (λ (x : Opening). form_after x rest ≡ Some form) o_is (sym form_is))
       (ap (λ (x : Prefix). written form x (f.tree ∷ [])) p_is);
   peak_of = peak_is (values_here m) at terms large rest f;
   large_of = f.large_is;
@@ -194,23 +194,23 @@ no_index None e = refl
 no_index (Some i) e = absurd cc
 
 pub is_two : (m : Option Mnemonic) (text at : List ℕ) (o : Opening) (p : Prefix) (first second : List Term) (large larger : Bool) (rest : List ℕ) → is_accumulator m text ≡ false
-    → o ≡ opening m text → p ≡ prefix m text → at ≡ body m text → IsFormulaAt Labels at first large rest → None ≡ form_behind o rest → o ≡ Open → IsSecond rest second larger
+    → o ≡ opening m text → p ≡ prefix m text → at ≡ body m text → IsFormulaAt Labels at first large rest → None ≡ form_after o rest → o ≡ Open → IsSecond rest second larger
     → IsTwoOf m text p first second large larger
 is_two m text at o p first second large larger rest not_a o_is p_is at_is f no_form o_open s =
-    let none : None ≡ option_map plain_form (whole_index rest) = subst (λ (x : Opening). None ≡ form_behind x rest) o_open no_form in
-    let index : whole_index (0x2C ∷ s.behind) ≡ None = subst (λ (t : List ℕ). whole_index t ≡ None) s.comma (no_index (whole_index rest) none) in
-    let here : MeansAt Labels (body m text) f.tree (0x2C ∷ s.behind) =
+    let none : None ≡ option_map plain_form (whole_index rest) = subst (λ (x : Opening). None ≡ form_after x rest) o_open no_form in
+    let index : whole_index (0x2C ∷ s.following) ≡ None = subst (λ (t : List ℕ). whole_index t ≡ None) s.comma (no_index (whole_index rest) none) in
+    let here : MeansAt Labels (body m text) f.tree (0x2C ∷ s.following) =
     subst (λ (r : List ℕ). MeansAt Labels (body m text) f.tree r) s.comma (subst (λ (t : List ℕ). MeansAt Labels t f.tree rest) at_is f.means) in
     record {
       tree = f.tree;
       other = s.formula.tree;
-      is = IsTwo not_a (sym o_is ∙ o_open) f.tree s.formula.tree s.behind here index s.formula.means (ap (λ (x : Prefix). written Pair x (f.tree ∷ s.formula.tree ∷ [])) p_is);
+      is = IsTwo not_a (sym o_is ∙ o_open) f.tree s.formula.tree s.following here index s.formula.means (ap (λ (x : Prefix). written Pair x (f.tree ∷ s.formula.tree ∷ [])) p_is);
       peak_of = peak_is (values_here m) at first large rest f;
-      peak_of_other = peak_is (values_here m) s.behind second larger [] s.formula;
+      peak_of_other = peak_is (values_here m) s.following second larger [] s.formula;
       large_of = f.large_is;
       large_of_other = s.formula.large_is;
       terms_of_it = terms_are at first large rest f;
-      terms_of_other = terms_are s.behind second larger [] s.formula;
+      terms_of_other = terms_are s.following second larger [] s.formula;
     }
 
 both_large : (a b : Bool) → (a || (b || false)) ≡ (a || b)
@@ -261,37 +261,37 @@ clash b p q = let e : true ≡ false = sym p ∙ q in absurd cc
 pub no_first : (m : Option Mnemonic) (text at : List ℕ) → 0 < length text → is_accumulator m text ≡ false → at ≡ body m text → HasNoFormula Labels at → IsBadOperand m text
 no_first m text at some not_a at_is none meaning (IsMissing nothing is) shallow = absurd (omega (arith, some, ap length nothing))
 no_first m text at some not_a at_is none meaning (IsInAccumulator acc is) shallow = clash _ acc not_a
-no_first m text at some not_a at_is none meaning (IsOne other tree rest form means behind is) shallow = none tree rest (subst (λ (t : List ℕ). MeansAt Labels t tree rest) (sym at_is) means)
-no_first m text at some not_a at_is none meaning (IsTwo other bare first second behind means index means' is) shallow =
-    none first (0x2C ∷ behind) (subst (λ (t : List ℕ). MeansAt Labels t first (0x2C ∷ behind)) (sym at_is) means)
+no_first m text at some not_a at_is none meaning (IsOne other tree rest form means following is) shallow = none tree rest (subst (λ (t : List ℕ). MeansAt Labels t tree rest) (sym at_is) means)
+no_first m text at some not_a at_is none meaning (IsTwo other bare first second following means index means' is) shallow =
+    none first (0x2C ∷ following) (subst (λ (t : List ℕ). MeansAt Labels t first (0x2C ∷ following)) (sym at_is) means)
 
 -- what stands behind the formula makes no form, and no pair
 pub no_form : (m : Option Mnemonic) (text at : List ℕ) (o : Opening) (terms : List Term) (large : Bool) (rest : List ℕ) → 0 < length text → is_accumulator m text ≡ false
-    → o ≡ opening m text → at ≡ body m text → IsFormulaAt Labels at terms large rest → None ≡ form_behind o rest → (o ≡ Open → HasNoSecond rest) → IsBadOperand m text
+    → o ≡ opening m text → at ≡ body m text → IsFormulaAt Labels at terms large rest → None ≡ form_after o rest → (o ≡ Open → HasNoSecond rest) → IsBadOperand m text
 no_form m text at o terms large rest some not_a o_is at_is f none no_second meaning (IsMissing nothing is) shallow = absurd (omega (arith, some, ap length nothing))
 no_form m text at o terms large rest some not_a o_is at_is f none no_second meaning (IsInAccumulator acc is) shallow = clash _ acc not_a
-no_form m text at o terms large rest some not_a o_is at_is f none no_second meaning (IsOne other tree rest' form means behind is) shallow =
+no_form m text at o terms large rest some not_a o_is at_is f none no_second meaning (IsOne other tree rest' form means following is) shallow =
     let same : rest' ≡ rest = (one_tree Labels (body m text) tree f.tree rest' rest means (subst (λ (t : List ℕ). MeansAt Labels t f.tree rest) at_is f.means)).1 in
-    let here : form_behind o rest ≡ Some form = subst (λ (r : List ℕ). form_behind o r ≡ Some form) same (subst (λ (x : Opening). form_behind x rest' ≡ Some form) (sym o_is) behind) in
+    let here : form_after o rest ≡ Some form = subst (λ (r : List ℕ). form_after o r ≡ Some form) same (subst (λ (x : Opening). form_after x rest' ≡ Some form) (sym o_is) following) in
     let e : None ≡ Some form = none ∙ here in
     absurd cc
-no_form m text at o terms large rest some not_a o_is at_is f none no_second meaning (IsTwo other bare first second behind means index means' is) shallow =
-    let same : 0x2C ∷ behind ≡ rest = (one_tree Labels (body m text) first f.tree (0x2C ∷ behind) rest means (subst (λ (t : List ℕ). MeansAt Labels t f.tree rest) at_is f.means)).1 in
-    no_second (o_is ∙ bare) behind second (sym same) means'
+no_form m text at o terms large rest some not_a o_is at_is f none no_second meaning (IsTwo other bare first second following means index means' is) shallow =
+    let same : 0x2C ∷ following ≡ rest = (one_tree Labels (body m text) first f.tree (0x2C ∷ following) rest means (subst (λ (t : List ℕ). MeansAt Labels t f.tree rest) at_is f.means)).1 in
+    no_second (o_is ∙ bare) following second (sym same) means'
 
 -- ---- the second formula
 
 comma_same : (a b : List ℕ) → 0x2C ∷ a ≡ 0x2C ∷ b → a ≡ b
 comma_same a b e = cc
 
-pub no_second_formula : (rest behind : List ℕ) → rest ≡ 0x2C ∷ behind → HasNoFormula Labels behind → HasNoSecond rest
-no_second_formula rest behind comma none other tree is means =
-    none tree [] (subst (λ (t : List ℕ). MeansAt Labels t tree []) (comma_same other behind (sym is ∙ comma)) means)
+pub no_second_formula : (rest following : List ℕ) → rest ≡ 0x2C ∷ following → HasNoFormula Labels following → HasNoSecond rest
+no_second_formula rest following comma none other tree is means =
+    none tree [] (subst (λ (t : List ℕ). MeansAt Labels t tree []) (comma_same other following (sym is ∙ comma)) means)
 
-pub second_goes_on : (rest behind : List ℕ) (terms : List Term) (large : Bool) (more : List ℕ) → rest ≡ 0x2C ∷ behind → IsFormulaAt Labels behind terms large more → (length more ≡ 0 → ⊥) → HasNoSecond rest
-second_goes_on rest behind terms large more comma f some other tree is means =
-    let here : MeansAt Labels behind tree [] = subst (λ (t : List ℕ). MeansAt Labels t tree []) (comma_same other behind (sym is ∙ comma)) means in
-    some (ap length (one_tree Labels behind f.tree tree more [] f.means here).1)
+pub second_goes_on : (rest following : List ℕ) (terms : List Term) (large : Bool) (more : List ℕ) → rest ≡ 0x2C ∷ following → IsFormulaAt Labels following terms large more → (length more ≡ 0 → ⊥) → HasNoSecond rest
+second_goes_on rest following terms large more comma f some other tree is means =
+    let here : MeansAt Labels following tree [] = subst (λ (t : List ℕ). MeansAt Labels t tree []) (comma_same other following (sym is ∙ comma)) means in
+    some (ap length (one_tree Labels following f.tree tree more [] f.means here).1)
 
 pub some_left : (b : Bool) (n : ℕ) → b ≡ eqb n 0 → b ≡ false → n ≡ 0 → ⊥
 some_left b n is other = eqb-false n 0 (sym is ∙ other)

@@ -41,13 +41,13 @@ number-le number text none = by_tests (ltb 255 (length text)) (ltb 65536 number)
     by_tests false true is e = absurd cc
     by_tests false false is e = ltb-false 65536 number is
 
-pub read_on : (file : ℕ) (source rest text behind : List ℕ) (number : ℕ) (lines new : List Line) → HasRead file source rest number lines
-    → lines_of rest ≡ text ∷ lines_of behind → line_fault number text ≡ None → new ≡ lines ++ line_of file number text ∷ []
-    → HasRead file source behind (number + 1) new
-read_on file source rest text behind number lines new read first none pushed = record {
-  all = ap (λ (l : List Line). l ++ numbered_lines file (number + 1) (lines_of behind)) pushed ∙ append_assoc lines (line_of file number text ∷ []) (numbered_lines file (number + 1) (lines_of behind))
-      ∙ ap (λ (l : List Line). lines ++ l) (sym (numbered-cons file number text (lines_of behind)) ∙ ap (numbered_lines file number) (sym first)) ∙ read.all;
-  fault = sym (ap (λ (f : Option TextCause). or_later number f (first_line_fault (number + 1) (lines_of behind))) none) ∙ sym (fault-cons number text (lines_of behind))
+pub read_on : (file : ℕ) (source rest text following : List ℕ) (number : ℕ) (lines new : List Line) → HasRead file source rest number lines
+    → lines_of rest ≡ text ∷ lines_of following → line_fault number text ≡ None → new ≡ lines ++ line_of file number text ∷ []
+    → HasRead file source following (number + 1) new
+read_on file source rest text following number lines new read first none pushed = record {
+  all = ap (λ (l : List Line). l ++ numbered_lines file (number + 1) (lines_of following)) pushed ∙ append_assoc lines (line_of file number text ∷ []) (numbered_lines file (number + 1) (lines_of following))
+      ∙ ap (λ (l : List Line). lines ++ l) (sym (numbered-cons file number text (lines_of following)) ∙ ap (numbered_lines file number) (sym first)) ∙ read.all;
+  fault = sym (ap (λ (f : Option TextCause). or_later number f (first_line_fault (number + 1) (lines_of following))) none) ∙ sym (fault-cons number text (lines_of following))
       ∙ ap (first_line_fault number) (sym first) ∙ read.fault;
   count = omega (arith, read.count, ap length pushed, length-append lines (line_of file number text ∷ []));
   few = omega (arith, number-le number text none);
@@ -70,11 +70,11 @@ bad_cause number at text source cause is first = by_cause cause is first
     by_cause BadNumber is first = neither _ _ BadNumber (λ e. absurd cc) (λ e. absurd cc) is
     by_cause Memory is first = absurd (neither _ _ Memory (λ e. absurd cc) (λ e. absurd cc) is)
 
-pub read_bad : (file : ℕ) (source rest text behind : List ℕ) (number : ℕ) (lines : List Line) (cause : TextCause) → HasRead file source rest number lines
-    → lines_of rest ≡ text ∷ lines_of behind → line_fault number text ≡ Some cause → IsRefused file source (record { cause = cause; file = file; line = number })
-read_bad file source rest text behind number lines cause read first bad =
-    let found : first_line_fault number (text ∷ lines_of behind) ≡ Some (number, cause) =
-    fault-cons number text (lines_of behind) ∙ ap (λ (f : Option TextCause). or_later number f (first_line_fault (number + 1) (lines_of behind))) bad in
+pub read_bad : (file : ℕ) (source rest text following : List ℕ) (number : ℕ) (lines : List Line) (cause : TextCause) → HasRead file source rest number lines
+    → lines_of rest ≡ text ∷ lines_of following → line_fault number text ≡ Some cause → IsRefused file source (record { cause = cause; file = file; line = number })
+read_bad file source rest text following number lines cause read first bad =
+    let found : first_line_fault number (text ∷ lines_of following) ≡ Some (number, cause) =
+    fault-cons number text (lines_of following) ∙ ap (λ (f : Option TextCause). or_later number f (first_line_fault (number + 1) (lines_of following))) bad in
     record { file_is = refl; cause_is = bad_cause number number text source cause bad (sym read.fault ∙ ap (first_line_fault number) first ∙ found) }
 
 pub read_all : (file : ℕ) (source rest : List ℕ) (number : ℕ) (lines : List Line) → HasRead file source rest number lines → length rest ≡ 0

@@ -9,31 +9,31 @@ use Rattle.orca_meaning.specs.Formula.{Single, Joined, MeansAt, operator_code, o
 use Rattle.orca_meaning.specs.Token.{Found, Token, Value, Number, Between, Opens, byte_at, sign_at, operator_at, spelled_at, number_at, operand_at, operand_token_at, operator_token_at, seen_as}
 use Rattle.orca_text.specs.Kept.{fitting}
 
-pub not_open : (text : List ℕ) → ((behind : List ℕ) → text ≢ 0x28 ∷ behind) → byte_at 0x28 Opens text ≡ None
+pub not_open : (text : List ℕ) → ((following : List ℕ) → text ≢ 0x28 ∷ following) → byte_at 0x28 Opens text ≡ None
 unfolding byte_at
 not_open [] other = refl
-not_open (byte ∷ behind) other = by_test (eqb byte 0x28) refl
+not_open (byte ∷ following) other = by_test (eqb byte 0x28) refl
   where
-    by_test : (b : Bool) → eqb byte 0x28 ≡ b → cond {A = Found Token} b (Some (Opens, behind)) None ≡ None
-    by_test true is = absurd (other behind (ap (λ (first : ℕ). first ∷ behind) (eqb-true byte 0x28 is)))
+    by_test : (b : Bool) → eqb byte 0x28 ≡ b → cond {A = Found Token} b (Some (Opens, following)) None ≡ None
+    by_test true is = absurd (other following (ap (λ (first : ℕ). first ∷ following) (eqb-true byte 0x28 is)))
     by_test false is = refl
 
 -- a number that fits, as one
 abbrev lowered : Found (Option ℕ) → Found ℕ
 lowered None = None
-lowered (Some (None, behind)) = None
-lowered (Some (Some n, behind)) = Some (n, behind)
+lowered (Some (None, following)) = None
+lowered (Some (Some n, following)) = Some (n, following)
 
 fitting_is : (found : Found ℕ) (n : ℕ) (rest : List ℕ) → seen_as fitting found ≡ Some (Some n, rest) → found ≡ Some (n, rest)
 fitting_is None n rest is = absurd cc
-fitting_is (Some (m, behind)) n rest is = by_test (ltb m (2 ^ 32)) is
+fitting_is (Some (m, following)) n rest is = by_test (ltb m (2 ^ 32)) is
   where
-    by_test : (b : Bool) → ◌≡◌ {A = Found (Option ℕ)} (Some (cond b (Some m) None, behind)) (Some (Some n, rest)) → ◌≡◌ {A = Found ℕ} (Some (m, behind)) (Some (n, rest))
+    by_test : (b : Bool) → ◌≡◌ {A = Found (Option ℕ)} (Some (cond b (Some m) None, following)) (Some (Some n, rest)) → ◌≡◌ {A = Found ℕ} (Some (m, following)) (Some (n, rest))
     by_test true e = ap lowered e
     by_test false e = let none : ◌≡◌ {A = Found ℕ} None (Some (n, rest)) = ap lowered e in absurd cc
 
 -- a number stands at the front, and no parenthesis and no sign
-pub number_token : (text : List ℕ) (n : ℕ) (rest : List ℕ) → ((behind : List ℕ) → text ≢ 0x28 ∷ behind) → sign_at text ≡ None → seen_as fitting (number_at text) ≡ Some (Some n, rest)
+pub number_token : (text : List ℕ) (n : ℕ) (rest : List ℕ) → ((following : List ℕ) → text ≢ 0x28 ∷ following) → sign_at text ≡ None → seen_as fitting (number_at text) ≡ Some (Some n, rest)
     → operand_token_at Symbols text ≡ Some (Value (Number n), rest)
 unfolding operand_token_at operand_at
 number_token text n rest other no_sign found = rw (not_open text other, no_sign, fitting_is (number_at text) n rest found) refl
@@ -64,29 +64,29 @@ positive And = omega arith
 positive Or = omega arith
 positive Eor = omega arith
 
-pub two_mean : (text : List ℕ) (operator : Operator) (a b : ℕ) (rest behind last : List ℕ) → operand_token_at Symbols text ≡ Some (Value (Number a), rest)
-    → operator_token_at rest ≡ Some (Between operator, behind) → operand_token_at Symbols behind ≡ Some (Value (Number b), last) → eqb (length last) 0 ≡ true
+pub two_mean : (text : List ℕ) (operator : Operator) (a b : ℕ) (rest following last : List ℕ) → operand_token_at Symbols text ≡ Some (Value (Number a), rest)
+    → operator_token_at rest ≡ Some (Between operator, following) → operand_token_at Symbols following ≡ Some (Value (Number b), last) → eqb (length last) 0 ≡ true
     → MeansAt Symbols text (Binary (operator_code operator) (Leaf (Constant a)) (Leaf (Constant b))) []
 unfolding operator_at spelled_at
-two_mean text operator a b rest behind last first between second none =
+two_mean text operator a b rest following last first between second none =
     record {
       formula = Joined operator (Single (Number a)) (Single (Number b));
-      stands = record { formed = (omega arith, positive operator, tt, tt); spelled = (rest, first, (behind, between, (last, second, nothing last none))); ends = refl };
+      stands = record { formed = (omega arith, positive operator, tt, tt); spelled = (rest, first, (following, between, (last, second, nothing last none))); ends = refl };
       means = refl;
     }
 
-pub three_mean : (text : List ℕ) (operator second : Operator) (a b c : ℕ) (rest behind last more end : List ℕ) → operand_token_at Symbols text ≡ Some (Value (Number a), rest)
-    → operator_token_at rest ≡ Some (Between operator, behind) → operand_token_at Symbols behind ≡ Some (Value (Number b), last)
+pub three_mean : (text : List ℕ) (operator second : Operator) (a b c : ℕ) (rest following last more end : List ℕ) → operand_token_at Symbols text ≡ Some (Value (Number a), rest)
+    → operator_token_at rest ≡ Some (Between operator, following) → operand_token_at Symbols following ≡ Some (Value (Number b), last)
     → operator_token_at last ≡ Some (Between second, more) → operand_token_at Symbols more ≡ Some (Value (Number c), end) → eqb (length end) 0 ≡ true
     → operator_level second < operator_level operator
     → MeansAt Symbols text (Binary (operator_code operator) (Leaf (Constant a)) (Binary (operator_code second) (Leaf (Constant b)) (Leaf (Constant c)))) []
 unfolding operator_at spelled_at
-three_mean text operator second a b c rest behind last more end first between number between_too third none closer =
+three_mean text operator second a b c rest following last more end first between number between_too third none closer =
     record {
       formula = Joined operator (Single (Number a)) (Joined second (Single (Number b)) (Single (Number c)));
       stands = record {
         formed = (omega arith, closer, tt, (omega arith, positive second, tt, tt));
-        spelled = (rest, first, (behind, between, (last, number, (more, between_too, (end, third, nothing end none)))));
+        spelled = (rest, first, (following, between, (last, number, (more, between_too, (end, third, nothing end none)))));
         ends = refl;
       };
       means = refl;

@@ -74,15 +74,15 @@ or_false : (b : Bool) → b ≡ (b || false)
 or_false true = refl
 or_false false = refl
 
-pub shut_steps : (o : Operands) (large : Bool) (left behind : List ℕ) (out out' : List Term) (ws ws' : List Wait) → operator_token_at left ≡ Some (Closes, behind)
-    → closed (reduced 6 out ws) ≡ Some (state out' ws' false) → Steps o (state out ws false) (state out' ws' false) large large left behind
+pub shut_steps : (o : Operands) (large : Bool) (left following : List ℕ) (out out' : List Term) (ws ws' : List Wait) → operator_token_at left ≡ Some (Closes, following)
+    → closed (reduced 6 out ws) ≡ Some (state out' ws' false) → Steps o (state out ws false) (state out' ws' false) large large left following
 unfolding step
-shut_steps o large left behind out out' ws ws' found shut = record { token = Closes; found = found; steps = shut; grows = or_false large }
+shut_steps o large left following out out' ws ws' found shut = record { token = Closes; found = found; steps = shut; grows = or_false large }
 
-pub whole_end : (left behind : List ℕ) (out out' : List Term) (ws : List Wait) → operator_token_at left ≡ Some (Closes, behind)
+pub whole_end : (left following : List ℕ) (out out' : List Term) (ws : List Wait) → operator_token_at left ≡ Some (Closes, following)
     → (closed (reduced 6 out ws) ≡ None) × (ended (reduced 6 out ws) ≡ Some out') → IsEnd (state out ws false) left out'
-whole_end left behind out out' ws found both = record { expects = refl; stops = Unmatched behind found both.0; whole = both.1 }
+whole_end left following out out' ws found both = record { expects = refl; stops = Unmatched following found both.0; whole = both.1 }
 
-pub open_stuck : (o : Operands) (left behind : List ℕ) (out : List Term) (ws : List Wait) → operator_token_at left ≡ Some (Closes, behind)
+pub open_stuck : (o : Operands) (left following : List ℕ) (out : List Term) (ws : List Wait) → operator_token_at left ≡ Some (Closes, following)
     → (closed (reduced 6 out ws) ≡ None) × (ended (reduced 6 out ws) ≡ None) → IsStuck o (state out ws false) left
-open_stuck o left behind out ws found both = NotWhole refl (Unmatched behind found both.0) both.1
+open_stuck o left following out ws found both = NotWhole refl (Unmatched following found both.0) both.1

@@ -10,17 +10,17 @@ cond_true : (b : Bool) (n i : ℕ) → cond b (Some n) None ≡ Some i → b ≡
 cond_true true n i e = refl
 cond_true false n i e = absurd cc
 
-pub text_found : (quote close number : ℕ) (behind rest : List ℕ) → position (λ byte. eqb byte quote) behind ≡ Some close → 1 ≤ close → close ≤ 4
-    → number ≡ number_at close 0 behind → rest ≡ drop (close + 1) behind → text_at quote behind ≡ Some (number, rest)
+pub text_found : (quote close number : ℕ) (following rest : List ℕ) → position (λ byte. eqb byte quote) following ≡ Some close → 1 ≤ close → close ≤ 4
+    → number ≡ number_at close 0 following → rest ≡ drop (close + 1) following → text_at quote following ≡ Some (number, rest)
 unfolding text_at number_at
-text_found quote close number behind rest is some few number_is rest_is =
-    let n = position_or_len (λ byte. eqb byte quote) behind in
-    let same : close ≡ n = found (λ byte. eqb byte quote) behind close is in
-    let inside : ltb n (length behind) ≡ true = cond_true (ltb n (length behind)) n close is in
+text_found quote close number following rest is some few number_is rest_is =
+    let n = position_or_len (λ byte. eqb byte quote) following in
+    let same : close ≡ n = found (λ byte. eqb byte quote) following close is in
+    let inside : ltb n (length following) ≡ true = cond_true (ltb n (length following)) n close is in
     let a : leb 1 n ≡ true = le-leb 1 n (omega arith) in
     let b : leb n 4 ≡ true = le-leb n 4 (omega arith) in
-    let plus : drop (n + 1) behind ≡ rest = ap (λ (k : ℕ). drop (k + 1) behind) (sym same) ∙ sym rest_is in
-    let value : number_at n 0 behind ≡ number = ap (λ (k : ℕ). number_at k 0 behind) (sym same) ∙ sym number_is in
+    let plus : drop (n + 1) following ≡ rest = ap (λ (k : ℕ). drop (k + 1) following) (sym same) ∙ sym rest_is in
+    let value : number_at n 0 following ≡ number = ap (λ (k : ℕ). number_at k 0 following) (sym same) ∙ sym number_is in
     rw (a, b, inside) (rw (plus, ← value) refl)
 
 -- a text that has a number has one to four bytes

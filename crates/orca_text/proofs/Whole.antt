@@ -196,14 +196,14 @@ under_way o text out waiting none nothing = record {
 expects_is : (o : Operands) (text left : List ℕ) (kept : State) (large : Bool) (u : UnderWay o text left kept large) → kept.expects ≡ expects_after true u.done
 expects_is o text left kept large u = ap (λ (s : State). s.expects) u.kept_is ∙ runs_expect start u.real u.done refl u.ran
 
-pub goes_on : (o : Operands) (text left behind : List ℕ) (kept new : State) (large larger : Bool) → UnderWay o text left kept large → Steps o kept new large larger left behind
-    → UnderWay o text behind new larger
-goes_on o text left behind kept new large larger u s =
+pub goes_on : (o : Operands) (text left following : List ℕ) (kept new : State) (large larger : Bool) → UnderWay o text left kept large → Steps o kept new large larger left following
+    → UnderWay o text following new larger
+goes_on o text left following kept new large larger u s =
     let real = stepped u.real s.token new (subst (λ (k : State). step k (kept_token s.token).0 ≡ Some new) u.kept_is s.steps) in
     record {
       done = u.done ++ s.token ∷ [];
       real = real.next;
-      stands = stand_push o true text u.done left behind s.token u.stands (subst (λ (e : Bool). token_at o e left ≡ Some (s.token, behind)) (expects_is o text left kept large u) s.found);
+      stands = stand_push o true text u.done left following s.token u.stands (subst (λ (e : Bool). token_at o e left ≡ Some (s.token, following)) (expects_is o text left kept large u) s.found);
       ran = run-push start u.real u.done s.token u.ran ∙ real.steps;
       kept_is = real.same;
       large_is = s.grows ∙ ap (λ (b : Bool). b || (kept_token s.token).1) u.large_is ∙ sym real.grows;
@@ -232,22 +232,22 @@ closed-kept_none out (Bracket ∷ ws) is = absurd cc
 closed-kept_none out (Pending level code ∷ ws) is = refl
 
 -- a parenthesis is no operator
-no_operator : (behind : List ℕ) → operator_at (0x29 ∷ behind) ≡ None
+no_operator : (following : List ℕ) → operator_at (0x29 ∷ following) ≡ None
 unfolding operator_at spelled_at
-no_operator behind = refl
+no_operator following = refl
 
-no_operator_at : (text : List ℕ) (behind : List ℕ) → operator_token_at text ≡ Some (Closes, behind) → operator_at text ≡ None
+no_operator_at : (text : List ℕ) (following : List ℕ) → operator_token_at text ≡ Some (Closes, following) → operator_at text ≡ None
 unfolding operator_token_at
-no_operator_at text behind is = by_byte (byte_at 0x29 Closes text) refl is
+no_operator_at text following is = by_byte (byte_at 0x29 Closes text) refl is
   where
-    by_byte : (f : Found Token) → byte_at 0x29 Closes text ≡ f → option_or f (seen_as Between (operator_at text)) ≡ Some (Closes, behind) → operator_at text ≡ None
+    by_byte : (f : Found Token) → byte_at 0x29 Closes text ≡ f → option_or f (seen_as Between (operator_at text)) ≡ Some (Closes, following) → operator_at text ≡ None
     by_byte (Some x) found is = rw (byte-found 0x29 Closes text x found) (no_operator x.1)
     by_byte None found is = absurd (no_closes (operator_at text) is)
       where
-        no_closes : (f : Found operators.Operator) → seen_as Between f ≡ Some (Closes, behind) → ⊥
+        no_closes : (f : Found operators.Operator) → seen_as Between f ≡ Some (Closes, following) → ⊥
         no_closes None e = absurd cc
         no_closes (Some y) e =
-            let pair : (Between y.0, y.1) ≡ (Closes, behind) = cc in
+            let pair : (Between y.0, y.1) ≡ (Closes, following) = cc in
             let token : Between y.0 ≡ Closes = ap (λ (z : Token × List ℕ). z.0) pair in
             absurd cc
 
@@ -262,7 +262,7 @@ no_token_at text is = by_byte (byte_at 0x29 Closes text) (operator_at text) is
 
 stops_end : (s : State) (left : List ℕ) → Stops s left → operator_at left ≡ None
 stops_end s left (NoToken none) = no_token_at left none
-stops_end s left (Unmatched behind found not_closed) = no_operator_at left behind found
+stops_end s left (Unmatched following found not_closed) = no_operator_at left following found
 
 postfix_is : (done : List Token) (s : State) (terms : List Term) → run start done ≡ Some s → s.expects ≡ false → ended (reduced 6 s.out s.waiting) ≡ Some terms → postfix done ≡ Some terms
 unfolding postfix finish
@@ -333,26 +333,26 @@ no_formula o text left kept large u stuck tree rest means =
             absurd cc
 
     -- another token of it stands there
-    at_token : (t : Token) (more : List Token) → tokens_of means.formula ≡ u.done ++ t ∷ more → (behind : List ℕ) → token_at o (expects_after true u.done) left ≡ Some (t, behind) → IsStuck o kept left → ⊥
-    at_token t more is behind found stuck = by_stuck (subst (λ (e : Bool). token_at o e left ≡ Some (t, behind)) (sym (expects_is o text left kept large u)) found) stuck
+    at_token : (t : Token) (more : List Token) → tokens_of means.formula ≡ u.done ++ t ∷ more → (following : List ℕ) → token_at o (expects_after true u.done) left ≡ Some (t, following) → IsStuck o kept left → ⊥
+    at_token t more is following found stuck = by_stuck (subst (λ (e : Bool). token_at o e left ≡ Some (t, following)) (sym (expects_is o text left kept large u)) found) stuck
       where
-        no_token : (x : Found Token) → x ≡ None → x ≡ Some (t, behind) → ⊥
-        no_token x p q = let e : None ≡ Some (t, behind) = sym p ∙ q in absurd cc
+        no_token : (x : Found Token) → x ≡ None → x ≡ Some (t, following) → ⊥
+        no_token x p q = let e : None ≡ Some (t, following) = sym p ∙ q in absurd cc
 
-        by_stops : operator_token_at left ≡ Some (t, behind) → u.real.expects ≡ false → Stops kept left → ⊥
+        by_stops : operator_token_at left ≡ Some (t, following) → u.real.expects ≡ false → Stops kept left → ⊥
         by_stops found expects (NoToken none) = no_token (operator_token_at left) none found
         by_stops found expects (Unmatched other closes not_closed) =
-            let pair : (t, behind) ≡ (Closes, other) = cc in
+            let pair : (t, following) ≡ (Closes, other) = cc in
             let token : t ≡ Closes = ap (λ (z : Token × List ℕ). z.0) pair in
             let fails : step u.real t ≡ None = step_fails u.real t token expects (kept_closed not_closed) in
             let none : run start (tokens_of means.formula) ≡ None = ap (run start) is ∙ run-fails start u.real u.done more t u.ran fails in
             let e : None ≡ Some all.last = sym none ∙ all.ran in
             absurd cc
 
-        by_stuck : token_at o kept.expects left ≡ Some (t, behind) → IsStuck o kept left → ⊥
-        by_stuck found (NoOperand expects none) = no_token (operand_token_at o left) none (subst (λ (e : Bool). token_at o e left ≡ Some (t, behind)) expects found)
+        by_stuck : token_at o kept.expects left ≡ Some (t, following) → IsStuck o kept left → ⊥
+        by_stuck found (NoOperand expects none) = no_token (operand_token_at o left) none (subst (λ (e : Bool). token_at o e left ≡ Some (t, following)) expects found)
         by_stuck found (NotWhole expects stops none) =
-            by_stops (subst (λ (e : Bool). token_at o e left ≡ Some (t, behind)) expects found) (sym (ap (λ (s : State). s.expects) u.kept_is) ∙ expects) stops
+            by_stops (subst (λ (e : Bool). token_at o e left ≡ Some (t, following)) expects found) (sym (ap (λ (s : State). s.expects) u.kept_is) ∙ expects) stops
 
     by_order : (done : List Token) → u.done ≡ done → Compared o true u.done (tokens_of means.formula) left rest → ⊥
     by_order done same (Longer [] is stand) = at_end (is ∙ append-nil u.done) stuck

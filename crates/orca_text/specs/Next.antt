@@ -9,16 +9,16 @@ use Rattle.orca_text.specs.declared.formula.Next.TheVariants.{Goes, Ends, Fails}
 use Rattle.orca_text.specs.Kept.{kept_token}
 
 -- a token stands there, and was taken; a number in it may be too large
-pub record Steps (o : Operands) (old new : State) (large larger : Bool) (left behind : List ℕ) : Type 0 where
+pub record Steps (o : Operands) (old new : State) (large larger : Bool) (left following : List ℕ) : Type 0 where
   pub token : Token
-  pub found : token_at o old.expects left ≡ Some (token, behind)
+  pub found : token_at o old.expects left ≡ Some (token, following)
   pub steps : step old (kept_token token).0 ≡ Some new
   pub grows : larger ≡ (large || (kept_token token).1)
 
 -- no token stands there, or a parenthesis that closes none
 pub data Stops (s : State) (left : List ℕ) : Type 0 where
   NoToken : operator_token_at left ≡ None → Stops s left
-  Unmatched : (behind : List ℕ) → operator_token_at left ≡ Some (Closes, behind) → closed (reduced 6 s.out s.waiting) ≡ None → Stops s left
+  Unmatched : (following : List ℕ) → operator_token_at left ≡ Some (Closes, following) → closed (reduced 6 s.out s.waiting) ≡ None → Stops s left
 
 -- a formula ends there
 pub record IsEnd (s : State) (left : List ℕ) (terms : List Term) : Type 0 where
@@ -32,6 +32,6 @@ pub data IsStuck (o : Operands) (s : State) (left : List ℕ) : Type 0 where
   NotWhole : s.expects ≡ false → Stops s left → ended (reduced 6 s.out s.waiting) ≡ None → IsStuck o s left
 
 abbrev pub IsNext : Operands → State → Bool → List ℕ → Next → List Term → List Wait → Bool → Type 0
-IsNext o old large left (Goes again behind) out waiting larger = Steps o old (state out waiting again) large larger left behind.now
+IsNext o old large left (Goes again following) out waiting larger = Steps o old (state out waiting again) large larger left following.now
 IsNext o old large left Ends out waiting larger = IsEnd old left out × (larger ≡ large)
 IsNext o old large left Fails out waiting larger = IsStuck o old left

@@ -59,12 +59,12 @@ pub record IsOperandFault (line : SourceLine) (fault : TextFault) : Type 0 where
 
 -- a comma stands at the front, and behind it a formula up to the end
 pub record IsSecond (rest : List ℕ) (terms : List Term) (large : Bool) : Type 0 where
-  pub behind : List ℕ
-  pub comma : rest ≡ 0x2C ∷ behind
-  pub formula : IsFormulaAt Labels behind terms large []
+  pub following : List ℕ
+  pub comma : rest ≡ 0x2C ∷ following
+  pub formula : IsFormulaAt Labels following terms large []
 
 abbrev pub HasNoSecond : List ℕ → Type 0
-HasNoSecond rest = (behind : List ℕ) (tree : Tree) → rest ≡ 0x2C ∷ behind → MeansAt Labels behind tree [] → ⊥
+HasNoSecond rest = (following : List ℕ) (tree : Tree) → rest ≡ 0x2C ∷ following → MeansAt Labels following tree [] → ⊥
 
 -- a formula is too deep, or has a number that is too large
 abbrev pub IsRefusedHere : TextCause → ℕ → Bool → Type 0

@@ -3,12 +3,12 @@ use Rattle.std.specs.Prelude.{ℕ, ◌+◌, ◌-◌, max, List, [], ◌∷◌}
 use Rattle.omf_format.specs.Expression as expression
 
 -- how many values are pending behind a term where so many are before it
-abbrev pub now_behind : ℕ → expression.Term → ℕ
-now_behind now (expression.Operator code) = now - expression.operand_count code + 1
-now_behind now expression.Location = now + 1
-now_behind now (expression.Constant n) = now + 1
-now_behind now (expression.Named code name) = now + 1
-now_behind now (expression.Offset n) = now + 1
+abbrev pub now_after : ℕ → expression.Term → ℕ
+now_after now (expression.Operator code) = now - expression.operand_count code + 1
+now_after now expression.Location = now + 1
+now_after now (expression.Constant n) = now + 1
+now_after now (expression.Named code name) = now + 1
+now_after now (expression.Offset n) = now + 1
 
 -- how many are pending at it
 abbrev pub now_at : ℕ → ℕ → expression.Term → ℕ
@@ -21,4 +21,4 @@ now_at here now (expression.Offset n) = now + 1
 -- the most at one of these terms, where so many are pending before them and so many were before
 abbrev pub peak : ℕ → ℕ → ℕ → List expression.Term → ℕ
 peak here now most [] = most
-peak here now most (term ∷ terms) = peak here (now_behind now term) (max most (now_at here now term)) terms
+peak here now most (term ∷ terms) = peak here (now_after now term) (max most (now_at here now term)) terms

@@ -3,7 +3,7 @@
 ghost use Rattle.std.specs.Prelude.{◌≡◌, ◌≤◌, ◌+◌, ◌-◌, ◌<◌, length, drop, take, position, Option, None, slice_index};
 ghost use Rattle.std.specs.List.{position_or_len, list_all};
 ghost use Rattle.orca_meaning.specs.Characters.{is_blank};
-ghost use Rattle.orca_meaning.specs.Quotes.{outside_from, quote_behind};
+ghost use Rattle.orca_meaning.specs.Quotes.{outside_from, quote_following};
 ghost use Rattle.orca_meaning.specs.Line.{is_ink, is_comment, three_fields, operand_span, statement_fields, fields_of, part, LiesIn, HaveFields};
 ghost use Rattle.orca_text.specs.View.{fields};
 
@@ -93,8 +93,8 @@ fn ink_in(rest: &[u8]) -> usize
 
 /// Which quote is open behind a byte.
 #[inline(always)]
-pub fn quote_behind(quote: Option<u8>, byte: u8) -> Option<u8>
-    ensures { result ≡ quote_behind quote byte }
+pub fn quote_following(quote: Option<u8>, byte: u8) -> Option<u8>
+    ensures { result ≡ quote_following quote byte }
 {
     match quote {
         None => {
@@ -125,7 +125,7 @@ fn blank_outside(rest: &[u8]) -> usize
         if quote.is_none() && is_blank(*byte) {
             return count;
         }
-        quote = quote_behind(quote, *byte);
+        quote = quote_following(quote, *byte);
         count += 1;
     }
     count
@@ -160,13 +160,13 @@ pub fn three_fields(text: LinePart<'_>) -> Fields
 
 /// The third field of a line whose operation ends at a place.
 #[tactic(auto, using(crate::proofs::Places::operand_is))]
-pub fn operand_behind(text: LinePart<'_>, end: usize) -> LinePart<'_>
+pub fn operand_after(text: LinePart<'_>, end: usize) -> LinePart<'_>
     requires { (three_fields text.bytes.now).operation.to ≡ end }
     ensures value { result.bytes.now ≡ part text.entry.bytes.now (three_fields text.entry.bytes.now).operand }
     ensures bound { length result.bytes.now ≤ length text.entry.bytes.now }
 {
-    let behind = from(text.bytes, end);
-    let (_, third) = behind.split_at(ink_in(behind));
+    let following = from(text.bytes, end);
+    let (_, third) = following.split_at(ink_in(following));
     let (operand, _) = third.split_at(blank_outside(third));
     LinePart { bytes: operand }
 }

@@ -1,7 +1,7 @@
 //! What stands before and behind the formula of an operand, and the form that it makes.
 
 ghost use Rattle.std.specs.Prelude.{◌≡◌, ◌≢◌, ◌∷◌, ◌<◌, ◌≤◌, [], ℕ, drop, length, Some, None, MatchOption};
-ghost use Rattle.orca_meaning.specs.Operand.{opening_of, behind_opening, prefix_of, prefix_by, behind_prefix, address_prefix, immediate_prefix, register_of, index_at, whole_index, indexes_around, plain_form, round_form, square_form, immediate_form, form_behind};
+ghost use Rattle.orca_meaning.specs.Operand.{opening_of, after_opening, prefix_of, prefix_by, after_prefix, address_prefix, immediate_prefix, register_of, index_at, whole_index, indexes_around, plain_form, round_form, square_form, immediate_form, form_after};
 
 use crate::fields::from;
 use orca_meaning::{Form, Index, Opening, Prefix};
@@ -24,8 +24,8 @@ pub(crate) fn opening_of(is_instruction: bool, text: &[u8]) -> Opening
 
 /// What stands behind it.
 #[inline(always)]
-pub(crate) fn behind_opening(opening: Opening, text: &[u8]) -> &[u8]
-    ensures value { result.now ≡ behind_opening opening text.now }
+pub(crate) fn after_opening(opening: Opening, text: &[u8]) -> &[u8]
+    ensures value { result.now ≡ after_opening opening text.now }
     ensures bound { length result.now ≤ length text.now }
 {
     match opening {
@@ -79,8 +79,8 @@ pub(crate) fn prefix_of(opening: Opening, text: &[u8]) -> Prefix
 
 /// What stands behind the prefix.
 #[inline(always)]
-pub(crate) fn behind_prefix(prefix: Prefix, text: &[u8]) -> &[u8]
-    ensures value { result.now ≡ behind_prefix prefix text.now }
+pub(crate) fn after_prefix(prefix: Prefix, text: &[u8]) -> &[u8]
+    ensures value { result.now ≡ after_prefix prefix text.now }
     ensures bound { length result.now ≤ length text.now }
 {
     match prefix {
@@ -114,14 +114,14 @@ fn index_at(text: &[u8]) -> (Index, &[u8])
     let Some((comma, letter_on)) = text.split_first() else {
         return (Index::Absent, text);
     };
-    let Some((letter, behind)) = letter_on.split_first() else {
+    let Some((letter, following)) = letter_on.split_first() else {
         return (Index::Absent, text);
     };
     if *comma != b',' {
         return (Index::Absent, text);
     }
     match register_of(*letter) {
-        Some(index) => (index, behind),
+        Some(index) => (index, following),
         None => (Index::Absent, text),
     }
 }
@@ -132,8 +132,8 @@ fn index_at(text: &[u8]) -> (Index, &[u8])
 fn whole_index(text: &[u8]) -> Option<Index>
     ensures { result ≡ whole_index text.now }
 {
-    let (index, behind) = index_at(text);
-    match behind.split_first() {
+    let (index, following) = index_at(text);
+    match following.split_first() {
         Some(_) => None,
         None => Some(index),
     }
@@ -146,13 +146,13 @@ fn indexes_around(close: u8, text: &[u8]) -> Option<(Index, Index)>
     ensures { result ≡ indexes_around close text.now }
 {
     let (inner, rest) = index_at(text);
-    let Some((byte, behind)) = rest.split_first() else {
+    let Some((byte, following)) = rest.split_first() else {
         return None;
     };
     if *byte != close {
         return None;
     }
-    match whole_index(behind) {
+    match whole_index(following) {
         Some(outer) => Some((inner, outer)),
         None => None,
     }
@@ -194,8 +194,8 @@ fn square_form(indexes: (Index, Index)) -> Form
 
 /// The form by the opening and what stands behind the formula.
 #[inline(always)]
-pub(crate) fn form_behind(opening: Opening, rest: &[u8]) -> Option<Form>
-    ensures { result ≡ form_behind opening rest.now }
+pub(crate) fn form_after(opening: Opening, rest: &[u8]) -> Option<Form>
+    ensures { result ≡ form_after opening rest.now }
 {
     match opening {
         Opening::Open => match whole_index(rest) {

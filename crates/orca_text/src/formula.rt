@@ -235,12 +235,12 @@ fn operand_next<'a>(
 ) -> Result<Next<'a>, AllocError>
     ensures { IfOk result (λ next. IsNext operands (state (map term out.old.items) waiting.old true) large.old left.entry.bytes.now next (map term out.new.items) waiting.new large.new) }
 {
-    let Some((next, behind)) = operand_token(alloc, operands, left)? else {
+    let Some((next, following)) = operand_token(alloc, operands, left)? else {
         return Ok(Next::Fails);
     };
     *large = *large || is_too_large(&next);
     let again = take_operand(out, waiting, next)?;
-    Ok(Next::Goes(again, behind))
+    Ok(Next::Goes(again, following))
 }
 
 /// Takes what stands behind an operand.
@@ -253,12 +253,12 @@ fn operator_next<'a>(
     ensures { (operands : Operands) (large : Bool) → IfOk result (λ next. IsNext operands (state (map term out.old.items) waiting.old false) large left.now next (map term out.new.items) waiting.new large) }
 {
     match operator_token(left) {
-        Some((OperatorToken::Between(operator), behind)) => {
+        Some((OperatorToken::Between(operator), following)) => {
             take_operator(out, waiting, operator)?;
-            Ok(Next::Goes(true, behind))
+            Ok(Next::Goes(true, following))
         }
-        Some((OperatorToken::Closes, behind)) => match close(out, waiting)? {
-            Closing::Shut => Ok(Next::Goes(false, behind)),
+        Some((OperatorToken::Closes, following)) => match close(out, waiting)? {
+            Closing::Shut => Ok(Next::Goes(false, following)),
             Closing::Whole => Ok(Next::Ends),
             Closing::Open => Ok(Next::Fails),
         },
@@ -325,9 +325,9 @@ pub fn formula_at<'a>(
             &mut waiting,
             &mut large,
         )? {
-            Next::Goes(again, behind) => {
+            Next::Goes(again, following) => {
                 expects = again;
-                left = behind;
+                left = following;
             }
             Next::Ends => {
                 return Ok(Some(FormulaAt {

@@ -16,14 +16,16 @@ mod short;
 mod tokens;
 mod waiting;
 
-pub use fields::{Fields, is_comment, label_in, operand_behind, part, quote_behind, three_fields};
+pub use fields::{
+    Fields, is_comment, label_in, operand_after, part, quote_following, three_fields,
+};
 pub use formula::{FormulaAt, formula_at};
 pub use formula_term::{Formula, FormulaTerm};
 pub use line::SourceLine;
 pub use line_part::LinePart;
 pub use lines::{Lines, read_lines};
 pub use operand::{Operand, is_too_deep, read_operand};
-pub use operand_tokens::{behind_byte, folded, is_name_start, name_at, name_len, symbol_at};
+pub use operand_tokens::{after_byte, folded, is_name_start, name_at, name_len, symbol_at};
 pub use operation::{is_spelled, mnemonic_of};
 pub use orca_meaning::{Form, Mnemonic, OperandUse, Operands, Prefix, Span, TextCause, TextFault};
 pub use short::{ShortFormula, short_formula};

@@ -153,7 +153,7 @@ pub fn read_lines(alloc: Global, file: u32, source: &[u8]) -> Result<Lines, Text
     let mut rest = source;
     let mut number = 1;
     'lines: while !rest.is_empty() {
-        let (text, behind) = split_line(rest);
+        let (text, following) = split_line(rest);
         checked(file, number, text)?;
         match lines.push(alloc, file, number, LinePart { bytes: text }) {
             Ok(()) => {}
@@ -164,7 +164,7 @@ pub fn read_lines(alloc: Global, file: u32, source: &[u8]) -> Result<Lines, Text
             }),
         }
         number += 1;
-        rest = behind;
+        rest = following;
     }
     Ok(lines)
 }

@@ -10,12 +10,12 @@ ghost use Rattle.orca_text.specs.OperandView.{IsRead, IsOperandFault, line_mnemo
 ghost use Rattle.orca_text.specs.Peak.{peak};
 ghost use Rattle.orca_text.specs.View.{term};
 
-use crate::forms::{behind_opening, behind_prefix, form_behind, opening_of, prefix_of};
+use crate::forms::{after_opening, after_prefix, form_after, opening_of, prefix_of};
 use crate::formula::{FormulaAt, formula_at};
 use crate::formula_term::{Formula, FormulaTerm};
 use crate::line::SourceLine;
 use crate::line_part::LinePart;
-use crate::operand_tokens::behind_byte;
+use crate::operand_tokens::after_byte;
 use crate::operation::{is_spelled, row_of};
 use orca_meaning::{Form, Mnemonic, Opening, OperandUse, Operands, Prefix, TextCause, TextFault};
 use std::alloc::{AllocError, Global};
@@ -144,10 +144,10 @@ fn second_formula(alloc: Global, rest: LinePart<'_>) -> Result<Option<FormulaAt<
     ensures found { IfOk result (λ found. IfSome found (λ x. IsSecond rest.entry.bytes.now x.formula x.large)) }
     ensures none { IfOk result (λ found. IfNone found (HasNoSecond rest.entry.bytes.now)) }
 {
-    let Some(behind) = behind_byte(rest.bytes, b',') else {
+    let Some(following) = after_byte(rest.bytes, b',') else {
         return Ok(None);
     };
-    let Some(second) = formula_at(alloc, Operands::Labels, LinePart { bytes: behind })? else {
+    let Some(second) = formula_at(alloc, Operands::Labels, LinePart { bytes: following })? else {
         return Ok(None);
     };
     if !second.rest.is_empty() {
@@ -177,9 +177,9 @@ fn front_of(mnemonic: Option<Mnemonic>, text: &[u8]) -> (Opening, Prefix, &[u8])
     ensures bound { length result.2.now ≤ length text.now }
 {
     let opening = opening_of(mnemonic.is_some(), text);
-    let inside = behind_opening(opening, text);
+    let inside = after_opening(opening, text);
     let prefix = prefix_of(opening, inside);
-    (opening, prefix, behind_prefix(prefix, inside))
+    (opening, prefix, after_prefix(prefix, inside))
 }
 
 /// An operand with a formula.
@@ -200,7 +200,7 @@ fn formula_operand(
         Ok(None) => return Err(TextCause::BadOperand),
         Err(_) => return Err(TextCause::Memory),
     };
-    if let Some(form) = form_behind(opening, first.rest) {
+    if let Some(form) = form_after(opening, first.rest) {
         return one_formula(here, form, prefix, first);
     }
     match opening {

@@ -71,12 +71,12 @@ fn is_name_byte(byte: u8) -> bool
 
 /// How many bytes at the front go on with a name.
 #[inline(always)]
-pub fn name_len(behind: &[u8]) -> usize
-    ensures value { result ≡ prefix_len is_name_byte behind.now }
-    ensures bound { result ≤ length behind.now }
+pub fn name_len(following: &[u8]) -> usize
+    ensures value { result ≡ prefix_len is_name_byte following.now }
+    ensures bound { result ≤ length following.now }
 {
     let mut count = 0;
-    'bytes: for byte in behind {
+    'bytes: for byte in following {
         if !is_name_byte(*byte) {
             return count;
         }
@@ -101,13 +101,13 @@ pub fn folded(alloc: Global, text: LinePart<'_>) -> Result<Name, AllocError>
 pub fn name_at(alloc: Global, text: LinePart<'_>) -> Result<Option<(Name, &[u8])>, AllocError>
     ensures { IfOk result (λ found. MatchOption found (name_at text.entry.bytes.now ≡ None) (λ x. name_at text.entry.bytes.now ≡ Some (x.0, x.1.now))) }
 {
-    let Some((first, behind)) = text.bytes.split_first() else {
+    let Some((first, following)) = text.bytes.split_first() else {
         return Ok(None);
     };
     if !is_name_start(*first) {
         return Ok(None);
     }
-    let (bytes, rest) = text.bytes.split_at(1 + name_len(behind));
+    let (bytes, rest) = text.bytes.split_at(1 + name_len(following));
     let name = folded(alloc, LinePart { bytes })?;
     Ok(Some((name, rest)))
 }
@@ -117,13 +117,13 @@ pub fn name_at(alloc: Global, text: LinePart<'_>) -> Result<Option<(Name, &[u8])
 pub fn symbol_at(alloc: Global, text: LinePart<'_>) -> Result<Option<(Name, &[u8])>, AllocError>
     ensures { IfOk result (λ found. MatchOption found (symbol_at text.entry.bytes.now ≡ None) (λ x. symbol_at text.entry.bytes.now ≡ Some (x.0, x.1.now))) }
 {
-    let Some((first, behind)) = text.bytes.split_first() else {
+    let Some((first, following)) = text.bytes.split_first() else {
         return Ok(None);
     };
     if *first != b'&' {
         return Ok(None);
     }
-    name_at(alloc, LinePart { bytes: behind })
+    name_at(alloc, LinePart { bytes: following })
 }
 
 /// What is asked of a name.
@@ -173,7 +173,7 @@ fn attribute_at(
     let Some((letter, colon_on)) = text.bytes.split_first() else {
         return Ok(None);
     };
-    let Some((colon, behind)) = colon_on.split_first() else {
+    let Some((colon, following)) = colon_on.split_first() else {
         return Ok(None);
     };
     if *colon != b':' {
@@ -182,7 +182,7 @@ fn attribute_at(
     let Some(asked) = asked_by(*letter) else {
         return Ok(None);
     };
-    let Some((name, rest)) = asked_name(alloc, operands, LinePart { bytes: behind })? else {
+    let Some((name, rest)) = asked_name(alloc, operands, LinePart { bytes: following })? else {
         return Ok(None);
     };
     match asked {
@@ -194,16 +194,16 @@ fn attribute_at(
 /// What stands behind `*` at the front.
 #[tactic(auto, unfolding(orca_meaning::specs::Token::location_at))]
 #[inline(always)]
-fn behind_star(text: &[u8]) -> Option<&[u8]>
+fn after_star(text: &[u8]) -> Option<&[u8]>
     ensures { MatchOption result (location_at text.now ≡ None) (λ rest. location_at text.now ≡ Some (Here, rest.now)) }
 {
-    let Some((first, behind)) = text.split_first() else {
+    let Some((first, following)) = text.split_first() else {
         return None;
     };
     if *first != b'*' {
         return None;
     }
-    Some(behind)
+    Some(following)
 }
 
 /// An operand of a statement that isn't a number.
@@ -215,8 +215,8 @@ fn label_at(
     ensures { IfOk result (λ found. MatchOption found (other_operand_at Operands.Labels text.entry.bytes.now ≡ None)
         (λ x. seen_as kept_operand (other_operand_at Operands.Labels text.entry.bytes.now) ≡ Some (operand x.0, x.1.now))) }
 {
-    if let Some(behind) = behind_star(text.bytes) {
-        return Ok(Some((FormulaOperand::Here, behind)));
+    if let Some(following) = after_star(text.bytes) {
+        return Ok(Some((FormulaOperand::Here, following)));
     }
     if let Some(found) = attribute_at(alloc, Operands::Labels, text)? {
         return Ok(Some(found));
@@ -273,16 +273,16 @@ fn operand_at(
 
 /// What stands behind a byte at the front.
 #[inline(always)]
-pub fn behind_byte(text: &[u8], wanted: u8) -> Option<&[u8]>
-    ensures { MatchOption result ((behind : List ℕ) → text.now ≢ wanted ∷ behind) (λ rest. text.now ≡ wanted ∷ rest.now) }
+pub fn after_byte(text: &[u8], wanted: u8) -> Option<&[u8]>
+    ensures { MatchOption result ((following : List ℕ) → text.now ≢ wanted ∷ following) (λ rest. text.now ≡ wanted ∷ rest.now) }
 {
-    let Some((first, behind)) = text.split_first() else {
+    let Some((first, following)) = text.split_first() else {
         return None;
     };
     if *first != wanted {
         return None;
     }
-    Some(behind)
+    Some(following)
 }
 
 /// The token at the front, where an operand is expected.
@@ -296,14 +296,14 @@ pub(crate) fn operand_token(
     ensures { IfOk result (λ found. MatchOption found (operand_token_at operands text.entry.bytes.now ≡ None)
         (λ x. seen_as kept_token (operand_token_at operands text.entry.bytes.now) ≡ Some (operand_token x.0, x.1.now))) }
 {
-    if let Some(behind) = behind_byte(text.bytes, b'(') {
-        return Ok(Some((OperandToken::Opens, behind)));
+    if let Some(following) = after_byte(text.bytes, b'(') {
+        return Ok(Some((OperandToken::Opens, following)));
     }
-    if let Some((sign, behind)) = sign_at(text.bytes) {
-        return Ok(Some((OperandToken::Before(sign), behind)));
+    if let Some((sign, following)) = sign_at(text.bytes) {
+        return Ok(Some((OperandToken::Before(sign), following)));
     }
     match operand_at(alloc, operands, text)? {
-        Some((operand, behind)) => Ok(Some((OperandToken::Value(operand), behind))),
+        Some((operand, following)) => Ok(Some((OperandToken::Value(operand), following))),
         None => Ok(None),
     }
 }
@@ -314,11 +314,11 @@ pub(crate) fn operand_token(
 pub(crate) fn operator_token(text: &[u8]) -> Option<(OperatorToken, &[u8])>
     ensures { MatchOption result (operator_token_at text.now ≡ None) (λ x. operator_token_at text.now ≡ Some (operator_token x.0, x.1.now)) }
 {
-    if let Some(behind) = behind_byte(text, b')') {
-        return Some((OperatorToken::Closes, behind));
+    if let Some(following) = after_byte(text, b')') {
+        return Some((OperatorToken::Closes, following));
     }
     match operator_at(text) {
-        Some((operator, behind)) => Some((OperatorToken::Between(operator), behind)),
+        Some((operator, following)) => Some((OperatorToken::Between(operator), following)),
         None => None,
     }
 }

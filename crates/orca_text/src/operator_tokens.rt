@@ -9,7 +9,7 @@ use crate::operation::is_spelled;
 use orca_meaning::{Operator, Sign};
 
 /// What stands behind a spelling at the front, in upper or lower case.
-fn behind_word<'a>(text: &'a [u8], spelling: &[u8]) -> Option<&'a [u8]>
+fn after_word<'a>(text: &'a [u8], spelling: &[u8]) -> Option<&'a [u8]>
     ensures { MatchOption result (bytes_eq spelling.now (folded (take (length spelling.now) text.now)) ≡ false)
         (λ rest. (bytes_eq spelling.now (folded (take (length spelling.now) text.now)) ≡ true) × (rest.now ≡ drop (length spelling.now) text.now)) }
 {
@@ -29,12 +29,12 @@ fn behind_word<'a>(text: &'a [u8], spelling: &[u8]) -> Option<&'a [u8]>
 pub(crate) fn sign_at(text: &[u8]) -> Option<(Sign, &[u8])>
     ensures { MatchOption result (sign_at text.now ≡ None) (λ x. sign_at text.now ≡ Some (x.0, x.1.now)) }
 {
-    let Some((first, behind)) = text.split_first() else {
+    let Some((first, following)) = text.split_first() else {
         return None;
     };
     match *first {
-        b'-' => Some((Sign::Negate, behind)),
-        b'.' => match behind_word(text, b".NOT.") {
+        b'-' => Some((Sign::Negate, following)),
+        b'.' => match after_word(text, b".NOT.") {
             Some(rest) => Some((Sign::Not, rest)),
             None => None,
         },
@@ -48,18 +48,18 @@ pub(crate) fn sign_at(text: &[u8]) -> Option<(Sign, &[u8])>
 pub(crate) fn operator_at(text: &[u8]) -> Option<(Operator, &[u8])>
     ensures { MatchOption result (operator_at text.now ≡ None) (λ x. operator_at text.now ≡ Some (x.0, x.1.now)) }
 {
-    let Some((first, behind)) = text.split_first() else {
+    let Some((first, following)) = text.split_first() else {
         return None;
     };
     match *first {
-        b'+' => Some((Operator::Add, behind)),
-        b'-' => Some((Operator::Subtract, behind)),
-        b'*' => Some((Operator::Multiply, behind)),
-        b'/' => Some((Operator::Divide, behind)),
-        b'|' => Some((Operator::Shift, behind)),
-        b'=' => Some((Operator::Equal, behind)),
-        b'<' => less_at(text, behind),
-        b'>' => greater_at(text, behind),
+        b'+' => Some((Operator::Add, following)),
+        b'-' => Some((Operator::Subtract, following)),
+        b'*' => Some((Operator::Multiply, following)),
+        b'/' => Some((Operator::Divide, following)),
+        b'|' => Some((Operator::Shift, following)),
+        b'=' => Some((Operator::Equal, following)),
+        b'<' => less_at(text, following),
+        b'>' => greater_at(text, following),
         b'.' => word_at(text),
         _ => None,
     }
@@ -67,32 +67,32 @@ pub(crate) fn operator_at(text: &[u8]) -> Option<(Operator, &[u8])>
 
 /// The operators that begin with `<`.
 #[tactic(auto, unfolding(orca_meaning::specs::Token::operator_at, orca_meaning::specs::Token::spelled_at))]
-fn less_at<'a>(text: &[u8], behind: &'a [u8]) -> Option<(Operator, &'a [u8])>
-    requires { text.now ≡ 0x3C ∷ behind.now }
+fn less_at<'a>(text: &[u8], following: &'a [u8]) -> Option<(Operator, &'a [u8])>
+    requires { text.now ≡ 0x3C ∷ following.now }
     ensures { MatchOption result (operator_at text.now ≡ None) (λ x. operator_at text.now ≡ Some (x.0, x.1.now)) }
 {
-    let Some((second, rest)) = behind.split_first() else {
-        return Some((Operator::Less, behind));
+    let Some((second, rest)) = following.split_first() else {
+        return Some((Operator::Less, following));
     };
     match *second {
         b'=' => Some((Operator::LessOrEqual, rest)),
         b'>' => Some((Operator::NotEqual, rest)),
-        _ => Some((Operator::Less, behind)),
+        _ => Some((Operator::Less, following)),
     }
 }
 
 /// The operators that begin with `>`.
 #[tactic(auto, unfolding(orca_meaning::specs::Token::operator_at, orca_meaning::specs::Token::spelled_at))]
-fn greater_at<'a>(text: &[u8], behind: &'a [u8]) -> Option<(Operator, &'a [u8])>
-    requires { text.now ≡ 0x3E ∷ behind.now }
+fn greater_at<'a>(text: &[u8], following: &'a [u8]) -> Option<(Operator, &'a [u8])>
+    requires { text.now ≡ 0x3E ∷ following.now }
     ensures { MatchOption result (operator_at text.now ≡ None) (λ x. operator_at text.now ≡ Some (x.0, x.1.now)) }
 {
-    let Some((second, rest)) = behind.split_first() else {
-        return Some((Operator::Greater, behind));
+    let Some((second, rest)) = following.split_first() else {
+        return Some((Operator::Greater, following));
     };
     match *second {
         b'=' => Some((Operator::GreaterOrEqual, rest)),
-        _ => Some((Operator::Greater, behind)),
+        _ => Some((Operator::Greater, following)),
     }
 }
 
@@ -102,13 +102,13 @@ fn word_at(text: &[u8]) -> Option<(Operator, &[u8])>
     requires { Rattle.std.specs.Prelude.slice_index text.now 0 ≡ 0x2E }
     ensures { MatchOption result (operator_at text.now ≡ None) (λ x. operator_at text.now ≡ Some (x.0, x.1.now)) }
 {
-    if let Some(rest) = behind_word(text, b".AND.") {
+    if let Some(rest) = after_word(text, b".AND.") {
         return Some((Operator::And, rest));
     }
-    if let Some(rest) = behind_word(text, b".OR.") {
+    if let Some(rest) = after_word(text, b".OR.") {
         return Some((Operator::Or, rest));
     }
-    match behind_word(text, b".EOR.") {
+    match after_word(text, b".EOR.") {
         Some(rest) => Some((Operator::Eor, rest)),
         None => None,
     }

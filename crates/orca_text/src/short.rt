@@ -6,7 +6,7 @@ ghost use Rattle.orca_meaning.specs.Token.{Value, Number, Between, operand_token
 ghost use Rattle.orca_text.specs.Short.{tree_of, IsShort};
 
 use crate::formula::level;
-use crate::operand_tokens::{OperatorToken, behind_byte, operator_token};
+use crate::operand_tokens::{OperatorToken, after_byte, operator_token};
 use crate::operator_tokens::sign_at;
 use crate::tokens::number_at;
 use orca_meaning::{Operands, Operator};
@@ -29,7 +29,7 @@ fn number_token(text: &[u8]) -> Option<(u32, &[u8])>
     ensures { MatchOption result ((n : ℕ) (rest : List ℕ) → operand_token_at Operands.Symbols text.now ≡ Some (Value (Number n), rest) → n < 2 ^ 32 → ⊥)
         (λ x. operand_token_at Operands.Symbols text.now ≡ Some (Value (Number x.0), x.1.now)) }
 {
-    if let Some(_) = behind_byte(text, b'(') {
+    if let Some(_) = after_byte(text, b'(') {
         return None;
     }
     if let Some(_) = sign_at(text) {
@@ -43,12 +43,12 @@ fn number_token(text: &[u8]) -> Option<(u32, &[u8])>
 }
 
 /// The operator at the front behind an operand, and what stands behind it.
-fn operator_behind(text: &[u8]) -> Option<(Operator, &[u8])>
-    ensures { MatchOption result ((operator : Operator) (behind : List ℕ) → operator_token_at text.now ≡ Some (Between operator, behind) → ⊥)
+fn operator_after(text: &[u8]) -> Option<(Operator, &[u8])>
+    ensures { MatchOption result ((operator : Operator) (following : List ℕ) → operator_token_at text.now ≡ Some (Between operator, following) → ⊥)
         (λ x. operator_token_at text.now ≡ Some (Between x.0, x.1.now)) }
 {
     match operator_token(text) {
-        Some((OperatorToken::Between(operator), behind)) => Some((operator, behind)),
+        Some((OperatorToken::Between(operator), following)) => Some((operator, following)),
         Some((OperatorToken::Closes, _)) => None,
         None => None,
     }
@@ -68,16 +68,16 @@ pub fn short_formula(text: &[u8]) -> Option<ShortFormula>
     if rest.is_empty() {
         return Some(ShortFormula::One(a));
     }
-    let Some((operator, behind)) = operator_behind(rest) else {
+    let Some((operator, following)) = operator_after(rest) else {
         return None;
     };
-    let Some((b, last)) = number_token(behind) else {
+    let Some((b, last)) = number_token(following) else {
         return None;
     };
     if last.is_empty() {
         return Some(ShortFormula::Two(operator, a, b));
     }
-    let Some((second, more)) = operator_behind(last) else {
+    let Some((second, more)) = operator_after(last) else {
         return None;
     };
     let Some((c, end)) = number_token(more) else {

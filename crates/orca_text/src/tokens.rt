@@ -37,14 +37,14 @@ pub fn digit(byte: u8, base: u32) -> Option<u32>
 }
 
 /// What stands behind the digits at the front.
-fn behind_digits(base: u32, text: &[u8]) -> &[u8]
+fn after_digits(base: u32, text: &[u8]) -> &[u8]
     requires { base ≤ 36 }
     ensures { result.now ≡ drop (prefix_len (λ byte. is_digit byte base) text.now) text.now }
 {
     let mut left = text;
-    'digits: while let Some((byte, behind)) = left.split_first() {
+    'digits: while let Some((byte, following)) = left.split_first() {
         match digit(*byte, base) {
-            Some(_) => left = behind,
+            Some(_) => left = following,
             None => return left,
         }
     }
@@ -61,16 +61,16 @@ pub fn digits_at(base: u32, text: &[u8]) -> Option<(Option<u32>, &[u8])>
 {
     let mut left = text;
     let mut value: u32 = 0;
-    'digits: while let Some((byte, behind)) = left.split_first() {
+    'digits: while let Some((byte, following)) = left.split_first() {
         let Some(digit) = digit(*byte, base) else {
             break;
         };
         let next = u64::from(value) * u64::from(base) + u64::from(digit);
         if next > 0xFFFF_FFFF {
-            return Some((None, behind_digits(base, behind)));
+            return Some((None, after_digits(base, following)));
         }
         value = next as u32;
-        left = behind;
+        left = following;
     }
     if left.len() == text.len() {
         return None;
@@ -79,24 +79,24 @@ pub fn digits_at(base: u32, text: &[u8]) -> Option<(Option<u32>, &[u8])>
 }
 
 /// Where the first quote of this kind stands.
-fn closing(quote: u8, behind: &[u8]) -> Option<usize>
-    ensures { result ≡ Rattle.std.specs.Prelude.position (λ byte. Rattle.std.specs.Prelude.nat_eq byte quote) behind.now }
+fn closing(quote: u8, following: &[u8]) -> Option<usize>
+    ensures { result ≡ Rattle.std.specs.Prelude.position (λ byte. Rattle.std.specs.Prelude.nat_eq byte quote) following.now }
 {
-    behind.iter().position(|byte| *byte == quote)
+    following.iter().position(|byte| *byte == quote)
 }
 
 /// The number that a text of one to four bytes is, and what stands behind its closing quote.
 #[tactic(auto, unfolding(orca_meaning::specs::Token::text_at))]
-fn text_at(quote: u8, behind: &[u8]) -> Option<(u32, &[u8])>
-    ensures { MatchOption result (text_at quote behind.now ≡ None) (λ x. (text_at quote behind.now ≡ Some (x.0, x.1.now)) × (x.0 < 2 ^ 32)) }
+fn text_at(quote: u8, following: &[u8]) -> Option<(u32, &[u8])>
+    ensures { MatchOption result (text_at quote following.now ≡ None) (λ x. (text_at quote following.now ≡ Some (x.0, x.1.now)) × (x.0 < 2 ^ 32)) }
 {
-    let Some(close) = closing(quote, behind) else {
+    let Some(close) = closing(quote, following) else {
         return None;
     };
-    let Some(number) = little_number(behind, 0, close) else {
+    let Some(number) = little_number(following, 0, close) else {
         return None;
     };
-    Some((number, from(behind, close + 1)))
+    Some((number, from(following, close + 1)))
 }
 
 /// The number at the front, `None` where it is above 4,294,967,295, and what stands behind it.
@@ -105,23 +105,23 @@ fn text_at(quote: u8, behind: &[u8]) -> Option<(u32, &[u8])>
 pub(crate) fn number_at(text: &[u8]) -> Option<(Option<u32>, &[u8])>
     ensures { MatchOption result (number_at text.now ≡ None) (λ x. seen_as fitting (number_at text.now) ≡ Some (x.0, x.1.now)) }
 {
-    let Some((first, behind)) = text.split_first() else {
+    let Some((first, following)) = text.split_first() else {
         return None;
     };
     match *first {
-        b'$' => digits_at(16, behind),
-        b'%' => digits_at(2, behind),
-        b'@' => digits_at(8, behind),
-        b'\'' | b'"' => short_text_at(*first, behind),
+        b'$' => digits_at(16, following),
+        b'%' => digits_at(2, following),
+        b'@' => digits_at(8, following),
+        b'\'' | b'"' => short_text_at(*first, following),
         _ => digits_at(10, text),
     }
 }
 
 /// The same of a text of one to four bytes.
-fn short_text_at(quote: u8, behind: &[u8]) -> Option<(Option<u32>, &[u8])>
-    ensures { MatchOption result (text_at quote behind.now ≡ None) (λ x. seen_as fitting (text_at quote behind.now) ≡ Some (x.0, x.1.now)) }
+fn short_text_at(quote: u8, following: &[u8]) -> Option<(Option<u32>, &[u8])>
+    ensures { MatchOption result (text_at quote following.now ≡ None) (λ x. seen_as fitting (text_at quote following.now) ≡ Some (x.0, x.1.now)) }
 {
-    match text_at(quote, behind) {
+    match text_at(quote, following) {
         Some((number, rest)) => Some((Some(number), rest)),
         None => None,
     }

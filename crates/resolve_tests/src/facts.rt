@@ -6,12 +6,12 @@ use std::alloc::Global;
 use std::process::Abort;
 
 /// A fault's cause, and its place as file, segment and displacement.
-pub type Told = (LinkCause, u32, u32, u32);
+pub type Reported = (LinkCause, u32, u32, u32);
 
 /// What is expected of a list of files.
 pub enum Fact {
     /// The first file, read alone under this number, has this fault, which names nothing, or none.
-    Read(u32, Option<Told>),
+    Read(u32, Option<Reported>),
     /// The list is resolved, and X is an equate of this value in the first member, or no equate.
     Value(Option<u8>),
     /// The member at a place has this file, segment, load segment and offset, or isn't there.
@@ -42,12 +42,12 @@ fn is_so(alloc: Global, files: &[File], fact: &Fact) -> bool {
     }
 }
 
-fn told(fault: &LinkFault) -> Told {
+fn reported(fault: &LinkFault) -> Reported {
     let spot = fault.spot;
     (fault.cause, spot.file, spot.segment, spot.at)
 }
 
-fn is_read(alloc: Global, inputs: &Vec<Vec<u8>>, number: u32, want: &Option<Told>) -> bool {
+fn is_read(alloc: Global, inputs: &Vec<Vec<u8>>, number: u32, want: &Option<Reported>) -> bool {
     let Some(bytes) = inputs.first() else {
         return false;
     };
@@ -56,7 +56,7 @@ fn is_read(alloc: Global, inputs: &Vec<Vec<u8>>, number: u32, want: &Option<Told
     }
     match read_segments(alloc, bytes, number) {
         Ok(_) => want.is_none(),
-        Err(fault) => fault.name.is_none() && *want == Some(told(&fault)),
+        Err(fault) => fault.name.is_none() && *want == Some(reported(&fault)),
     }
 }
 
@@ -66,9 +66,9 @@ fn is_resolved(alloc: Global, inputs: &Vec<Vec<u8>>, fact: &Fact) -> bool {
     }
     match resolve(alloc, inputs) {
         Ok(program) => {
-            let told = is_told(&program, fact);
+            let reported = is_reported(&program, fact);
             drop(program);
-            told
+            reported
         }
         Err(fault) => is_refused(&fault, fact),
     }
@@ -76,12 +76,13 @@ fn is_resolved(alloc: Global, inputs: &Vec<Vec<u8>>, fact: &Fact) -> bool {
 
 fn is_refused(fault: &LinkFault, fact: &Fact) -> bool {
     match fact {
-        Fact::Refused(cause, file, segment, at) => told(fault) == (*cause, *file, *segment, *at),
+        Fact::Refused(cause, file, segment, at) => reported(fault)
+            == (*cause, *file, *segment, *at),
         _ => false,
     }
 }
 
-fn is_told(program: &Program, fact: &Fact) -> bool {
+fn is_reported(program: &Program, fact: &Fact) -> bool {
     match fact {
         Fact::Value(want) => value_of(program) == *want,
         Fact::Member(place, want) => member_of(program, *place) == *want,

@@ -1,9 +1,9 @@
 //! The files that are linked: samples, whole or cut or with bytes changed, and files that are made.
 use crate::parts::{Part, equates, parts_of, uses, using};
 use crate::samples::{
-    APART, ASKING, BARE, BEHIND, DATA, DYNAMIC, EQUATE_A, EQUATE_B, LIBRARY_B, LIBRARY_C,
-    LIBRARY_D, LIBRARY_P, LIBRARY_Y, ONE, PLACED, RUNTIME, RUNTIME_PARTS, RUNTIME_TWICE, SKIPPED,
-    TWO, USER, WEAK,
+    AFTER, APART, ASKING, BARE, DATA, DYNAMIC, EQUATE_A, EQUATE_B, LIBRARY_B, LIBRARY_C, LIBRARY_D,
+    LIBRARY_P, LIBRARY_Y, ONE, PLACED, RUNTIME, RUNTIME_PARTS, RUNTIME_TWICE, SKIPPED, TWO, USER,
+    WEAK,
 };
 use std::alloc::{AllocError, Global};
 
@@ -19,7 +19,7 @@ pub enum Sample {
     LibraryC,
     Weak,
     Placed,
-    Behind,
+    After,
     LibraryY,
     LibraryP,
     Asking,
@@ -86,7 +86,7 @@ fn sample_of(sample: &Sample) -> &'static [u8] {
         Sample::LibraryC => &LIBRARY_C,
         Sample::Weak => &WEAK,
         Sample::Placed => &PLACED,
-        Sample::Behind => &BEHIND,
+        Sample::After => &AFTER,
         Sample::LibraryY => &LIBRARY_Y,
         Sample::LibraryP => &LIBRARY_P,
         Sample::Asking => &ASKING,

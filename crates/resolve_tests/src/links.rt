@@ -9,10 +9,10 @@ use link_resolve::are_few;
 use std::alloc::Global;
 
 /// The fault of a link: its cause, the name that it tells or none where that is empty, and its displacement in the first segment.
-type Told = (LinkCause, &'static [u8], u32);
+type Reported = (LinkCause, &'static [u8], u32);
 
 /// What is tested, the files, and the fault of their link, if it has one.
-type Row = (&'static str, &'static [File], Option<Told>);
+type Row = (&'static str, &'static [File], Option<Reported>);
 
 /// Where the equates begin.
 const BODY: u32 = 0x37;
@@ -50,7 +50,7 @@ fn names(fault: &LinkFault, want: &[u8]) -> bool {
     }
 }
 
-fn is_told(fault: &LinkFault, want: &Option<Told>) -> bool {
+fn is_reported(fault: &LinkFault, want: &Option<Reported>) -> bool {
     let spot = fault.spot;
     match want {
         Some((cause, name, at)) => {
@@ -61,17 +61,17 @@ fn is_told(fault: &LinkFault, want: &Option<Told>) -> bool {
     }
 }
 
-fn is_linked(alloc: Global, inputs: &Vec<Vec<u8>>, want: &Option<Told>) -> bool {
+fn is_linked(alloc: Global, inputs: &Vec<Vec<u8>>, want: &Option<Reported>) -> bool {
     if !are_few(inputs) {
         return false;
     }
     match link(alloc, inputs) {
         Ok(_) => want.is_none(),
-        Err(fault) => is_told(&fault, want),
+        Err(fault) => is_reported(&fault, want),
     }
 }
 
-fn is_so(alloc: Global, files: &[File], want: &Option<Told>) -> bool {
+fn is_so(alloc: Global, files: &[File], want: &Option<Reported>) -> bool {
     match inputs_of(alloc, files) {
         Ok(inputs) => is_linked(alloc, &inputs, want),
         Err(_) => false,
@@ -79,7 +79,7 @@ fn is_so(alloc: Global, files: &[File], want: &Option<Told>) -> bool {
 }
 
 #[test]
-fn rings_are_found(rt: HostRuntime) {
+fn cycles_are_found(rt: HostRuntime) {
     let alloc = rt.alloc();
     for (name, files, want) in &LINKS {
         assert!(rt; is_so(alloc, files, want), "{name}");

@@ -4,8 +4,8 @@ use crate::facts::{Row, all_are_so};
 use crate::files::File;
 use crate::files::File::{Changed, Cut, Loads, Whole};
 use crate::files::Sample::{
-    Apart, Asking, Behind, Data, EquateA, EquateB, LibraryB, LibraryC, LibraryD, LibraryP,
-    LibraryY, One, Placed, Two, User, Weak,
+    After, Apart, Asking, Data, EquateA, EquateB, LibraryB, LibraryC, LibraryD, LibraryP, LibraryY,
+    One, Placed, Two, User, Weak,
 };
 use link_meaning::LinkCause::{
     AlignFault, BadHeader, BadLength, BadLibrary, BadRecord, Duplicate, Empty, OrgConflict,
@@ -188,33 +188,33 @@ static RESOLVING: [Row; 33] = [
     // Z is private to another file of it.
     (
         "Z private to the file that uses it",
-        &[Whole(Behind), Whole(LibraryY)],
+        &[Whole(After), Whole(LibraryY)],
         Value(None),
     ),
     (
         "Z private to another file",
-        &[Whole(Behind), Whole(LibraryP)],
+        &[Whole(After), Whole(LibraryP)],
         Refused(Unresolved, 2, 2, 0xCB),
     ),
     // The first of two faults.
     (
         "X before Y",
-        &[Whole(User), Whole(Behind)],
+        &[Whole(User), Whole(After)],
         Refused(Unresolved, 1, 1, 0x38),
     ),
     (
         "Y before X",
-        &[Whole(Behind), Whole(User)],
+        &[Whole(After), Whole(User)],
         Refused(Unresolved, 1, 2, 0x77),
     ),
     (
         "Y of no file before X of two",
-        &[Whole(Behind), Whole(Weak), Whole(EquateA), Whole(EquateB)],
+        &[Whole(After), Whole(Weak), Whole(EquateA), Whole(EquateB)],
         Refused(Unresolved, 1, 2, 0x77),
     ),
     (
         "X of two files before Y of none",
-        &[Whole(Weak), Whole(EquateA), Whole(Behind), Whole(EquateB)],
+        &[Whole(Weak), Whole(EquateA), Whole(After), Whole(EquateB)],
         Refused(Duplicate, 1, 1, 0x38),
     ),
     (
@@ -292,7 +292,7 @@ const LONGER_PLACED: &[(usize, u8)] = &[
 
 const PLACES: &[File] = &[
     Whole(Placed),
-    Whole(Behind),
+    Whole(After),
     Whole(Weak),
     Whole(User),
     Whole(LibraryY),

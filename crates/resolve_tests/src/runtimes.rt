@@ -1,7 +1,7 @@
 // Run-time library files: what their names give, which faults they have, and what a program tells of them.
 use crate::files::File::{Changed, Cut, Whole};
 use crate::files::Sample::{
-    Behind, Dynamic, EquateA, LibraryB, One, Runtime, RuntimeParts, RuntimeTwice, Skipped, Two,
+    After, Dynamic, EquateA, LibraryB, One, Runtime, RuntimeParts, RuntimeTwice, Skipped, Two,
     User, Weak,
 };
 use crate::files::{File, bytes_of, inputs_of};
@@ -27,7 +27,7 @@ enum Fact {
     /// X isn't found in the first member.
     FindsNothing,
     /// So many run-time library files are told, the last of them by this path and by LENGTH of its first segment.
-    Tells(u32, Option<(&'static [u8], u32)>),
+    Reports(u32, Option<(&'static [u8], u32)>),
     /// There is a fault.
     Refused(LinkCause, u32, u32, u32),
     /// They may not be given.
@@ -86,9 +86,9 @@ fn is_linked(
     }
     match resolve_with(alloc, inputs, runtimes, form) {
         Ok(program) => {
-            let told = program.form() == form && is_told(&program, fact);
+            let reported = program.form() == form && is_reported(&program, fact);
             drop(program);
-            told
+            reported
         }
         Err(fault) => is_refused(&fault, fact),
     }
@@ -104,13 +104,13 @@ fn is_refused(fault: &LinkFault, fact: &Fact) -> bool {
     }
 }
 
-fn is_told(program: &Program, fact: &Fact) -> bool {
+fn is_reported(program: &Program, fact: &Fact) -> bool {
     match fact {
         Fact::Finds(member, file, segment, at) => {
             finds(program) == Some((*member, *file, *segment, *at))
         }
         Fact::FindsNothing => finds(program).is_none(),
-        Fact::Tells(count, last) => tells(program, *count, *last),
+        Fact::Reports(count, last) => reports(program, *count, *last),
         _ => false,
     }
 }
@@ -121,7 +121,7 @@ fn finds(program: &Program) -> Option<(u32, u16, u16, u32)> {
 }
 
 /// So many run-time library files are told, and none past them.
-fn tells(program: &Program, count: u32, last: Option<(&[u8], u32)>) -> bool {
+fn reports(program: &Program, count: u32, last: Option<(&[u8], u32)>) -> bool {
     if program.runtimes() != count
         || program.runtime(count).is_some()
         || program.runtime_path(count).is_some()
@@ -263,7 +263,7 @@ static NAMES: [Row; 18] = [
         &[Whole(User), Whole(EquateA)],
         &[],
         ProgramForm,
-        Fact::Tells(0, None),
+        Fact::Reports(0, None),
     ),
     (
         "two run-time library files",
@@ -273,14 +273,14 @@ static NAMES: [Row; 18] = [
             (b"second", Whole(RuntimeParts)),
         ],
         ProgramForm,
-        Fact::Tells(2, Some((b"second", 3))),
+        Fact::Reports(2, Some((b"second", 3))),
     ),
     (
         "a run-time library file is linked",
         &[Whole(Dynamic)],
         &[],
         RuntimeForm,
-        Fact::Tells(0, None),
+        Fact::Reports(0, None),
     ),
 ];
 
@@ -430,7 +430,7 @@ static FAULTS: [Row; 27] = [
     ),
     (
         "the first of two static load segments",
-        &[Whole(Dynamic), Whole(Behind), Whole(EquateA)],
+        &[Whole(Dynamic), Whole(After), Whole(EquateA)],
         &[],
         RuntimeForm,
         Fact::Refused(Unresolved, 2, 2, 0x77),
@@ -530,7 +530,7 @@ fn is_so_with(alloc: Global, count: u32, fact: &Fact) -> bool {
 fn sixteen_runtime_library_files(rt: HostRuntime) {
     let alloc = rt.alloc();
     assert!(rt;
-        is_so_with(alloc, 16, &Fact::Tells(16, Some((b"lib", 3)))),
+        is_so_with(alloc, 16, &Fact::Reports(16, Some((b"lib", 3)))),
         "16"
     );
     assert!(rt; is_so_with(alloc, 17, &Fact::Uncallable), "17");

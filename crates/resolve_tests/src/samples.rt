@@ -89,7 +89,7 @@ pub static PLACED: [u8; 61] = [
 ];
 
 /// An object file of two segments: Q in L, 5 bytes, and R in K, 2 bytes, which uses Y.
-pub static BEHIND: [u8; 126] = [
+pub static AFTER: [u8; 126] = [
     0x3F, 0, 0, 0, 0, 0, 0, 0, 5, 0, 0, 0, 0, 0, 4, 2, 0, 0, 1, 0, 0, 0, 0, 0, 0, 0, 0, 0, 0, 0, 0,
     0, 0, 0, 1, 0, 0, 0, 0, 0, 0x2C, 0, 0x38, 0, 0x4C, 0x20, 0x20, 0x20, 0x20, 0x20, 0x20, 0x20,
     0x20, 0x20, 1, 0x51, 5, 0x31, 0x32, 0x33, 0x34, 0x35, 0, 0x3F, 0, 0, 0, 0, 0, 0, 0, 2, 0, 0, 0,

@@ -1,7 +1,7 @@
 //! What a line does.
 
 use crate::asking::{ask, ask_number, asked};
-use crate::expanding::tell_expanded;
+use crate::expanding::report_expanded;
 use crate::failing::run_each;
 use crate::fixture::Fixture;
 use crate::fronts::dump_fronts;
@@ -11,7 +11,7 @@ use crate::pieces::{
 };
 use crate::running::{run, words_of};
 use crate::shelf::{Held, Shelf};
-use crate::telling::{tell, tell_bytes, tell_run, tell_text};
+use crate::telling::{report_bytes, report_run, report_text, reveal};
 use std::alloc::{AllocError, Global};
 
 /// Where the body of a segment with a name of one letter begins.
@@ -48,15 +48,15 @@ pub fn act(alloc: Global, bench: &mut Fixture, line: &str) -> Result<(), AllocEr
 /// Begins a row, whose title is told.
 fn begin(bench: &mut Fixture, line: &str) -> Result<(), AllocError> {
     bench.begin();
-    tell(bench.out(), "")?;
-    tell(bench.out(), line)
+    reveal(bench.out(), "")?;
+    reveal(bench.out(), line)
 }
 
 /// Begins a file of all rows or of the row, a segment, or nothing, and appends pieces that are named.
 fn open(alloc: Global, shelf: &mut Shelf, word: &str, rest: &str) -> Result<(), AllocError> {
-    let (name, behind) = first_word(rest);
+    let (name, following) = first_word(rest);
     let pieces = match word {
-        "let" | "file" => behind,
+        "let" | "file" => following,
         _ => rest,
     };
     match word {
@@ -154,20 +154,20 @@ fn do_row(
     word: &str,
     rest: &str,
 ) -> Result<(), AllocError> {
-    tell(bench.out(), line)?;
-    let (what, behind) = first_word(rest);
+    reveal(bench.out(), line)?;
+    let (what, following) = first_word(rest);
     match (word, what) {
         (">", "") => run_list(alloc, bench, &Vec::new(alloc)),
         (">", _) => run_list(alloc, bench, &words_of(alloc, rest)?),
-        ("each", _) => run_each(alloc, bench, what == "store", behind),
-        ("fronts", _) => dump_fronts(alloc, bench, what == "counted", behind),
-        ("records", _) => link_records(alloc, bench, what, behind),
-        ("asm", _) => assemble(alloc, bench, what, behind),
-        ("forms", _) => assemble_forms(alloc, bench, what, behind),
+        ("each", _) => run_each(alloc, bench, what == "store", following),
+        ("fronts", _) => dump_fronts(alloc, bench, what == "counted", following),
+        ("records", _) => link_records(alloc, bench, what, following),
+        ("asm", _) => assemble(alloc, bench, what, following),
+        ("forms", _) => assemble_forms(alloc, bench, what, following),
         ("load", _) => load(alloc, bench, what),
         ("script", _) => run_script(alloc, bench, rest),
-        ("expand" | "expands" | "places", _) => expand(alloc, bench, word, what, behind),
-        _ => tell(bench.out(), "? no such line"),
+        ("expand" | "expands" | "places", _) => expand(alloc, bench, word, what, following),
+        _ => reveal(bench.out(), "? no such line"),
     }
 }
 
@@ -175,7 +175,7 @@ fn do_row(
 fn run_list(alloc: Global, bench: &mut Fixture, words: &Vec<String>) -> Result<(), AllocError> {
     let run = run(alloc, words, bench.shelf.row(), &bench.store, &bench.sink)?;
     let lines = bench.lines;
-    tell_run(alloc, bench.out(), &run, lines)?;
+    report_run(alloc, bench.out(), &run, lines)?;
     bench.outcome = run;
     Ok(())
 }
@@ -192,8 +192,8 @@ fn run_one(
     row.push(file)?;
     let run = run(alloc, &words_of(alloc, words)?, &row, &[], &[])?;
     match asked(&run, part.0, part.1) {
-        Some(made) => tell_bytes(bench.out(), made)?,
-        None => tell_text(bench.out(), &run.text)?,
+        Some(made) => report_bytes(bench.out(), made)?,
+        None => report_text(bench.out(), &run.text)?,
     }
     bench.outcome = run;
     Ok(())
@@ -211,11 +211,11 @@ fn between(
     shelf: &Shelf,
     front: &str,
     text: &str,
-    behind: &str,
+    following: &str,
 ) -> Result<Vec<u8>, AllocError> {
     let mut bytes = shelf.copy_of(alloc, front)?;
     put_text(&mut bytes, text)?;
-    bytes.extend_from_slice(&shelf.copy_of(alloc, behind)?)?;
+    bytes.extend_from_slice(&shelf.copy_of(alloc, following)?)?;
     Ok(bytes)
 }
 
@@ -226,8 +226,8 @@ fn source_of(
     front: &str,
     rest: &str,
 ) -> Result<Vec<u8>, AllocError> {
-    let (behind, text) = first_word(rest);
-    between(alloc, &bench.shelf, front, text, behind)
+    let (following, text) = first_word(rest);
+    between(alloc, &bench.shelf, front, text, following)
 }
 
 /// Assembles a source, and tells the records of its first segment.
@@ -267,7 +267,7 @@ fn assemble_forms(
     for operand in operands.split(' ') {
         let said = said_of(alloc, &front, mnemonic, operand)?;
         if said.as_slice() != last.as_slice() {
-            tell_form(alloc, bench.out(), operand, &said)?;
+            report_form(alloc, bench.out(), operand, &said)?;
             last = said;
         }
     }
@@ -275,14 +275,14 @@ fn assemble_forms(
 }
 
 /// Tells what is printed from an operand on.
-fn tell_form(
+fn report_form(
     alloc: Global,
     out: &mut Vec<u8>,
     operand: &str,
     said: &[u8],
 ) -> Result<(), AllocError> {
-    tell(out, format!(in alloc; "from {operand}")?.as_str())?;
-    tell_text(out, said)
+    reveal(out, format!(in alloc; "from {operand}")?.as_str())?;
+    report_text(out, said)
 }
 
 /// Runs a script.
@@ -300,9 +300,9 @@ fn expand(
     rest: &str,
 ) -> Result<(), AllocError> {
     let source = source_of(alloc, bench, front, rest)?;
-    let mut told = Vec::new(alloc);
-    tell_expanded(alloc, &mut told, word, &source, bench.shelf.row())?;
-    bench.out().extend_from_slice(&told)
+    let mut reported = Vec::new(alloc);
+    report_expanded(alloc, &mut reported, word, &source, bench.shelf.row())?;
+    bench.out().extend_from_slice(&reported)
 }
 
 /// The object of a segment M of so many cells with these records, and of the segments that the file `OTHERS` has.

@@ -3,7 +3,7 @@
 use crate::fixture::Fixture;
 use crate::pieces::{hex, number};
 use crate::running::RunOutcome;
-use crate::telling::{tell, tell_bytes};
+use crate::telling::{report_bytes, reveal};
 use std::alloc::{AllocError, Global};
 
 /// Where the body of a load segment without a name begins.
@@ -49,12 +49,12 @@ pub fn asked<'a>(run: &'a RunOutcome, word: &str, rest: &str) -> Option<&'a [u8]
 
 /// Tells what is asked for by a word and what stands behind it.
 pub fn ask(alloc: Global, bench: &mut Fixture, word: &str, rest: &str) -> Result<(), AllocError> {
-    let mut told = Vec::new(alloc);
+    let mut reported = Vec::new(alloc);
     match asked(&bench.outcome, word, rest) {
-        Some(bytes) => tell_bytes(&mut told, bytes)?,
-        None => tell(&mut told, "nothing")?,
+        Some(bytes) => report_bytes(&mut reported, bytes)?,
+        None => reveal(&mut reported, "nothing")?,
     }
-    bench.out().extend_from_slice(&told)
+    bench.out().extend_from_slice(&reported)
 }
 
 /// Tells how many bytes stand at `out`, or how often the store was read.
@@ -65,5 +65,5 @@ pub fn ask_number(alloc: Global, bench: &mut Fixture, word: &str) -> Result<(), 
         _ => bench.outcome.reads,
     };
     let line = format!(in alloc; "{word} {number}")?;
-    tell(bench.out(), line.as_str())
+    reveal(bench.out(), line.as_str())
 }

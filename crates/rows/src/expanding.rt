@@ -1,7 +1,7 @@
 //! Sources that are expanded.
 
 use crate::shelf::Held;
-use crate::telling::tell;
+use crate::telling::reveal;
 use orca_macro::expand;
 use orca_text::Lines;
 use std::alloc::{AllocError, Global};
@@ -18,7 +18,7 @@ fn macros_of(alloc: Global, row: &[Held]) -> Result<Vec<Vec<u8>>, AllocError> {
 }
 
 /// Tells the lines.
-fn tell_lines(out: &mut Vec<u8>, lines: &Lines) -> Result<(), AllocError> {
+fn report_lines(out: &mut Vec<u8>, lines: &Lines) -> Result<(), AllocError> {
     for place in 0..lines.count() {
         if let Some(line) = lines.get(place) {
             out.extend_from_slice(b"| ")?;
@@ -30,32 +30,32 @@ fn tell_lines(out: &mut Vec<u8>, lines: &Lines) -> Result<(), AllocError> {
 }
 
 /// Tells the file and the number of each line.
-fn tell_places(alloc: Global, out: &mut Vec<u8>, lines: &Lines) -> Result<(), AllocError> {
+fn report_places(alloc: Global, out: &mut Vec<u8>, lines: &Lines) -> Result<(), AllocError> {
     for place in 0..lines.count() {
         if let Some(line) = lines.get(place) {
             let place = format!(in alloc; "{} {}", line.file, line.line)?;
-            tell(out, place.as_str())?;
+            reveal(out, place.as_str())?;
         }
     }
     Ok(())
 }
 
 /// Tells of the lines what a word asks for: the lines, or only where they are from, or only that there are some.
-fn tell_given(
+fn report_given(
     alloc: Global,
     out: &mut Vec<u8>,
     word: &str,
     lines: &Lines,
 ) -> Result<(), AllocError> {
     match word {
-        "expand" => tell_lines(out, lines),
-        "places" => tell_places(alloc, out, lines),
-        _ => tell(out, "expanded"),
+        "expand" => report_lines(out, lines),
+        "places" => report_places(alloc, out, lines),
+        _ => reveal(out, "expanded"),
     }
 }
 
 /// Expands a source with the row's files, and tells what a word asks for, or the fault.
-pub fn tell_expanded(
+pub fn report_expanded(
     alloc: Global,
     out: &mut Vec<u8>,
     word: &str,
@@ -65,14 +65,14 @@ pub fn tell_expanded(
     let macros = macros_of(alloc, row)?;
     match expand(alloc, source, &macros) {
         Ok(lines) => {
-            let told = tell_given(alloc, out, word, &lines);
+            let reported = report_given(alloc, out, word, &lines);
             drop(lines);
-            told
+            reported
         }
         Err(fault) => {
             let (cause, file, line) = (fault.cause, fault.file, fault.line);
-            let told = format!(in alloc; "refused {cause:?} {file} {line}")?;
-            tell(out, told.as_str())
+            let reported = format!(in alloc; "refused {cause:?} {file} {line}")?;
+            reveal(out, reported.as_str())
         }
     }
 }

@@ -3,7 +3,7 @@
 use crate::fixture::Fixture;
 use crate::running::{RunOutcome, run, words_of};
 use crate::shelf::Held;
-use crate::telling::{tell, tell_text};
+use crate::telling::{report_text, reveal};
 use std::alloc::{AllocError, Global};
 
 /// More calls than any run here makes.
@@ -20,7 +20,7 @@ fn left_of(run: &RunOutcome, whole: &RunOutcome) -> &'static str {
 }
 
 /// Tells a run in which a call was to fail.
-fn tell_failing(
+fn report_failing(
     alloc: Global,
     out: &mut Vec<u8>,
     call: u32,
@@ -29,11 +29,11 @@ fn tell_failing(
 ) -> Result<(), AllocError> {
     let (status, reads, left) = (run.status, run.reads, left_of(run, whole));
     let line = format!(in alloc; "call {call}: {status:?}, reads {reads}{left}")?;
-    tell(out, line.as_str())?;
+    reveal(out, line.as_str())?;
     if !run.is_kept {
-        tell(out, "a file changed that was held")?;
+        reveal(out, "a file changed that was held")?;
     }
-    tell_text(out, &run.text)
+    report_text(out, &run.text)
 }
 
 /// A run in which a call of the store or of the sink fails.
@@ -52,22 +52,22 @@ fn run_failing(
 }
 
 /// Tells the runs up to the one that meets no failure.
-fn tell_all(
+fn report_all(
     alloc: Global,
     words: &Vec<String>,
     row: &[Held],
     of_store: bool,
 ) -> Result<Vec<u8>, AllocError> {
-    let mut told = Vec::new(alloc);
+    let mut reported = Vec::new(alloc);
     let whole = run(alloc, words, row, &[], &[])?;
     for call in 1..MOST {
         let run = run_failing(alloc, words, row, of_store, call)?;
-        tell_failing(alloc, &mut told, call, &run, &whole)?;
+        report_failing(alloc, &mut reported, call, &run, &whole)?;
         if run.faults == 0 {
             break;
         }
     }
-    Ok(told)
+    Ok(reported)
 }
 
 /// Runs words while each call fails in turn: those of the store, or those of the sink.
@@ -78,6 +78,6 @@ pub fn run_each(
     words: &str,
 ) -> Result<(), AllocError> {
     let words = words_of(alloc, words)?;
-    let told = tell_all(alloc, &words, bench.shelf.row(), of_store)?;
-    bench.out().extend_from_slice(&told)
+    let reported = report_all(alloc, &words, bench.shelf.row(), of_store)?;
+    bench.out().extend_from_slice(&reported)
 }

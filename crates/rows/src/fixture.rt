@@ -17,7 +17,7 @@ pub struct Fixture {
     /// What the last run left.
     pub outcome: RunOutcome,
     /// All that was told.
-    told: Vec<u8>,
+    reported: Vec<u8>,
 }
 
 impl Fixture {
@@ -28,7 +28,7 @@ impl Fixture {
             sink: Vec::new(alloc),
             lines: 0,
             outcome: RunOutcome::none(alloc),
-            told: Vec::new(alloc),
+            reported: Vec::new(alloc),
         }
     }
 
@@ -42,11 +42,11 @@ impl Fixture {
 
     /// Where more is told.
     pub fn out(&mut self) -> &mut Vec<u8> {
-        &mut self.told
+        &mut self.reported
     }
 
     /// All that was told.
-    pub fn into_told(self) -> Vec<u8> {
-        self.told
+    pub fn into_reported(self) -> Vec<u8> {
+        self.reported
     }
 }

@@ -4,7 +4,7 @@ use crate::fixture::Fixture;
 use crate::pieces::put_at;
 use crate::running::{RunOutcome, run, words_of};
 use crate::shelf::Held;
-use crate::telling::{tell, tell_text};
+use crate::telling::{report_text, reveal};
 use std::alloc::{AllocError, Global};
 
 /// Dumps a file.
@@ -39,26 +39,26 @@ fn is_cut(
         return Ok(true);
     }
     out.extend_from_slice(format!(in alloc; "{size:08X} ")?.as_bytes())?;
-    tell_text(out, &run.text)?;
+    report_text(out, &run.text)?;
     Ok(false)
 }
 
 /// Tells it of all fronts of a file from so many bytes on, and how many are cut.
-fn tell_fronts(
+fn report_prefixes(
     alloc: Global,
     file: &[u8],
     from: usize,
     counted: bool,
 ) -> Result<Vec<u8>, AllocError> {
-    let mut told = Vec::new(alloc);
+    let mut reported = Vec::new(alloc);
     let mut cut = 0u64;
     for size in from..file.len() {
-        if is_cut(alloc, &mut told, &file[..size], counted)? {
+        if is_cut(alloc, &mut reported, &file[..size], counted)? {
             cut = cut.wrapping_add(1);
         }
     }
-    tell(&mut told, format!(in alloc; "{cut} are cut")?.as_str())?;
-    Ok(told)
+    reveal(&mut reported, format!(in alloc; "{cut} are cut")?.as_str())?;
+    Ok(reported)
 }
 
 /// Dumps the fronts of the file at a path: all as they are, or those with a whole header with their length as BYTECNT.
@@ -70,6 +70,6 @@ pub fn dump_fronts(
 ) -> Result<(), AllocError> {
     let file = bench.shelf.copy_of(alloc, path)?;
     let from = if counted { 44 } else { 1 };
-    let told = tell_fronts(alloc, &file, from, counted)?;
-    bench.out().extend_from_slice(&told)
+    let reported = report_prefixes(alloc, &file, from, counted)?;
+    bench.out().extend_from_slice(&reported)
 }

@@ -1,7 +1,7 @@
 //! Load files that are read.
 
 use crate::fixture::Fixture;
-use crate::telling::tell;
+use crate::telling::reveal;
 use omf_cells::{LoadFault, read_load};
 use std::alloc::{AllocError, Global};
 
@@ -26,9 +26,9 @@ fn fault_in(alloc: Global, file: &[u8]) -> Option<LoadFault> {
 pub fn load(alloc: Global, bench: &mut Fixture, path: &str) -> Result<(), AllocError> {
     let file = bench.shelf.copy_of(alloc, path)?;
     let Some(fault) = fault_in(alloc, &file) else {
-        return tell(bench.out(), "loaded");
+        return reveal(bench.out(), "loaded");
     };
     let (cause, segment, at) = (fault.cause, fault.segment, fault.at);
-    let told = format!(in alloc; "refused {cause:?} {segment} {at:08X}")?;
-    tell(bench.out(), told.as_str())
+    let reported = format!(in alloc; "refused {cause:?} {segment} {at:08X}")?;
+    reveal(bench.out(), reported.as_str())
 }

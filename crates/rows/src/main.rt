@@ -20,16 +20,16 @@ use std::alloc::{AllocError, Global};
 use std::io::{self, Write};
 
 /// What the rows of a text tell.
-fn told(alloc: Global, text: &str) -> Result<Vec<u8>, AllocError> {
+fn reported(alloc: Global, text: &str) -> Result<Vec<u8>, AllocError> {
     let mut bench = Fixture::new(alloc);
     for line in text.split('\n') {
         act(alloc, &mut bench, line)?;
     }
-    Ok(bench.into_told())
+    Ok(bench.into_reported())
 }
 
 fn main(rt: HostRuntime) -> io::Result<()> {
     let text = io::read_to_string(rt.alloc(), rt.reader())?;
-    let told = told(rt.alloc(), text.as_str())?;
-    io::writer(&rt).write_all(&told)
+    let reported = reported(rt.alloc(), text.as_str())?;
+    io::writer(&rt).write_all(&reported)
 }

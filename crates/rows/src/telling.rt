@@ -7,7 +7,7 @@ use std::alloc::{AllocError, Global};
 const WIDTH: usize = 32;
 
 /// Tells a line.
-pub fn tell(out: &mut Vec<u8>, line: &str) -> Result<(), AllocError> {
+pub fn reveal(out: &mut Vec<u8>, line: &str) -> Result<(), AllocError> {
     out.extend_from_slice(line.as_bytes())?;
     out.push(b'\n')?;
     Ok(())
@@ -21,20 +21,20 @@ fn digit(number: u8) -> u8 {
     }
 }
 
-fn tell_byte(out: &mut Vec<u8>, byte: u8) -> Result<(), AllocError> {
+fn report_byte(out: &mut Vec<u8>, byte: u8) -> Result<(), AllocError> {
     out.push(digit(byte / 16))?;
     out.push(digit(byte % 16))?;
     Ok(())
 }
 
 /// Tells some bytes in a line.
-fn tell_some(out: &mut Vec<u8>, bytes: &[u8]) -> Result<(), AllocError> {
+fn report_some(out: &mut Vec<u8>, bytes: &[u8]) -> Result<(), AllocError> {
     let mut between = false;
     for byte in bytes {
         if between {
             out.push(b' ')?;
         }
-        tell_byte(out, *byte)?;
+        report_byte(out, *byte)?;
         between = true;
     }
     out.push(b'\n')?;
@@ -42,15 +42,15 @@ fn tell_some(out: &mut Vec<u8>, bytes: &[u8]) -> Result<(), AllocError> {
 }
 
 /// Tells bytes in lines.
-pub fn tell_bytes(out: &mut Vec<u8>, bytes: &[u8]) -> Result<(), AllocError> {
+pub fn report_bytes(out: &mut Vec<u8>, bytes: &[u8]) -> Result<(), AllocError> {
     for line in bytes.chunks(WIDTH) {
-        tell_some(out, line)?;
+        report_some(out, line)?;
     }
     Ok(())
 }
 
 /// Tells a text, each line behind `|`; where the last one has no end, `~` is behind it.
-pub fn tell_text(out: &mut Vec<u8>, text: &[u8]) -> Result<(), AllocError> {
+pub fn report_text(out: &mut Vec<u8>, text: &[u8]) -> Result<(), AllocError> {
     let mut begins = true;
     for byte in text {
         if begins {
@@ -85,29 +85,29 @@ fn last_lines(text: &[u8], count: usize) -> &[u8] {
 }
 
 /// Tells how a run ended, what it printed, or of this only the last lines, and whether something stands at `out`.
-pub fn tell_run(
+pub fn report_run(
     alloc: Global,
     out: &mut Vec<u8>,
     run: &RunOutcome,
     lines: usize,
 ) -> Result<(), AllocError> {
-    tell(out, format!(in alloc; "{:?}", run.status)?.as_str())?;
+    reveal(out, format!(in alloc; "{:?}", run.status)?.as_str())?;
     if lines == 0 {
-        tell_text(out, &run.text)?;
+        report_text(out, &run.text)?;
     } else {
-        tell(out, "..")?;
-        tell_text(out, last_lines(&run.text, lines))?;
+        reveal(out, "..")?;
+        report_text(out, last_lines(&run.text, lines))?;
     }
-    tell_left(out, run)
+    report_left(out, run)
 }
 
 /// Tells whether something stands at `out`, and where a file changed that the store held.
-fn tell_left(out: &mut Vec<u8>, run: &RunOutcome) -> Result<(), AllocError> {
+fn report_left(out: &mut Vec<u8>, run: &RunOutcome) -> Result<(), AllocError> {
     if run.made.is_some() {
-        tell(out, "written")?;
+        reveal(out, "written")?;
     }
     if !run.is_kept {
-        tell(out, "a file changed that was held")?;
+        reveal(out, "a file changed that was held")?;
     }
     Ok(())
 }

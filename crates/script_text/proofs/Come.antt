@@ -15,23 +15,23 @@ pub record HasCome (text rest : List ℕ) (before : ℕ) (commands : List Comman
   pub count : before ≡ length done
   pub good : AreGood done commands
 
-lines_on : (text rest line behind : List ℕ) (done : List (List ℕ)) → lines_of text ≡ done ++ lines_of rest
-    → lines_of rest ≡ line ∷ lines_of behind → lines_of text ≡ (done ++ line ∷ []) ++ lines_of behind
-lines_on text rest line behind done is more = rw append_assoc (is ∙ ap (λ (l : List (List ℕ)). done ++ l) more)
+lines_on : (text rest line following : List ℕ) (done : List (List ℕ)) → lines_of text ≡ done ++ lines_of rest
+    → lines_of rest ≡ line ∷ lines_of following → lines_of text ≡ (done ++ line ∷ []) ++ lines_of following
+lines_on text rest line following done is more = rw append_assoc (is ∙ ap (λ (l : List (List ℕ)). done ++ l) more)
 
 -- one more line was taken
-pub come_on : (text rest line behind : List ℕ) (before : ℕ) (old new : List Command) → HasCome text rest before old
-    → lines_of rest ≡ line ∷ lines_of behind → HasTaken before line old new → HasCome text behind (before + 1) new
-come_on text rest line behind before old new come more (Skipped less is same) = record {
+pub come_on : (text rest line following : List ℕ) (before : ℕ) (old new : List Command) → HasCome text rest before old
+    → lines_of rest ≡ line ∷ lines_of following → HasTaken before line old new → HasCome text following (before + 1) new
+come_on text rest line following before old new come more (Skipped less is same) = record {
   done = come.done ++ line ∷ [];
-  lines = lines_on text rest line behind come.done come.lines more;
+  lines = lines_on text rest line following come.done come.lines more;
   count = omega (arith, come.count, length-append come.done (line ∷ []));
   good = subst (λ (commands : List Command). AreGood (come.done ++ line ∷ []) commands) (sym same)
       (AreGood-push_skipped come.done old line come.good (omega (arith, come.count)) is);
 }
-come_on text rest line behind before old new come more (Gave less is command gives same) = record {
+come_on text rest line following before old new come more (Gave less is command gives same) = record {
   done = come.done ++ line ∷ [];
-  lines = lines_on text rest line behind come.done come.lines more;
+  lines = lines_on text rest line following come.done come.lines more;
   count = omega (arith, come.count, length-append come.done (line ∷ []));
   good = subst (λ (commands : List Command). AreGood (come.done ++ line ∷ []) commands) (sym same)
       (AreGood-push come.done old line command come.good (omega (arith, come.count)) is gives);

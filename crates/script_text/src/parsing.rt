@@ -29,11 +29,11 @@ fn stands_twice(numbers: &[u8]) -> bool
     ensures { result ≡ stands_twice numbers.now }
 {
     let mut left = numbers;
-    'numbers: while let Some((first, behind)) = left.split_first() {
-        if is_among(*first, behind) {
+    'numbers: while let Some((first, following)) = left.split_first() {
+        if is_among(*first, following) {
             return true;
         }
-        left = behind;
+        left = following;
     }
     false
 }

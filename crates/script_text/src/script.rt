@@ -111,13 +111,13 @@ pub fn read_script(alloc: Global, text: &[u8]) -> Result<Script, ScriptFault>
     let mut rest = text;
     let mut before = 0;
     'lines: while !rest.is_empty() {
-        let (line, behind) = split_line(rest);
+        let (line, following) = split_line(rest);
         match take_line(alloc, line, before, &mut commands) {
             Ok(()) => {}
             Err(cause) => return Err(fault_of(cause, before + 1)),
         }
         before += 1;
-        rest = behind;
+        rest = following;
     }
     Ok(Script { commands })
 }

@@ -37,8 +37,8 @@ fn split_word(line: &[u8]) -> (&[u8], Option<&[u8]>)
 {
     match first_space(line) {
         Some(end) => {
-            let (word, behind) = line.split_at(end);
-            match behind.split_first() {
+            let (word, following) = line.split_at(end);
+            match following.split_first() {
                 Some((_, rest)) => (word, Some(rest)),
                 None => (word, None),
             }
@@ -72,8 +72,8 @@ impl<'a> Words<'a> {
         if !self.more {
             return None;
         }
-        let (word, behind) = split_word(self.rest);
-        match behind {
+        let (word, following) = split_word(self.rest);
+        match following {
             Some(rest) => self.rest = rest,
             None => self.more = false,
         }

@@ -363,8 +363,8 @@ module _ (held : FileMap) (old : Loaded) (state : Machine) (id number : ℕ) (so
 -- making a segment active is the machine's step
 pub activates_meet : (store : Option FileMap) (held : FileMap) (old new : Loaded) (state : Machine) (id number : ℕ) (result : Result ℕ LoaderFault) (before now : ℕ) → store ≡ Some held → IsSound old.memory old.users
     → DidActivate store old id number result new before now → Agrees held old state → Meets RoomRule held state (LoadSegment id number) (activation_reply (MadeActive number) result) new before now
-activates_meet store held old new state id number result before now told sound did agrees =
-    go (subst (λ (s : Option FileMap). DidActivate s old id number result new before now) told did)
+activates_meet store held old new state id number result before now reported sound did agrees =
+    go (subst (λ (s : Option FileMap). DidActivate s old id number result new before now) reported did)
   where
     go : DidActivate (Some held) old id number result new before now → Meets RoomRule held state (LoadSegment id number) (activation_reply (MadeActive number) result) new before now
     go (inl stopped) =

@@ -31,7 +31,7 @@ use Rattle.loader_machine.specs.Steps.{Sees, StandsIn, IsAt, AddressPlace, Nowhe
 use Rattle.loader_machine.specs.Needs.{Needs, Reaches, is_read, path_if}
 use Rattle.loader_machine.specs.Commands.{Reply, Jsl, Entered, Refused}
 use Rattle.loader_agrees.specs.Agrees.{far_in, LoadedUser, Loaded, kept_outlines, seen_by, LeadsFar, Agrees, Has, IsSound, Meets}
-use Rattle.loader_agrees.specs.Acts.{HasLent, LiesIn}
+use Rattle.loader_agrees.specs.Acts.{HasBorrowed, LiesIn}
 use Rattle.loader_agrees.specs.laws.Reads.{its_segment, begins, stands_there, stands_size, at_there, within_front, lies_back, sees_of, one, user}
 use Rattle.loader_agrees.specs.laws.BegunSound.{want_size}
 use Rattle.loader_agrees.specs.laws.Slotted.{live_block}
@@ -72,40 +72,40 @@ module _ (held : FileMap) (old : Loaded) (state : Machine) (sound : IsSound old.
   abbrev Four : ℕ → ℕ → ℕ → List ℕ → Type 0
   Four id number at bytes = (all : List ℕ) × StandsIn held state id number all × (bytes ≡ take 4 (drop at all))
 
-  pub four : (id number at : ℕ) (bytes : List ℕ) → HasLent old id number at 4 bytes → Four id number at bytes
-  four id number at bytes lent =
-      let is = lent.can.is in
-      let whole = stands (setting_with (far_in old id) id old.memory.slots is.kept.handles) (held_at (user held old state agrees id number lent.h is) number).pokes (its_segment held old state agrees id number lent.h is).0 in
-      let front = begins held old state agrees id number lent.h is in (
+  pub four : (id number at : ℕ) (bytes : List ℕ) → HasBorrowed old id number at 4 bytes → Four id number at bytes
+  four id number at bytes loaned =
+      let is = loaned.can.is in
+      let whole = stands (setting_with (far_in old id) id old.memory.slots is.kept.handles) (held_at (user held old state agrees id number loaned.h is) number).pokes (its_segment held old state agrees id number loaned.h is).0 in
+      let front = begins held old state agrees id number loaned.h is in (
         whole,
-        stands_there held old state agrees id number lent.h is,
-        lent.is ∙ ap (λ (bs : List ℕ). take 4 (drop at bs)) front.1
-            ∙ within_front whole front.0 at 4 (omega (arith, lent.can.inside, stands_size held old state agrees id number lent.h is)),
+        stands_there held old state agrees id number loaned.h is,
+        loaned.is ∙ ap (λ (bs : List ℕ). take 4 (drop at bs)) front.1
+            ∙ within_front whole front.0 at 4 (omega (arith, loaned.can.inside, stands_size held old state agrees id number loaned.h is)),
       )
 
-  can_read : (id number at : ℕ) (bytes : List ℕ) → HasLent old id number at 4 bytes → bytes_refusal state.slots (seen_by old id) number at 4 ≡ None
-  can_read id number at bytes lent = ap (λ (t : Slots). bytes_refusal t (seen_by old id) number at 4) (sym agrees.slots) ∙ lent.can.passes
+  can_read : (id number at : ℕ) (bytes : List ℕ) → HasBorrowed old id number at 4 bytes → bytes_refusal state.slots (seen_by old id) number at 4 ≡ None
+  can_read id number at bytes loaned = ap (λ (t : Slots). bytes_refusal t (seen_by old id) number at 4) (sym agrees.slots) ∙ loaned.can.passes
 
   -- the machine's user of the call
-  module _ (id number at : ℕ) (bytes : List ℕ) (lent : HasLent old id number at 4 bytes) where
-    abbrev it : IsKept held old state agrees id lent.can.is.kept
-    it = kept_is held old state agrees id lent.can.is.kept lent.can.is.made
+  module _ (id number at : ℕ) (bytes : List ℕ) (loaned : HasBorrowed old id number at 4 bytes) where
+    abbrev it : IsKept held old state agrees id loaned.can.is.kept
+    it = kept_is held old state agrees id loaned.can.is.kept loaned.can.is.made
 
     -- a call whose four bytes are read does this
     does_jsl : (reply : Reply) (next : Machine) → StepsJsl RoomRule held state id number at reply next
         → Rattle.loader_machine.specs.Steps.Does held state id (λ seen. bytes_refusal state.slots seen number at 4) reply next (λ user. StepsJsl RoomRule held state id number at reply next)
     does_jsl reply next steps = does held old state agrees id (λ seen. bytes_refusal state.slots seen number at 4) reply next (λ user. StepsJsl RoomRule held state id number at reply next)
-        (can_read id number at bytes lent) it.user it.made steps
+        (can_read id number at bytes loaned) it.user it.made steps
 
     steps_none : (why : LoaderFault) → no_jsl bytes ≡ Some why → StepsJsl RoomRule held state id number at (Refused why) state
     steps_none why is =
-        let f = four id number at bytes lent in
+        let f = four id number at bytes loaned in
         record { bytes = f.0; stands = f.1; is = stopped (no_jsl (take 4 (drop at f.0))) why state _ (ap no_jsl (sym f.2) ∙ is) }
 
     steps_to : (place : AddressPlace) (reply : Reply) (next : Machine) → no_jsl bytes ≡ None → IsLocated held state (address_of bytes) place → Enters RoomRule held state (address_of bytes) place reply next
         → StepsJsl RoomRule held state id number at reply next
     steps_to place reply next is located enters =
-        let f = four id number at bytes lent in
+        let f = four id number at bytes loaned in
         record {
           bytes = f.0;
           stands = f.1;
@@ -328,8 +328,8 @@ module _ (held : FileMap) (old new : Loaded) (state : Machine) (sound : IsSound 
         ),
         refl,
       )
-  refused why (NoJsl bytes lent is) =
-      inl ((state, does_jsl held old state sound agrees id number at bytes lent (Refused why) state (steps_none held old state sound agrees id number at bytes lent why is), agrees), refl)
+  refused why (NoJsl bytes loaned is) =
+      inl ((state, does_jsl held old state sound agrees id number at bytes loaned (Refused why) state (steps_none held old state sound agrees id number at bytes loaned why is), agrees), refl)
   refused why (NoPlace address call none is) =
       inl (
         (
@@ -520,6 +520,6 @@ pub jsls_meet : (store : Option FileMap) (held : FileMap) (old new : Loaded) (st
     → IsSound old.memory old.users → ((place address : ℕ) → HoldsByte address (slot_at old.memory.slots place) → address < 2 ^ 24)
     → ((place address : ℕ) → HoldsByte address (slot_at new.memory.slots place) → address < 2 ^ 24)
     → DidJsl store old id number at result new before now → Agrees held old state → Meets RoomRule held state (Jsl id number at) (jsl_reply result) new before now
-jsls_meet store held old new state id number at result before now told sound below below_now did agrees =
+jsls_meet store held old new state id number at result before now reported sound below below_now did agrees =
     jsl_met held old new state sound agrees below below_now id number at before now result
-    (subst (λ (s : Option FileMap). DidJsl s old id number at result new before now) told did)
+    (subst (λ (s : Option FileMap). DidJsl s old id number at result new before now) reported did)

@@ -174,18 +174,18 @@ idled_join xs ys old mid new one two = record {
 
 -- the segments of one user more
 module _ (users : List (Option LoadedUser)) (ids : List ℕ) (other : LoadedUser) (old mid new : Memory) where
-  behind : (front : List ℕ) (id : ℕ) → user_of users id ≡ Some other → AreIdled (handles_of_all (kept_outlines users) front) old mid → AreIdled other.handles mid new
+  following : (front : List ℕ) (id : ℕ) → user_of users id ≡ Some other → AreIdled (handles_of_all (kept_outlines users) front) old mid → AreIdled other.handles mid new
       → AreIdled (handles_of_all (kept_outlines users) (front ++ id ∷ [])) old new
-  behind front id made so_far idled =
+  following front id made so_far idled =
       subst (λ (hs : List (Option Handle)). AreIdled hs old new)
       (ap (λ (hs : List (Option Handle)). handles_of_all (kept_outlines users) front ++ hs) (sym (its_handles users id other made)) ∙ sym (more_handles users front id))
       (idled_join (handles_of_all (kept_outlines users) front) other.handles old mid new so_far idled)
 
   pub family_more : (k id : ℕ) → slice_get ids k ≡ Some id → user_of users id ≡ Some other → AreIdled (handles_of_all (kept_outlines users) (take k ids)) old mid → AreIdled other.handles mid new
       → AreIdled (handles_of_all (kept_outlines users) (take (k + 1) ids)) old new
-  family_more k id is made so_far idled = subst (λ (l : List ℕ). AreIdled (handles_of_all (kept_outlines users) l) old new) (sym (take_more ids k id is)) (behind (take k ids) id made so_far idled)
+  family_more k id is made so_far idled = subst (λ (l : List ℕ). AreIdled (handles_of_all (kept_outlines users) l) old new) (sym (take_more ids k id is)) (following (take k ids) id made so_far idled)
 
   pub family_all : (k id : ℕ) → length ids ≤ k → user_of users id ≡ Some other → AreIdled (handles_of_all (kept_outlines users) (take k ids)) old mid → AreIdled other.handles mid new
       → AreIdled (handles_of_all (kept_outlines users) (family id ids)) old new
   family_all k id le made so_far idled =
-      behind ids id made (subst (λ (l : List ℕ). AreIdled (handles_of_all (kept_outlines users) l) old mid) (take_past ids k le) so_far) idled
+      following ids id made (subst (λ (l : List ℕ). AreIdled (handles_of_all (kept_outlines users) l) old mid) (take_past ids k le) so_far) idled

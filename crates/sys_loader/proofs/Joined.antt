@@ -63,29 +63,29 @@ module _ (held : Option FileMap) where
 
   -- ---- one row more
 
-  good_behind : (paths : List (List ℕ)) (all : List (List Segment)) (path : List ℕ) (segments : List Segment) → AreGood held paths all → IsGood held path segments → AreGood held (paths ++ path ∷ []) (all ++ segments ∷ [])
-  good_behind [] [] path segments good one = (one, tt)
-  good_behind [] (s ∷ all) path segments good one = absurd good
-  good_behind (p ∷ paths) [] path segments good one = absurd good
-  good_behind (p ∷ paths) (s ∷ all) path segments (first, good) one = (first, good_behind paths all path segments good one)
+  good_after : (paths : List (List ℕ)) (all : List (List Segment)) (path : List ℕ) (segments : List Segment) → AreGood held paths all → IsGood held path segments → AreGood held (paths ++ path ∷ []) (all ++ segments ∷ [])
+  good_after [] [] path segments good one = (one, tt)
+  good_after [] (s ∷ all) path segments good one = absurd good
+  good_after (p ∷ paths) [] path segments good one = absurd good
+  good_after (p ∷ paths) (s ∷ all) path segments (first, good) one = (first, good_after paths all path segments good one)
 
-  kepts_behind : (paths : List (List ℕ)) (all : List (List Segment)) (path : List ℕ) (segments : List Segment) → AreGood held paths all
+  kepts_after : (paths : List (List ℕ)) (all : List (List Segment)) (path : List ℕ) (segments : List Segment) → AreGood held paths all
       → joined_kepts (paths ++ path ∷ []) (all ++ segments ∷ []) ≡ joined_kepts paths all ++ Some (joined_kept path (map head_of segments)) ∷ []
-  kepts_behind [] [] path segments good = refl
-  kepts_behind [] (s ∷ all) path segments good = absurd good
-  kepts_behind (p ∷ paths) [] path segments good = absurd good
-  kepts_behind (p ∷ paths) (s ∷ all) path segments (first, good) = ap (λ (l : List (Option LoadedUser)). Some (joined_kept p (map head_of s)) ∷ l) (kepts_behind paths all path segments good)
+  kepts_after [] [] path segments good = refl
+  kepts_after [] (s ∷ all) path segments good = absurd good
+  kepts_after (p ∷ paths) [] path segments good = absurd good
+  kepts_after (p ∷ paths) (s ∷ all) path segments (first, good) = ap (λ (l : List (Option LoadedUser)). Some (joined_kept p (map head_of s)) ∷ l) (kepts_after paths all path segments good)
 
   pub good_more : (paths : List (List ℕ)) (all : List (List Segment)) (k : ℕ) (path : List ℕ) (segments : List Segment) → slice_get paths k ≡ Some path → AreGood held (take k paths) all → IsGood held path segments
       → AreGood held (take (k + 1) paths) (all ++ segments ∷ [])
-  good_more paths all k path segments is good one = subst (λ (ps : List (List ℕ)). AreGood held ps (all ++ segments ∷ [])) (sym (take_more paths k path is)) (good_behind (take k paths) all path segments good one)
+  good_more paths all k path segments is good one = subst (λ (ps : List (List ℕ)). AreGood held ps (all ++ segments ∷ [])) (sym (take_more paths k path is)) (good_after (take k paths) all path segments good one)
 
   pub users_more : (paths : List (List ℕ)) (all : List (List Segment)) (k : ℕ) (path : List ℕ) (segments : List Segment) (users : List LoadedUser) (user : LoadedUser) → slice_get paths k ≡ Some path → AreGood held (take k paths) all
       → user ≡ joined_kept path (map head_of segments) → map (λ (u : LoadedUser). Some u) users ≡ joined_kepts (take k paths) all
       → map (λ (u : LoadedUser). Some u) (users ++ user ∷ []) ≡ joined_kepts (take (k + 1) paths) (all ++ segments ∷ [])
   users_more paths all k path segments users user is good made so_far =
       map-append (λ (u : LoadedUser). Some u) users (user ∷ []) ∙ ap (λ (l : List (Option LoadedUser)). l ++ Some user ∷ []) so_far
-      ∙ ap (λ (u : LoadedUser). joined_kepts (take k paths) all ++ Some u ∷ []) made ∙ sym (kepts_behind (take k paths) all path segments good)
+      ∙ ap (λ (u : LoadedUser). joined_kepts (take k paths) all ++ Some u ∷ []) made ∙ sym (kepts_after (take k paths) all path segments good)
       ∙ ap (λ (ps : List (List ℕ)). joined_kepts ps (all ++ segments ∷ [])) (sym (take_more paths k path is))
 
   -- ---- all rows

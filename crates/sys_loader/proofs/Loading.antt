@@ -14,7 +14,7 @@ use Rattle.loader_machine.specs.declared.faults.LoaderFault.TheVariants as fault
 use Rattle.loader_machine.specs.declared.seen.SegmentHead.{SegmentHead}
 use Rattle.loader_machine.specs.Heads.{head_of}
 use Rattle.loader_machine.specs.State.{first_id, max_users, ids_from}
-use Rattle.loader_machine.specs.Found.{Joined, Stops, Joins, joined_behind}
+use Rattle.loader_machine.specs.Found.{Joined, Stops, Joins, joined_after}
 use Rattle.loader_machine.specs.Steps.{lost_in, lost_refusal}
 use Rattle.loader_agrees.specs.Agrees.{LoadedUser, Loaded}
 use Rattle.loader_agrees.specs.Acts.{HasBegun, joined_kept, joined_kepts}
@@ -40,7 +40,7 @@ rows_same held (path ∷ paths) before now joined all is (inr (file, is_read, in
 rows_same held (path ∷ paths) before now joined all is (inr (file, is_read, inr (segments, runtime, rest, read, e))) = go rest refl (λ others eq. rows_same held paths before now rest others eq read)
   where
     go : (r : Joined) → rest ≡ r → ((others : List (List Segment)) → rest ≡ Joins others → now ≡ before) → now ≡ before
-    go (Stops reads why) eq later = let clash : Stops (reads + 1) why ≡ Joins all = sym (e ∙ ap (joined_behind segments) eq) ∙ is in absurd cc
+    go (Stops reads why) eq later = let clash : Stops (reads + 1) why ≡ Joins all = sym (e ∙ ap (joined_after segments) eq) ∙ is in absurd cc
     go (Joins others) eq later = later others eq
 
 -- their reads stop

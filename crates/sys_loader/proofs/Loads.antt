@@ -18,11 +18,11 @@ use Rattle.loader_machine.specs.declared.faults.LoaderFault.{LoaderFault}
 use Rattle.loader_machine.specs.declared.faults.LoaderFault.TheVariants as fault
 use Rattle.loader_machine.specs.Heads.{head_of, wants_of}
 use Rattle.loader_machine.specs.State.{Machine, User, first_id, max_users}
-use Rattle.loader_machine.specs.Found.{HoldsFile, HoldsLoad, HoldsFault, FileFound, Unread, Bad, Good, IsFound, Joined, Stops, Joins, joined_behind, AreJoined, reads_of}
+use Rattle.loader_machine.specs.Found.{HoldsFile, HoldsLoad, HoldsFault, FileFound, Unread, Bad, Good, IsFound, Joined, Stops, Joins, joined_after, AreJoined, reads_of}
 use Rattle.loader_machine.specs.Commands.{Reply, Command, Load, Refused}
 use Rattle.loader_machine.specs.Refusals.{load_refusal, rows_refusal}
 use Rattle.loader_machine.specs.Steps.{NoSlots, Lacks, Begins, LoadsFound, LoadsJoined, Steps, begun_users}
-use Rattle.loader_machine.specs.Needs.{Needs, NeedsBehind, rows_of}
+use Rattle.loader_machine.specs.Needs.{Needs, NeedsAfter, rows_of}
 use Rattle.loader_agrees.specs.Agrees.{Loaded, outline, outline_of, IsSound, Agrees, Meets, ReadsNeeded, MeetsReads}
 use Rattle.loader_agrees.specs.laws.Begun.{may_load}
 use Rattle.loader_agrees.specs.laws.BegunMet.{load_met}
@@ -58,26 +58,26 @@ too_long : (held : FileMap) (path file : List ℕ) → IsSomeAnd (get held path)
 too_long held path file long holds = let more : max_file < length file = rw holds.0 at long in omega (arith, more, holds.1)
 
 -- what comes of reading the files of rows, where files are told: what the machine says; or the last couldn't be read
-RowsTold : FileMap → List (List ℕ) → ℕ → ℕ → Joined → Type 0
-RowsTold held paths before now joined = (AreJoined held paths joined × (now ≡ before))
+RowsReported : FileMap → List (List ℕ) → ℕ → ℕ → Joined → Type 0
+RowsReported held paths before now joined = (AreJoined held paths joined × (now ≡ before))
     ⊎ ((reads : ℕ) × (joined ≡ Stops reads fault.CannotRead) × (now ≡ one_more before) × (reads ≤ length paths))
 
-rows_told : (held : FileMap) (paths : List (List ℕ)) (before now : ℕ) (joined : Joined) → AreRowsRead (Some held) paths before now joined → RowsTold held paths before now joined
-unfolding RowsTold
-rows_told held [] before now joined (is, same) = inl (is, same)
-rows_told held (path ∷ paths) before now joined (inl (inl none, is)) = inl ((Unread, (λ file holds. absent held path file none.0 holds), is), none.1)
-rows_told held (path ∷ paths) before now joined (inl (inr (inl long), is)) = inl ((Unread, (λ file holds. too_long held path file long.0 holds), is), long.1)
-rows_told held (path ∷ paths) before now joined (inl (inr (inr rose), is)) = inr (1, is, rose, omega arith)
-rows_told held (path ∷ paths) before now joined (inr (file, is_read, inl (bad, first, is, same))) =
+rows_reported : (held : FileMap) (paths : List (List ℕ)) (before now : ℕ) (joined : Joined) → AreRowsRead (Some held) paths before now joined → RowsReported held paths before now joined
+unfolding RowsReported
+rows_reported held [] before now joined (is, same) = inl (is, same)
+rows_reported held (path ∷ paths) before now joined (inl (inl none, is)) = inl ((Unread, (λ file holds. absent held path file none.0 holds), is), none.1)
+rows_reported held (path ∷ paths) before now joined (inl (inr (inl long), is)) = inl ((Unread, (λ file holds. too_long held path file long.0 holds), is), long.1)
+rows_reported held (path ∷ paths) before now joined (inl (inr (inr rose), is)) = inr (1, is, rose, omega arith)
+rows_reported held (path ∷ paths) before now joined (inr (file, is_read, inl (bad, first, is, same))) =
     inl ((Bad bad, record { file = file; is_held = (is_read.1, is_read.0); first = first }, is), same)
-rows_told held (path ∷ paths) before now joined (inr (file, is_read, inr (segments, runtime, rest, rows, is))) = elim (rows_told held paths before now rest rows) [
+rows_reported held (path ∷ paths) before now joined (inr (file, is_read, inr (segments, runtime, rest, rows, is))) = elim (rows_reported held paths before now rest rows) [
   | inl (joins, same) ↦ inl ((Good segments, record { file = file; is_held = (is_read.1, is_read.0); runtime = runtime }, (rest, joins, is)), same)
-  | inr (reads, stops, rose, few) ↦ inr (reads + 1, is ∙ ap (joined_behind segments) stops, rose, omega (arith, few))
+  | inr (reads, stops, rose, few) ↦ inr (reads + 1, is ∙ ap (joined_after segments) stops, rose, omega (arith, few))
 ]
 
 -- where all are read
-rows_all : (held : FileMap) (paths : List (List ℕ)) (before now : ℕ) (all : List (List Segment)) → RowsTold held paths before now (Joins all) → AreJoined held paths (Joins all) × (now ≡ before)
-unfolding RowsTold
+rows_all : (held : FileMap) (paths : List (List ℕ)) (before now : ℕ) (all : List (List Segment)) → RowsReported held paths before now (Joins all) → AreJoined held paths (Joins all) × (now ≡ before)
+unfolding RowsReported
 rows_all held paths before now all (inl joins) = joins
 rows_all held paths before now all (inr (reads, stops, rose, few)) = absurd cc
 
@@ -93,9 +93,9 @@ module _ (held : FileMap) (old : Loaded) (state : Machine) (path : List ℕ) (ag
   first : length old.users < max_users → Needs held state (Load path) (path ∷ [])
   first few = rw (may few) refl
 
-  needed : length old.users < max_users → (rows : List (List ℕ)) (behind : ℕ) → NeedsBehind held state (Load path) rows behind → (reads : ℕ) → reads ≡ 1 + behind → now.asked ≡ saturating_sum reads before.asked
+  needed : length old.users < max_users → (rows : List (List ℕ)) (following : ℕ) → NeedsAfter held state (Load path) rows following → (reads : ℕ) → reads ≡ 1 + following → now.asked ≡ saturating_sum reads before.asked
       → ReadsNeeded held state (Load path) 0 before.asked now.asked
-  needed few rows behind needs reads is count = (reads, (path ∷ [], first few, inl (refl, rows, behind, needs, is)), count)
+  needed few rows following needs reads is count = (reads, (path ∷ [], first few, inl (refl, rows, following, needs, is)), count)
 
   some_needed : length old.users < max_users → (reads : ℕ) → 1 ≤ reads → reads ≤ 17 → now.asked ≡ saturating_sum reads before.asked → ReadsNeeded held state (Load path) 1 before.asked now.asked
   some_needed few reads one most count = (reads, (path ∷ [], first few, inr (omega (arith, one), omega (arith, most), omega arith)), count)
@@ -163,9 +163,9 @@ module _ (held : FileMap) (old : Loaded) (state : Machine) (path : List ℕ) (ag
         let found : LoadsFound RoomRule held state path (Good segments) reply next = rw joins (joined, are, does) in
         rw (may is.few) (Good segments, holds, found)
 
-    stops : (why : LoaderFault) → length old.users + 1 + length (paths_of segments) ≤ max_users → RowsTold held (paths_of segments) before.faults now.faults (Stops rows why)
+    stops : (why : LoaderFault) → length old.users + 1 + length (paths_of segments) ≤ max_users → RowsReported held (paths_of segments) before.faults now.faults (Stops rows why)
         → MeetsReads RoomRule held state (Load path) (Refused why) old before now
-    unfolding RowsTold
+    unfolding RowsReported
     stops why fit (inl (are, same)) =
         refused why (joining (Stops rows why) (Refused why) state fit are (refl, refl)) same (rows_needed is.few segments holds fit (Stops rows why) are reads sum count)
     stops why fit (inr (last, e, rose, few)) =
@@ -178,7 +178,7 @@ module _ (held : FileMap) (old : Loaded) (state : Machine) (path : List ℕ) (ag
         → AreRowsRead (Some held) (paths_of segments) before.faults now.faults (Joins all) → LoadsJoined RoomRule state path segments (Joins all) (Refused why) state
         → MeetsReads RoomRule held state (Load path) (Refused why) old before now
     joined all why many fit read does =
-        let are = rows_all held (paths_of segments) before.faults now.faults all (rows_told held (paths_of segments) before.faults now.faults (Joins all) read) in
+        let are = rows_all held (paths_of segments) before.faults now.faults all (rows_reported held (paths_of segments) before.faults now.faults (Joins all) read) in
         refused why (joining (Joins all) (Refused why) state fit are.0 does) are.1 (rows_needed is.few segments holds fit (Joins all) are.0 reads (omega (arith, sum, many)) count)
 
     rows_refused : (why : LoaderFault) → IsRowsRefusal (Some held) old segments before.faults now.faults rows why → MeetsReads RoomRule held state (Load path) (Refused why) old before now
@@ -187,7 +187,7 @@ module _ (held : FileMap) (old : Loaded) (state : Machine) (path : List ℕ) (ag
         let found : LoadsFound RoomRule held state path (Good segments) (Refused fault.TooManyUsers) state = rw cant (refl, refl) in
         subst (λ (f : LoaderFault). MeetsReads RoomRule held state (Load path) (Refused f) old before now) (sym why_is)
         (refused fault.TooManyUsers (rw (may is.few) (Good segments, holds, found)) same (found_needed is.few (Good segments) holds (rw cant refl) reads (omega (arith, sum, none)) count))
-    rows_refused why (RowStops fit read) = stops why fit (rows_told held (paths_of segments) before.faults now.faults (Stops rows why) read)
+    rows_refused why (RowStops fit read) = stops why fit (rows_reported held (paths_of segments) before.faults now.faults (Stops rows why) read)
     rows_refused why (IsLost fit all read lost many) = joined all why many fit read (rw lost (refl, refl))
     rows_refused why (CantBegin fit all read none cant many) = joined all why many fit read (rw none (begins segments why (begun_users state (paths_of segments) all) cant))
     rows_refused why (RowsLackMemory why_is same few) =
@@ -196,7 +196,7 @@ module _ (held : FileMap) (old : Loaded) (state : Machine) (path : List ℕ) (ag
     started : (user : ℕ) (entry : Option ℕ) (new : Loaded) → IsSound old.memory old.users → HasStarted (Some held) old path segments (record { user = user; entry = entry }) new before.faults now.faults rows
         → MeetsReads RoomRule held state (Load path) (load_reply (Ok (record { user = user; entry = entry }))) new before now
     started user entry new sound has =
-        let are = rows_all held (paths_of segments) before.faults now.faults has.all (rows_told held (paths_of segments) before.faults now.faults (Joins has.all) has.read) in
+        let are = rows_all held (paths_of segments) before.faults now.faults has.all (rows_reported held (paths_of segments) before.faults now.faults (Joins has.all) has.read) in
         inl (
           load_met held old new state path segments has.all user entry sound agrees has.begun holds are.0 has.none,
           are.1,
@@ -208,9 +208,9 @@ module _ (held : FileMap) (old : Loaded) (state : Machine) (path : List ℕ) (ag
   refuses why reads count (IsFull full why_is same none) =
       let cant = cant_load (length state.users) (omega (arith, full, same_count)) in
       let needs : Needs held state (Load path) [] = rw cant refl in
-      let behind : NeedsBehind held state (Load path) [] 0 = inr ((λ can. let clash : Some fault.TooManyUsers ≡ None = sym cant ∙ can in absurd cc), refl, refl) in
+      let following : NeedsAfter held state (Load path) [] 0 = inr ((λ can. let clash : Some fault.TooManyUsers ≡ None = sym cant ∙ can in absurd cc), refl, refl) in
       subst (λ (f : LoaderFault). MeetsReads RoomRule held state (Load path) (Refused f) old before now) (sym why_is)
-      (refused fault.TooManyUsers (rw cant (refl, refl)) same (reads, ([], needs, inl (refl, [], 0, behind, omega (arith, none))), count))
+      (refused fault.TooManyUsers (rw cant (refl, refl)) same (reads, ([], needs, inl (refl, [], 0, following, omega (arith, none))), count))
   refuses why reads count (CantRead few none why_is one) =
       subst (λ (f : LoaderFault). MeetsReads RoomRule held state (Load path) (Refused f) old before now) (sym why_is) (cant_read few none reads one count)
   refuses why reads count (LacksMemory few why_is same one) =
@@ -224,7 +224,7 @@ module _ (held : FileMap) (old : Loaded) (state : Machine) (path : List ℕ) (ag
 pub loads : (store : Option FileMap) (held : FileMap) (old new : Loaded) (state : Machine) (path : List ℕ) (result : Result Started LoaderFault) (before now : StoreSeen) → store ≡ Some held → IsSound old.memory old.users
     → (reads : ℕ) × HasLoaded store old path result new before.faults now.faults reads × (now.asked ≡ saturating_sum reads before.asked) → Agrees held old state
     → MeetsReads RoomRule held state (Load path) (load_reply result) new before now
-loads store held old new state path result before now told sound (reads, loaded, count) agrees = go result (subst (λ (s : Option FileMap). HasLoaded s old path result new before.faults now.faults reads) told loaded)
+loads store held old new state path result before now reported sound (reads, loaded, count) agrees = go result (subst (λ (s : Option FileMap). HasLoaded s old path result new before.faults now.faults reads) reported loaded)
   where
     go : (r : Result Started LoaderFault) → HasLoaded (Some held) old path r new before.faults now.faults reads → MeetsReads RoomRule held state (Load path) (load_reply r) new before now
     go (Ok begun) (segments, is, rows, has, sum) = started held old state path agrees before now segments is reads rows sum count begun.user begun.entry new sound has

@@ -55,34 +55,34 @@ over_at first pokes (x ∷ bytes) (suc k) b none is =
     over_at (first + 1) pokes bytes k b (ap (get pokes) there ∙ none) is
 
 -- a fact of the segment that each part names
-abbrev Tells : (ℕ → Type 0) → Cell → Type 0
-Tells P (Byte b) = Unit {0}
-Tells P (Part file segment offset shift index) = P segment
+abbrev Reports : (ℕ → Type 0) → Cell → Type 0
+Reports P (Byte b) = Unit {0}
+Reports P (Part file segment offset shift index) = P segment
 
 module _ (P : ℕ → Type 0) where
-  bytes_tell : (bytes : List ℕ) → All (Tells P) (map Byte bytes)
-  bytes_tell [] = All-nil (Tells P)
-  bytes_tell (b ∷ bytes) = All-cons (Tells P) (Byte b) (map Byte bytes) tt (bytes_tell bytes)
+  bytes_report : (bytes : List ℕ) → All (Reports P) (map Byte bytes)
+  bytes_report [] = All-nil (Reports P)
+  bytes_report (b ∷ bytes) = All-cons (Reports P) (Byte b) (map Byte bytes) tt (bytes_report bytes)
 
-  parts_tell : (p : Patch) (index n : ℕ) → P p.segment → All (Tells P) (parts_from p index n)
-  parts_tell p index zero is = All-nil (Tells P)
-  parts_tell p index (suc n) is = All-cons (Tells P) (Part p.file p.segment p.offset p.shift index) (parts_from p (index + 1) n) is (parts_tell p (index + 1) n is)
+  parts_report : (p : Patch) (index n : ℕ) → P p.segment → All (Reports P) (parts_from p index n)
+  parts_report p index zero is = All-nil (Reports P)
+  parts_report p index (suc n) is = All-cons (Reports P) (Part p.file p.segment p.offset p.shift index) (parts_from p (index + 1) n) is (parts_report p (index + 1) n is)
 
-  patched_tell : (patches : List Patch) (cs : List Cell) → All (Tells P) cs → AllByRecursion (λ (p : Patch). P p.segment) patches → All (Tells P) (patched_cells cs patches)
-  patched_tell [] cs all es = all
-  patched_tell (p ∷ patches) cs all es = patched_tell patches (with_patch cs p)
-      (All-append (Tells P) (take p.location cs ++ parts_from p 0 p.count) (drop (p.location + p.count) cs)
-      (All-append (Tells P) (take p.location cs) (parts_from p 0 p.count) (All-take (Tells P) p.location cs all) (parts_tell p 0 p.count es.0))
-      (All-drop (Tells P) (p.location + p.count) cs all)) es.1
+  patched_report : (patches : List Patch) (cs : List Cell) → All (Reports P) cs → AllByRecursion (λ (p : Patch). P p.segment) patches → All (Reports P) (patched_cells cs patches)
+  patched_report [] cs all es = all
+  patched_report (p ∷ patches) cs all es = patched_report patches (with_patch cs p)
+      (All-append (Reports P) (take p.location cs ++ parts_from p 0 p.count) (drop (p.location + p.count) cs)
+      (All-append (Reports P) (take p.location cs) (parts_from p 0 p.count) (All-take (Reports P) p.location cs all) (parts_report p 0 p.count es.0))
+      (All-drop (Reports P) (p.location + p.count) cs all)) es.1
 
-  cells_tell : (s : Segment) → AllByRecursion (λ (p : Patch). P p.segment) (patch_list s) → All (Tells P) (cells s)
+  cells_report : (s : Segment) → AllByRecursion (λ (p : Patch). P p.segment) (patch_list s) → All (Reports P) (cells s)
   unfolding cells
-  cells_tell s es = patched_tell (patch_list s) (map Byte (segment_bytes s)) (bytes_tell (segment_bytes s)) es
+  cells_report s es = patched_report (patch_list s) (map Byte (segment_bytes s)) (bytes_report (segment_bytes s)) es
 
-  part_tells : (s : Segment) → AllByRecursion (λ (p : Patch). P p.segment) (patch_list s) → (at file segment offset index : ℕ) → slice_get (cells s) at ≡ Some (Part file segment offset (pos 0) index) → P segment
-  part_tells s es at file segment offset index is =
+  part_reports : (s : Segment) → AllByRecursion (λ (p : Patch). P p.segment) (patch_list s) → (at file segment offset index : ℕ) → slice_get (cells s) at ≡ Some (Part file segment offset (pos 0) index) → P segment
+  part_reports s es at file segment offset index is =
       let c = Part file segment offset (pos 0) index in
-      subst (Tells P) (get_or_from_slice_get (cells s) at c c is) (cells_tell s es at c (slice_get_within (cells s) at c is))
+      subst (Reports P) (get_or_from_slice_get (cells s) at c c is) (cells_report s es at c (slice_get_within (cells s) at c is))
 
 weaker : {X : Type 0} (P Q : X → Type 0) → ((x : X) → P x → Q x) → (xs : List X) → AllByRecursion P xs → AllByRecursion Q xs
 weaker P Q f [] all = tt
@@ -103,7 +103,7 @@ module _ (segments : List Segment) (number : ℕ) (s : Segment) (sound : IsSound
       ]
 
   part_near : Near target
-  part_near = part_tells Near s (weaker (IsPatch segments s) (λ (p : Patch). Near p.segment) patch_near (patch_list s) sound.patches) at file target offset index part
+  part_near = part_reports Near s (weaker (IsPatch segments s) (λ (p : Patch). Near p.segment) patch_near (patch_list s) sound.patches) at file target offset index part
 
   -- a table has no parts
   pub part_plain : is_table s ≡ false

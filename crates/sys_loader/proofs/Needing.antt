@@ -21,7 +21,7 @@ use Rattle.loader_machine.specs.Steps.{Sees, IsSeen, IsAt, seen_of, are_there, n
 use Rattle.loader_machine.specs.Needs as needs
 use Rattle.loader_machine.specs.Needs.{NeedsOf, IsReadFor, Reaches, is_read, path_if, some_read_again}
 use Rattle.loader_agrees.specs.Agrees.{LoadedUser, Loaded, Outline, kept_outlines, seen_in, seen_by, Agrees, IsSound, ReadsNeeded}
-use Rattle.loader_agrees.specs.Acts.{HasLent, LiesIn}
+use Rattle.loader_agrees.specs.Acts.{HasBorrowed, LiesIn}
 use Rattle.loader_agrees.specs.laws.Apart.{is_apart}
 use Rattle.loader_agrees.specs.laws.Reads.{lies_back}
 use Rattle.loader_agrees.specs.laws.Seeing.{IsKept, kept_is, is_seen}
@@ -42,7 +42,7 @@ counted None false path before now asked unasked refused = unasked refl
 
 -- no file is read behind the first, where all reads are made
 abbrev Alone : ℕ → ℕ → Type 0
-Alone count reads = (◌≡◌ {A = ℕ} 0 0 × (rows : List (List ℕ)) × (behind : ℕ) × ((rows ≡ []) × (behind ≡ 0)) × (reads ≡ count + behind))
+Alone count reads = (◌≡◌ {A = ℕ} 0 0 × (rows : List (List ℕ)) × (following : ℕ) × ((rows ≡ []) × (following ≡ 0)) × (reads ≡ count + following))
     ⊎ ((count ≤ reads) × (reads ≤ 17 * count) × (count ≤ 0))
 
 alone : (count : ℕ) → Alone count count
@@ -164,17 +164,17 @@ module _ (held : FileMap) (old : Loaded) (state : Machine) (sound : IsSound old.
           ap (λ (slots : Slots). bytes_refusal slots (seen_by old id) number at 4) agrees.slots
           ∙ ap (λ (seen : Option UserSeen). bytes_refusal state.slots seen number at 4) (seen_once held state id (seen_by old id) r.seen (is_seen held old state agrees id) r.is_seen) ∙ r.passes
 
-      same_bytes : (bytes : List ℕ) → HasLent old id number at 4 bytes → bytes ≡ take 4 (drop at r.bytes)
-      same_bytes bytes lent =
-          let four = followed.four held old state sound agrees id number at bytes lent in
+      same_bytes : (bytes : List ℕ) → HasBorrowed old id number at 4 bytes → bytes ≡ take 4 (drop at r.bytes)
+      same_bytes bytes loaned =
+          let four = followed.four held old state sound agrees id number at bytes loaned in
           four.2 ∙ ap (λ (bs : List ℕ). take 4 (drop at bs)) (stands_once held state id number four.0 r.bytes four.1 r.stands)
 
-      same_address : (address : ℕ) (bytes : List ℕ) → HasLent old id number at 4 bytes → address ≡ address_of bytes → address_of (take 4 (drop at r.bytes)) ≡ address
-      same_address address bytes lent is = sym (is ∙ ap address_of (same_bytes bytes lent))
+      same_address : (address : ℕ) (bytes : List ℕ) → HasBorrowed old id number at 4 bytes → address ≡ address_of bytes → address_of (take 4 (drop at r.bytes)) ≡ address
+      same_address address bytes loaned is = sym (is ∙ ap address_of (same_bytes bytes loaned))
 
       stops : (why : LoaderFault) → IsJslRefusal old id number at why → ⊥
       stops why (NoBytes is) = let clash : Some why ≡ None = sym is ∙ passes in cc
-      stops why (NoJsl bytes lent is) = let clash : Some why ≡ None = sym is ∙ ap no_jsl (same_bytes bytes lent) ∙ r.jsl in cc
+      stops why (NoJsl bytes loaned is) = let clash : Some why ≡ None = sym is ∙ ap no_jsl (same_bytes bytes loaned) ∙ r.jsl in cc
       stops why (NoPlace address call none is) =
           none r.owner r.table r.offset (lies_back held old state agrees RoomRule sound address r.owner r.table r.offset
           (subst (λ (n : ℕ). IsAt held state n r.owner r.table r.offset) (same_address address call.bytes call.borrow_bytes call.address_is) r.is_at))

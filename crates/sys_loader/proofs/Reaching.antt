@@ -19,7 +19,7 @@ use Rattle.loader_machine.specs.State.{UserSeen, first_id, user_of, named_by}
 use Rattle.loader_machine.specs.Presences.{handle_at, presence, there_at}
 use Rattle.loader_machine.specs.Refusals.{load_segment_refusal}
 use Rattle.loader_agrees.specs.Agrees.{LoadedUser, Loaded, kept_outlines, AreAttached, IsCall, IsSound, seen_in, seen_by}
-use Rattle.loader_agrees.specs.Acts.{HasLent, LiesIn}
+use Rattle.loader_agrees.specs.Acts.{HasBorrowed, LiesIn}
 use Rattle.loader_agrees.specs.laws.Leading.{row_of}
 use Rattle.loader_agrees.specs.laws.Seeing.{made_at, has, block_room}
 use Rattle.sys_loader.specs.declared.answers.Entered.{Entered}
@@ -29,11 +29,11 @@ use Rattle.sys_loader.specs.Following.{LeadsTo, IsJslRefusal, NoEntry, EntersPla
 -- ---- the bytes that are lent
 
 -- they are as many as were asked for
-pub lent_size : (loader : Loaded) → IsSound loader.memory loader.users → (id number at count : ℕ) (bytes : List ℕ) → HasLent loader id number at count bytes → length bytes ≡ count
-lent_size loader sound id number at count bytes lent =
-    let all = bytes_at loader.memory lent.h.slot in
-    let inside : at + count ≤ length all = omega (arith, lent.can.inside, block_room loader sound id number lent.h lent.can.is) in
-    ap length lent.is ∙ length-take-le count (drop at all) (omega (arith, inside, length-drop at all))
+pub loaned_size : (loader : Loaded) → IsSound loader.memory loader.users → (id number at count : ℕ) (bytes : List ℕ) → HasBorrowed loader id number at count bytes → length bytes ≡ count
+loaned_size loader sound id number at count bytes loaned =
+    let all = bytes_at loader.memory loaned.h.slot in
+    let inside : at + count ≤ length all = omega (arith, loaned.can.inside, block_room loader sound id number loaned.h loaned.can.is) in
+    ap length loaned.is ∙ length-take-le count (drop at all) (omega (arith, inside, length-drop at all))
 
 -- a dynamic segment of a user that runs can be made active
 pub passes_all : (seen : UserSeen) (number : ℕ) (head : SegmentHead) → seen.life ≡ Running → at_number seen.heads number ≡ Some head → is_skipped head.kind ≡ false → is_dynamic head.kind ≡ true
@@ -78,8 +78,8 @@ module _ (loader : Loaded) (address owner segment offset : ℕ) (lies : LiesIn l
   entry_in sound k size same inside = omega (arith, same, inside, block_room loader sound owner segment lies.h lies.is)
 
   -- the bytes that are lent are those of its block
-  pub lent_here : (handle : Option Handle) (bytes : List ℕ) → handle ≡ Some lies.h → IsSomeAnd handle (λ h. bytes ≡ bytes_at loader.memory h.slot) → bytes ≡ bytes_at loader.memory lies.h.slot
-  lent_here handle bytes is here = subst (λ (o : Option Handle). IsSomeAnd o (λ h. bytes ≡ bytes_at loader.memory h.slot)) is here
+  pub borrowed_here : (handle : Option Handle) (bytes : List ℕ) → handle ≡ Some lies.h → IsSomeAnd handle (λ h. bytes ≡ bytes_at loader.memory h.slot) → bytes ≡ bytes_at loader.memory lies.h.slot
+  borrowed_here handle bytes is here = subst (λ (o : Option Handle). IsSomeAnd o (λ h. bytes ≡ bytes_at loader.memory h.slot)) is here
 
   -- its segment, of the user that it names, can be made active
   pub entry_passes : IsSound loader.memory loader.users → is_table lies.is.head ≡ true → (k : ℕ) → k < entry_count lies.is.head.length
@@ -115,7 +115,7 @@ module _ (loader : Loaded) (id number at : ℕ) (place : Entered) (leads : Leads
       → CallsEntry loader id number at other t.segment t.offset
   calls_entry sound handle handle' table k inside code bytes here t is other named =
       let its_handle = handle_same loader place.address place.user place.segment place.offset leads.lies kept made handle handle' in
-      let its_bytes = lent_here loader place.address place.user place.segment place.offset leads.lies handle bytes its_handle here in
+      let its_bytes = borrowed_here loader place.address place.user place.segment place.offset leads.lies handle bytes its_handle here in
       let its_target : t ≡ target_at (bytes_at loader.memory leads.lies.h.slot) k = is ∙ ap (λ (bs : List ℕ). target_at bs k) its_bytes in
       let passes = entry_passes loader place.address place.user place.segment place.offset leads.lies sound (ap is_table same ∙ table) k (subst (λ (h : SegmentHead). k < entry_count h.length) (sym same) inside) in
       let one : passes.0 ≡ other = same_Some passes.0 other (sym passes.1 ∙ ap (λ (x : Target). named_by (kept_outlines loader.users) place.user x.file) (sym its_target) ∙ named) in
@@ -146,7 +146,7 @@ module _ (loader : Loaded) (address owner segment offset : ℕ) (lies : LiesIn l
   names_one sound handle handle' table k inside bytes here t is =
       let its_head = head_same loader address owner segment offset lies kept made head head' in
       let its_handle = handle_same loader address owner segment offset lies kept made handle handle' in
-      let its_bytes = lent_here loader address owner segment offset lies handle bytes its_handle here in
+      let its_bytes = borrowed_here loader address owner segment offset lies handle bytes its_handle here in
       let its_target : t ≡ target_at (bytes_at loader.memory lies.h.slot) k = is ∙ ap (λ (bs : List ℕ). target_at bs k) its_bytes in
       let passes = entry_passes loader address owner segment offset lies sound (ap is_table its_head ∙ table) k (subst (λ (h : SegmentHead). k < entry_count h.length) (sym its_head) inside) in
       let there : named_by (kept_outlines loader.users) owner t.file ≡ Some passes.0 = ap (λ (x : Target). named_by (kept_outlines loader.users) owner x.file) its_target ∙ passes.1 in

@@ -269,7 +269,7 @@ module _ (held : FileMap) (old : Loaded) (state : Machine) (id : ℕ) (sound : I
 -- a restart is the machine's step
 pub restarts_meet : (store : Option FileMap) (held : FileMap) (old new : Loaded) (state : Machine) (id : ℕ) (result : Result answers.Started LoaderFault) (before now : ℕ) → store ≡ Some held → IsSound old.memory old.users
     → DidRestart store old id result new before now → Agrees held old state → Meets RoomRule held state (Restart id) (load_reply result) new before now
-restarts_meet store held old new state id result before now told sound did agrees = go result (subst (λ (s : Option FileMap). DidRestart s old id result new before now) told did)
+restarts_meet store held old new state id result before now reported sound did agrees = go result (subst (λ (s : Option FileMap). DidRestart s old id result new before now) reported did)
   where
     go : (r : Result answers.Started LoaderFault) → DidRestart (Some held) old id r new before now → Meets RoomRule held state (Restart id) (load_reply r) new before now
     go (Ok started) did' = subst (λ (n : ℕ). Meets RoomRule held state (Restart id) (Started started.user started.entry) new before n) (sym did'.3) (restarted held old state id sound agrees did'.0 did'.1 new started before did'.2)

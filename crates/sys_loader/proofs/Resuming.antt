@@ -74,20 +74,20 @@ in_statics (g ∷ heads) handles first (suc k) head h is static has =
 abbrev IsStatics : List SegmentHead → List (Option Handle) → ℕ → Handle → Type 0
 IsStatics heads handles first h = (k : ℕ) × (head : SegmentHead) × (slice_get heads k ≡ Some head) × (is_static head ≡ true) × (handle_at handles (first + k) ≡ Some h)
 
-one_behind : (g : SegmentHead) (heads : List SegmentHead) (handles : List (Option Handle)) (first : ℕ) (h : Handle) → IsStatics heads handles (first + 1) h → IsStatics (g ∷ heads) handles first h
-one_behind g heads handles first h was = (suc was.0, was.1, was.2, was.3, ap (handle_at handles) (next_number first was.0) ∙ was.4)
+one_after : (g : SegmentHead) (heads : List SegmentHead) (handles : List (Option Handle)) (first : ℕ) (h : Handle) → IsStatics heads handles (first + 1) h → IsStatics (g ∷ heads) handles first h
+one_after g heads handles first h was = (suc was.0, was.1, was.2, was.3, ap (handle_at handles) (next_number first was.0) ∙ was.4)
 
 statics_in : (heads : List SegmentHead) (handles : List (Option Handle)) (first i : ℕ) (h : Handle) → slice_get (static_handles heads handles first) i ≡ Some (Some h) → IsStatics heads handles first h
 statics_in [] handles first i h is = absurd cc
 statics_in (g ∷ heads) handles first i h is = elim (decide (is_static g)) [
   | inl static ↦ here i static (λ j e. statics_in heads handles (first + 1) j h e) (sym (ap (λ (l : List (Option Handle)). slice_get l i) (statics_cons g heads handles first static)) ∙ is)
-  | inr other ↦ one_behind g heads handles first h (statics_in heads handles (first + 1) i h (sym (ap (λ (l : List (Option Handle)). slice_get l i) (statics_pass g heads handles first other)) ∙ is))
+  | inr other ↦ one_after g heads handles first h (statics_in heads handles (first + 1) i h (sym (ap (λ (l : List (Option Handle)). slice_get l i) (statics_pass g heads handles first other)) ∙ is))
 ]
   where
     here : (j : ℕ) → is_static g ≡ true → ((m : ℕ) → slice_get (static_handles heads handles (first + 1)) m ≡ Some (Some h) → IsStatics heads handles (first + 1) h)
         → slice_get (handle_at handles first ∷ static_handles heads handles (first + 1)) j ≡ Some (Some h) → IsStatics (g ∷ heads) handles first h
     here zero static later e = (zero, g, refl, static, has_handle handles first ∙ same_Some (handle_at handles first) (Some h) e)
-    here (suc j) static later e = one_behind g heads handles first h (later j e)
+    here (suc j) static later e = one_after g heads handles first h (later j e)
 
 -- where all static segments are there, each one is
 pub there_all : (slots : Slots) (heads : List SegmentHead) (handles : List (Option Handle)) (first k : ℕ) (head : SegmentHead) → are_there slots heads handles first ≡ true → slice_get heads k ≡ Some head → is_static head ≡ true

@@ -19,7 +19,7 @@ use Rattle.loader_machine.specs.Heads.{head_of, wants_of, number_of}
 use Rattle.loader_machine.specs.State.{no_pokes, first_id, max_users}
 use Rattle.loader_machine.specs.Presences.{handle_at}
 use Rattle.loader_machine.specs.Stands.{setting, stands}
-use Rattle.loader_machine.specs.Found.{Joined, Stops, Joins, joined_behind}
+use Rattle.loader_machine.specs.Found.{Joined, Stops, Joins, joined_after}
 use Rattle.loader_machine.specs.Steps.{lost_refusal}
 use Rattle.loader_agrees.specs.Agrees.{LoadedUser, Loaded}
 use Rattle.loader_agrees.specs.Acts.{HasBegun, joined_kept, joined_kepts}
@@ -44,7 +44,7 @@ AreRowsRead held (path ∷ paths) before now joined =
     (IsUnread held path before now × (joined ≡ Stops 1 fault.CannotRead))
     ⊎ ((file : List ℕ) × IsRead held path file
     × (((bad : LoadFault) × IsFirstRuntimeFault file bad × (joined ≡ Stops 1 (fault.BadFile bad)) × (now ≡ before))
-    ⊎ ((segments : List Segment) × IsRuntime file segments × (rest : Joined) × AreRowsRead held paths before now rest × (joined ≡ joined_behind segments rest))))
+    ⊎ ((segments : List Segment) × IsRuntime file segments × (rest : Joined) × AreRowsRead held paths before now rest × (joined ≡ joined_after segments rest))))
 
 -- ---- a load
 

@@ -15,7 +15,7 @@ use Rattle.loader_machine.specs.Commands.{Reply, Refused}
 use Rattle.loader_machine.specs.Commands as commands
 use Rattle.loader_machine.specs.State.{named_by}
 use Rattle.loader_agrees.specs.Agrees.{Loaded, kept_outlines, seen_by}
-use Rattle.loader_agrees.specs.Acts.{HasLent, LiesIn}
+use Rattle.loader_agrees.specs.Acts.{HasBorrowed, LiesIn}
 use Rattle.sys_loader.specs.declared.answers.Entered.{Entered}
 use Rattle.sys_loader.specs.declared.jsl.Reached.{Reached}
 use Rattle.sys_loader.specs.declared.jsl.Reached.TheVariants as reached
@@ -29,7 +29,7 @@ jsl_reply (Err why) = Refused why
 -- a JSL to an address stands at an offset of an active segment
 pub record HasJsl (loader : Loaded) (id number at address : ℕ) : Type 0 where
   pub bytes : List ℕ
-  pub lent : HasLent loader id number at 4 bytes
+  pub loaned : HasBorrowed loader id number at 4 bytes
   pub jsl : no_jsl bytes ≡ None
   pub address_is : address ≡ address_of bytes
 
@@ -51,7 +51,7 @@ pub record IsEntry (loader : Loaded) (place : Entered) (t : Target) : Type 0 whe
 -- or it lies in a table, and is no entry's code.
 pub data IsJslRefusal (loader : Loaded) (id number at : ℕ) (why : LoaderFault) : Type 0 where
   NoBytes : bytes_refusal loader.memory.slots (seen_by loader id) number at 4 ≡ Some why → IsJslRefusal loader id number at why
-  NoJsl : (bytes : List ℕ) → HasLent loader id number at 4 bytes → no_jsl bytes ≡ Some why → IsJslRefusal loader id number at why
+  NoJsl : (bytes : List ℕ) → HasBorrowed loader id number at 4 bytes → no_jsl bytes ≡ Some why → IsJslRefusal loader id number at why
   NoPlace : (address : ℕ) → HasJsl loader id number at address → ((user segment offset : ℕ) → ¬ LiesIn loader address user segment offset)
       → why ≡ fault.NoTarget → IsJslRefusal loader id number at why
   NoEntry : (place : Entered) → (leads : LeadsTo loader id number at place) → is_table leads.lies.is.head ≡ true

@@ -13,7 +13,7 @@ ghost use Rattle.loader_machine.specs.Refusals.{bytes_refusal, info_refusal};
 ghost use Rattle.loader_machine.specs.Commands as commands;
 ghost use Rattle.loader_machine.specs.Commands.{Bytes, Shown, Refused};
 ghost use Rattle.loader_agrees.specs.Agrees.{Loaded, kept_outlines, seen_in, seen_by, IsSound, Agrees, Met};
-ghost use Rattle.loader_agrees.specs.Acts.{CanRead, HasLent, HasTold, LiesIn};
+ghost use Rattle.loader_agrees.specs.Acts.{CanRead, HasBorrowed, HasReported, LiesIn};
 ghost use Rattle.loader_agrees.specs.Checks.{PassesRunning, StopsRunning};
 ghost use Rattle.loader_users.specs.View.{kept};
 ghost use Rattle.sys_loader.specs.Replies.{info_reply, where_reply};
@@ -168,7 +168,7 @@ impl Loader {
         at: u32,
         count: u32,
     ) -> Result<&[u8], LoaderFault>
-        ensures lent { IfOk result (λ bytes. HasLent self.now user segment at count bytes.now) }
+        ensures loaned { IfOk result (λ bytes. HasBorrowed self.now user segment at count bytes.now) }
         ensures refused { IfErr result (λ fault. bytes_refusal self.now.memory.slots (seen_by self.now user) segment at count ≡ Some fault) }
     {
         self.recall_invariant();
@@ -189,15 +189,15 @@ impl Loader {
             → Met RoomRule held state (Bytes user segment at length) (Refused fault) self.now) }
 
         // And so much is true of it over any files.
-        ensures lent { IfOk result (λ bytes. HasLent self.now user segment at length bytes.now) }
+        ensures loaned { IfOk result (λ bytes. HasBorrowed self.now user segment at length bytes.now) }
         ensures refused { IfErr result (λ fault. bytes_refusal self.now.memory.slots (seen_by self.now user) segment at length ≡ Some fault) }
     {
         self.borrow_bytes(user, segment, at, length)
     }
 
     // What is known of a segment.
-    fn told(&self, user: u16, segment: u16) -> Result<Info, LoaderFault>
-        ensures told { IfOk result (λ info. HasTold self.now user segment info.presence info.length info.kind) }
+    fn reported(&self, user: u16, segment: u16) -> Result<Info, LoaderFault>
+        ensures reported { IfOk result (λ info. HasReported self.now user segment info.presence info.length info.kind) }
         ensures refused { IfErr result (λ fault. info_refusal (seen_by self.now user) segment ≡ Some fault) }
     {
         let Some(kept) = self.user(user) else {
@@ -217,10 +217,10 @@ impl Loader {
         ensures meets { (held : FileMap) (state : Machine) → Agrees held self.now state → Met RoomRule held state (commands.Info user segment) (info_reply result) self.now }
 
         // And so much is true of it over any files.
-        ensures told { IfOk result (λ info. HasTold self.now user segment info.presence info.length info.kind) }
+        ensures reported { IfOk result (λ info. HasReported self.now user segment info.presence info.length info.kind) }
         ensures refused { IfErr result (λ fault. info_refusal (seen_by self.now user) segment ≡ Some fault) }
     {
-        self.told(user, segment)
+        self.reported(user, segment)
     }
 
     // The place of an address among the users' active segments.

@@ -371,7 +371,7 @@ fn terms_stand_in_postfix_order(rt: HostRuntime) -> Result<(), Fail> {
 }
 
 /// The fault of a statement behind other lines.
-fn fault_behind(alloc: Global, front: &str, text: &str) -> Result<Option<TextFault>, AllocError> {
+fn fault_after(alloc: Global, front: &str, text: &str) -> Result<Option<TextFault>, AllocError> {
     let source = format!(in alloc; "{front}{text}")?;
     Ok(last_operand(alloc, source.as_str().as_bytes()).err())
 }
@@ -425,11 +425,11 @@ fn bad_operands_have_their_line(rt: HostRuntime) -> Result<(), Fail> {
     let alloc = rt.alloc();
     for text in &BAD_OPERANDS {
         let want = Some(fault(TextCause::BadOperand, 2));
-        assert_eq!(rt; fault_behind(alloc, "*\n ", text)?, want, "{text}");
+        assert_eq!(rt; fault_after(alloc, "*\n ", text)?, want, "{text}");
     }
     for text in &BAD_NUMBERS {
         let want = Some(fault(TextCause::BadNumber, 3));
-        assert_eq!(rt; fault_behind(alloc, "\n\n ", text)?, want, "{text}");
+        assert_eq!(rt; fault_after(alloc, "\n\n ", text)?, want, "{text}");
     }
     Ok(())
 }

@@ -75,7 +75,7 @@ fn written(alloc: Global, content: &[u8], patches: &Vec<Patch>) -> Result<Body, 
 }
 
 /// Writes the body, and prints how long it is.
-fn tell_body(rt: &HostRuntime, content: &[u8], patches: &Vec<Patch>) -> io::Result<()> {
+fn report_body(rt: &HostRuntime, content: &[u8], patches: &Vec<Patch>) -> io::Result<()> {
     match written(rt.alloc(), content, patches) {
         Ok(body) => println!(rt; "body {} zeros {}", body.bytes.len(), body.zeros),
         Err(fault) => println!(rt; "refused {fault:?}"),
@@ -83,7 +83,7 @@ fn tell_body(rt: &HostRuntime, content: &[u8], patches: &Vec<Patch>) -> io::Resu
 }
 
 /// Prints how long the input is, or the body.
-fn tell_input(
+fn report_input(
     rt: &HostRuntime,
     what: &str,
     content: &[u8],
@@ -92,7 +92,7 @@ fn tell_input(
     if what == "input" {
         println!(rt; "content {} patches {}", content.len(), patches.len())
     } else {
-        tell_body(rt, content, patches)
+        report_body(rt, content, patches)
     }
 }
 
@@ -100,7 +100,7 @@ fn tell_input(
 fn make(rt: &HostRuntime, what: &str, count: u32) -> io::Result<()> {
     let content = bytes(rt.alloc(), count.wrapping_mul(16))?;
     let patches = patches(rt.alloc(), count)?;
-    tell_input(rt, what, &content, &patches)
+    report_input(rt, what, &content, &patches)
 }
 
 /// Does what the words say: `input` makes the input alone, and `body` writes the body too.

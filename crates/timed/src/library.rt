@@ -6,7 +6,7 @@ use lib_dict::read_dictionary;
 use std::io;
 
 /// Prints how many rows the dictionary has.
-pub fn tell_rows(rt: &HostRuntime, library: &[u8]) -> io::Result<()>
+pub fn report_rows(rt: &HostRuntime, library: &[u8]) -> io::Result<()>
     requires { length library.now < 2 ^ 32 }
 {
     match read_dictionary(rt.alloc(), library) {

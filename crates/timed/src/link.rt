@@ -36,7 +36,7 @@ fn count_titles(program: &Program, members: u32) -> u32 {
 }
 
 /// Prints how many members there are, how many load segments, and how many members have a definition of their first name.
-fn tell_program(rt: &HostRuntime, program: &Program) -> io::Result<()> {
+fn report_program(rt: &HostRuntime, program: &Program) -> io::Result<()> {
     let members = program.members();
     let titles = count_titles(program, members);
     println!(rt;
@@ -46,7 +46,7 @@ fn tell_program(rt: &HostRuntime, program: &Program) -> io::Result<()> {
 }
 
 /// Prints why the files aren't resolved.
-fn tell_fault(rt: &HostRuntime, cause: LinkCause, spot: Spot) -> io::Result<()> {
+fn report_fault(rt: &HostRuntime, cause: LinkCause, spot: Spot) -> io::Result<()> {
     println!(rt;
         "refused {cause:?} {} {} {}",
         spot.file, spot.segment, spot.at
@@ -58,16 +58,16 @@ fn resolve_all(rt: &HostRuntime, inputs: &Vec<Vec<u8>>) -> io::Result<()> {
     match resolved(rt.alloc(), inputs) {
         None => println!(rt; "too long"),
         Some(Ok(program)) => {
-            let told = tell_program(rt, &program);
+            let reported = report_program(rt, &program);
             drop(program);
-            told
+            reported
         }
-        Some(Err(fault)) => tell_fault(rt, fault.cause, fault.spot),
+        Some(Err(fault)) => report_fault(rt, fault.cause, fault.spot),
     }
 }
 
 /// Prints what is told of the files for a word.
-fn tell(rt: &HostRuntime, what: &str, inputs: &Vec<Vec<u8>>) -> io::Result<()> {
+fn reveal(rt: &HostRuntime, what: &str, inputs: &Vec<Vec<u8>>) -> io::Result<()> {
     if what == "resolve" {
         resolve_all(rt, inputs)
     } else {
@@ -81,7 +81,7 @@ pub fn run<'w>(rt: &HostRuntime, words: &'w [String]) -> io::Result<Ended<'w>> {
         return Ok(Ended::Misused);
     };
     match read_all(rt, paths) {
-        Ok(inputs) => done(tell(rt, what.as_str(), &inputs)),
+        Ok(inputs) => done(reveal(rt, what.as_str(), &inputs)),
         Err(path) => Ok(Ended::Unread(path)),
     }
 }

@@ -81,7 +81,7 @@ fn part_count(load: &LoadFile) -> u32 {
 }
 
 /// What is told of a file that is read, for a word: the sum of its bytes in memory, its parts, or how many segments it has.
-fn told_of(alloc: Global, what: &str, load: &LoadFile) -> Result<u32, AllocError> {
+fn reported_of(alloc: Global, what: &str, load: &LoadFile) -> Result<u32, AllocError> {
     match what {
         "patch" => patched_sum(alloc, load),
         "cells" => Ok(part_count(load)),
@@ -90,19 +90,19 @@ fn told_of(alloc: Global, what: &str, load: &LoadFile) -> Result<u32, AllocError
 }
 
 /// What is told of the file for a word, which may also ask for nothing.
-fn told(alloc: Global, what: &str, file: &[u8]) -> Result<u32, AllocError> {
+fn reported(alloc: Global, what: &str, file: &[u8]) -> Result<u32, AllocError> {
     if what == "input" {
         return Ok(0);
     }
     match load_of(alloc, file) {
-        Ok(load) => told_of(alloc, what, &load),
+        Ok(load) => reported_of(alloc, what, &load),
         Err(_) => Ok(0),
     }
 }
 
 /// Prints what is told of the file for a word.
-pub fn tell(rt: &HostRuntime, what: &str, file: &[u8]) -> io::Result<Ended<'static>> {
-    match told(rt.alloc(), what, file) {
+pub fn reveal(rt: &HostRuntime, what: &str, file: &[u8]) -> io::Result<Ended<'static>> {
+    match reported(rt.alloc(), what, file) {
         Ok(number) => done(println!(rt; "{what} {number}")),
         Err(AllocError) => Ok(Ended::Memory),
     }

@@ -6,7 +6,7 @@ use orca_macro::expand;
 use std::io;
 
 /// Prints how many lines come of a source with macro files.
-fn tell(rt: &HostRuntime, source: &[u8], macros: &Vec<Vec<u8>>) -> io::Result<()> {
+fn reveal(rt: &HostRuntime, source: &[u8], macros: &Vec<Vec<u8>>) -> io::Result<()> {
     match expand(rt.alloc(), source, macros) {
         Ok(lines) => println!(rt; "lines {}", lines.count()),
         Err(fault) => println!(rt; "refused {:?} {} {}", fault.cause, fault.file, fault.line),
@@ -16,7 +16,7 @@ fn tell(rt: &HostRuntime, source: &[u8], macros: &Vec<Vec<u8>>) -> io::Result<()
 /// Reads the macro files of a source, and does the task.
 fn run_with<'w>(rt: &HostRuntime, source: &[u8], paths: &'w [String]) -> io::Result<Ended<'w>> {
     match read_all(rt, paths) {
-        Ok(macros) => done(tell(rt, source, &macros)),
+        Ok(macros) => done(reveal(rt, source, &macros)),
         Err(path) => Ok(Ended::Unread(path)),
     }
 }

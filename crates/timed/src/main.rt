@@ -27,9 +27,9 @@ fn run_on_bytes(
     requires { length file.now < 2 ^ 32 }
 {
     match (task, words) {
-        ("library", []) => done(library::tell_rows(rt, file)),
-        ("load", [what]) => load::tell(rt, what.as_str(), file),
-        ("text", [what]) => done(text::tell(rt, what.as_str(), file)),
+        ("library", []) => done(library::report_rows(rt, file)),
+        ("load", [what]) => load::reveal(rt, what.as_str(), file),
+        ("text", [what]) => done(text::reveal(rt, what.as_str(), file)),
         _ => Ok(Ended::Misused),
     }
 }

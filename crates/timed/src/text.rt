@@ -31,7 +31,7 @@ fn operands(alloc: Global, lines: &Lines) -> OperandCount {
 }
 
 /// Prints how many operands the lines have.
-fn tell_operands(rt: &HostRuntime, lines: &Lines) -> io::Result<()> {
+fn report_operands(rt: &HostRuntime, lines: &Lines) -> io::Result<()> {
     let count = operands(rt.alloc(), lines);
     println!(rt;
         "lines {} operands {} refused {}",
@@ -42,18 +42,18 @@ fn tell_operands(rt: &HostRuntime, lines: &Lines) -> io::Result<()> {
 }
 
 /// Prints how many lines there are and, where asked for, how many operands.
-fn tell_lines(rt: &HostRuntime, what: &str, lines: &Lines) -> io::Result<()> {
+fn report_lines(rt: &HostRuntime, what: &str, lines: &Lines) -> io::Result<()> {
     if what == "lines" {
         println!(rt; "lines {}", lines.count())
     } else {
-        tell_operands(rt, lines)
+        report_operands(rt, lines)
     }
 }
 
 /// Reads a source, and prints what it has.
-pub fn tell(rt: &HostRuntime, what: &str, source: &[u8]) -> io::Result<()> {
+pub fn reveal(rt: &HostRuntime, what: &str, source: &[u8]) -> io::Result<()> {
     match read_lines(rt.alloc(), 0, source) {
-        Ok(lines) => tell_lines(rt, what, &lines),
+        Ok(lines) => report_lines(rt, what, &lines),
         Err(fault) => println!(rt; "refused {:?} {}", fault.cause, fault.line),
     }
 }

@@ -8,10 +8,10 @@ use std::test::Fail;
 const LOOP: &str = " ACTR 600000\n LCLA &I\n.A ANOP\n&I SETA &I+1\n AIF &I<333332,.A\n";
 
 /// A fault's cause, its file and its line.
-type Told = (MacroCause, u32, u32);
+type Reported = (MacroCause, u32, u32);
 
 /// Lines behind the loop, of which two are the most, and the fault.
-static BEHIND: [(&str, Option<Told>); 2] = [
+static AFTER: [(&str, Option<Reported>); 2] = [
     (" ANOP\n ANOP\n", None),
     (
         " ANOP\n ANOP\n ANOP\n",
@@ -20,9 +20,9 @@ static BEHIND: [(&str, Option<Told>); 2] = [
 ];
 
 /// The fault of the loop with lines behind it.
-fn fault_of(alloc: Global, behind: &str) -> Result<Option<Told>, AllocError> {
+fn fault_of(alloc: Global, following: &str) -> Result<Option<Reported>, AllocError> {
     let mut source = String::from_str(alloc, LOOP)?;
-    source.push_str(behind)?;
+    source.push_str(following)?;
     match expand(alloc, source.as_bytes(), &Vec::new(alloc)) {
         Ok(lines) => {
             drop(lines);
@@ -35,10 +35,10 @@ fn fault_of(alloc: Global, behind: &str) -> Result<Option<Told>, AllocError> {
 /// The place of the first lines that have another fault.
 fn first_unlike_fault(
     alloc: Global,
-    rows: &[(&str, Option<Told>)],
+    rows: &[(&str, Option<Reported>)],
 ) -> Result<Option<usize>, AllocError> {
-    for (place, (behind, wanted)) in rows.iter().enumerate() {
-        if fault_of(alloc, behind)? != *wanted {
+    for (place, (following, wanted)) in rows.iter().enumerate() {
+        if fault_of(alloc, following)? != *wanted {
             return Ok(Some(place));
         }
     }
@@ -47,6 +47,6 @@ fn first_unlike_fault(
 
 #[test]
 fn a_million_lines_are_visited(rt: HostRuntime) -> Result<(), Fail> {
-    all_alike(&rt, first_unlike_fault(rt.alloc(), &BEHIND)?);
+    all_alike(&rt, first_unlike_fault(rt.alloc(), &AFTER)?);
     Ok(())
 }

@@ -47,10 +47,10 @@ static OTHERS: [(File, &str); 3] = [
 /// Whether restarts answer so, and the other byte is shown then.
 fn over_others(alloc: Global, loader: &mut Loader) -> Result<bool, Fail> {
     let mut files = MemoryFiles::new(alloc, Vec::new(alloc));
-    for (file, told) in &OTHERS {
+    for (file, reported) in &OTHERS {
         let bytes = bytes_of(alloc, file)?;
         files.set("prog", &bytes)?;
-        if restarted(&mut files, loader) != *told {
+        if restarted(&mut files, loader) != *reported {
             return Ok(false);
         }
     }

@@ -43,7 +43,7 @@ fn sum_of(loader: &Loader, count: u16) -> u32 {
 }
 
 /// Of the loader that was handed out the sum of its first segments, and whether it has one more.
-fn told(last: &Option<Loader>, segments: u16) -> Option<(u32, bool)> {
+fn reported(last: &Option<Loader>, segments: u16) -> Option<(u32, bool)> {
     match last {
         Some(loader) => Some((sum_of(loader, segments), has_more(loader, segments))),
         None => None,
@@ -54,7 +54,7 @@ fn told(last: &Option<Loader>, segments: u16) -> Option<(u32, bool)> {
 fn first_unlike_workload(alloc: Global, rows: &[Workload]) -> Result<Option<usize>, Fail> {
     for (place, (words, sink, segments, wanted)) in rows.iter().enumerate() {
         let (_status, last) = run_whole(alloc, words, &KEPT, &[1], sink)?;
-        let found = told(&last, *segments);
+        let found = reported(&last, *segments);
         drop(last);
         if found != *wanted {
             return Ok(Some(place));

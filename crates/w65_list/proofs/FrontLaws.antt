@@ -9,7 +9,7 @@ use Rattle.omf_format.specs.Reading.{Reader, next_answer, after_next, records_of
 use Rattle.omf_format.specs.File.{Segment}
 use Rattle.w65_list.proofs.RecordRuns.{rest_of}
 use Rattle.omf_records.specs.WalkLaws.{walk_on, walk_ends}
-use Rattle.object_meaning.specs.Sizes.{size_at, records_with_offsets, place_behind, body_size}
+use Rattle.object_meaning.specs.Sizes.{size_at, records_with_offsets, place_after, body_size}
 use Rattle.list_meaning.specs.Listing.{greatest_length, is_lost, has_lost_place}
 use Rattle.w65_list.specs.FrontView.{has_listable_length, is_lost_from, HaveCells, AreOver, Counted}
 
@@ -36,13 +36,13 @@ lost_on : (most place : ℕ) (before : List (ℕ × Record)) (found : ℕ × Rec
 lost_on most place before found not so_far rest =
     ap (is_lost_from 0) (append_assoc before (found ∷ []) rest) ∙ so_far (found ∷ rest) ∙ ap (λ (b : Bool). b || is_lost_from (place + size_at place found.1) rest) not
 
-size_on : (place : ℕ) (before : List (ℕ × Record)) (found : ℕ × Record) → ((rest : List (ℕ × Record)) → place_behind 0 (before ++ rest) ≡ place_behind place rest)
-    → (rest : List (ℕ × Record)) → place_behind 0 ((before ++ found ∷ []) ++ rest) ≡ place_behind (place + size_at place found.1) rest
-size_on place before found so_far rest = ap (place_behind 0) (append_assoc before (found ∷ []) rest) ∙ so_far (found ∷ rest)
+size_on : (place : ℕ) (before : List (ℕ × Record)) (found : ℕ × Record) → ((rest : List (ℕ × Record)) → place_after 0 (before ++ rest) ≡ place_after place rest)
+    → (rest : List (ℕ × Record)) → place_after 0 ((before ++ found ∷ []) ++ rest) ≡ place_after (place + size_at place found.1) rest
+size_on place before found so_far rest = ap (place_after 0) (append_assoc before (found ∷ []) rest) ∙ so_far (found ∷ rest)
 
-pub counted_on : (start at next : Reader) (most place behind : ℕ) (found : ℕ × Record) → Counted start at most place → next_answer at ≡ Ok (Some found) → next ≡ after_next at
-    → is_lost place found.1 ≡ false → behind ≡ place + size_at place found.1 → behind ≤ most → Counted start next most behind
-counted_on start at next most place behind found counted e after not is few = subst (Counted start next most) (sym is) (record {
+pub counted_on : (start at next : Reader) (most place following : ℕ) (found : ℕ × Record) → Counted start at most place → next_answer at ≡ Ok (Some found) → next ≡ after_next at
+    → is_lost place found.1 ≡ false → following ≡ place + size_at place found.1 → following ≤ most → Counted start next most following
+counted_on start at next most place following found counted e after not is few = subst (Counted start next most) (sym is) (record {
   before = counted.before ++ found ∷ [];
   run = walk_on start at next counted.before found counted.run e after;
   lost = lost_on most place counted.before found not counted.lost;
@@ -55,24 +55,24 @@ counted_end start at most place body counted e =
     let all : counted.before ≡ records_of start = walk_ends start at body.last counted.before (records_of start) counted.run e body.run body.ended in
     record {
       lost = ap (is_lost_from 0) (sym all ∙ sym (append-nil counted.before)) ∙ counted.lost [];
-      size = ap (place_behind 0) (sym all ∙ sym (append-nil counted.before)) ∙ counted.size [];
+      size = ap (place_after 0) (sym all ∙ sym (append-nil counted.before)) ∙ counted.size [];
     }
 
-grows : (place : ℕ) (founds : List (ℕ × Record)) → place ≤ place_behind place founds
+grows : (place : ℕ) (founds : List (ℕ × Record)) → place ≤ place_after place founds
 grows place [] = omega arith
 grows place (found ∷ founds) = omega (arith, grows (place + size_at place found.1) founds)
 
 pub counted_lost : (start at : Reader) (most place : ℕ) (found : ℕ × Record) → IsBody start → Counted start at most place → next_answer at ≡ Ok (Some found) → is_lost place found.1 ≡ true → AreOver most (records_of start)
 counted_lost start at most place found body counted e lost =
     let rest = rest_of start counted.before (records_of start) at body.last found counted.run body.run body.ended e in
-    inl (ap (is_lost_from 0) rest.whole ∙ counted.lost (found ∷ rest.behind) ∙ ap (λ (b : Bool). b || is_lost_from (place + size_at place found.1) rest.behind) lost)
+    inl (ap (is_lost_from 0) rest.whole ∙ counted.lost (found ∷ rest.following) ∙ ap (λ (b : Bool). b || is_lost_from (place + size_at place found.1) rest.following) lost)
 
-pub counted_over : (start at : Reader) (most place behind : ℕ) (found : ℕ × Record) → IsBody start → Counted start at most place → next_answer at ≡ Ok (Some found) → behind ≡ place + size_at place found.1 → most < behind
+pub counted_over : (start at : Reader) (most place following : ℕ) (found : ℕ × Record) → IsBody start → Counted start at most place → next_answer at ≡ Ok (Some found) → following ≡ place + size_at place found.1 → most < following
     → AreOver most (records_of start)
-counted_over start at most place behind found body counted e is over =
+counted_over start at most place following found body counted e is over =
     let rest = rest_of start counted.before (records_of start) at body.last found counted.run body.run body.ended e in
-    let size : place_behind 0 (records_of start) ≡ place_behind (place + size_at place found.1) rest.behind = ap (place_behind 0) rest.whole ∙ counted.size (found ∷ rest.behind) in
-    inr (omega (arith, size, is, over, grows (place + size_at place found.1) rest.behind))
+    let size : place_after 0 (records_of start) ≡ place_after (place + size_at place found.1) rest.following = ap (place_after 0) rest.whole ∙ counted.size (found ∷ rest.following) in
+    inr (omega (arith, size, is, over, grows (place + size_at place found.1) rest.following))
 
 -- ---- LENGTH
 
@@ -80,7 +80,7 @@ lost_is : (s : Segment) → has_lost_place s ≡ is_lost_from 0 s.records
 unfolding records_with_offsets
 lost_is s = refl
 
-size_is : (s : Segment) → body_size s ≡ place_behind 0 s.records
+size_is : (s : Segment) → body_size s ≡ place_after 0 s.records
 unfolding body_size
 size_is s = refl
 

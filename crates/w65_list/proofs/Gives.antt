@@ -8,7 +8,7 @@ use Rattle.omf_format.specs.Record as format
 use Rattle.object_meaning.specs.laws.TreeInLaws.{tree_in-again}
 use Rattle.list_meaning.specs.Listed.{ListedStatement, Wanted}
 use Rattle.list_meaning.specs.Listing as listing
-use Rattle.list_meaning.specs.Listing.{Given, are_short, if_short, then_said, with_run_written, split_last, behind_byte, is_held, held_back, dc_of_formula, weak_of, simple_of, number_of, formula_given, formula_listable, expr_listable, term_listable, term_may_stand, is_open, is_some_name, is_some_wanted, follows_opcode, equate_given, on_tree, given_by}
+use Rattle.list_meaning.specs.Listing.{Given, are_short, if_short, then_said, with_run_written, split_last, after_byte, is_held, held_back, dc_of_formula, weak_of, simple_of, number_of, formula_given, formula_listable, expr_listable, term_listable, term_may_stand, is_open, is_some_name, is_some_wanted, follows_opcode, equate_given, on_tree, given_by}
 use Rattle.list_lines.specs.declared.output.Output.{Output}
 use Rattle.w65_list.specs.declared.records.PendingRun.{PendingRun}
 use Rattle.w65_list.specs.Giving.{Gave, IsGiven, held_by, held_with, equate_by}
@@ -20,7 +20,7 @@ use Rattle.list_lines.proofs.Written.{wrote_one, wrote_both}
 pub split_snoc : (rest : List ℕ) (x : ℕ) → split_last (rest ++ x ∷ []) ≡ Some (rest, x)
 unfolding split_last
 split_snoc [] x = refl
-split_snoc (byte ∷ rest) x = ap (behind_byte byte) (split_snoc rest x)
+split_snoc (byte ∷ rest) x = ap (after_byte byte) (split_snoc rest x)
 
 pub last_split : (run rest : List ℕ) (x : ℕ) → IsLastAndRest run x rest → Some (rest, x) ≡ split_last run
 last_split run rest x is = sym (ap split_last is.0 ∙ split_snoc rest x)
@@ -78,7 +78,7 @@ unfolding split_last
 split_back [] rest x e = absurd cc
 split_back (byte ∷ run) rest x e = by (split_back run) (split_last run) refl e
   where
-    by : ((rest : List ℕ) (x : ℕ) → split_last run ≡ Some (rest, x) → run ≡ rest ++ x ∷ []) → (o : Option (List ℕ × ℕ)) → split_last run ≡ o → behind_byte byte o ≡ Some (rest, x) → byte ∷ run ≡ rest ++ x ∷ []
+    by : ((rest : List ℕ) (x : ℕ) → split_last run ≡ Some (rest, x) → run ≡ rest ++ x ∷ []) → (o : Option (List ℕ × ℕ)) → split_last run ≡ o → after_byte byte o ≡ Some (rest, x) → byte ∷ run ≡ rest ++ x ∷ []
     by back None none e =
         let empty : run ≡ [] = empty_of run none in
         let parts : ◌≡◌ {A = List ℕ × ℕ} ([], byte) (rest, x) = some_same e in
@@ -91,7 +91,7 @@ split_back (byte ∷ run) rest x e = by (split_back run) (split_last run) refl e
         empty_of [] e = refl
         empty_of (b ∷ run) e = absurd (none_not (split_last run) e)
           where
-            none_not : (o : Option (List ℕ × ℕ)) → behind_byte b o ≡ None → ⊥
+            none_not : (o : Option (List ℕ × ℕ)) → after_byte b o ≡ None → ⊥
             none_not None e = cc
             none_not (Some p) e = cc
     by back (Some p) some e =

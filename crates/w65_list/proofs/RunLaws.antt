@@ -5,7 +5,7 @@ use Rattle.std.specs.List.{list_all}
 use Rattle.std.proofs.lemmas.List.Folds.{list_all-append}
 use Rattle.asm_meaning.specs.Instruction.{Widths}
 use Rattle.list_meaning.specs.Listed.{ListedStatement}
-use Rattle.list_meaning.specs.Listing.{is_short, behind_opcode, said_instruction, widths_past, said_rest, widths_rest}
+use Rattle.list_meaning.specs.Listing.{is_short, after_opcode, said_instruction, widths_past, said_rest, widths_rest}
 use Rattle.list_lines.specs.declared.output.Output.{Output}
 use Rattle.list_lines.specs.Kept.{with_lines}
 use Rattle.list_lines.specs.LineView.{WroteAll}
@@ -27,36 +27,36 @@ widths-taken w (suc n) [] = refl
 widths-taken w (suc n) (byte ∷ run) = widths-taken w n run
 
 -- the first instruction of a run, and the others
-pub rest_first : (w : Widths) (opcode : ℕ) (behind : List ℕ) → said_rest w 0 (opcode ∷ behind)
-    ≡ said_instruction w opcode (take (behind_opcode w opcode) behind)
-    ++ said_rest (widths_past w opcode (take (behind_opcode w opcode) behind)) 0 (drop (length (take (behind_opcode w opcode) behind)) behind)
+pub rest_first : (w : Widths) (opcode : ℕ) (following : List ℕ) → said_rest w 0 (opcode ∷ following)
+    ≡ said_instruction w opcode (take (after_opcode w opcode) following)
+    ++ said_rest (widths_past w opcode (take (after_opcode w opcode) following)) 0 (drop (length (take (after_opcode w opcode) following)) following)
 unfolding said_rest
-rest_first w opcode behind =
-    let bytes = take (behind_opcode w opcode) behind in
-    ap (λ (l : List ListedStatement). said_instruction w opcode bytes ++ l) (rest-taken (widths_past w opcode bytes) (length bytes) behind)
+rest_first w opcode following =
+    let bytes = take (after_opcode w opcode) following in
+    ap (λ (l : List ListedStatement). said_instruction w opcode bytes ++ l) (rest-taken (widths_past w opcode bytes) (length bytes) following)
 
-pub widths_first : (w : Widths) (opcode : ℕ) (behind : List ℕ) → widths_rest w 0 (opcode ∷ behind)
-    ≡ widths_rest (widths_past w opcode (take (behind_opcode w opcode) behind)) 0 (drop (length (take (behind_opcode w opcode) behind)) behind)
+pub widths_first : (w : Widths) (opcode : ℕ) (following : List ℕ) → widths_rest w 0 (opcode ∷ following)
+    ≡ widths_rest (widths_past w opcode (take (after_opcode w opcode) following)) 0 (drop (length (take (after_opcode w opcode) following)) following)
 unfolding widths_rest
-widths_first w opcode behind = let bytes = take (behind_opcode w opcode) behind in widths-taken (widths_past w opcode bytes) (length bytes) behind
+widths_first w opcode following = let bytes = take (after_opcode w opcode) following in widths-taken (widths_past w opcode bytes) (length bytes) following
 
 -- ---- one step along a run
 
 -- the front of a run is its first instruction
-pub front_is : (w : Widths) (left front : List ℕ) → 1 ≤ length left → front ≡ take (behind_opcode w (get_or left 0 0) + 1) left
+pub front_is : (w : Widths) (left front : List ℕ) → 1 ≤ length left → front ≡ take (after_opcode w (get_or left 0 0) + 1) left
     → (said_rest w 0 left ≡ said_instruction w (get_or front 0 0) (drop 1 front) ++ said_rest (widths_past w (get_or front 0 0) (drop 1 front)) 0 (drop (length front) left))
     × (widths_rest w 0 left ≡ widths_rest (widths_past w (get_or front 0 0) (drop 1 front)) 0 (drop (length front) left))
 front_is w [] front some is = absurd (omega (arith, some))
-front_is w (opcode ∷ behind) front some is =
-    let n = behind_opcode w opcode in
+front_is w (opcode ∷ following) front some is =
+    let n = after_opcode w opcode in
     let more : n + 1 ≡ suc n = omega arith in
-    let same : opcode ∷ take n behind ≡ front = sym (is ∙ ap (λ (k : ℕ). take k (opcode ∷ behind)) more) in
-    subst (λ (f : List ℕ). (said_rest w 0 (opcode ∷ behind) ≡ said_instruction w (get_or f 0 0) (drop 1 f) ++ said_rest (widths_past w (get_or f 0 0) (drop 1 f)) 0 (drop (length f) (opcode ∷ behind)))
-    × (widths_rest w 0 (opcode ∷ behind) ≡ widths_rest (widths_past w (get_or f 0 0) (drop 1 f)) 0 (drop (length f) (opcode ∷ behind)))) same
-    (rest_first w opcode behind, widths_first w opcode behind)
+    let same : opcode ∷ take n following ≡ front = sym (is ∙ ap (λ (k : ℕ). take k (opcode ∷ following)) more) in
+    subst (λ (f : List ℕ). (said_rest w 0 (opcode ∷ following) ≡ said_instruction w (get_or f 0 0) (drop 1 f) ++ said_rest (widths_past w (get_or f 0 0) (drop 1 f)) 0 (drop (length f) (opcode ∷ following)))
+    × (widths_rest w 0 (opcode ∷ following) ≡ widths_rest (widths_past w (get_or f 0 0) (drop 1 f)) 0 (drop (length f) (opcode ∷ following)))) same
+    (rest_first w opcode following, widths_first w opcode following)
 
 -- the lines of the first instruction were written
-pub on_step : (w : Widths) (run : List ℕ) (old : Output) (v u : Widths) (left front : List ℕ) (a b : Output) → IsOn w run old v left a → 1 ≤ length left → front ≡ take (behind_opcode v (get_or left 0 0) + 1) left
+pub on_step : (w : Widths) (run : List ℕ) (old : Output) (v u : Widths) (left front : List ℕ) (a b : Output) → IsOn w run old v left a → 1 ≤ length left → front ≡ take (after_opcode v (get_or left 0 0) + 1) left
     → WroteAll (said_instruction v (get_or front 0 0) (drop 1 front)) a b → u ≡ widths_past v (get_or front 0 0) (drop 1 front) → IsOn w run old u (drop (length front) left) b
 on_step w run old v u left front a b on some is wrote past =
     let two = front_is v left front some is in
@@ -75,7 +75,7 @@ on_end w run old v [] a on none = (record { whole = on.whole; line = on.line; sh
 on_end w run old v (byte ∷ left) a on none = absurd (omega (arith, none))
 
 -- a line of the first instruction is too long
-pub on_long : (w : Widths) (run : List ℕ) (old : Output) (v : Widths) (left front : List ℕ) (a : Output) → IsOn w run old v left a → 1 ≤ length left → front ≡ take (behind_opcode v (get_or left 0 0) + 1) left
+pub on_long : (w : Widths) (run : List ℕ) (old : Output) (v : Widths) (left front : List ℕ) (a : Output) → IsOn w run old v left a → 1 ≤ length left → front ≡ take (after_opcode v (get_or left 0 0) + 1) left
     → list_all is_short (said_instruction v (get_or front 0 0) (drop 1 front)) ≡ false → list_all is_short (said_rest w 0 run) ≡ false
 on_long w run old v left front a on some is long =
     let two = front_is v left front some is in
@@ -87,7 +87,7 @@ widths_end w [] none = refl
 widths_end w (byte ∷ left) none = absurd (omega (arith, none))
 
 -- the widths behind the first instruction
-pub widths_on : (w u : Widths) (left front : List ℕ) → 1 ≤ length left → front ≡ take (behind_opcode w (get_or left 0 0) + 1) left → u ≡ widths_past w (get_or front 0 0) (drop 1 front)
+pub widths_on : (w u : Widths) (left front : List ℕ) → 1 ≤ length left → front ≡ take (after_opcode w (get_or left 0 0) + 1) left → u ≡ widths_past w (get_or front 0 0) (drop 1 front)
     → widths_rest u 0 (drop (length front) left) ≡ widths_rest w 0 left
 widths_on w u left front some is past = ap (λ (x : Widths). widths_rest x 0 (drop (length front) left)) past ∙ sym ((front_is w left front some is).1)
 

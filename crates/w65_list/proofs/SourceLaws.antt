@@ -32,7 +32,7 @@ use Rattle.list_lines.specs.Kept.{with_lines}
 use Rattle.list_lines.specs.LineView.{WroteAll}
 use Rattle.list_lines.specs.NamesView.{AreNames}
 use Rattle.list_lines.specs.OutputView.{finished_lines, open_line}
-use Rattle.w65_list.specs.SourceView.{WroteRecords, WroteSegment, WroteFile, equates_in, IsStop, IsRefusal, IsSegmentFault, IsTold, EquatesOn, RecordsOn, SegmentsOn}
+use Rattle.w65_list.specs.SourceView.{WroteRecords, WroteSegment, WroteFile, equates_in, IsStop, IsRefusal, IsSegmentFault, IsReported, EquatesOn, RecordsOn, SegmentsOn}
 use Rattle.w65_list.proofs.KeptLaws.{kept_all}
 use Rattle.w65_list.proofs.RecordRuns.{rest_of, layout_same}
 use Rattle.list_lines.proofs.Written.{wrote_both, with_lines-append}
@@ -160,7 +160,7 @@ pub records_stop : (f : Fields) (names : Names) (start at : Reader) (first befor
 records_stop f names start at first before old now found body on e none b all is are =
     let u = on.each b all is are in
     let rest = rest_of start on.so_far (records_of start) at body.last found on.run body.run body.ended e in
-    ap (said_from f all b) rest.whole ∙ stop_said f all b u.left on.so_far found u.lines (none u.left all u.is are) u.on rest.behind
+    ap (said_from f all b) rest.whole ∙ stop_said f all b u.left on.so_far found u.lines (none u.left all u.is are) u.on rest.following
 
 -- an answer that stopped
 abbrev pub failed : LineStop → Result (Unit {0}) LineStop
@@ -218,13 +218,13 @@ take_next segments place s is = let more : place + 1 ≡ suc place = omega arith
     by (x ∷ segments) (suc place) e = ap (λ (l : List Segment). x ∷ l) (by segments place e)
 
 record Parts (segments : List Segment) (place : ℕ) (s : Segment) : Type 0 where
-  behind : List Segment
-  whole : segments ≡ take place segments ++ s ∷ behind
+  following : List Segment
+  whole : segments ≡ take place segments ++ s ∷ following
 
 parts_at : (segments : List Segment) (place : ℕ) (s : Segment) → slice_get segments place ≡ Some s → Parts segments place s
 parts_at [] place s e = absurd cc
-parts_at (x ∷ segments) zero s e = let same : x ≡ s = cc in record { behind = segments; whole = ap (λ (y : Segment). y ∷ segments) same }
-parts_at (x ∷ segments) (suc place) s e = let more = parts_at segments place s e in record { behind = more.behind; whole = ap (λ (l : List Segment). x ∷ l) more.whole }
+parts_at (x ∷ segments) zero s e = let same : x ≡ s = cc in record { following = segments; whole = ap (λ (y : Segment). y ∷ segments) same }
+parts_at (x ∷ segments) (suc place) s e = let more = parts_at segments place s e in record { following = more.following; whole = ap (λ (l : List Segment). x ∷ l) more.whole }
 
 pub segments_on : (segments : List Segment) (place : ℕ) (s : Segment) (now new : Output) → SegmentsOn segments place now → slice_get segments place ≡ Some s → WroteSegment s now new → SegmentsOn segments (place + 1) new
 segments_on segments place s now new on found wrote = record {
@@ -253,22 +253,22 @@ segments_end segments place out on all = record {
     take_all (s ∷ segments) (suc place) all = ap (λ (l : List Segment). s ∷ l) (take_all segments place (omega (arith, all)))
 
 pub segments_stop : (segments : List Segment) (place : ℕ) (s : Segment) (now : Output) (refusal : Refusal) (fault : ListFault) → SegmentsOn segments place now → slice_get segments place ≡ Some s → IsRefusal refusal (λ at. listing_of s ≡ Err at)
-    → IsTold refusal (place + 1) fault → IsSegmentFault segments fault
-segments_stop segments place s now (refusals.NotListable at) fault on found is told =
+    → IsReported refusal (place + 1) fault → IsSegmentFault segments fault
+segments_stop segments place s now (refusals.NotListable at) fault on found is reported =
     let parts = parts_at segments place s found in
     let number : 1 + place ≡ place + 1 = omega arith in
     let stops : listing_from 1 segments ≡ Err (place + 1, at) =
-    ap (listing_from 1) parts.whole ∙ on.on (s ∷ parts.behind) ∙ ap (λ (r : Result (List ListedStatement) (ℕ × ℕ)). r >>= λ more. Ok (on.lines ++ more)) (one_stop (1 + place) s parts.behind at is)
+    ap (listing_from 1) parts.whole ∙ on.on (s ∷ parts.following) ∙ ap (λ (r : Result (List ListedStatement) (ℕ × ℕ)). r >>= λ more. Ok (on.lines ++ more)) (one_stop (1 + place) s parts.following at is)
     ∙ ap (λ (n : ℕ). Err (n, at)) number in
-    inr (place + 1, at, stops, told)
-segments_stop segments place s now refusals.Memory fault on found is told = inl told
+    inr (place + 1, at, stops, reported)
+segments_stop segments place s now refusals.Memory fault on found is reported = inl reported
 
 -- ---- the answer
 
-pub file_refused : (file : List ℕ) (fault : FileFault) (told : ListFault) → IsRefused fault file → told ≡ record { cause = cause_of fault.cause; segment = fault.segment; at = fault.at } → IsListFault file told
-file_refused file fault told is e = by fault.cause refl is
+pub file_refused : (file : List ℕ) (fault : FileFault) (reported : ListFault) → IsRefused fault file → reported ≡ record { cause = cause_of fault.cause; segment = fault.segment; at = fault.at } → IsListFault file reported
+file_refused file fault reported is e = by fault.cause refl is
   where
-    by : (cause : FileCause) → fault.cause ≡ cause → UnlessMemory cause fault (IsFirstFault file fault) → IsListFault file told
+    by : (cause : FileCause) → fault.cause ≡ cause → UnlessMemory cause fault (IsFirstFault file fault) → IsListFault file reported
     by files.Memory same is =
         OutOfMemory (e ∙ ap (λ (x : FileCause). record { cause = cause_of x; segment = fault.segment; at = fault.at }) same ∙ ap (λ (x : ℕ). record { cause = causes.Memory; segment = x; at = fault.at }) is.0
         ∙ ap (λ (x : ℕ). record { cause = causes.Memory; segment = 0; at = x }) is.1)

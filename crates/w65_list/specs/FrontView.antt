@@ -6,7 +6,7 @@ use Rattle.omf_format.specs.File.{Segment}
 use Rattle.omf_format.specs.Header.{Fields, form_of}
 use Rattle.omf_format.specs.Record.{Record}
 use Rattle.omf_format.specs.Reading.{Reader, HandsOut}
-use Rattle.object_meaning.specs.Sizes.{located_from, place_behind, body_size}
+use Rattle.object_meaning.specs.Sizes.{located_from, place_after, body_size}
 use Rattle.list_meaning.specs.Listing.{is_listed_form, is_listable, is_listable_load_name, greatest_length, is_lost, has_lost_place}
 
 -- ALIGN is 0, or a power of two up to $10000
@@ -31,16 +31,16 @@ is_lost_from at founds = list_any (λ l. is_lost l.location l.content) (located_
 -- no place is lost, and the records give so many cells
 pub record HaveCells (n : ℕ) (founds : List (ℕ × Record)) : Type 0 where
   pub lost : is_lost_from 0 founds ≡ false
-  pub size : place_behind 0 founds ≡ n
+  pub size : place_after 0 founds ≡ n
 
 -- a place is lost, or the records give more than so many cells
 abbrev pub AreOver : ℕ → List (ℕ × Record) → Type 0
-AreOver most founds = (is_lost_from 0 founds ≡ true) ⊎ (most < place_behind 0 founds)
+AreOver most founds = (is_lost_from 0 founds ≡ true) ⊎ (most < place_after 0 founds)
 
 -- the records so far give the cells before this place, none of them is lost, and the place is within the limit
 pub record Counted (start at : Reader) (most place : ℕ) : Type 0 where
   pub before : List (ℕ × Record)
   pub run : HandsOut start before at
   pub lost : (rest : List (ℕ × Record)) → is_lost_from 0 (before ++ rest) ≡ is_lost_from place rest
-  pub size : (rest : List (ℕ × Record)) → place_behind 0 (before ++ rest) ≡ place_behind place rest
+  pub size : (rest : List (ℕ × Record)) → place_after 0 (before ++ rest) ≡ place_after place rest
   pub few : place ≤ most

@@ -62,9 +62,9 @@ IsSegmentFault segments fault =
     ⊎ ((number : ℕ) × (at : ℕ) × (listing_from 1 segments ≡ Err (number, at)) × (fault ≡ record { cause = NotListable; segment = number; at = at }))
 
 -- a refusal as a fault of the segment with this number
-abbrev pub IsTold : Refusal → ℕ → ListFault → Type 0
-IsTold (refusals.NotListable at) number fault = fault ≡ record { cause = NotListable; segment = number; at = at }
-IsTold refusals.Memory number fault = fault ≡ record { cause = Memory; segment = 0; at = 0 }
+abbrev pub IsReported : Refusal → ℕ → ListFault → Type 0
+IsReported (refusals.NotListable at) number fault = fault ≡ record { cause = NotListable; segment = number; at = at }
+IsReported refusals.Memory number fault = fault ≡ record { cause = Memory; segment = 0; at = 0 }
 
 -- ---- loops
 

@@ -4,7 +4,7 @@ ghost use Rattle.std.specs.Prelude.{◌≡◌, ◌==◌, ◌&&◌, ◌||◌, ◌
 ghost use Rattle.std.specs.List.{list_all, position_or_len};
 ghost use Rattle.omf_format.specs.Ascii as ascii;
 ghost use Rattle.omf_format.specs.Reading.{records_of, IsBody};
-ghost use Rattle.object_meaning.specs.Sizes.{size_at, place_behind, body_size};
+ghost use Rattle.object_meaning.specs.Sizes.{size_at, place_after, body_size};
 ghost use Rattle.omf_header.specs.View.{fields};
 ghost use Rattle.omf_records.specs.View.{view};
 ghost use Rattle.omf_records.specs.Segments.{IsSound, segment_of_view};
@@ -149,11 +149,11 @@ fn cells(records: Records, most: u32) -> Option<u32>
                 if is_lost(&rec, place) {
                     return None;
                 }
-                let behind = u64::from(place) + size_at(&rec, place);
-                if behind > u64::from(most) {
+                let following = u64::from(place) + size_at(&rec, place);
+                if following > u64::from(most) {
                     return None;
                 }
-                place = behind as u32;
+                place = following as u32;
             }
             Err(_) => unreachable!(),
         }
@@ -218,7 +218,7 @@ fn put_org(out: &mut Output, org: u32) -> Result<(), LineStop>
 }
 
 /// START or DATA, and KIND.
-#[tactic(auto, using(list_lines::proofs::Written::wrote_two, list_lines::proofs::Written::long_front, list_lines::proofs::Written::long_behind))]
+#[tactic(auto, using(list_lines::proofs::Written::wrote_two, list_lines::proofs::Written::long_front, list_lines::proofs::Written::long_after))]
 fn put_begin(out: &mut Output, header: &Header) -> Result<(), LineStop>
     requires { open_line out.old ≡ [] }
     ensures wrote { OnOk result (WroteAll (StartIs (header.now.bank_size == 0) header.now.name (without_padding header.now.load_name) ∷ KindIs header.now.kind.bits ∷ []) out.old out.new) }
@@ -234,7 +234,7 @@ fn put_begin(out: &mut Output, header: &Header) -> Result<(), LineStop>
 }
 
 /// LONGA and LONGI, which are on.
-#[tactic(auto, using(list_lines::proofs::Written::wrote_two, list_lines::proofs::Written::long_front, list_lines::proofs::Written::long_behind))]
+#[tactic(auto, using(list_lines::proofs::Written::wrote_two, list_lines::proofs::Written::long_front, list_lines::proofs::Written::long_after))]
 fn put_widths(out: &mut Output) -> Result<(), LineStop>
     requires { open_line out.old ≡ [] }
     ensures wrote { OnOk result (WroteAll (SwitchIs LongA true ∷ SwitchIs LongI true ∷ []) out.old out.new) }

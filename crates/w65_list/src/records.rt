@@ -22,7 +22,7 @@ ghost use Rattle.list_lines.specs.NamesView.{AreNames};
 ghost use Rattle.list_lines.specs.OutputView.{open_line};
 ghost use Rattle.w65_list.specs.RunView.{widths_view};
 
-use crate::run::{Widths, instruction_of, operand_size, put_rest, widths_behind};
+use crate::run::{Widths, instruction_of, operand_size, put_rest, widths_following};
 use list_lines::{
     Facts, Front, LineStop, Names, Output, Wanted, facts_of, first_bytes, front_of, is_listable,
     put_align, put_dc_formula, put_dc_strong, put_dc_weak, put_ds, put_end, put_equate,
@@ -376,7 +376,7 @@ impl<'a> PendingRun<'a> {
         ensures { (b : listing.PendingRun) → IsBefore self.now b → result ≡ held_by b formula.code formula.count formula.n (split_last b.run) }
     {
         let (rest, opcode) = split_last(self.run.as_slice())?;
-        if follows(widths_behind(self.widths, rest), opcode, formula) {
+        if follows(widths_following(self.widths, rest), opcode, formula) {
             Some(opcode)
         } else {
             None

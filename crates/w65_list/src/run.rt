@@ -6,7 +6,7 @@ ghost use Rattle.byteorder.specs.Endian.{little_number};
 ghost use Rattle.asm_meaning.specs.declared.directives.Switch.TheVariants.{LongA, LongI};
 ghost use Rattle.asm_meaning.specs.Instruction.{kind_of};
 ghost use Rattle.list_meaning.specs.Listed.{Banks};
-ghost use Rattle.list_meaning.specs.Listing.{is_short, operand_by, written_or, said_instruction, widths_past, said_rest, widths_rest, turns_between, widths_by, widths_behind, instruction_of_opcode, behind_opcode};
+ghost use Rattle.list_meaning.specs.Listing.{is_short, operand_by, written_or, said_instruction, widths_past, said_rest, widths_rest, turns_between, widths_by, widths_following, instruction_of_opcode, after_opcode};
 ghost use Rattle.list_lines.specs.LineView.{WroteAll, HasSize, operand_view};
 ghost use Rattle.list_lines.specs.OutputView.{finished_lines, open_line};
 ghost use Rattle.w65_list.specs.RunView.{turned_between, widths_view};
@@ -47,9 +47,9 @@ fn first_byte(bytes: &[u8]) -> u8
 }
 
 /// The widths behind an instruction with constant bytes.
-#[tactic(auto, unfolding(list_meaning::specs::Listing::widths_behind))]
+#[tactic(auto, unfolding(list_meaning::specs::Listing::widths_following))]
 fn widths_after(widths: Widths, mnemonic: Mnemonic, operand: &[u8]) -> Widths
-    ensures { widths_view result ≡ widths_behind mnemonic operand.now (widths_view widths) }
+    ensures { widths_view result ≡ widths_following mnemonic operand.now (widths_view widths) }
 {
     match mnemonic {
         Mnemonic::Rep => with_bits(widths, first_byte(operand), true),
@@ -68,7 +68,7 @@ pub fn instruction_of(opcode: u8) -> (Mnemonic, Mode)
 /// How many bytes stand behind an opcode.
 #[tactic(auto, unfolding(asm_meaning::specs::Instruction::operand_bytes))]
 pub fn operand_size(widths: Widths, opcode: u8) -> usize
-    ensures size { result ≡ behind_opcode (widths_view widths) opcode }
+    ensures size { result ≡ after_opcode (widths_view widths) opcode }
     ensures few { result ≤ 3 }
 {
     length(opcode, widths.long_a, widths.long_i) as usize - 1
@@ -175,7 +175,7 @@ fn list_instruction(
 ) -> Result<Widths, LineStop>
     requires line { open_line out.old ≡ [] }
     requires some { 1 ≤ length instruction.now }
-    requires most { length instruction.now ≤ behind_opcode (widths_view widths) (get_or instruction.now 0 0) + 1 }
+    requires most { length instruction.now ≤ after_opcode (widths_view widths) (get_or instruction.now 0 0) + 1 }
     ensures wrote { OnOk result (WroteAll (said_instruction (widths_view widths) (get_or instruction.now 0 0) (drop 1 instruction.now)) out.old out.new) }
     ensures widths { IfOk result (λ w. widths_view w ≡ widths_past (widths_view widths) (get_or instruction.now 0 0) (drop 1 instruction.now)) }
     ensures long { IsErrOf result LineStop.NotListable
@@ -196,7 +196,7 @@ fn list_instruction(
 /// The instruction at the front of a run, as far as the run has it.
 fn front_of(widths: Widths, run: &[u8]) -> &[u8]
     requires { 1 ≤ length run.now }
-    ensures value { result.now ≡ take (behind_opcode (widths_view widths) (get_or run.now 0 0) + 1) run.now }
+    ensures value { result.now ≡ take (after_opcode (widths_view widths) (get_or run.now 0 0) + 1) run.now }
     ensures some { 1 ≤ length result.now }
     ensures within { length result.now ≤ length run.now }
 {
@@ -227,9 +227,9 @@ pub fn put_rest(out: &mut Output, widths: Widths, run: &[u8]) -> Result<Widths, 
 }
 
 /// The widths behind an instruction of the rest of a run, which may be cut.
-fn widths_behind_front(widths: Widths, instruction: &[u8]) -> Widths
+fn widths_after_front(widths: Widths, instruction: &[u8]) -> Widths
     requires some { 1 ≤ length instruction.now }
-    requires most { length instruction.now ≤ behind_opcode (widths_view widths) (get_or instruction.now 0 0) + 1 }
+    requires most { length instruction.now ≤ after_opcode (widths_view widths) (get_or instruction.now 0 0) + 1 }
     ensures { widths_view result ≡ widths_past (widths_view widths) (get_or instruction.now 0 0) (drop 1 instruction.now) }
 {
     let opcode = instruction[0];
@@ -241,14 +241,14 @@ fn widths_behind_front(widths: Widths, instruction: &[u8]) -> Widths
 
 /// The widths behind the rest of a run.
 #[tactic(auto, using(crate::proofs::RunLaws::widths_on))]
-pub fn widths_behind(widths: Widths, run: &[u8]) -> Widths
+pub fn widths_following(widths: Widths, run: &[u8]) -> Widths
     ensures { widths_view result ≡ widths_rest (widths_view widths) 0 run.now }
 {
     let mut widths = widths;
     let mut left = run;
     'instructions: while !left.is_empty() {
         let front = front_of(widths, left);
-        widths = widths_behind_front(widths, front);
+        widths = widths_after_front(widths, front);
         left = items_after(left, front.len());
     }
     widths

@@ -15,7 +15,7 @@ ghost use Rattle.w65_list.specs.BeforeView.{IsBefore};
 ghost use Rattle.list_lines.specs.LineView.{WroteAll};
 ghost use Rattle.list_lines.specs.NamesView.{AreNames};
 ghost use Rattle.list_lines.specs.OutputView.{finished_lines, open_line};
-ghost use Rattle.w65_list.specs.SourceView.{WroteRecords, WroteSegment, WroteFile, equates_in, IsStop, IsRefusal, IsTold, IsSegmentFault};
+ghost use Rattle.w65_list.specs.SourceView.{WroteRecords, WroteSegment, WroteFile, equates_in, IsStop, IsRefusal, IsReported, IsSegmentFault};
 
 use crate::front::put_front;
 use crate::records::PendingRun;
@@ -145,7 +145,7 @@ fn put_segment(alloc: Global, out: &mut Output, view: &SegmentView) -> Result<()
 
 /// A fault of a segment.
 fn segment_fault(refusal: Refusal, segment: u32) -> ListFault
-    ensures { IsTold refusal segment result }
+    ensures { IsReported refusal segment result }
 {
     match refusal {
         Refusal::NotListable(at) => ListFault {

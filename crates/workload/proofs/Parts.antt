@@ -12,7 +12,7 @@ use Rattle.omf_format.specs.laws.WrittenHeaderLaws.{length-header}
 use Rattle.omf_format.specs.Record.{Record, End, Const, LongConst, Formula, spelling}
 use Rattle.asm_meaning.specs.State.{Ended}
 use Rattle.asm_meaning.specs.Object.{records_text, segment_text, object_text}
-use Rattle.workload_meaning.specs.Draws.{next, draws, behind}
+use Rattle.workload_meaning.specs.Draws.{next, draws, following}
 use Rattle.workload_meaning.specs.Object.{name_of, value_of, calls, main_segment, dynamic_segment, dynamic_segments, object}
 use Rattle.workload_meaning.specs.laws.NameLaws.{name_short, length-padded}
 use Rattle.workload_meaning.specs.laws.ObjectLaws.{length-draws}
@@ -145,7 +145,7 @@ pub record SegmentsLeft (n seed i x : ℕ) (text : List ℕ) : Type 0 where
   pub more : ℕ
   pub count : i + more ≡ n + 1
   pub parts : text ++ object_text (dynamic_segments i (draws more x)) ≡ object n seed
-  pub last : behind more x ≡ behind n seed
+  pub last : following more x ≡ following n seed
 
 pub segments_start : (n seed : ℕ) (text : List ℕ) → text ≡ segment_text (main_segment n) → SegmentsLeft n seed 1 seed text
 segments_start n seed text is = record {
@@ -159,7 +159,7 @@ pub segments_step : (n seed i x y : ℕ) (text new : List ℕ) → SegmentsLeft 
     → new ≡ text ++ segment_text (dynamic_segment i (16 + next x / 65536 % 4096)) → SegmentsLeft n seed (i + 1) y new
 segments_step n seed i x y text new left within drawn is = subst (λ (z : ℕ). SegmentsLeft n seed (i + 1) z new) (sym drawn) (go left.more left.count left.parts left.last)
   where
-    go : (more : ℕ) → i + more ≡ n + 1 → text ++ object_text (dynamic_segments i (draws more x)) ≡ object n seed → behind more x ≡ behind n seed → SegmentsLeft n seed (i + 1) (next x) new
+    go : (more : ℕ) → i + more ≡ n + 1 → text ++ object_text (dynamic_segments i (draws more x)) ≡ object n seed → following more x ≡ following n seed → SegmentsLeft n seed (i + 1) (next x) new
     go zero count parts last = absurd (omega (arith, count, within))
     go (suc more) count parts last =
         let segment = segment_text (dynamic_segment i (16 + next x / 65536 % 4096)) in
@@ -172,10 +172,10 @@ segments_step n seed i x y text new left within drawn is = subst (λ (z : ℕ). 
           last = last;
         }
 
-pub segments_end : (n seed i x : ℕ) (text : List ℕ) → SegmentsLeft n seed i x text → n + 1 ≤ i → (text ≡ object n seed) × (x ≡ behind n seed)
+pub segments_end : (n seed i x : ℕ) (text : List ℕ) → SegmentsLeft n seed i x text → n + 1 ≤ i → (text ≡ object n seed) × (x ≡ following n seed)
 segments_end n seed i x text left done = go left.more left.count left.parts left.last
   where
-    go : (more : ℕ) → i + more ≡ n + 1 → text ++ object_text (dynamic_segments i (draws more x)) ≡ object n seed → behind more x ≡ behind n seed → (text ≡ object n seed) × (x ≡ behind n seed)
+    go : (more : ℕ) → i + more ≡ n + 1 → text ++ object_text (dynamic_segments i (draws more x)) ≡ object n seed → following more x ≡ following n seed → (text ≡ object n seed) × (x ≡ following n seed)
     go zero count parts last = (sym (append-nil text) ∙ ap (λ (l : List ℕ). text ++ l) (sym (no_segment i)) ∙ parts, last)
     go (suc more) count parts last = absurd (omega (arith, count, done))
 

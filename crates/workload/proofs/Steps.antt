@@ -12,14 +12,14 @@ use Rattle.loader_machine.specs.declared.faults.LoaderFault.TheVariants as fault
 use Rattle.loader_machine.specs.State.{Machine, first_id, empty_of}
 use Rattle.loader_machine.specs.Commands.{Command, Load, Jsl, Reply}
 use Rattle.loader_machine.specs.Commands as commands
-use Rattle.loader_machine.specs.Needs.{Needs, NeedsBehind, IsReadFor}
+use Rattle.loader_machine.specs.Needs.{Needs, NeedsAfter, IsReadFor}
 use Rattle.loader_machine.specs.Transcript.{IsAnswered, AreAnswered}
 use Rattle.loader_agrees.specs.Agrees.{Loaded, Agrees, Met, Meets, MeetsReads, ReadsNeeded}
 use Rattle.workload.specs.declared.rounds.RoundOutcome.{RoundOutcome}
 use Rattle.workload.specs.declared.rounds.RoundOutcome.TheVariants.{Refused as Fails}
 use Rattle.workload.specs.declared.rounds.Counts.{Counts}
 use Rattle.workload.specs.Store.{Held, seen}
-use Rattle.workload_meaning.specs.Draws.{next, draws, behind}
+use Rattle.workload_meaning.specs.Draws.{next, draws, following}
 use Rattle.workload.specs.Rounds.{banks, program, round_of, is_entered, is_refused}
 use Rattle.workload.specs.Work.{IsSum, HasWorked}
 use Rattle.workload.specs.Answering.{outcome_of, counted, IsStep, HasDone, AreDone, front_of}
@@ -27,8 +27,8 @@ use Rattle.workload.specs.Answering.{outcome_of, counted, IsStep, HasDone, AreDo
 -- ---- one call
 
 -- a call that needs no file reads none
-pub none_read : (held : FileMap) (state : Machine) (command : Command) → Needs held state command [] → NeedsBehind held state command [] 0 → IsReadFor held state command 0 0
-none_read held state command none behind = ([], none, inl (refl, [], 0, behind, refl))
+pub none_read : (held : FileMap) (state : Machine) (command : Command) → Needs held state command [] → NeedsAfter held state command [] 0 → IsReadFor held state command 0 0
+none_read held state command none following = ([], none, inl (refl, [], 0, following, refl))
 
 -- a call that reads no file
 pub quiet_step : (held : FileMap) (state : Machine) (command : Command) (reply : Reply) (outcome : RoundOutcome) (new : Loaded) → IsReadFor held state command 0 0 → outcome ≡ outcome_of reply
@@ -70,7 +70,7 @@ module _ (command : Command) (old new : Loaded) (before now : Held) where
   pub by_meets : (reply : Reply) → reply ≢ commands.Refused faults.Memory
       → ((held : FileMap) (state : Machine) → (seen before).held ≡ Some held → Agrees held old state → Meets RoomRule held state command reply new 0 0)
       → ((held : FileMap) (state : Machine) → (seen before).held ≡ Some held → Agrees held old state → ReadsNeeded held state command 0 before.asked now.asked) → Reading' reply
-  by_meets reply other meets needed = λ held state told agrees. (by_case held state (meets held state told agrees), needed held state told agrees)
+  by_meets reply other meets needed = λ held state reported agrees. (by_case held state (meets held state reported agrees), needed held state reported agrees)
     where
       by_case : (held : FileMap) (state : Machine) → Meets RoomRule held state command reply new 0 0 → Met RoomRule held state command reply new
       by_case held state (inl met) = met.0
@@ -80,7 +80,7 @@ module _ (command : Command) (old new : Loaded) (before now : Held) where
   -- it may read several
   pub by_reads : (reply : Reply) → reply ≢ commands.Refused faults.Memory
       → ((held : FileMap) (state : Machine) → (seen before).held ≡ Some held → Agrees held old state → MeetsReads RoomRule held state command reply new (seen before) (seen now)) → Reading' reply
-  by_reads reply other meets = λ held state told agrees. by_case held state (meets held state told agrees)
+  by_reads reply other meets = λ held state reported agrees. by_case held state (meets held state reported agrees)
     where
       by_case : (held : FileMap) (state : Machine) → MeetsReads RoomRule held state command reply new (seen before) (seen now)
           → Met RoomRule held state command reply new × ReadsNeeded held state command 0 before.asked now.asked
@@ -125,8 +125,8 @@ answered_more held state mid last [] (other ∷ replies) reads command reply rea
 answered_more held state mid last (first ∷ commands) [] reads command reply read are is for = absurd are
 answered_more held state mid last (first ∷ commands) (other ∷ replies) reads command reply read (here, later, r, rs, next, one, its, rest, sum, sums) is for =
     let zeros = no_others here later sum in
-    let behind = answered_more held next mid last commands replies rs command reply read (subst (λ (k : ℕ). AreAnswered held next commands replies k rs mid) zeros.1 rest) is for in
-    (here, 0, r, rs + read, next, one, its, behind, omega (arith, zeros.0), omega (arith, sums))
+    let following = answered_more held next mid last commands replies rs command reply read (subst (λ (k : ℕ). AreAnswered held next commands replies k rs mid) zeros.1 rest) is for in
+    (here, 0, r, rs + read, next, one, its, following, omega (arith, zeros.0), omega (arith, sums))
 
 count_more : (test : Reply → Bool) (replies : List Reply) (reply : Reply) → count_by test (replies ++ reply ∷ []) ≡ count_by test replies + count_by test (reply ∷ [])
 count_more test replies reply = sum_by-append (λ (r : Reply). cond (test r) 1 0) replies (reply ∷ [])
@@ -192,18 +192,18 @@ nothing_done held counts loader none no_refusal agrees = record {
 
 -- ---- one round more
 
-draws_more : (count x : ℕ) → draws (suc count) x ≡ draws count x ++ (next (behind count x) / 65536) ∷ []
+draws_more : (count x : ℕ) → draws (suc count) x ≡ draws count x ++ (next (following count x) / 65536) ∷ []
 draws_more zero x = refl
 draws_more (suc count) x = ap (λ (l : List ℕ). next x / 65536 ∷ l) (draws_more count (next x))
 
-behind_more : (count x : ℕ) → behind (suc count) x ≡ next (behind count x)
-behind_more zero x = refl
-behind_more (suc count) x = behind_more count (next x)
+after_more : (count x : ℕ) → following (suc count) x ≡ next (following count x)
+after_more zero x = refl
+after_more (suc count) x = after_more count (next x)
 
-front_more : (n x count : ℕ) → front_of n x count ++ round_of n (next (behind count x) / 65536) ∷ [] ≡ front_of n x (count + 1)
+front_more : (n x count : ℕ) → front_of n x count ++ round_of n (next (following count x) / 65536) ∷ [] ≡ front_of n x (count + 1)
 front_more n x count =
-    let drawn : draws (count + 1) x ≡ draws count x ++ (next (behind count x) / 65536) ∷ [] = ap (λ (k : ℕ). draws k x) (add-one count) ∙ draws_more count x in
-    ap (λ (l : List Command). Load program ∷ l) (sym (ap (map (round_of n)) drawn ∙ map-append (round_of n) (draws count x) ((next (behind count x) / 65536) ∷ [])))
+    let drawn : draws (count + 1) x ≡ draws count x ++ (next (following count x) / 65536) ∷ [] = ap (λ (k : ℕ). draws k x) (add-one count) ∙ draws_more count x in
+    ap (λ (l : List Command). Load program ∷ l) (sym (ap (map (round_of n)) drawn ∙ map-append (round_of n) (draws count x) ((next (following count x) / 65536) ∷ [])))
 
 -- a draw of 0 or 1 modulo 4 says a JSL
 pub early : (n draw : ℕ) → draw % 4 ≤ 1 → Jsl first_id 1 (4 * (1 + draw / 4 % n - 1)) ≡ round_of n draw
@@ -212,7 +212,7 @@ early n draw small = let test : nat_le (draw % 4) 1 ≡ true = le-leb (draw % 4)
 -- so many rounds were made
 pub record IsUnderWay (held files : FileMap) (n x count last : ℕ) (counts : Counts) (loader : Loaded) : Type 0 where
   pub same : files ≡ held
-  pub drawn : last ≡ behind count x
+  pub drawn : last ≡ following count x
   pub done : AreDone held (front_of n x count) counts loader
   pub small : counts.entered + counts.refused ≤ count + 1
 
@@ -221,9 +221,9 @@ pub goes_on : (held files more : FileMap) (n x count last drawn next' : ℕ) (co
     → new.entered + new.refused ≤ counts.entered + counts.refused + 1 → IsUnderWay held more n x (count + 1) next' new loader
 goes_on held files more n x count last drawn next' counts new old loader outcome way drawn_is next_is files_are has is small = record {
   same = files_are ∙ way.same;
-  drawn = next_is ∙ ap next way.drawn ∙ sym (ap (λ (k : ℕ). behind k x) (add-one count) ∙ behind_more count x);
+  drawn = next_is ∙ ap next way.drawn ∙ sym (ap (λ (k : ℕ). following k x) (add-one count) ∙ after_more count x);
   done = subst (λ (cs : List Command). AreDone held cs new loader) (front_more n x count)
-      (done_more held (front_of n x count) counts new old loader (round_of n (next (behind count x) / 65536)) outcome way.done
+      (done_more held (front_of n x count) counts new old loader (round_of n (next (following count x) / 65536)) outcome way.done
       (subst (λ (d : ℕ). HasDone held (round_of n d) outcome old loader) (drawn_is ∙ ap (λ (l : ℕ). next l / 65536) way.drawn)
       (subst (λ (f : FileMap). HasDone f (round_of n drawn) outcome old loader) way.same has)) is);
   small = omega (arith, small, way.small);
@@ -238,12 +238,12 @@ first_done held n x counts new old loader outcome none no_refusal agrees has is 
     done_more held [] counts new old loader (Load program) outcome (nothing_done held counts old none no_refusal agrees) has is
 
 -- all rounds were made, and the bytes added up
-pub has_worked : (held : FileMap) (n seed x count total : ℕ) (counts : Counts) (loader : Loaded) → AreDone held (front_of n x (8 * n)) counts loader → x ≡ behind n seed
+pub has_worked : (held : FileMap) (n seed x count total : ℕ) (counts : Counts) (loader : Loaded) → AreDone held (front_of n x (8 * n)) counts loader → x ≡ following n seed
     → ((files : FileMap) (state : Machine) → Agrees files loader state → IsSum files state count total)
     → (last : Machine) × Agrees held loader last × HasWorked held n seed count counts.entered counts.refused total last
 has_worked held n seed x count total counts loader done drawn sums = go x drawn done
   where
-    go : (y : ℕ) → y ≡ behind n seed → AreDone held (front_of n y (8 * n)) counts loader → (last : Machine) × Agrees held loader last × HasWorked held n seed count counts.entered counts.refused total last
+    go : (y : ℕ) → y ≡ following n seed → AreDone held (front_of n y (8 * n)) counts loader → (last : Machine) × Agrees held loader last × HasWorked held n seed count counts.entered counts.refused total last
     go y e all =
         let d = subst (λ (z : ℕ). AreDone held (front_of n z (8 * n)) counts loader) e all in (
           d.last,

@@ -2,7 +2,7 @@
 use Rattle.std.specs.Prelude.{ℕ, ◌+◌, ◌-◌, ◌*◌, ◌/◌, ◌%◌, ◌==◌, Bool, true, false, List, [], ◌∷◌, map, codes, nat_le, if◌then◌else◌}
 use Rattle.loader_machine.specs.State.{first_id}
 use Rattle.loader_machine.specs.Commands.{Command, Load, Jsl, UnloadSegment, Purge, Reply, Entered, Refused}
-use Rattle.workload_meaning.specs.Draws.{draws, behind}
+use Rattle.workload_meaning.specs.Draws.{draws, following}
 
 -- the path of the load file
 abbrev pub program : List ℕ
@@ -25,7 +25,7 @@ round_of n draw =
 
 -- the program is loaded, and 8 n rounds follow, by the draws behind those of the object's sizes
 abbrev pub commands : ℕ → ℕ → List Command
-commands n seed = Load program ∷ map (round_of n) (draws (8 * n) (behind n seed))
+commands n seed = Load program ∷ map (round_of n) (draws (8 * n) (following n seed))
 
 -- a JSL entered a segment
 abbrev pub is_entered : Reply → Bool

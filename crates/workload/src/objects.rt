@@ -7,7 +7,7 @@ ghost use Rattle.omf_format.specs.Expression.{IsExpression};
 ghost use Rattle.omf_format.specs.Record.{End, Const, LongConst, Formula, is_formula, spelling, IsRecord};
 ghost use Rattle.omf_records.specs.View.{view};
 ghost use Rattle.asm_meaning.specs.Object.{records_text, segment_text};
-ghost use Rattle.workload_meaning.specs.Draws.{next, behind};
+ghost use Rattle.workload_meaning.specs.Draws.{next, following};
 ghost use Rattle.workload_meaning.specs.Object.{name_of, padded, value_of, header_for, calls, main_segment, dynamic_segment, object};
 
 use crate::draws::Draws;
@@ -221,7 +221,7 @@ pub fn object(alloc: Global, n: u32, draws: &mut Draws) -> Result<Vec<u8>, Alloc
     requires { n ≤ 64 }
     ensures made { IfOk result (λ made. made.items ≡ object n draws.old.last) }
     ensures short { IfOk result (λ made. length made.items ≤ 16777216) }
-    ensures behind { OnOk result (draws.new.last ≡ behind n draws.old.last) }
+    ensures following { OnOk result (draws.new.last ≡ following n draws.old.last) }
 {
     let mut object = Vec::new(alloc);
     put_main(alloc, &mut object, n)?;

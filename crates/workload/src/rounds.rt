@@ -4,7 +4,7 @@ ghost use Rattle.std.specs.Prelude.{◌≡◌, ◌≢◌, ◌≤◌, ◌<◌, �
 ghost use Rattle.omf_io.specs.Files.{FileMap};
 ghost use Rattle.loader_machine.specs.State.{first_id};
 ghost use Rattle.loader_machine.specs.Commands as commands;
-ghost use Rattle.workload_meaning.specs.Draws.{draws, behind};
+ghost use Rattle.workload_meaning.specs.Draws.{draws, following};
 ghost use Rattle.workload.specs.Rounds.{program, round_of};
 ghost use Rattle.workload.specs.Answering.{counted, HasDone, AreDone, front_of};
 

@@ -4,7 +4,7 @@ ghost use Rattle.std.specs.Prelude.{◌≡◌, ◌≤◌, ◌<◌, ◌-◌, ◌^
 ghost use Rattle.omf_io.specs.Files.{FileMap};
 ghost use Rattle.loader_machine.specs.State.{Machine, empty_of};
 ghost use Rattle.loader_agrees.specs.Agrees.{Agrees};
-ghost use Rattle.workload_meaning.specs.Draws.{behind};
+ghost use Rattle.workload_meaning.specs.Draws.{following};
 ghost use Rattle.workload.specs.Rounds.{banks};
 ghost use Rattle.workload.specs.Work.{HasWorked};
 
@@ -52,7 +52,7 @@ pub fn work(
     requires some { 1 ≤ n }
     requires few { n ≤ 64 }
     requires segments { count < 2 ^ 16 - 1 }
-    ensures { IfOk result (λ worked. (seed : ℕ) → draws.old.last ≡ behind n seed → (last : Machine) × Agrees files.old.files worked.loader last
+    ensures { IfOk result (λ worked. (seed : ℕ) → draws.old.last ≡ following n seed → (last : Machine) × Agrees files.old.files worked.loader last
         × HasWorked files.old.files n seed count worked.entered worked.refused worked.sum last) }
 {
     let mut loader = loader_of(alloc)?;

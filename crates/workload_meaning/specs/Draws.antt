@@ -11,6 +11,6 @@ draws zero x = []
 draws (suc count) x = next x / 65536 ∷ draws count (next x)
 
 -- the number that so many draws behind a number leave
-abbrev pub behind : ℕ → ℕ → ℕ
-behind zero x = x
-behind (suc count) x = behind count (next x)
+abbrev pub following : ℕ → ℕ → ℕ
+following zero x = x
+following (suc count) x = following count (next x)

@@ -19,13 +19,13 @@ use Rattle.orca_meaning.specs.declared.operators.Operands.TheVariants.{Labels}
 use Rattle.orca_meaning.specs.Characters.{is_name_start, is_name_byte, folded}
 use Rattle.orca_meaning.specs.Formula.{MeansAt, pending, has_large}
 use Rattle.orca_meaning.specs.laws.FormulaLaws.{formed, pending-one}
-use Rattle.orca_meaning.specs.Operand.{Meaning, opening, body, prefix, behind_opening, behind_prefix, form_behind, IsOperand, IsMissing, IsInAccumulator, IsOne, IsTwo, IsGoodOperand, AreShallow}
-use Rattle.orca_meaning.specs.Token.{digits_at, Token, Stand, expects_behind, name_at, Found}
+use Rattle.orca_meaning.specs.Operand.{Meaning, opening, body, prefix, after_opening, after_prefix, form_after, IsOperand, IsMissing, IsInAccumulator, IsOne, IsTwo, IsGoodOperand, AreShallow}
+use Rattle.orca_meaning.specs.Token.{digits_at, Token, Stand, expects_following, name_at, Found}
 use Rattle.orca_meaning.specs.laws.TokenLaws.{token-shorter}
 use Rattle.asm_meaning.specs.declared.faults.AsmCause.TheVariants.{BadOperand, BadNumber}
 use Rattle.asm_meaning.specs.Answer.{Answer, pair_or_earlier_fault, all_of, with_first}
 use Rattle.asm_meaning.specs.Constant.{Constants, Amount, Known, Written, amount}
-use Rattle.asm_meaning.specs.Elements.{with_byte, text_at, IsList, Repeat, Value, Element, Kind, Number, Hexadecimal, Binary, Characters, References, WeakReferences, closed_at, kind_at, width_at, AreNames, IsValueAt, IsRepeatBy, behind_parenthesis, IsElementAt, AreElements, count_of, number_piece, piece_of_number, weak_piece, strong_piece, value_pieces, element_pieces, list_pieces, joined_pieces}
+use Rattle.asm_meaning.specs.Elements.{with_byte, text_at, IsList, Repeat, Value, Element, Kind, Number, Hexadecimal, Binary, Characters, References, WeakReferences, closed_at, kind_at, width_at, AreNames, IsValueAt, IsRepeatBy, after_parenthesis, IsElementAt, AreElements, count_of, number_piece, piece_of_number, weak_piece, strong_piece, value_pieces, element_pieces, list_pieces, joined_pieces}
 use Rattle.asm_meaning.specs.Formulas.{AreFormulas, checked_formula, expression_text}
 use Rattle.asm_meaning.specs.Instruction.{Widths, modes_of_form, instruction}
 use Rattle.asm_meaning.specs.Pieces.{Piece}
@@ -37,18 +37,18 @@ use Rattle.asm_meaning.specs.laws.InstructionLaws.{AreFineTrees, both_ok, expr_p
 
 pub stand-le : (e : Bool) (text : List ℕ) (tokens : List Token) (rest : List ℕ) → Stand Labels e text tokens rest → length rest ≤ length text
 stand-le e text [] rest is = omega (arith, ap length is)
-stand-le e text (t ∷ tokens) rest is = omega (arith, token-shorter Labels e text t is.0 is.1, stand-le (expects_behind t) is.0 tokens rest is.2)
+stand-le e text (t ∷ tokens) rest is = omega (arith, token-shorter Labels e text t is.0 is.1, stand-le (expects_following t) is.0 tokens rest is.2)
 
 pub rest-le : (text : List ℕ) (tree : Tree) (rest : List ℕ) → MeansAt Labels text tree rest → length rest ≤ length text
 rest-le text tree rest is = stand-le true text _ rest is.stands.spelled
 
-opening-le : (o : Opening) (text : List ℕ) → length (behind_opening o text) ≤ length text
+opening-le : (o : Opening) (text : List ℕ) → length (after_opening o text) ≤ length text
 opening-le Open text = omega arith
 opening-le Hash text = omega (arith, length-drop 1 text)
 opening-le Round text = omega (arith, length-drop 1 text)
 opening-le Square text = omega (arith, length-drop 1 text)
 
-prefix-le : (p : Prefix) (text : List ℕ) → length (behind_prefix p text) ≤ length text
+prefix-le : (p : Prefix) (text : List ℕ) → length (after_prefix p text) ≤ length text
 prefix-le Bare text = omega arith
 prefix-le Less text = omega (arith, length-drop 1 text)
 prefix-le Bar text = omega (arith, length-drop 1 text)
@@ -56,7 +56,7 @@ prefix-le Greater text = omega (arith, length-drop 1 text)
 prefix-le Caret text = omega (arith, length-drop 1 text)
 
 body-le : (m : Option Mnemonic) (text : List ℕ) → length (body m text) ≤ length text
-body-le m text = omega (arith, prefix-le (prefix m text) (behind_opening (opening m text) text), opening-le (opening m text) text)
+body-le m text = omega (arith, prefix-le (prefix m text) (after_opening (opening m text) text), opening-le (opening m text) text)
 
 or_false : (a b : Bool) → (a || b) ≡ false → (a ≡ false) × (b ≡ false)
 or_false true b e = absurd cc
@@ -93,23 +93,23 @@ fine_operand widths m text operand short good = by_form good.is good.shallow goo
         record { trees = subst (λ (o : Meaning). AreFineTrees o.trees) (sym is) tt; modes = λ t e. absurd (no_tree t (sym (ap (λ (o : Meaning). o.trees) is) ∙ e)) }
     by_form (IsInAccumulator acc is) shallow small =
         record { trees = subst (λ (o : Meaning). AreFineTrees o.trees) (sym is) tt; modes = λ t e. absurd (no_tree t (sym (ap (λ (o : Meaning). o.trees) is) ∙ e)) }
-    by_form (IsOne not_a tree rest form means behind is) shallow small =
+    by_form (IsOne not_a tree rest form means following is) shallow small =
         let trees : operand.trees ≡ tree ∷ [] = ap (λ (o : Meaning). o.trees) is in
         let deep = (subst (λ (ts : List Tree). AreShallow (Some m) ts) trees shallow).0 in
         let less = (or_false (has_large tree) false (subst (λ (ts : List Tree). list_any has_large ts ≡ false) trees small)).0 in
         let is_tree = formed Labels (body (Some m) text) tree rest (omega (arith, body-le (Some m) text, short)) means less in
-        let has : HasFormula operand.form = subst HasFormula (sym (ap (λ (o : Meaning). o.form) is)) (of_form (form_behind (opening (Some m) text) rest) form (form_has (opening (Some m) text) rest) behind) in
+        let has : HasFormula operand.form = subst HasFormula (sym (ap (λ (o : Meaning). o.form) is)) (of_form (form_after (opening (Some m) text) rest) form (form_has (opening (Some m) text) rest) following) in
         record { trees = subst AreFineTrees (sym trees) ((is_tree, deep), tt); modes = λ t e. offered_have_bytes widths m operand.form operand.prefix has }
-    by_form (IsTwo not_a bare first second behind means index means' is) shallow small =
+    by_form (IsTwo not_a bare first second following means index means' is) shallow small =
         let trees : operand.trees ≡ first ∷ second ∷ [] = ap (λ (o : Meaning). o.trees) is in
         let deep = subst (λ (ts : List Tree). AreShallow (Some m) ts) trees shallow in
         let less = subst (λ (ts : List Tree). list_any has_large ts ≡ false) trees small in
         let one = or_false (has_large first) (has_large second || false) less in
         let two = or_false (has_large second) false one.1 in
-        let within = rest-le (body (Some m) text) first (0x2C ∷ behind) means in
+        let within = rest-le (body (Some m) text) first (0x2C ∷ following) means in
         let size = body-le (Some m) text in
-        let is_first = formed Labels (body (Some m) text) first (0x2C ∷ behind) (omega (arith, size, short)) means one.0 in
-        let is_second = formed Labels behind second [] (omega (arith, within, size, short)) means' two.0 in
+        let is_first = formed Labels (body (Some m) text) first (0x2C ∷ following) (omega (arith, size, short)) means one.0 in
+        let is_second = formed Labels following second [] (omega (arith, within, size, short)) means' two.0 in
         record { trees = subst AreFineTrees (sym trees) ((is_first, deep.0), ((is_second, deep.1.0), tt)); modes = λ t e. absurd (no_second first second t (sym trees ∙ e)) }
 
 pub instruction_plain : (constants : Constants) (widths : Widths) (m : Mnemonic) (text : List ℕ) (operand : Meaning) (pieces : List Piece) → AreSmall constants → length text ≤ 255
@@ -189,23 +189,23 @@ found_number x = Some x
 pub name_length : (text name rest : List ℕ) → length text ≤ 255 → name_at text ≡ Some (name, rest) → IsNameLength name × (length rest ≤ length text)
 unfolding name_at
 name_length [] name rest short e = absurd cc
-name_length (byte ∷ behind) name rest short e = by_start (is_name_start byte) e
+name_length (byte ∷ following) name rest short e = by_start (is_name_start byte) e
   where
     n : ℕ
-    n = prefix_len is_name_byte behind
+    n = prefix_len is_name_byte following
 
     found : List ℕ × List ℕ
-    found = (folded (byte ∷ take n behind), drop n behind)
+    found = (folded (byte ∷ take n following), drop n following)
 
     same : found_name found ≡ Some (name, rest) → found ≡ (name, rest)
     same e = cc
 
-    by_start : (b : Bool) → cond b (found_name found) None ≡ Some (name, rest) → IsNameLength name × (length rest ≤ length (byte ∷ behind))
+    by_start : (b : Bool) → cond b (found_name found) None ≡ Some (name, rest) → IsNameLength name × (length rest ≤ length (byte ∷ following))
     by_start true e =
         let is = same e in
-        let size : length (folded (byte ∷ take n behind)) ≡ length name = ap (λ (x : List ℕ × List ℕ). length x.0) is in
-        let last : length (drop n behind) ≡ length rest = ap (λ (x : List ℕ × List ℕ). length x.1) is in
-        ((omega (arith, size, length-map (byte ∷ take n behind) to_ascii_uppercase), omega (arith, size, short, length-map (byte ∷ take n behind) to_ascii_uppercase, length-take n behind)), omega (arith, last, length-drop n behind))
+        let size : length (folded (byte ∷ take n following)) ≡ length name = ap (λ (x : List ℕ × List ℕ). length x.0) is in
+        let last : length (drop n following) ≡ length rest = ap (λ (x : List ℕ × List ℕ). length x.1) is in
+        ((omega (arith, size, length-map (byte ∷ take n following) to_ascii_uppercase), omega (arith, size, short, length-map (byte ∷ take n following) to_ascii_uppercase, length-take n following)), omega (arith, last, length-drop n following))
     by_start false e = absurd cc
 
 pub names_length : (text : List ℕ) (names : List (List ℕ)) → length text ≤ 255 → AreNames text names → AllByRecursion IsNameLength names
@@ -267,9 +267,9 @@ IsWidthAt x = IsWidth x.0
 
 width_is : (text : List ℕ) → IsWidthAt (width_at text)
 width_is [] = refl
-width_is (digit ∷ behind) = by_digit (leb 0x31 digit && leb digit 0x34) refl
+width_is (digit ∷ following) = by_digit (leb 0x31 digit && leb digit 0x34) refl
   where
-    by_digit : (b : Bool) → (leb 0x31 digit && leb digit 0x34) ≡ b → IsWidthAt (cond b (Number (digit - 0x30), behind) (Number 2, digit ∷ behind))
+    by_digit : (b : Bool) → (leb 0x31 digit && leb digit 0x34) ≡ b → IsWidthAt (cond b (Number (digit - 0x30), following) (Number 2, digit ∷ following))
     by_digit true is =
         let parts = and_parts (leb 0x31 digit) (leb digit 0x34) is in
         let low : leb 1 (digit - 0x30) ≡ true = le-leb 1 (digit - 0x30) (omega (arith, leb-true 0x31 digit parts.0)) in
@@ -288,27 +288,27 @@ if_kind size false x y p q = q
 
 width-le : (text : List ℕ) → length (width_at text).1 ≤ length text
 width-le [] = omega arith
-width-le (digit ∷ behind) = by_digit (leb 0x31 digit && leb digit 0x34)
+width-le (digit ∷ following) = by_digit (leb 0x31 digit && leb digit 0x34)
   where
     Shorter : Kind × List ℕ → Type 0
-    Shorter x = length x.1 ≤ length (digit ∷ behind)
+    Shorter x = length x.1 ≤ length (digit ∷ following)
 
-    by_digit : (b : Bool) → Shorter (cond b (Number (digit - 0x30), behind) (Number 2, digit ∷ behind))
+    by_digit : (b : Bool) → Shorter (cond b (Number (digit - 0x30), following) (Number 2, digit ∷ following))
     by_digit true = omega arith
     by_digit false = omega arith
 
 kind_found : (text : List ℕ) → IsFoundKind (length text) (kind_at text)
 unfolding kind_at
 kind_found [] = tt
-kind_found (letter ∷ behind) =
+kind_found (letter ∷ following) =
     let capital = to_ascii_uppercase letter in
-    let n = length (letter ∷ behind) in
-    if_kind n (eqb capital 0x49 || eqb capital 0x41) (Some (width_at behind)) _ (width_is behind, omega (arith, width-le behind)) (
-    if_kind n (eqb capital 0x48) (Some (Hexadecimal, behind)) _ (tt, omega arith) (
-    if_kind n (eqb capital 0x42) (Some (Binary, behind)) _ (tt, omega arith) (
-    if_kind n (eqb capital 0x43) (Some (Characters, behind)) _ (tt, omega arith) (
-    if_kind n (eqb capital 0x52) (Some (References, behind)) _ (tt, omega arith) (
-    if_kind n (eqb capital 0x53) (Some (WeakReferences, behind)) None (tt, omega arith) tt)))))
+    let n = length (letter ∷ following) in
+    if_kind n (eqb capital 0x49 || eqb capital 0x41) (Some (width_at following)) _ (width_is following, omega (arith, width-le following)) (
+    if_kind n (eqb capital 0x48) (Some (Hexadecimal, following)) _ (tt, omega arith) (
+    if_kind n (eqb capital 0x42) (Some (Binary, following)) _ (tt, omega arith) (
+    if_kind n (eqb capital 0x43) (Some (Characters, following)) _ (tt, omega arith) (
+    if_kind n (eqb capital 0x52) (Some (References, following)) _ (tt, omega arith) (
+    if_kind n (eqb capital 0x53) (Some (WeakReferences, following)) None (tt, omega arith) tt)))))
 
 pub kind_is : (text : List ℕ) (kind : Kind) (rest : List ℕ) → kind_at text ≡ Some (kind, rest) → IsWidth kind × (length rest ≤ length text)
 kind_is text kind rest e = subst (IsFoundKind (length text)) e (kind_found text)
@@ -347,23 +347,23 @@ closed-le text inner rest e = by_end (ltb n (length text)) e
     by_end true e = omega (arith, ap (λ (x : List ℕ × List ℕ). length x.0) (same e), length-take n text)
     by_end false e = absurd cc
 
-behind-le : (text behind : List ℕ) → behind_parenthesis text ≡ Some behind → length behind ≤ length text
-behind-le [] behind e = absurd cc
-behind-le (byte ∷ rest) behind e = by_byte (eqb byte 0x28) e
+following-le : (text following : List ℕ) → after_parenthesis text ≡ Some following → length following ≤ length text
+following-le [] following e = absurd cc
+following-le (byte ∷ rest) following e = by_byte (eqb byte 0x28) e
   where
     some : List ℕ → Option (List ℕ)
     some t = Some t
 
-    same : Some rest ≡ Some behind → rest ≡ behind
+    same : Some rest ≡ Some following → rest ≡ following
     same e = cc
 
-    by_byte : (b : Bool) → cond b (Some rest) None ≡ Some behind → length behind ≤ length (byte ∷ rest)
+    by_byte : (b : Bool) → cond b (Some rest) None ≡ Some following → length following ≤ length (byte ∷ rest)
     by_byte true e = omega (arith, ap length (same e))
     by_byte false e = absurd cc
 
-pub repeat-le : (o : Option (List ℕ)) (digits : Found ℕ) (text : List ℕ) (repeat : Repeat) (rest : List ℕ) → behind_parenthesis text ≡ o → digits_at 10 text ≡ digits → IsRepeatBy o digits text repeat rest
+pub repeat-le : (o : Option (List ℕ)) (digits : Found ℕ) (text : List ℕ) (repeat : Repeat) (rest : List ℕ) → after_parenthesis text ≡ o → digits_at 10 text ≡ digits → IsRepeatBy o digits text repeat rest
     → length rest ≤ length text
-repeat-le (Some behind) digits text repeat rest o d is = omega (arith, behind-le text behind o, rest-le behind is.0 (0x29 ∷ rest) is.1)
+repeat-le (Some following) digits text repeat rest o d is = omega (arith, following-le text following o, rest-le following is.0 (0x29 ∷ rest) is.1)
 repeat-le None (Some found) text repeat rest o d is = omega (arith, ap length is.1, digits-le text found.0 found.1 d)
 repeat-le None None text repeat rest o d is = omega (arith, ap length is.1)
 
@@ -402,9 +402,9 @@ element_plain constants msb small element pieces of e =
     let found = bind_ok (pair_or_earlier_fault (count_of constants element.repeat) (value_pieces constants msb element.value)) _ pieces e in
     let parts = both_ok (count_of constants element.repeat) (value_pieces constants msb element.value) found.0 found.1 in
     let is = of.stands in
-    let behind = repeat-le (behind_parenthesis of.text) (digits_at 10 of.text) of.text element.repeat is.behind_repeat refl refl is.repeat in
-    let kind = kind_is is.behind_repeat is.kind (0x27 ∷ is.behind_quote) is.of_kind in
-    let inner = values_plain constants msb is.kind is.behind_quote element.value of.rest found.0.1 small (omega (arith, behind, kind.1, of.short)) kind.0 is.value parts.1 in
+    let following = repeat-le (after_parenthesis of.text) (digits_at 10 of.text) of.text element.repeat is.after_repeat refl refl is.repeat in
+    let kind = kind_is is.after_repeat is.kind (0x27 ∷ is.after_quote) is.of_kind in
+    let inner = values_plain constants msb is.kind is.after_quote element.value of.rest found.0.1 small (omega (arith, following, kind.1, of.short)) kind.0 is.value parts.1 in
     subst ArePlainPieces (same_pieces _ pieces found.2) (copies_plain found.0.0 found.0.1 inner)
 
 -- ---- lists of elements
@@ -427,47 +427,47 @@ closed_rest-le text inner rest e = by_end (ltb n (length text)) e
     by_end false e = absurd cc
 
 -- what stands behind something that was found
-abbrev IsBehind : ℕ → Found (List ℕ) → Type 0
-IsBehind size None = Unit {0}
-IsBehind size (Some x) = length x.1 ≤ size
+abbrev IsFollowing : ℕ → Found (List ℕ) → Type 0
+IsFollowing size None = Unit {0}
+IsFollowing size (Some x) = length x.1 ≤ size
 
-behind_byte-le : (size byte : ℕ) (o : Found (List ℕ)) → IsBehind size o → IsBehind (size + 1) (with_byte byte o)
-behind_byte-le size byte None is = tt
-behind_byte-le size byte (Some x) is = omega (arith, is)
+after_byte-le : (size byte : ℕ) (o : Found (List ℕ)) → IsFollowing size o → IsFollowing (size + 1) (with_byte byte o)
+after_byte-le size byte None is = tt
+after_byte-le size byte (Some x) is = omega (arith, is)
 
-behind_more : (size more : ℕ) (o : Found (List ℕ)) → size ≤ more → IsBehind size o → IsBehind more o
-behind_more size more None less is = tt
-behind_more size more (Some x) less is = omega (arith, less, is)
+after_more : (size more : ℕ) (o : Found (List ℕ)) → size ≤ more → IsFollowing size o → IsFollowing more o
+after_more size more None less is = tt
+after_more size more (Some x) less is = omega (arith, less, is)
 
-behind_if : (size : ℕ) (b : Bool) (x y : Found (List ℕ)) → IsBehind size x → IsBehind size y → IsBehind size (cond b x y)
-behind_if size true x y p q = p
-behind_if size false x y p q = q
+after_if : (size : ℕ) (b : Bool) (x y : Found (List ℕ)) → IsFollowing size x → IsFollowing size y → IsFollowing size (cond b x y)
+after_if size true x y p q = p
+after_if size false x y p q = q
 
-text_behind : (text : List ℕ) → IsBehind (length text) (text_at text)
+text_after : (text : List ℕ) → IsFollowing (length text) (text_at text)
 unfolding text_at
-text_behind [] = tt
-text_behind (byte ∷ []) = behind_if 1 (eqb byte 0x27) (Some ([], [])) None (omega arith) tt
-text_behind (byte ∷ next ∷ behind) =
-    let n = length (byte ∷ next ∷ behind) in
-    let first = behind_byte-le (length behind) 0x27 (text_at behind) (text_behind behind) in
-    let other = behind_byte-le (length (next ∷ behind)) byte (text_at (next ∷ behind)) (text_behind (next ∷ behind)) in
-    behind_if n (eqb byte 0x27) (cond (eqb next 0x27) (with_byte 0x27 (text_at behind)) (Some ([], next ∷ behind))) (with_byte byte (text_at (next ∷ behind)))
-    (behind_if n (eqb next 0x27) (with_byte 0x27 (text_at behind)) (Some ([], next ∷ behind)) (behind_more (length behind + 1) n (with_byte 0x27 (text_at behind)) (omega arith) first) (omega arith))
-    (behind_more (length (next ∷ behind) + 1) n (with_byte byte (text_at (next ∷ behind))) (omega arith) other)
+text_after [] = tt
+text_after (byte ∷ []) = after_if 1 (eqb byte 0x27) (Some ([], [])) None (omega arith) tt
+text_after (byte ∷ next ∷ following) =
+    let n = length (byte ∷ next ∷ following) in
+    let first = after_byte-le (length following) 0x27 (text_at following) (text_after following) in
+    let other = after_byte-le (length (next ∷ following)) byte (text_at (next ∷ following)) (text_after (next ∷ following)) in
+    after_if n (eqb byte 0x27) (cond (eqb next 0x27) (with_byte 0x27 (text_at following)) (Some ([], next ∷ following))) (with_byte byte (text_at (next ∷ following)))
+    (after_if n (eqb next 0x27) (with_byte 0x27 (text_at following)) (Some ([], next ∷ following)) (after_more (length following + 1) n (with_byte 0x27 (text_at following)) (omega arith) first) (omega arith))
+    (after_more (length (next ∷ following) + 1) n (with_byte byte (text_at (next ∷ following))) (omega arith) other)
 
 pub value-le : (kind : Kind) (text : List ℕ) (value : Value) (rest : List ℕ) → IsValueAt kind text value rest → length rest ≤ length text
 value-le (Number width) text value rest is = closed_rest-le text is.0 rest is.2
 value-le Hexadecimal text value rest is = closed_rest-le text is.0 rest is.2
 value-le Binary text value rest is = closed_rest-le text is.0 rest is.2
-value-le Characters text value rest is = subst (IsBehind (length text)) is.1 (text_behind text)
+value-le Characters text value rest is = subst (IsFollowing (length text)) is.1 (text_after text)
 value-le References text value rest is = closed_rest-le text is.0 rest is.2
 value-le WeakReferences text value rest is = closed_rest-le text is.0 rest is.2
 
 pub element-le : (text : List ℕ) (element : Element) (rest : List ℕ) → IsElementAt text element rest → length rest ≤ length text
 element-le text element rest is =
-    let behind = repeat-le (behind_parenthesis text) (digits_at 10 text) text element.repeat is.behind_repeat refl refl is.repeat in
-    let kind = kind_is is.behind_repeat is.kind (0x27 ∷ is.behind_quote) is.of_kind in
-    omega (arith, behind, kind.1, value-le is.kind is.behind_quote element.value rest is.value)
+    let following = repeat-le (after_parenthesis text) (digits_at 10 text) text element.repeat is.after_repeat refl refl is.repeat in
+    let kind = kind_is is.after_repeat is.kind (0x27 ∷ is.after_quote) is.of_kind in
+    omega (arith, following, kind.1, value-le is.kind is.after_quote element.value rest is.value)
 
 elements_of : (text : List ℕ) (elements : List Element) → length text ≤ 255 → AreElements text elements → AllByRecursion IsElementOf elements
 elements_of text [] short are = absurd are

@@ -19,7 +19,7 @@ use Rattle.orca_meaning.specs.declared.modes.Mode.{Mode}
 use Rattle.orca_meaning.specs.Formula.{pending, with_location_less}
 use Rattle.orca_meaning.specs.laws.FormulaLaws.{pending-two}
 use Rattle.orca_meaning.specs.Length.{length_of, has_long_operand}
-use Rattle.orca_meaning.specs.Operand.{form_behind, plain_form, round_form, square_form, immediate_form, whole_index, indexes_around}
+use Rattle.orca_meaning.specs.Operand.{form_after, plain_form, round_form, square_form, immediate_form, whole_index, indexes_around}
 use Rattle.std.proofs.lemmas.Bool.{leb-true, eqb-false, and_parts}
 use Rattle.asm_meaning.specs.declared.faults.AsmCause.TheVariants.{DoesNotFit}
 use Rattle.asm_meaning.specs.Answer.{Answer, pair_or_earlier_fault}
@@ -150,9 +150,9 @@ square_has (Some (S, S)) = tt
 
 immediate_has : (text : List ℕ) → Holds HasFormula (immediate_form text)
 immediate_has [] = tt
-immediate_has (byte ∷ behind) = tt
+immediate_has (byte ∷ following) = tt
 
-pub form_has : (o : Opening) (rest : List ℕ) → Holds HasFormula (form_behind o rest)
+pub form_has : (o : Opening) (rest : List ℕ) → Holds HasFormula (form_after o rest)
 form_has Open rest = plain_has (whole_index rest)
 form_has Hash rest = immediate_has rest
 form_has Round rest = round_has (indexes_around 0x29 rest)

@@ -18,10 +18,10 @@ use Rattle.object_meaning.specs.Sizes.{size_at, body_size}
 use Rattle.object_meaning.specs.Sizes as sizes
 use Rattle.orca_meaning.specs.Line.{Line}
 use Rattle.asm_meaning.specs.Object.{records_text, segment_text, object_text, most_bytes, AreSteps, HasLines}
-use Rattle.asm_meaning.specs.Pieces.{place_behind}
+use Rattle.asm_meaning.specs.Pieces.{place_after}
 use Rattle.asm_meaning.specs.State.{Ended, State, start}
 use Rattle.asm_meaning.specs.laws.LinesShort.{AreShortLines, expanded_short}
-use Rattle.asm_meaning.specs.laws.PieceLaws.{plain_fit, place_behind-append}
+use Rattle.asm_meaning.specs.laws.PieceLaws.{plain_fit, place_after-append}
 use Rattle.asm_meaning.specs.laws.Sound.{IsSound, IsShort, IsSoundEnded, sound_start}
 use Rattle.asm_meaning.specs.laws.StepSound.{step_sound}
 use Rattle.asm_meaning.specs.ObjectFile.{IsReadAs, AreReadAs, ObjectIsFile}
@@ -92,9 +92,9 @@ body_is e fit =
 
 inner_fit : (e : Ended) (fit : IsFit e) → AllByRecursion IsBodyRecord fit.sound.inner
 inner_fit e fit =
-    let cells : e.header.length ≡ place_behind (place_behind 0 fit.sound.inner) (End ∷ []) =
-    fit.sound.length' ∙ ap (place_behind 0) fit.sound.body ∙ place_behind-append 0 fit.sound.inner (End ∷ []) in
-    plain_fit 0 fit.sound.inner fit.sound.plain (omega (arith, cells, fit.sound.short, Rattle.asm_meaning.specs.laws.PieceLaws.place_behind-le (place_behind 0 fit.sound.inner) (End ∷ [])))
+    let cells : e.header.length ≡ place_after (place_after 0 fit.sound.inner) (End ∷ []) =
+    fit.sound.length' ∙ ap (place_after 0) fit.sound.body ∙ place_after-append 0 fit.sound.inner (End ∷ []) in
+    plain_fit 0 fit.sound.inner fit.sound.plain (omega (arith, cells, fit.sound.short, Rattle.asm_meaning.specs.laws.PieceLaws.place_after-le (place_after 0 fit.sound.inner) (End ∷ [])))
 
 -- ---- where it stands in the file
 
@@ -152,8 +152,8 @@ records_placed end [] = refl
 records_placed end (r ∷ rs) = ap (λ (l : List Record). r ∷ l) (records_placed end rs)
 
 -- the linker counts the same cells
-pub same_place : (at : ℕ) (founds : List (ℕ × Record)) → sizes.place_behind at founds ≡ place_behind at (map (λ found. found.1) founds)
-unfolding place_behind
+pub same_place : (at : ℕ) (founds : List (ℕ × Record)) → sizes.place_after at founds ≡ place_after at (map (λ found. found.1) founds)
+unfolding place_after
 same_place at [] = refl
 same_place at (found ∷ founds) = same_place (at + size_at at found.1) founds
 
@@ -165,7 +165,7 @@ is_read_as at e fit =
     record {
       fields = refl;
       records = records;
-      cells = fit.sound.length' ∙ ap (place_behind 0) (sym records) ∙ sym (same_place 0 (placed (at + size_of e) rs));
+      cells = fit.sound.length' ∙ ap (place_after 0) (sym records) ∙ sym (same_place 0 (placed (at + size_of e) rs));
     }
 
 -- ---- the file

@@ -8,7 +8,7 @@ use Rattle.omf_format.specs.Record.{Record, Const, LongConst, IsRecord}
 use Rattle.omf_format.specs.Reading.{is_end}
 use Rattle.object_meaning.specs.laws.RunLaws.{IsBodyRecord}
 use Rattle.object_meaning.specs.Sizes.{size_at}
-use Rattle.asm_meaning.specs.Pieces.{Piece, Bytes, Whole, constant_records, records_behind, copies, place_behind, length_at}
+use Rattle.asm_meaning.specs.Pieces.{Piece, Bytes, Whole, constant_records, records_after, copies, place_after, length_at}
 use Rattle.asm_meaning.specs.Elements.{joined_pieces}
 
 -- a record of a body that has a spelling as long as it gives less than 2 ^ 32 cells
@@ -25,27 +25,27 @@ all-append P (x ∷ xs) ys p q = (p.0, all-append P xs ys p.1 q)
 
 -- ---- places
 
-pub place_behind-append : (at : ℕ) (a b : List Record) → place_behind at (a ++ b) ≡ place_behind (place_behind at a) b
-unfolding place_behind
-place_behind-append at [] b = refl
-place_behind-append at (r ∷ a) b = place_behind-append (at + size_at at r) a b
+pub place_after-append : (at : ℕ) (a b : List Record) → place_after at (a ++ b) ≡ place_after (place_after at a) b
+unfolding place_after
+place_after-append at [] b = refl
+place_after-append at (r ∷ a) b = place_after-append (at + size_at at r) a b
 
-pub place_behind-le : (at : ℕ) (rs : List Record) → at ≤ place_behind at rs
-unfolding place_behind
-place_behind-le at [] = omega arith
-place_behind-le at (r ∷ rs) = omega (arith, place_behind-le (at + size_at at r) rs)
+pub place_after-le : (at : ℕ) (rs : List Record) → at ≤ place_after at rs
+unfolding place_after
+place_after-le at [] = omega arith
+place_after-le at (r ∷ rs) = omega (arith, place_after-le (at + size_at at r) rs)
 
 -- the length of a statement is what it moves the place by
-pub length_at-adds : (at : ℕ) (rs : List Record) → at + length_at at rs ≡ place_behind at rs
+pub length_at-adds : (at : ℕ) (rs : List Record) → at + length_at at rs ≡ place_after at rs
 unfolding length_at
-length_at-adds at rs = omega (arith, place_behind-le at rs)
+length_at-adds at rs = omega (arith, place_after-le at rs)
 
 -- plain records that give less than 2 ^ 32 cells have spellings
-pub plain_fit : (at : ℕ) (rs : List Record) → ArePlain rs → place_behind at rs < 2 ^ 32 → AllByRecursion IsBodyRecord rs
-unfolding place_behind
+pub plain_fit : (at : ℕ) (rs : List Record) → ArePlain rs → place_after at rs < 2 ^ 32 → AllByRecursion IsBodyRecord rs
+unfolding place_after
 plain_fit at [] all less = tt
 plain_fit at (r ∷ rs) all less =
-    let size : size_at at r < 2 ^ 32 = omega (arith, place_behind-le (at + size_at at r) rs, less) in
+    let size : size_at at r < 2 ^ 32 = omega (arith, place_after-le (at + size_at at r) rs, less) in
     ((all.0.spelled at size, all.0.inner), plain_fit (at + size_at at r) rs all.1 less)
 
 -- ---- pieces
@@ -65,11 +65,11 @@ constant_plain (byte ∷ bytes) = (by_length (leb (length (byte ∷ bytes)) 223)
     by_length true is = record { spelled = λ at size. (omega arith, leb-true (length (byte ∷ bytes)) 223 is); inner = refl }
     by_length false is = record { spelled = λ at size. size; inner = refl }
 
-pub records_plain : (bytes : List ℕ) (pieces : List Piece) → ArePlainPieces pieces → ArePlain (records_behind bytes pieces)
-unfolding records_behind
+pub records_plain : (bytes : List ℕ) (pieces : List Piece) → ArePlainPieces pieces → ArePlain (records_after bytes pieces)
+unfolding records_after
 records_plain bytes [] all = constant_plain bytes
 records_plain bytes (Bytes more ∷ pieces) all = records_plain (bytes ++ more) pieces all.1
-records_plain bytes (Whole r ∷ pieces) all = all-append IsPlain (constant_records bytes) (r ∷ records_behind [] pieces) (constant_plain bytes) (all.0, records_plain [] pieces all.1)
+records_plain bytes (Whole r ∷ pieces) all = all-append IsPlain (constant_records bytes) (r ∷ records_after [] pieces) (constant_plain bytes) (all.0, records_plain [] pieces all.1)
 
 pub copies_plain : (n : ℕ) (pieces : List Piece) → ArePlainPieces pieces → ArePlainPieces (copies n pieces)
 copies_plain zero pieces all = tt

@@ -19,13 +19,13 @@ use Rattle.asm_meaning.specs.Answer.{Answer, pair_or_earlier_fault}
 use Rattle.asm_meaning.specs.Constant.{amount, tree_of_amount}
 use Rattle.asm_meaning.specs.Formulas.{formula_of}
 use Rattle.asm_meaning.specs.Operations.{operation_of}
-use Rattle.asm_meaning.specs.Pieces.{place_behind, length_at}
+use Rattle.asm_meaning.specs.Pieces.{place_after, length_at}
 use Rattle.asm_meaning.specs.State.{Segment, State, start, cells_of, state_after_start, state_after_end, local_of, with_records, with_local_record, in_segment, is_too_long, within_length, with_switch_set}
 use Rattle.asm_meaning.specs.Statement.{is_misplaced, begins_segment, label_of, load_name_of, switch_of, constants_of, number_in, alignment_in, distance_in, listed_kind, state_after_align, state_after_org, with_kind, equate, with_equate, equating, equating_global, marking, IsDone, IsPlaced, IsKnown, IsStep}
 use Rattle.asm_meaning.specs.Object.{AreSteps}
 use Rattle.asm_meaning.specs.LabelLaws.{HasPut, IsWithin, AreWithin, HaveNoEnd, PlaceIsSum}
 use Rattle.asm_meaning.specs.laws.InstructionLaws.{both_ok}
-use Rattle.asm_meaning.specs.laws.PieceLaws.{place_behind-append}
+use Rattle.asm_meaning.specs.laws.PieceLaws.{place_after-append}
 use Rattle.asm_meaning.specs.laws.LabelProofs.{lengths_add}
 
 abbrev okay : {A : Type 0} → A → Answer A
@@ -47,15 +47,15 @@ within_same state next e = by_long (is_too_long state.segment) e
 
 -- ---- records that give no cells
 
-no_cells : (before : List Record) (r : Record) → ((at : ℕ) → place_behind at (r ∷ []) ≡ at) → place_behind 0 (before ++ r ∷ []) ≡ place_behind 0 before
-no_cells before r none = place_behind-append 0 before (r ∷ []) ∙ none (place_behind 0 before)
+no_cells : (before : List Record) (r : Record) → ((at : ℕ) → place_after at (r ∷ []) ≡ at) → place_after 0 (before ++ r ∷ []) ≡ place_after 0 before
+no_cells before r none = place_after-append 0 before (r ∷ []) ∙ none (place_after 0 before)
 
-equate_no_cells : (global : Bool) (label : List ℕ) (tree : Tree) (at : ℕ) → place_behind at (equate global label tree ∷ []) ≡ at
-unfolding place_behind
+equate_no_cells : (global : Bool) (label : List ℕ) (tree : Tree) (at : ℕ) → place_after at (equate global label tree ∷ []) ≡ at
+unfolding place_after
 equate_no_cells global label tree at = omega arith
 
-label_no_cells : (label : List ℕ) (at : ℕ) → place_behind at (Label true label 0 0x4E 0 ∷ []) ≡ at
-unfolding place_behind
+label_no_cells : (label : List ℕ) (at : ℕ) → place_after at (Label true label 0 0x4E 0 ∷ []) ≡ at
+unfolding place_after
 label_no_cells label at = omega arith
 
 -- ---- what a statement does to the open segment
@@ -233,7 +233,7 @@ lines_within state last s (line ∷ lines) there steps go =
 -- ---- what waits for the next segment gives no cells
 
 abbrev NoCells : State → Type 0
-NoCells state = place_behind 0 state.front ≡ 0
+NoCells state = place_after 0 state.front ≡ 0
 
 made_none : {A : Type 0} (next : State) (label : Answer (List ℕ)) (given : Answer A) (make : List ℕ → A → State) → ((name : List ℕ) (a : A) → NoCells (make name a))
     → (pair_or_earlier_fault label given >>= λ (name, a). okay (make name a)) ≡ Ok next → NoCells next
@@ -242,7 +242,7 @@ made_none next label given make each e =
     subst NoCells (same_okay (make all.0.0 all.0.1) next all.2) (each all.0.0 all.0.1)
 
 begun_none : (state : State) (line : Line) (class : Class) (name load_name : List ℕ) → NoCells (state_after_start state line class name load_name)
-unfolding place_behind
+unfolding place_after
 begun_none state line class name load_name = refl
 
 aligned_none : (state : State) (o : Option Segment) (name : List ℕ) (n : ℕ) → NoCells state → NoCells (state_after_align state o name n)
@@ -330,7 +330,7 @@ lines_none state last (line ∷ lines) none steps =
     lines_none steps.0 last lines (done_none state steps.0 line done.0 (label_of state done.0 (part line.text line.fields.label)) (part line.text line.fields.operand) none done.2) steps.2
 
 start_none : NoCells start
-unfolding place_behind
+unfolding place_after
 start_none = refl
 
 -- ---- a segment from its beginning on
@@ -360,10 +360,10 @@ begins_empty state next line class none opens step =
       body = front;
     }
 
-steps_parted : (state last : State) (before behind : List Line) → AreSteps state (before ++ behind) last → (middle : State) × AreSteps state before middle × AreSteps middle behind last
-steps_parted state last [] behind steps = (state, refl, steps)
-steps_parted state last (line ∷ before) behind steps =
-    let rest = steps_parted steps.0 last before behind steps.2 in
+steps_parted : (state last : State) (before following : List Line) → AreSteps state (before ++ following) last → (middle : State) × AreSteps state before middle × AreSteps middle following last
+steps_parted state last [] following steps = (state, refl, steps)
+steps_parted state last (line ∷ before) following steps =
+    let rest = steps_parted steps.0 last before following steps.2 in
     (rest.0, (steps.0, steps.1, rest.1), rest.2)
 
 pub place_is_sum : PlaceIsSum

@@ -12,10 +12,10 @@ use Rattle.asm_meaning.specs.declared.directives.Class.{Class}
 use Rattle.asm_meaning.specs.declared.directives.Class.TheVariants.{Code, PrivateCode, Data, PrivateData}
 use Rattle.asm_meaning.specs.declared.directives.Switch.{Switch}
 use Rattle.asm_meaning.specs.declared.directives.Switch.TheVariants.{LongA, LongI, Msb}
-use Rattle.asm_meaning.specs.Pieces.{place_behind, length_at}
+use Rattle.asm_meaning.specs.Pieces.{place_after, length_at}
 use Rattle.asm_meaning.specs.State.{Names, Segment, Ended, State, start, no_names, cells_of, kind_of, bank_size_of, header_of, state_after_start, ended_of, state_after_end, with_label, local_of, with_records, with_local_record, in_segment, with_switch_set}
 use Rattle.asm_meaning.specs.laws.AmountLaws.{AreSmall}
-use Rattle.asm_meaning.specs.laws.PieceLaws.{IsPlain, ArePlain, all-append, place_behind-append}
+use Rattle.asm_meaning.specs.laws.PieceLaws.{IsPlain, ArePlain, all-append, place_after-append}
 use Rattle.asm_meaning.specs.laws.GivenLaws.{IsNameLength}
 
 -- ---- what is sound
@@ -49,7 +49,7 @@ pub record IsSoundEnded (e : Ended) : Type 0 where
   pub inner : List Record
   pub body : e.body ≡ inner ++ End ∷ []
   pub plain : ArePlain inner
-  pub length' : e.header.length ≡ place_behind 0 e.body
+  pub length' : e.header.length ≡ place_after 0 e.body
   pub short : e.header.length ≤ 0xFFFFFF
 
 abbrev pub InSegment : (Segment → Type 0) → Option Segment → Type 0
@@ -192,18 +192,18 @@ begun_sound state line class name load_name sound is ten = record {
 }
 
 -- END, with LOCAL for its label, gives no cells
-local_cells : (at : ℕ) (label : List ℕ) (form size : ℕ) → place_behind at (local_of label form size) ≡ at
-unfolding place_behind
+local_cells : (at : ℕ) (label : List ℕ) (form size : ℕ) → place_after at (local_of label form size) ≡ at
+unfolding place_after
 local_cells at [] form size = refl
 local_cells at (byte ∷ label) form size = omega arith
 
-end_cells : (at : ℕ) (label : List ℕ) (form size : ℕ) → place_behind at (local_of label form size ++ End ∷ []) ≡ at
-unfolding place_behind
+end_cells : (at : ℕ) (label : List ℕ) (form size : ℕ) → place_after at (local_of label form size ++ End ∷ []) ≡ at
+unfolding place_after
 end_cells at label form size =
-    place_behind-append at (local_of label form size) (End ∷ []) ∙ ap (λ (k : ℕ). k + 0) (local_cells at label form size) ∙ zero_behind
+    place_after-append at (local_of label form size) (End ∷ []) ∙ ap (λ (k : ℕ). k + 0) (local_cells at label form size) ∙ zero_after
   where
-    zero_behind : at + 0 ≡ at
-    zero_behind = omega arith
+    zero_after : at + 0 ≡ at
+    zero_after = omega arith
 
 pub ends_sound : (label : List ℕ) (state : State) → IsSound state → IsShort state → IsLabelText label → IsSound (state_after_end (in_segment (with_local_record label 0x4E (End ∷ [])) state))
 ends_sound label state sound short is = record {
@@ -219,8 +219,8 @@ ends_sound label state sound short is = record {
     by_segment None p q = tt
     by_segment (Some s) p q =
         let local = local_of label 0x4E (length_at (cells_of s) (End ∷ [])) in
-        let cells : place_behind 0 (s.body ++ (local ++ End ∷ [])) ≡ cells_of s =
-        place_behind-append 0 s.body (local ++ End ∷ []) ∙ end_cells (cells_of s) label 0x4E (length_at (cells_of s) (End ∷ [])) in (
+        let cells : place_after 0 (s.body ++ (local ++ End ∷ [])) ≡ cells_of s =
+        place_after-append 0 s.body (local ++ End ∷ []) ∙ end_cells (cells_of s) label 0x4E (length_at (cells_of s) (End ∷ [])) in (
           record {
             header = record {
               version = p.header.version;

@@ -12,7 +12,7 @@ use Rattle.orca_meaning.specs.laws.OperandLaws.{one_operand}
 use Rattle.orca_meaning.specs.Token.{digits_at, name_at, Found}
 use Rattle.asm_meaning.specs.declared.directives.Directive.TheVariants as directives
 use Rattle.asm_meaning.specs.Answer.{Answer}
-use Rattle.asm_meaning.specs.Elements.{Repeat, Computed, Value, Numbers, Fixed, Text, Asked, Weak, Element, Kind, Number, Hexadecimal, Binary, Characters, References, WeakReferences, closed_at, text_at, bytes_of_digits, kind_at, AreNames, IsValueAt, behind_parenthesis, IsRepeatBy, IsElementAt, AreElements, IsList, list_pieces}
+use Rattle.asm_meaning.specs.Elements.{Repeat, Computed, Value, Numbers, Fixed, Text, Asked, Weak, Element, Kind, Number, Hexadecimal, Binary, Characters, References, WeakReferences, closed_at, text_at, bytes_of_digits, kind_at, AreNames, IsValueAt, after_parenthesis, IsRepeatBy, IsElementAt, AreElements, IsList, list_pieces}
 use Rattle.asm_meaning.specs.Formulas.{IsFormula, AreFormulas}
 use Rattle.asm_meaning.specs.Instruction.{instruction}
 use Rattle.asm_meaning.specs.declared.directives.Operation.{Operation}
@@ -20,7 +20,7 @@ use Rattle.asm_meaning.specs.declared.directives.Operation.TheVariants.{Instruct
 use Rattle.asm_meaning.specs.Operations.{operation_of}
 use Rattle.asm_meaning.specs.Pieces.{records_of}
 use Rattle.asm_meaning.specs.State.{Segment, State, within_length}
-use Rattle.asm_meaning.specs.Statement.{behind_here, IsOperandOf, Good, Bad, Large, constants_of, IsMoveText, IsMove, marking, equating, equating_global, spacing, align_state, moving, kinding, IsDone, IsPlaced, IsKnown, IsStep, label_of, is_misplaced}
+use Rattle.asm_meaning.specs.Statement.{following_here, IsOperandOf, Good, Bad, Large, constants_of, IsMoveText, IsMove, marking, equating, equating_global, spacing, align_state, moving, kinding, IsDone, IsPlaced, IsKnown, IsStep, label_of, is_misplaced}
 
 -- ---- found at a front
 
@@ -32,8 +32,8 @@ same_found {A = A} o a b r s p q =
     let both = same_some o (a, r) (b, s) p q in
     (ap (λ (x : A × List ℕ). x.0) both, ap (λ (x : A × List ℕ). x.1) both)
 
-pub same_behind : (byte : ℕ) (r s : List ℕ) → byte ∷ r ≡ byte ∷ s → r ≡ s
-same_behind byte r s e = cc
+pub same_after : (byte : ℕ) (r s : List ℕ) → byte ∷ r ≡ byte ∷ s → r ≡ s
+same_after byte r s e = cc
 
 not_comma : (r : List ℕ) → [] ≡ 0x2C ∷ r → ⊥
 not_comma r e = absurd cc
@@ -54,8 +54,8 @@ formulas_once text (t ∷ []) (u ∷ v ∷ us) p q = absurd (not_comma q.0 (one_
 formulas_once text (t ∷ v ∷ ts) (u ∷ []) p q = absurd (not_comma p.0 (one_tree Labels text u t [] (0x2C ∷ p.0) q p.1).1)
 formulas_once text (t ∷ v ∷ ts) (u ∷ w ∷ us) p q =
     let first = one_tree Labels text t u (0x2C ∷ p.0) (0x2C ∷ q.0) p.1 q.1 in
-    let behind : p.0 ≡ q.0 = same_behind 0x2C p.0 q.0 first.1 in
-    let rest : v ∷ ts ≡ w ∷ us = formulas_once p.0 (v ∷ ts) (w ∷ us) p.2 (subst (λ (x : List ℕ). AreFormulas x (w ∷ us)) (sym behind) q.2) in
+    let following : p.0 ≡ q.0 = same_after 0x2C p.0 q.0 first.1 in
+    let rest : v ∷ ts ≡ w ∷ us = formulas_once p.0 (v ∷ ts) (w ∷ us) p.2 (subst (λ (x : List ℕ). AreFormulas x (w ∷ us)) (sym following) q.2) in
     ap (λ (x : Tree). x ∷ (v ∷ ts)) first.0 ∙ ap (λ (x : List Tree). u ∷ x) rest
 
 -- ---- the operand of an instruction
@@ -94,8 +94,8 @@ names_once text (x ∷ []) (y ∷ z ∷ ys) p q = absurd (not_comma q.0 (same_fo
 names_once text (x ∷ z ∷ xs) (y ∷ []) p q = absurd (not_comma p.0 (same_found (name_at text) y x [] (0x2C ∷ p.0) q p.1).1)
 names_once text (x ∷ z ∷ xs) (y ∷ w ∷ ys) p q =
     let first = same_found (name_at text) x y (0x2C ∷ p.0) (0x2C ∷ q.0) p.1 q.1 in
-    let behind : p.0 ≡ q.0 = same_behind 0x2C p.0 q.0 first.1 in
-    let rest : z ∷ xs ≡ w ∷ ys = names_once p.0 (z ∷ xs) (w ∷ ys) p.2 (subst (λ (t : List ℕ). AreNames t (w ∷ ys)) (sym behind) q.2) in
+    let following : p.0 ≡ q.0 = same_after 0x2C p.0 q.0 first.1 in
+    let rest : z ∷ xs ≡ w ∷ ys = names_once p.0 (z ∷ xs) (w ∷ ys) p.2 (subst (λ (t : List ℕ). AreNames t (w ∷ ys)) (sym following) q.2) in
     ap (λ (n : List ℕ). n ∷ (z ∷ xs)) first.0 ∙ ap (λ (ns : List (List ℕ)). y ∷ ns) rest
 
 -- a value of one type, and what stands behind it
@@ -131,9 +131,9 @@ abbrev pub SameRepeat : Repeat → Repeat → List ℕ → List ℕ → Type 0
 SameRepeat v w r s = (v ≡ w) × (r ≡ s)
 
 pub repeat_once : (o : Option (List ℕ)) (digits : Found ℕ) (text : List ℕ) (v w : Repeat) (r s : List ℕ) → IsRepeatBy o digits text v r → IsRepeatBy o digits text w s → SameRepeat v w r s
-repeat_once (Some behind) digits text v w r s p q =
-    let same = one_tree Labels behind p.0 q.0 (0x29 ∷ r) (0x29 ∷ s) p.1 q.1 in
-    (p.2 ∙ ap (λ (t : Tree). Computed t) same.0 ∙ sym q.2, same_behind 0x29 r s same.1)
+repeat_once (Some following) digits text v w r s p q =
+    let same = one_tree Labels following p.0 q.0 (0x29 ∷ r) (0x29 ∷ s) p.1 q.1 in
+    (p.2 ∙ ap (λ (t : Tree). Computed t) same.0 ∙ sym q.2, same_after 0x29 r s same.1)
 repeat_once None (Some found) text v w r s p q = (p.0 ∙ sym q.0, p.1 ∙ sym q.1)
 repeat_once None None text v w r s p q = (p.0 ∙ sym q.0, p.1 ∙ sym q.1)
 
@@ -143,12 +143,12 @@ made repeat value = record { repeat = repeat; value = value }
 pub element_once : (text : List ℕ) (a b : Element) (r s : List ℕ) → IsElementAt text a r → IsElementAt text b s → (a ≡ b) × (r ≡ s)
 unfolding made
 element_once text a b r s p q =
-    let repeat = repeat_once (behind_parenthesis text) (digits_at 10 text) text a.repeat b.repeat p.behind_repeat q.behind_repeat p.repeat q.repeat in
-    let kind = same_found (kind_at p.behind_repeat) p.kind q.kind (0x27 ∷ p.behind_quote) (0x27 ∷ q.behind_quote) p.of_kind
-    (subst (λ (t : List ℕ). kind_at t ≡ Some (q.kind, 0x27 ∷ q.behind_quote)) (sym repeat.1) q.of_kind) in
-    let behind : p.behind_quote ≡ q.behind_quote = same_behind 0x27 p.behind_quote q.behind_quote kind.1 in
-    let there = subst (λ (t : List ℕ). IsValueAt p.kind t b.value s) (sym behind) (subst (λ (k : Kind). IsValueAt k q.behind_quote b.value s) (sym kind.0) q.value) in
-    let value = value_once p.kind p.behind_quote a.value b.value r s p.value there in
+    let repeat = repeat_once (after_parenthesis text) (digits_at 10 text) text a.repeat b.repeat p.after_repeat q.after_repeat p.repeat q.repeat in
+    let kind = same_found (kind_at p.after_repeat) p.kind q.kind (0x27 ∷ p.after_quote) (0x27 ∷ q.after_quote) p.of_kind
+    (subst (λ (t : List ℕ). kind_at t ≡ Some (q.kind, 0x27 ∷ q.after_quote)) (sym repeat.1) q.of_kind) in
+    let following : p.after_quote ≡ q.after_quote = same_after 0x27 p.after_quote q.after_quote kind.1 in
+    let there = subst (λ (t : List ℕ). IsValueAt p.kind t b.value s) (sym following) (subst (λ (k : Kind). IsValueAt k q.after_quote b.value s) (sym kind.0) q.value) in
+    let value = value_once p.kind p.after_quote a.value b.value r s p.value there in
     (ap (λ (x : Repeat). made x a.value) repeat.0 ∙ ap (λ (x : Value). made b.repeat x) value.0, value.1)
 
 pub elements_once : (text : List ℕ) (a b : List Element) → AreElements text a → AreElements text b → a ≡ b
@@ -159,8 +159,8 @@ elements_once text (x ∷ []) (y ∷ z ∷ ys) p q = absurd (not_comma q.0 (elem
 elements_once text (x ∷ z ∷ xs) (y ∷ []) p q = absurd (not_comma p.0 (element_once text y x [] (0x2C ∷ p.0) q p.1).1)
 elements_once text (x ∷ z ∷ xs) (y ∷ w ∷ ys) p q =
     let first = element_once text x y (0x2C ∷ p.0) (0x2C ∷ q.0) p.1 q.1 in
-    let behind : p.0 ≡ q.0 = same_behind 0x2C p.0 q.0 first.1 in
-    let rest : z ∷ xs ≡ w ∷ ys = elements_once p.0 (z ∷ xs) (w ∷ ys) p.2 (subst (λ (t : List ℕ). AreElements t (w ∷ ys)) (sym behind) q.2) in
+    let following : p.0 ≡ q.0 = same_after 0x2C p.0 q.0 first.1 in
+    let rest : z ∷ xs ≡ w ∷ ys = elements_once p.0 (z ∷ xs) (w ∷ ys) p.2 (subst (λ (t : List ℕ). AreElements t (w ∷ ys)) (sym following) q.2) in
     ap (λ (e : Element). e ∷ (z ∷ xs)) first.0 ∙ ap (λ (es : List Element). y ∷ es) rest
 
 pub list_once : (text : List ℕ) (a b : Option (List Element)) → IsList text a → IsList text b → a ≡ b
@@ -173,11 +173,11 @@ list_once text (Some x) (Some y) p q = ap (λ (e : List Element). Some e) (eleme
 
 move_once : (o : Option Segment) (text : List ℕ) (a b : Option Tree) → IsMove o text a → IsMove o text b → a ≡ b
 move_once None text a b p q = formula_once text a b p q
-move_once (Some s) text a b p q = by_text (behind_here text) p q
+move_once (Some s) text a b p q = by_text (following_here text) p q
   where
     by_text : (o : Option (List ℕ)) → IsMoveText o a → IsMoveText o b → a ≡ b
     by_text None p q = p ∙ sym q
-    by_text (Some behind) p q = formula_once behind a b p q
+    by_text (Some following) p q = formula_once following a b p q
 
 done_once : (state : State) (line : Line) (operation : Operation) (label : Answer (List ℕ)) (text : List ℕ) (a b : Answer State)
     → IsDone state line operation label text a → IsDone state line operation label text b → a ≡ b

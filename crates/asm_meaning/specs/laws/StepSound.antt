@@ -315,7 +315,7 @@ moved_sound state None label n sound is small = record { outside = sound.outside
 moved_sound state (Some s) label n sound is small = mark_sound label 0x4E (Org n ∷ []) state sound is (omega arith) (org_plain n small)
 
 -- the formula of ORG is one of its operand
-move_text : (o : Option Segment) (text : List ℕ) (found : Option Tree) → length text ≤ 255 → IsMove o text found → (behind : List ℕ) × (length behind ≤ 255) × IsFormula behind found
+move_text : (o : Option Segment) (text : List ℕ) (found : Option Tree) → length text ≤ 255 → IsMove o text found → (following : List ℕ) × (length following ≤ 255) × IsFormula following found
 move_text None text found short is = (text, short, is)
 move_text (Some s) [] found short is = ([], omega arith, by_none found is)
   where
@@ -327,14 +327,14 @@ move_text (Some s) (byte ∷ []) found short is = ([], omega arith, by_none foun
     by_none : (found : Option Tree) → found ≡ None → IsFormula [] found
     by_none None e = λ tree means. Rattle.orca_meaning.specs.laws.OperandLaws.none_in_nothing Labels tree [] means
     by_none (Some tree) e = absurd cc
-move_text (Some s) (byte ∷ next ∷ behind) found short is = by_here (eqb byte 0x2A && eqb next 0x2B) is
+move_text (Some s) (byte ∷ next ∷ following) found short is = by_here (eqb byte 0x2A && eqb next 0x2B) is
   where
     by_none : (found : Option Tree) → found ≡ None → IsFormula [] found
     by_none None e = λ tree means. Rattle.orca_meaning.specs.laws.OperandLaws.none_in_nothing Labels tree [] means
     by_none (Some tree) e = absurd cc
 
-    by_here : (b : Bool) → IsMoveText (cond b (Some behind) None) found → (text : List ℕ) × (length text ≤ 255) × IsFormula text found
-    by_here true is = (behind, omega (arith, short), is)
+    by_here : (b : Bool) → IsMoveText (cond b (Some following) None) found → (text : List ℕ) × (length text ≤ 255) × IsFormula text found
+    by_here true is = (following, omega (arith, short), is)
     by_here false is = ([], omega arith, by_none found is)
 
 moving_sound : (state next : State) (text : List ℕ) (label : Answer (List ℕ)) (found : Option Tree) → IsSound state → length text ≤ 255 → ((name : List ℕ) → label ≡ Ok name → IsLabelText name)

@@ -24,7 +24,7 @@ use Rattle.asm_meaning.specs.Instruction.{instruction}
 use Rattle.asm_meaning.specs.Operations.{operation_of}
 use Rattle.asm_meaning.specs.Pieces.{records_of}
 use Rattle.asm_meaning.specs.State.{Segment, State, start, state_after_end, within_length}
-use Rattle.asm_meaning.specs.Statement.{behind_here, is_misplaced, label_of, IsOperandOf, Good, Bad, Large, name_of, constants_of, equating, equating_global, spacing, align_state, moving, kinding, IsMoveText, IsMove, marking, beginning, turning, entering, IsDone, IsPlaced, IsKnown, IsStep}
+use Rattle.asm_meaning.specs.Statement.{following_here, is_misplaced, label_of, IsOperandOf, Good, Bad, Large, name_of, constants_of, equating, equating_global, spacing, align_state, moving, kinding, IsMoveText, IsMove, marking, beginning, turning, entering, IsDone, IsPlaced, IsKnown, IsStep}
 use Rattle.asm_meaning.specs.Object.{object_text, most_bytes, AreSteps, HasLines, InExpansion, InLine, InSegment, InLength}
 use Rattle.asm_meaning.specs.ObjectLaws.{NoneUnanswered}
 
@@ -38,11 +38,11 @@ a_list text go = go None (λ elements are. go (Some elements) are)
 
 a_move : (o : Option Segment) (text : List ℕ) → ((found : Option Tree) → IsMove o text found → ⊥) → ⊥
 a_move None text go = a_formula text go
-a_move (Some s) text go = by_text (behind_here text) go
+a_move (Some s) text go = by_text (following_here text) go
   where
     by_text : (o : Option (List ℕ)) → ((found : Option Tree) → IsMoveText o found → ⊥) → ⊥
     by_text None go = go None refl
-    by_text (Some behind) go = a_formula behind go
+    by_text (Some following) go = a_formula following go
 
 an_operand : (m : Mnemonic) (text : List ℕ) → ((answer : Answer Meaning) → IsOperandOf m text answer → ⊥) → ⊥
 an_operand m text go = go (Err BadOperand) (Bad (λ meaning is shallow. by_numbers meaning is shallow (list_any has_large meaning.trees) refl) refl)
@@ -97,11 +97,11 @@ a_step state line go = by_operation (operation_of (part line.text line.fields.op
 -- a line with a fault behind lines that have none
 record StopsAt (state : State) (lines : List Line) : Type 0 where
   before : List Line
-  behind : List Line
+  following : List Line
   line : Line
   cause : AsmCause
   last : State
-  parts : lines ≡ before ++ line ∷ behind
+  parts : lines ≡ before ++ line ∷ following
   steps : AreSteps state before last
   wrong : IsStep last line (Err cause)
 
@@ -111,10 +111,10 @@ all_steps state [] go stop = go state refl
 all_steps state (line ∷ lines) go stop = a_step state line (by_answer (λ next on off. all_steps next lines on off))
   where
     by_answer : ((next : State) → ((last : State) → AreSteps next lines last → ⊥) → (StopsAt next lines → ⊥) → ⊥) → (answer : Answer State) → IsStep state line answer → ⊥
-    by_answer behind (Ok next) is =
-        behind next (λ last steps. go last (next, is, steps))
-        (λ s. stop (record { before = line ∷ s.before; behind = s.behind; line = s.line; cause = s.cause; last = s.last; parts = ap (λ (l : List Line). line ∷ l) s.parts; steps = (next, is, s.steps); wrong = s.wrong }))
-    by_answer behind (Err cause) is = stop (record { before = []; behind = lines; line = line; cause = cause; last = state; parts = refl; steps = refl; wrong = is })
+    by_answer following (Ok next) is =
+        following next (λ last steps. go last (next, is, steps))
+        (λ s. stop (record { before = line ∷ s.before; following = s.following; line = s.line; cause = s.cause; last = s.last; parts = ap (λ (l : List Line). line ∷ l) s.parts; steps = (next, is, s.steps); wrong = s.wrong }))
+    by_answer following (Err cause) is = stop (record { before = []; following = lines; line = line; cause = cause; last = state; parts = refl; steps = refl; wrong = is })
 
 -- ---- sources
 
@@ -140,4 +140,4 @@ none_unanswered source macros no_object no_fault =
     by_lines : (lines : List Line) → IsExpanded source macros lines → ⊥
     by_lines lines expanded =
         all_steps start lines (λ last steps. by_segment last (record { lines = lines; expanded = expanded; steps = steps }) last.segment refl)
-        (λ s. no_fault _ (InLine s.line s.cause (record { before = s.before; behind = s.behind; last = s.last; expanded = subst (IsExpanded source macros) s.parts expanded; steps = s.steps; wrong = s.wrong }) refl))
+        (λ s. no_fault _ (InLine s.line s.cause (record { before = s.before; following = s.following; last = s.last; expanded = subst (IsExpanded source macros) s.parts expanded; steps = s.steps; wrong = s.wrong }) refl))

@@ -7,16 +7,16 @@ use Rattle.link_meaning.specs.declared.fault.LinkFault.{LinkFault}
 use Rattle.link_meaning.specs.First.{HasNone, IsFirst}
 use Rattle.link_meaning.specs.laws.FirstLaws.{HasOne, one_first, none_yet, none_more}
 use Rattle.link_meaning.specs.Member.{Member}
-use Rattle.link_meaning.specs.Rings.{equates}
-use Rattle.link_meaning.specs.LinkValues.{Told, IsTable}
+use Rattle.link_meaning.specs.Cycles.{equates}
+use Rattle.link_meaning.specs.LinkValues.{EquateAnswer, IsTable}
 use Rattle.link_meaning.specs.laws.TableLaws.{one_table}
-use Rattle.link_meaning.specs.LinkedCells.{Item, LinkState, Made, items, made, state_from, state_behind}
+use Rattle.link_meaning.specs.LinkedCells.{Item, LinkState, Made, items, made, state_from, state_after}
 use Rattle.link_meaning.specs.LinkFaults.{LinkInput, IsResolved, spot_in}
 use Rattle.link_meaning.specs.laws.LinkFaultLaws.{one_program, one_resolve_fault, resolved_sound}
 use Rattle.link_meaning.specs.LinkWritten.{AreMade, start, written_file}
 use Rattle.link_meaning.specs.laws.LinkedRuns.{state_from-append}
 use Rattle.link_meaning.specs.laws.ValueFits.{linked_stands_for}
-use Rattle.link_meaning.specs.EmitFaults.{HasRingFault, HasValueFault, most_bytes, Rings, Values, Size, emit_phases, HasEmitFault, IsFirstEmitFault, IsEmitted, OfResolving, OfEmitting, IsFirstLinkFault, IsLinkedTo, OneLinkAnswer, OneEmitAnswer, LinkAnswersAsEmit, MadeWhereSound, LinkableStandsFor}
+use Rattle.link_meaning.specs.EmitFaults.{HasCycleFault, HasValueFault, most_bytes, Cycles, Values, Size, emit_phases, HasEmitFault, IsFirstEmitFault, IsEmitted, OfResolving, OfEmitting, IsFirstLinkFault, IsLinkedTo, OneLinkAnswer, OneEmitAnswer, LinkAnswersAsEmit, MadeWhereSound, LinkableStandsFor}
 
 -- ---- one first fault
 
@@ -39,24 +39,24 @@ fault_same : (a b : LinkFault) → a.cause ≡ b.cause → a.name ≡ b.name →
 fault_same a b c n s =
     ap (λ (x : LinkCause). fault_of x a.name a.spot) c ∙ ap (λ (x : Option (List ℕ)). fault_of b.cause x a.spot) n ∙ ap (λ (x : Spot). fault_of b.cause b.name x) s
 
-one_ring : (list : List Member) → HasOne (HasRingFault list)
-one_ring list before e a b p q = p.told ∙ sym q.told
+one_cycle : (list : List Member) → HasOne (HasCycleFault list)
+one_cycle list before e a b p q = p.reported ∙ sym q.reported
 
-one_value : (list : List Member) (table : List Told) → HasOne (HasValueFault list table)
+one_value : (list : List Member) (table : List EquateAnswer) → HasOne (HasValueFault list table)
 one_value list table before i a b p q =
     fault_same a b (failed_same a.cause b.cause (sym p.cause ∙ q.cause)) (p.name ∙ sym q.name) (p.spot ∙ sym q.spot)
 
 one_emit : (list : List Member) → HasOne (HasEmitFault list)
-one_emit list before Rings a b p q = one_first (HasRingFault list) (equates list) a b (one_ring list) p q
+one_emit list before Cycles a b p q = one_first (HasCycleFault list) (equates list) a b (one_cycle list) p q
 one_emit list before Values a b p q =
     let same : p.0 ≡ q.0 = one_table list p.0 q.0 p.1 q.1 in
-    one_first (HasValueFault list q.0) (items list) a b (one_value list q.0) (subst (λ (t : List Told). IsFirst (HasValueFault list t) (items list) a) same p.2) q.2
-one_emit list before Size a b p q = p.2.told ∙ sym q.2.told
+    one_first (HasValueFault list q.0) (items list) a b (one_value list q.0) (subst (λ (t : List EquateAnswer). IsFirst (HasValueFault list t) (items list) a) same p.2) q.2
+one_emit list before Size a b p q = p.2.reported ∙ sym q.2.reported
 
 pub one_emit_fault : (list : List Member) (a b : LinkFault) → IsFirstEmitFault list a → IsFirstEmitFault list b → a ≡ b
 one_emit_fault list a b p q = one_first (HasEmitFault list) emit_phases a b (one_emit list) p q
 
-pub emitted_sound : (list : List Member) (table : List Told) (fault : LinkFault) → IsEmitted list table → IsFirstEmitFault list fault → ⊥
+pub emitted_sound : (list : List Member) (table : List EquateAnswer) (fault : LinkFault) → IsEmitted list table → IsFirstEmitFault list fault → ⊥
 emitted_sound list table fault is p = is.sound p.before p.item p.after fault p.parts p.here
 
 -- ---- one answer
@@ -109,13 +109,13 @@ link_answers_as_emit files list (Err fault) resolved is = OfEmitting list resolv
 
 -- ---- no fault, and cells
 
-abbrev NoFirst : List Member → List Told → Type 0
+abbrev NoFirst : List Member → List EquateAnswer → Type 0
 NoFirst list table = (fault : LinkFault) → IsFirst (HasValueFault list table) (items list) fault → ⊥
 
 -- where no record is the first at fault each one gives its cells
-none_made : (list : List Member) (table : List Told) (before rest : List Item) → items list ≡ before ++ rest → HasNone (HasValueFault list table) before → NoFirst list table
+none_made : (list : List Member) (table : List EquateAnswer) (before rest : List Item) → items list ≡ before ++ rest → HasNone (HasValueFault list table) before → NoFirst list table
     → AreMade list table (state_from list table start before) rest
-unfolding state_behind
+unfolding state_after
 none_made list table before [] parts none no_first = tt
 none_made list table before (i ∷ rest) parts none no_first =
     by_made (made list table (state_from list table start before) i) refl (λ none'. none_made list table (before ++ i ∷ []) rest (parts ∙ sym (append_assoc before (i ∷ []) rest)) none' no_first)
@@ -128,7 +128,7 @@ none_made list table before (i ∷ rest) parts none no_first =
         (x, is, subst (λ (s : LinkState). AreMade list table s rest) (state_from-append list table start before (i ∷ [])) (go none'))
     by_made (Err cause) is go = absurd (no_first (fault_of cause None (spot_in i.member i.here.at)) (record { before = before; item = i; after = rest; parts = parts; none = none; here = record { cause = is; name = refl; spot = refl } }))
 
-pub made_none : (list : List Member) (table : List Told) (before rest : List Item) → AreMade list table (state_from list table start before) rest
+pub made_none : (list : List Member) (table : List EquateAnswer) (before rest : List Item) → AreMade list table (state_from list table start before) rest
     → (front : List Item) (i : Item) (back : List Item) → rest ≡ front ++ i ∷ back → (x : Made) × (made list table (state_from list table start (before ++ front)) i ≡ Ok x)
 made_none list table before [] are front i back parts = absurd (no_parts front parts)
   where
@@ -162,14 +162,14 @@ made_none list table before (j ∷ rest) are (k ∷ front) i back parts =
     moved : before ++ k ∷ front ≡ (before ++ j ∷ []) ++ front
     moved = ap (λ (h : Item). before ++ h ∷ front) (sym heads) ∙ sym (append_assoc before (j ∷ []) front)
 
-no_first_made : (list : List Member) (table : List Told) → NoFirst list table → AreMade list table start (items list)
+no_first_made : (list : List Member) (table : List EquateAnswer) → NoFirst list table → AreMade list table start (items list)
 no_first_made list table no_first = none_made list table [] (items list) refl (none_yet (HasValueFault list table)) no_first
 
-pub are_made : (list : List Member) (table : List Told) → HasNone (HasValueFault list table) (items list) → AreMade list table start (items list)
+pub are_made : (list : List Member) (table : List EquateAnswer) → HasNone (HasValueFault list table) (items list) → AreMade list table start (items list)
 are_made list table none = no_first_made list table (λ fault first. none first.before first.item first.after fault first.parts first.here)
 
-pub made_sound : (list : List Member) (table : List Told) → AreMade list table start (items list) → HasNone (HasValueFault list table) (items list)
-unfolding state_behind
+pub made_sound : (list : List Member) (table : List EquateAnswer) → AreMade list table start (items list) → HasNone (HasValueFault list table) (items list)
+unfolding state_after
 made_sound list table are front i back fault parts has =
     let found = made_none list table [] (items list) are front i back parts in
     fine_failed found.0 fault.cause (sym found.1 ∙ has.cause)
@@ -180,13 +180,13 @@ made_where_sound list table = (are_made list table, made_sound list table)
 -- ---- the file of files without a fault
 
 -- each record gives its cells
-pub linkable_made : (list : List Member) (table : List Told) → IsEmitted list table → AreMade list table start (items list)
-linkable_made list table is = no_first_made list table (λ fault first. is.sound (Rings ∷ []) Values (Size ∷ []) fault refl (table, is.valued, first))
+pub linkable_made : (list : List Member) (table : List EquateAnswer) → IsEmitted list table → AreMade list table start (items list)
+linkable_made list table is = no_first_made list table (λ fault first. is.sound (Cycles ∷ []) Values (Size ∷ []) fault refl (table, is.valued, first))
 
 -- and the file isn't too long
-pub linkable_short : (list : List Member) (table : List Told) → IsEmitted list table → length (written_file list table) ≤ most_bytes
+pub linkable_short : (list : List Member) (table : List EquateAnswer) → IsEmitted list table → length (written_file list table) ≤ most_bytes
 linkable_short list table is = elim (cases_lt most_bytes (length (written_file list table))) [
-  | inl lt ↦ absurd (is.sound (Rings ∷ Values ∷ []) Size [] _ refl (table, is.valued, record { long = lt; told = refl }))
+  | inl lt ↦ absurd (is.sound (Cycles ∷ Values ∷ []) Size [] _ refl (table, is.valued, record { long = lt; reported = refl }))
   | inr le ↦ le
 ]
 

@@ -10,7 +10,7 @@ use Rattle.object_meaning.specs.Sizes.{Located, size_at, located_from, records_w
 use Rattle.link_meaning.specs.Member.{Member}
 use Rattle.object_meaning.specs.Defines.{Definition, title_of, defined_by, defined_in}
 use Rattle.link_meaning.specs.Search.{FoundDefinition, entries_from, entries}
-use Rattle.link_meaning.specs.Rings.{has_expr, is_equate}
+use Rattle.link_meaning.specs.Cycles.{has_expr, is_equate}
 use Rattle.link_meaning.specs.laws.ReadMembers.{members_read}
 use Rattle.link_meaning.specs.laws.PlaceFits.{of_located}
 use Rattle.link_meaning.specs.laws.EquatePlaces.{Rising, read_rising, title_none}
@@ -19,35 +19,35 @@ use Rattle.link_meaning.specs.EquateValues.{OneNumber}
 -- ---- order
 
 -- an equate stands behind a member's place and a displacement there
-abbrev Behind : ℕ → ℕ → FoundDefinition → Type 0
-Behind place at e = (place < e.place) ⊎ ((place ≡ e.place) × (at ≤ e.definition.at))
+abbrev After : ℕ → ℕ → FoundDefinition → Type 0
+After place at e = (place < e.place) ⊎ ((place ≡ e.place) × (at ≤ e.definition.at))
 
 abbrev Ordered : ℕ → ℕ → List FoundDefinition → Type 0
 Ordered place at [] = Unit {0}
-Ordered place at (e ∷ es) = (is_equate e ≡ true → Behind place at e × Ordered e.place (e.definition.at + 1) es) × (is_equate e ≡ false → Ordered place at es)
+Ordered place at (e ∷ es) = (is_equate e ≡ true → After place at e × Ordered e.place (e.definition.at + 1) es) × (is_equate e ≡ false → Ordered place at es)
 
-behind_more : (place at : ℕ) (e f : FoundDefinition) → Behind place at e → Behind e.place (e.definition.at + 1) f → Behind place at f
-behind_more place at e f (inl p) (inl q) = inl (omega (arith, p, q))
-behind_more place at e f (inl p) (inr q) = inl (omega (arith, p, q.0))
-behind_more place at e f (inr p) (inl q) = inl (omega (arith, p.0, q))
-behind_more place at e f (inr p) (inr q) = inr (p.0 ∙ q.0, omega (arith, p.1, q.1))
+after_more : (place at : ℕ) (e f : FoundDefinition) → After place at e → After e.place (e.definition.at + 1) f → After place at f
+after_more place at e f (inl p) (inl q) = inl (omega (arith, p, q))
+after_more place at e f (inl p) (inr q) = inl (omega (arith, p, q.0))
+after_more place at e f (inr p) (inl q) = inl (omega (arith, p.0, q))
+after_more place at e f (inr p) (inr q) = inr (p.0 ∙ q.0, omega (arith, p.1, q.1))
 
 some_same : (x y : FoundDefinition) → Some x ≡ Some y → x ≡ y
 some_same x y e = cc
 
-all_behind : (place at : ℕ) (es : List FoundDefinition) (j : ℕ) (f : FoundDefinition) → Ordered place at es → slice_get es j ≡ Some f → is_equate f ≡ true → Behind place at f
-all_behind place at [] j f ordered there equate = absurd cc
-all_behind place at (e ∷ es) zero f ordered there equate =
+all_following : (place at : ℕ) (es : List FoundDefinition) (j : ℕ) (f : FoundDefinition) → Ordered place at es → slice_get es j ≡ Some f → is_equate f ≡ true → After place at f
+all_following place at [] j f ordered there equate = absurd cc
+all_following place at (e ∷ es) zero f ordered there equate =
     let same : e ≡ f = some_same e f there in
-    subst (Behind place at) same (ordered.0 (ap is_equate same ∙ equate)).0
-all_behind place at (e ∷ es) (suc j) f ordered there equate =
-    by_test (is_equate e) refl (λ o. all_behind e.place (e.definition.at + 1) es j f o there equate) (λ o. all_behind place at es j f o there equate)
+    subst (After place at) same (ordered.0 (ap is_equate same ∙ equate)).0
+all_following place at (e ∷ es) (suc j) f ordered there equate =
+    by_test (is_equate e) refl (λ o. all_following e.place (e.definition.at + 1) es j f o there equate) (λ o. all_following place at es j f o there equate)
   where
-    by_test : (b : Bool) → is_equate e ≡ b → (Ordered e.place (e.definition.at + 1) es → Behind e.place (e.definition.at + 1) f) → (Ordered place at es → Behind place at f) → Behind place at f
-    by_test true is go pass = let own = ordered.0 is in behind_more place at e f own.0 (go own.1)
+    by_test : (b : Bool) → is_equate e ≡ b → (Ordered e.place (e.definition.at + 1) es → After e.place (e.definition.at + 1) f) → (Ordered place at es → After place at f) → After place at f
+    by_test true is go pass = let own = ordered.0 is in after_more place at e f own.0 (go own.1)
     by_test false is go pass = pass (ordered.1 is)
 
-not_itself : (e f : FoundDefinition) → Behind e.place (e.definition.at + 1) f → e.place ≡ f.place → e.definition.at ≡ f.definition.at → ⊥
+not_itself : (e f : FoundDefinition) → After e.place (e.definition.at + 1) f → e.place ≡ f.place → e.definition.at ≡ f.definition.at → ⊥
 not_itself e f (inl p) place at = omega (arith, p, place)
 not_itself e f (inr p) place at = omega (arith, p.1, at)
 
@@ -58,11 +58,11 @@ one_from place at (x ∷ es) zero zero e f ordered here there p q same key = ref
 one_from place at (x ∷ es) zero (suc j) e f ordered here there p q same key =
     let is : x ≡ e = some_same x e here in
     let own = ordered.0 (ap is_equate is ∙ p) in
-    absurd (not_itself e f (subst (λ (y : FoundDefinition). Behind y.place (y.definition.at + 1) f) is (all_behind x.place (x.definition.at + 1) es j f own.1 there q)) same key)
+    absurd (not_itself e f (subst (λ (y : FoundDefinition). After y.place (y.definition.at + 1) f) is (all_following x.place (x.definition.at + 1) es j f own.1 there q)) same key)
 one_from place at (x ∷ es) (suc i) zero e f ordered here there p q same key =
     let is : x ≡ f = some_same x f there in
     let own = ordered.0 (ap is_equate is ∙ q) in
-    absurd (not_itself f e (subst (λ (y : FoundDefinition). Behind y.place (y.definition.at + 1) e) is (all_behind x.place (x.definition.at + 1) es i e own.1 here p)) (sym same) (sym key))
+    absurd (not_itself f e (subst (λ (y : FoundDefinition). After y.place (y.definition.at + 1) e) is (all_following x.place (x.definition.at + 1) es i e own.1 here p)) (sym same) (sym key))
 one_from place at (x ∷ es) (suc i) (suc j) e f ordered here there p q same key =
     by_test (is_equate x) refl (λ o. one_from x.place (x.definition.at + 1) es i j e f o here there p q same key) (λ o. one_from place at es i j e f o here there p q same key)
   where
@@ -114,9 +114,9 @@ later : (p a place low at : ℕ) → low ≤ at → Before p a place low → Bef
 later p a place low at le (inl lt) = inl lt
 later p a place low at le (inr same) = inr (same.0, omega (arith, same.1, le))
 
-behind_of : (p a place at : ℕ) (m : Member) (d : Definition) → d.at ≡ at → Before p a place at → Behind p a (record { place = place; member = m; definition = d })
-behind_of p a place at m d is (inl lt) = inl lt
-behind_of p a place at m d is (inr same) = inr (same.0, omega (arith, same.1, is))
+after_of : (p a place at : ℕ) (m : Member) (d : Definition) → d.at ≡ at → Before p a place at → After p a (record { place = place; member = m; definition = d })
+after_of p a place at m d is (inl lt) = inl lt
+after_of p a place at m d is (inr same) = inr (same.0, omega (arith, same.1, is))
 
 -- what one record defines, and what stands behind it
 ordered_own : (place : ℕ) (m : Member) (at p a : ℕ) (ds : List Definition) (tail : List FoundDefinition) → OneOrNone at ds → Before p a place at → ((q b : ℕ) → Before q b place (at + 1) → Ordered q b tail)
@@ -125,7 +125,7 @@ ordered_own place m at p a ds tail (inl none) before go =
     subst (λ (l : List Definition). Ordered p a (founds place m l ++ tail)) (sym none) (go p a (later p a place at (at + 1) (omega arith) before))
 ordered_own place m at p a ds tail (inr own) before go =
     subst (λ (l : List Definition). Ordered p a (founds place m l ++ tail)) (sym own.1)
-    ((λ equate. (behind_of p a place at m own.0 own.2 before, go place (own.0.at + 1) (inr (refl, omega (arith, own.2))))), (λ other. go p a (later p a place at (at + 1) (omega arith) before)))
+    ((λ equate. (after_of p a place at m own.0 own.2 before, go place (own.0.at + 1) (inr (refl, omega (arith, own.2))))), (λ other. go p a (later p a place at (at + 1) (omega arith) before)))
 
 records_ordered : (place : ℕ) (m : Member) (rest : List FoundDefinition) → IsRest place rest → (loc low : ℕ) (rs : List (ℕ × Record)) → Rising low rs → (p a : ℕ) → Before p a place low
     → Ordered p a (founds place m (flat_map of_located (located_from loc rs)) ++ rest)

@@ -21,12 +21,12 @@ use Rattle.object_meaning.specs.Sizes.{Located, size_at, located_from, records_w
 use Rattle.link_meaning.specs.Member.{Member}
 use Rattle.object_meaning.specs.Defines.{Definition, outer_scope, title_of, defined_by, defined_in}
 use Rattle.link_meaning.specs.Search.{FoundDefinition, entries_from, entries}
-use Rattle.link_meaning.specs.Rings.{has_expr, is_equate, equates}
+use Rattle.link_meaning.specs.Cycles.{has_expr, is_equate, equates}
 use Rattle.link_meaning.specs.LinkFaults.{LinkInput, HasBytes, IsResolved}
 use Rattle.link_meaning.specs.laws.ReadMembers.{IsRead, members_read}
 use Rattle.link_meaning.specs.laws.PlaceFits.{IsPlaceIn, in-append, of_located, own_entry, entry_there}
 use Rattle.link_meaning.specs.EquateValues.{AreApart, TableOfValues}
-use Rattle.link_meaning.specs.laws.EquateValueLaws.{are_table, tell_values}
+use Rattle.link_meaning.specs.laws.EquateValueLaws.{are_table, report_values}
 
 -- ---- displacements rise
 
@@ -230,12 +230,12 @@ apart files list bytes resolved e f is other place at =
     ap (λ (n : ℕ). found_of n e.member e.definition) place ∙ ap (λ (m : Member). found_of f.place m e.definition) member ∙ ap (found_of f.place f.member) definition
   where
     there_in : (list : List Member) → IsPlaceIn list f.place f.member f.definition.place → IsIn list f.member
-    there_in list p = subst (λ (l : List Member). IsIn l f.member) (sym p.parts) (behind p.front)
+    there_in list p = subst (λ (l : List Member). IsIn l f.member) (sym p.parts) (following p.front)
       where
-        behind : (first_record : List Member) → IsIn (first_record ++ f.member ∷ p.back) f.member
-        behind [] = inl refl
-        behind (o ∷ first_record) = inr (behind first_record)
+        following : (first_record : List Member) → IsIn (first_record ++ f.member ∷ p.back) f.member
+        following [] = inl refl
+        following (o ∷ first_record) = inr (following first_record)
 
 -- The table of resolved files tells each equate its value, and nothing else does.
 pub table_of_values : TableOfValues
-table_of_values files list table bytes resolved = (λ tell. are_table list table tell (apart files list bytes resolved), tell_values list table)
+table_of_values files list table bytes resolved = (λ reveal. are_table list table reveal (apart files list bytes resolved), report_values list table)

@@ -9,11 +9,11 @@ use Rattle.link_meaning.specs.First.{IsIn}
 use Rattle.link_meaning.specs.laws.MemberLists.{in_filter, filter_in}
 use Rattle.link_meaning.specs.Member.{Member}
 use Rattle.link_meaning.specs.Search.{FoundDefinition, finds}
-use Rattle.link_meaning.specs.Rings.{is_equate, equates, names_in, LeadsTo, IsCircular}
-use Rattle.link_meaning.specs.LinkValues.{Told, equate_value, IsTable}
-use Rattle.link_meaning.specs.laws.TableLaws.{in_equates, by_rings}
-use Rattle.link_meaning.specs.EquateValues.{HasValue, ByOthers, TellValues, AreApart, TableWithoutRings}
-use Rattle.link_meaning.specs.laws.EquateValueLaws.{tells, are_table}
+use Rattle.link_meaning.specs.Cycles.{is_equate, equates, names_in, LeadsTo, IsCircular}
+use Rattle.link_meaning.specs.LinkValues.{EquateAnswer, equate_value, IsTable}
+use Rattle.link_meaning.specs.laws.TableLaws.{in_equates, by_cycles}
+use Rattle.link_meaning.specs.EquateValues.{HasValue, ByOthers, GiveValues, AreApart, TableWithoutCycles}
+use Rattle.link_meaning.specs.laws.EquateValueLaws.{reports, are_table}
 use Rattle.link_meaning.specs.laws.EquatePlaces.{passes_filter, apart}
 
 -- an equate has some value
@@ -21,7 +21,7 @@ abbrev IsValued : List Member → FoundDefinition → Type 0
 IsValued list e = (a : Result Value ValueFault) × HasValue list e a
 
 -- rows for equates that have values
-rows_for : (list : List Member) (es : List FoundDefinition) → ((e : FoundDefinition) → IsIn es e → IsValued list e) → (rows : List Told) × TellValues list es rows
+rows_for : (list : List Member) (es : List FoundDefinition) → ((e : FoundDefinition) → IsIn es e → IsValued list e) → (rows : List EquateAnswer) × GiveValues list es rows
 rows_for list [] each = ([], tt)
 rows_for list (e ∷ es) each =
     let own = each e (inl refl) in
@@ -87,15 +87,15 @@ module _ (list : List Member) (are_apart : AreApart (equates list)) (straight : 
       let rows = rows_for list (led list e) (λ f there. go f (led_leads list e f there)) in (
         equate_value list rows.0 e,
         ByOthers e rows.0 (equate_value list rows.0 e) refl
-            (λ f leads. tells list (led list e) rows.0 f rows.1 (led_to list e f leads)
+            (λ f leads. reports list (led list e) rows.0 f rows.1 (led_to list e f leads)
             (λ g there place at. are_apart g f (in_equates list e g (led_leads list e g there)) (in_equates list e f leads) place at)),
       )
 
-  table : (rows : List Told) × IsTable list rows
+  table : (rows : List EquateAnswer) × IsTable list rows
   table =
-      let rows = rows_for list (equates list) (by_rings list (IsValued list) straight by_led) in
+      let rows = rows_for list (equates list) (by_cycles list (IsValued list) straight by_led) in
       (rows.0, are_table list rows.0 rows.1 are_apart)
 
 -- Equates that don't lead back to themselves have their values.
-pub table_without_rings : TableWithoutRings
-table_without_rings files list bytes resolved straight = table list (apart files list bytes resolved) straight
+pub table_without_cycles : TableWithoutCycles
+table_without_cycles files list bytes resolved straight = table list (apart files list bytes resolved) straight

@@ -25,7 +25,7 @@ use Rattle.link_meaning.specs.Member.{Member}
 use Rattle.object_meaning.specs.Defines.{outer_scope, Scope, ForSegment, ForUnit, ForAll, Definition, title_of, defined_by, defined_in}
 use Rattle.link_meaning.specs.Search.{FoundDefinition, entries_from, entries}
 use Rattle.link_meaning.specs.Layout.{load_headers}
-use Rattle.link_meaning.specs.LinkValues.{Told, found_value}
+use Rattle.link_meaning.specs.LinkValues.{EquateAnswer, found_value}
 use Rattle.link_meaning.specs.Fitting.{load_header, length_of}
 use Rattle.link_meaning.specs.LinkFaults.{is_too_long}
 use Rattle.link_meaning.specs.LinkWritten.{export_at, export_of, exports}
@@ -174,7 +174,7 @@ at_fits headers name (Ok (At file segment offset shift)) few short is = by_test 
         ((fits.0, fits.1, is), tt)
 at_fits headers name (Err fault) few short is = tt
 
-one_fits : (list : List Member) (table : List Told) (f : FoundDefinition) → length (load_headers list) ≤ 254 → AllByRecursion (λ g. is_too_long g ≡ false) (load_headers list) → HasShortName f → AllByRecursion IsExport (export_of list table f)
+one_fits : (list : List Member) (table : List EquateAnswer) (f : FoundDefinition) → length (load_headers list) ≤ 254 → AllByRecursion (λ g. is_too_long g ≡ false) (load_headers list) → HasShortName f → AllByRecursion IsExport (export_of list table f)
 one_fits list table f few short is = by_scope f.definition.scope
   where
     by_scope : (scope : Scope) → AllByRecursion IsExport (elim scope as (λ x. List Record) [
@@ -186,12 +186,12 @@ one_fits list table f few short is = by_scope f.definition.scope
     by_scope ForUnit = tt
     by_scope ForAll = at_fits (load_headers list) f.definition.name (found_value list table f) few short is
 
-all_fit : (list : List Member) (table : List Told) (fs : List FoundDefinition) → length (load_headers list) ≤ 254 → AllByRecursion (λ g. is_too_long g ≡ false) (load_headers list) → AllByRecursion HasShortName fs → AllByRecursion IsExport (flat_map (export_of list table) fs)
+all_fit : (list : List Member) (table : List EquateAnswer) (fs : List FoundDefinition) → length (load_headers list) ≤ 254 → AllByRecursion (λ g. is_too_long g ≡ false) (load_headers list) → AllByRecursion HasShortName fs → AllByRecursion IsExport (flat_map (export_of list table) fs)
 all_fit list table [] few short all = tt
 all_fit list table (f ∷ fs) few short all =
     subst (AllByRecursion IsExport) (sym (flat_map-cons (export_of list table) f fs))
     (all-append IsExport (export_of list table f) (flat_map (export_of list table) fs) (one_fits list table f few short all.0) (all_fit list table fs few short all.1))
 
-pub exports_fit : (list : List Member) (table : List Told) → ((m : Member) → IsIn list m → IsRead m.segment) → length (load_headers list) ≤ 254 → AllByRecursion (λ f. is_too_long f ≡ false) (load_headers list) → AllByRecursion IsExport (exports list table)
+pub exports_fit : (list : List Member) (table : List EquateAnswer) → ((m : Member) → IsIn list m → IsRead m.segment) → length (load_headers list) ≤ 254 → AllByRecursion (λ f. is_too_long f ≡ false) (load_headers list) → AllByRecursion IsExport (exports list table)
 unfolding exports entries
 exports_fit list table read few short = all_fit list table (entries_from defined_in 1 list) few short (entries_short 1 list read)

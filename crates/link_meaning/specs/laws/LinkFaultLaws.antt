@@ -135,18 +135,18 @@ one_use list before u a b p q =
     fault_same a b (some_same a.cause b.cause (sym p.cause ∙ q.cause)) (p.name ∙ sym q.name) (p.spot ∙ sym q.spot)
 
 one_org : HasOne HasOrgFault
-one_org before m a b p q = p.told ∙ sym q.told
+one_org before m a b p q = p.reported ∙ sym q.reported
 
 one_length : (list : List Member) → HasOne (HasLengthFault list)
-one_length list before f a b p q = p.told ∙ sym q.told
+one_length list before f a b p q = p.reported ∙ sym q.reported
 
 one_kind : (list : List Member) → HasOne (HasKindFault list)
-one_kind list before f a b p q = p.told ∙ sym q.told
+one_kind list before f a b p q = p.reported ∙ sym q.reported
 
 one_count : (list : List Member) (a b : LinkFault) → HasCountFault list a → HasCountFault list b → a ≡ b
 one_count list a b p q =
     let same : p.load_name ≡ q.load_name = some_same p.load_name q.load_name (sym p.there ∙ q.there) in
-    p.told ∙ ap (λ (x : List ℕ). fault_of TooManySegments None (first_spot (load_members x list))) same ∙ sym q.told
+    p.reported ∙ ap (λ (x : List ℕ). fault_of TooManySegments None (first_spot (load_members x list))) same ∙ sym q.reported
 
 one_layout : (list : List Member) → HasOne (HasLayoutFault list)
 one_layout list before Orgs a b p q = one_first HasOrgFault list a b one_org p q
@@ -158,7 +158,7 @@ one_part : HasOne HasPartFault
 one_part before (OfInput bytes) a b p q = one_file_fault (length before + 1) bytes a b p q
 one_part before (OfRuntime bytes) a b p q =
     let same : p.found ≡ q.found = one_runtime_fault bytes p.found q.found p.first q.first in
-    p.told ∙ ap (λ (f : LoadFault). fault_of (runtime_cause f.cause) None (record { file = length before + 1; segment = f.segment; at = f.at })) same ∙ sym q.told
+    p.reported ∙ ap (λ (f : LoadFault). fault_of (runtime_cause f.cause) None (record { file = length before + 1; segment = f.segment; at = f.at })) same ∙ sym q.reported
 
 one_phase : (files : LinkInput) → HasOne (HasPhaseFault files)
 one_phase files before Reading a b p q =

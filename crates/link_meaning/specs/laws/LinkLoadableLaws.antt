@@ -38,14 +38,14 @@ use Rattle.link_meaning.specs.laws.OutsideLaws.{outside_named}
 use Rattle.link_meaning.specs.Search.{FoundDefinition, entries, outside}
 use Rattle.link_meaning.specs.First.{IsIn}
 use Rattle.link_meaning.specs.Member.{Member, objects, setting_in, RuntimeFile, LinkSetting, form_in}
-use Rattle.object_meaning.specs.Sizes.{size_at, located_from, records_with_offsets, place_behind, body_size}
+use Rattle.object_meaning.specs.Sizes.{size_at, located_from, records_with_offsets, place_after, body_size}
 use Rattle.link_meaning.specs.laws.ReadMembers.{IsRead, members_read, read_header, read_size, read_some, read_kind}
-use Rattle.link_meaning.specs.laws.PlaceFits.{IsPlaceIn, place_fits, name_there, behind-le}
+use Rattle.link_meaning.specs.laws.PlaceFits.{IsPlaceIn, place_fits, name_there, following-le}
 use Rattle.link_meaning.specs.laws.PlaceValues.{expression_fits, entry_fits}
 use Rattle.link_meaning.specs.laws.ValueFits.{all_sound}
 use Rattle.link_meaning.specs.laws.MadeLaws.{FitsPlace}
 use Rattle.link_meaning.specs.Layout.{distinct, load_names, number_in, load_of, load_fields, headers_from, load_headers}
-use Rattle.link_meaning.specs.LinkValues.{Told, place_value, outside_value, found_value}
+use Rattle.link_meaning.specs.LinkValues.{EquateAnswer, place_value, outside_value, found_value}
 use Rattle.link_meaning.specs.Fitting.{load_header, length_of}
 use Rattle.link_meaning.specs.LinkedCells.{table_number, items_from, items, targets, linked}
 use Rattle.link_meaning.specs.declared.fault.LinkCause.TheVariants.{Empty}
@@ -60,7 +60,7 @@ use Rattle.link_meaning.specs.laws.Reached.{all-both, ValuesIn, AllIn, MembersRe
 use Rattle.link_meaning.specs.laws.TablePasses.{pass, all_at}
 use Rattle.link_meaning.specs.laws.FarLaws.{far_fits}
 use Rattle.link_meaning.specs.laws.WrittenSegments.{IsWritten, AreWrittenAs, are_written_as, length_written, records_written, no_target_fault, bytes_whole, patches_whole, records_whole}
-use Rattle.link_meaning.specs.laws.LoadSegmentLaws.{behind_headers, same_count, stands, number_is, split_at, plain, count-headers, HasLoad, load_there, skip_read, length_read, PlainKind, load_kind, front_passes, load_segment, shape_whole, Passes, AllPass, load_passes, Known, none_before, targets_there, entries_fit, table_passes'}
+use Rattle.link_meaning.specs.laws.LoadSegmentLaws.{after_headers, same_count, stands, number_is, split_at, plain, count-headers, HasLoad, load_there, skip_read, length_read, PlainKind, load_kind, front_passes, load_segment, shape_whole, Passes, AllPass, load_passes, Known, none_before, targets_there, entries_fit, table_passes'}
 
 -- ---- the pathnames
 
@@ -168,14 +168,14 @@ paths_last more number (r ∷ runtimes) (s ∷ []) most all few written =
     let read = (paths_written more paths all (omega (arith, count, few)) (omega arith) (omega (arith, count, few, most))).1 in
     ap length (paths_one more s most (ap (λ (k : ℕ). eqb (form_of k) 0x04) (path_kind number paths s written.0)) ∙ ap (paths_in more) (path_bytes number paths s written.0) ∙ read) ∙ count
 
-paths_behind : (fs last : List Fields) (segments : List Segment) → map plain segments ≡ fs ++ last → AllByRecursion (λ (f : Fields). eqb (form_of f.kind) 0x04 ≡ false) fs → paths_of segments ≡ paths_of (drop (length fs) segments)
+paths_after : (fs last : List Fields) (segments : List Segment) → map plain segments ≡ fs ++ last → AllByRecursion (λ (f : Fields). eqb (form_of f.kind) 0x04 ≡ false) fs → paths_of segments ≡ paths_of (drop (length fs) segments)
 unfolding paths_of
-paths_behind [] last segments e all = refl
-paths_behind (f ∷ fs) last [] e all = absurd cc
-paths_behind (f ∷ fs) last (s ∷ segments) e all =
+paths_after [] last segments e all = refl
+paths_after (f ∷ fs) last [] e all = absurd cc
+paths_after (f ∷ fs) last (s ∷ segments) e all =
     let head : plain s ≡ f = heads (plain s) f (map plain segments) (fs ++ last) e in
     let here : has_pathnames s ≡ false = ap (λ (g : Fields). eqb (form_of g.kind) 0x04) head ∙ all.0 in
-    ap (λ (b : Bool). cond b (paths_in most_paths (segment_bytes s)) (paths_of segments)) here ∙ paths_behind fs last segments (tails (plain s) f (map plain segments) (fs ++ last) e) all.1
+    ap (λ (b : Bool). cond b (paths_in most_paths (segment_bytes s)) (paths_of segments)) here ∙ paths_after fs last segments (tails (plain s) f (map plain segments) (fs ++ last) e) all.1
   where
     heads : (a b : Fields) (xs ys : List Fields) → a ∷ xs ≡ b ∷ ys → a ≡ b
     heads a b xs ys e = cc
@@ -183,10 +183,10 @@ paths_behind (f ∷ fs) last (s ∷ segments) e all =
     tails : (a b : Fields) (xs ys : List Fields) → a ∷ xs ≡ b ∷ ys → xs ≡ ys
     tails a b xs ys e = cc
 
-written_behind : (xs ys : List Image) (segments : List Segment) → AreWrittenAs (xs ++ ys) segments → AreWrittenAs ys (drop (length xs) segments)
-written_behind [] ys segments written = written
-written_behind (x ∷ xs) ys [] written = absurd written
-written_behind (x ∷ xs) ys (s ∷ segments) written = written_behind xs ys segments written.1
+written_after : (xs ys : List Image) (segments : List Segment) → AreWrittenAs (xs ++ ys) segments → AreWrittenAs ys (drop (length xs) segments)
+written_after [] ys segments written = written
+written_after (x ∷ xs) ys [] written = absurd written
+written_after (x ∷ xs) ys (s ∷ segments) written = written_after xs ys segments written.1
 
 -- ---- all expressions name load segments
 
@@ -206,7 +206,7 @@ empty_runtimes [] [] are e = refl
 empty_runtimes [] (x ∷ xs) are e = absurd are
 empty_runtimes (y ∷ ys) xs are e = absurd cc
 
-module _ (files : LinkInput) (list : List Member) (table : List Told) (bytes : HasBytes files) (is : IsLinkable files list table) where
+module _ (files : LinkInput) (list : List Member) (table : List EquateAnswer) (bytes : HasBytes files) (is : IsLinkable files list table) where
   resolved : IsResolved files list
   resolved = is.resolved
 
@@ -232,11 +232,11 @@ module _ (files : LinkInput) (list : List Member) (table : List Told) (bytes : H
   beyond : (f : FoundDefinition) → IsIn (outside (setting_in list)) f → FitsPlace (IsNamed list) (outside_value f)
   beyond f in' = outside_named list f in'
 
-  records_in : (front : List Member) (m : Member) (back : List Member) → list ≡ front ++ m ∷ back → (loc : ℕ) (founds : List (ℕ × Record)) → place_behind loc founds ≤ body_size m.segment
+  records_in : (front : List Member) (m : Member) (back : List Member) → list ≡ front ++ m ∷ back → (loc : ℕ) (founds : List (ℕ × Record)) → place_after loc founds ≤ body_size m.segment
       → AllIn list table (map (λ r. record { place = length front + 1; member = m; here = r }) (located_from loc founds))
   records_in front m back parts loc [] le = tt
   records_in front m back parts loc (found ∷ founds) le =
-      let place : IsPlaceIn list (length front + 1) m loc = record { front = front; back = back; parts = parts; number = refl; inside = omega (arith, le, behind-le (loc + size_at loc found.1) founds) } in
+      let place : IsPlaceIn list (length front + 1) m loc = record { front = front; back = back; parts = parts; number = refl; inside = omega (arith, le, following-le (loc + size_at loc found.1) founds) } in
       (λ text v e. expression_fits (IsNamed list) list table is.emitted.valued there beyond (length front + 1) m loc text place v e, records_in front m back parts (loc + size_at loc found.1) founds le)
 
   items_in : (front ms : List Member) → list ≡ front ++ ms → AllIn list table (items_from (length front + 1) ms)
@@ -327,13 +327,13 @@ and_last true true e = absurd cc
 and_last false b e = absurd cc
 
 -- no load segment of a run-time library file is skipped
-not_skipped : (list : List Member) (table : List Told) (segments : List Segment) (number : ℕ) → Known list table → form_in list ≡ LibraryForm → HasLoad list segments number → is_skipped_load (load_headers list) number ≡ false
+not_skipped : (list : List Member) (table : List EquateAnswer) (segments : List Segment) (number : ℕ) → Known list table → form_in list ≡ LibraryForm → HasLoad list segments number → is_skipped_load (load_headers list) number ≡ false
 not_skipped list table segments number k form l =
     let stands' : may_not_stand (form_in list) l.fields ≡ false = all_at (λ f. may_not_stand (form_in list) f ≡ false) (load_headers list) (number - 1) l.fields k.standing l.header in
     let kept : is_skipped l.fields.kind ≡ false = and_last (is_dynamic l.fields.kind) (is_skipped l.fields.kind) (ap (λ (f : LinkForm). may_not_stand f l.fields) (sym form) ∙ stands') in
     ap (λ (o : Option Fields). elim o as (λ x. Bool) [ None ↦ false | Some f ↦ is_skipped f.kind ]) l.header ∙ kept
 
-place_there : (list : List Member) (table : List Told) (segments : List Segment) (number offset : ℕ) → StandFor list table segments → Known list table → form_in list ≡ LibraryForm → IsLoad (length (load_names list)) number
+place_there : (list : List Member) (table : List EquateAnswer) (segments : List Segment) (number offset : ℕ) → StandFor list table segments → Known list table → form_in list ≡ LibraryForm → IsLoad (length (load_names list)) number
     → offset < length_of (load_headers list) number → is_place segments number offset ≡ true
 place_there list table segments number offset stand k form load below =
     let l = load_there list table segments number stand load in
@@ -344,7 +344,7 @@ place_there list table segments number offset stand k form load below =
 abbrev Passing : List Segment → Record → Type 0
 Passing segments r = entry_refusal segments r ≡ None
 
-value_passes : (list : List Member) (table : List Told) (segments : List Segment) (name : List ℕ) (r : Result Value ValueFault) → StandFor list table segments → Known list table → form_in list ≡ LibraryForm
+value_passes : (list : List Member) (table : List EquateAnswer) (segments : List Segment) (name : List ℕ) (r : Result Value ValueFault) → StandFor list table segments → Known list table → form_in list ≡ LibraryForm
     → ((v : Value) → r ≡ Ok v → FitsPlace (IsNamed list) v) → AllByRecursion (Passing segments) (export_at (load_headers list) name r)
 value_passes list table segments name (Ok (Fixed n)) stand k form fits = tt
 value_passes list table segments name (Err fault) stand k form fits = tt
@@ -361,7 +361,7 @@ value_passes list table segments name (Ok (At file number offset shift)) stand k
         let place = place_there list table segments number offset stand k form (load (fits (At file number offset shift) refl).1) below in
         (ap (λ (b : Bool). cond b None (Some NoSuchTarget)) place, tt)
 
-export_passes : (list : List Member) (table : List Told) (segments : List Segment) (f : FoundDefinition) → IsIn (entries list) f → StandFor list table segments → Known list table → form_in list ≡ LibraryForm → AllByRecursion (Passing segments) (export_of list table f)
+export_passes : (list : List Member) (table : List EquateAnswer) (segments : List Segment) (f : FoundDefinition) → IsIn (entries list) f → StandFor list table segments → Known list table → form_in list ≡ LibraryForm → AllByRecursion (Passing segments) (export_of list table f)
 export_passes list table segments f is stand k form = by_scope f.definition.scope
   where
     by_scope : (scope : Scope) → AllByRecursion (Passing segments) (elim scope as (λ x. List Record) [
@@ -373,7 +373,7 @@ export_passes list table segments f is stand k form = by_scope f.definition.scop
     by_scope ForUnit = tt
     by_scope ForAll = value_passes list table segments f.definition.name (found_value list table f) stand k form (k.values f is)
 
-exports_pass : (list : List Member) (table : List Told) (segments : List Segment) (fs : List FoundDefinition) → ((f : FoundDefinition) → IsIn fs f → IsIn (entries list) f) → StandFor list table segments → Known list table → form_in list ≡ LibraryForm
+exports_pass : (list : List Member) (table : List EquateAnswer) (segments : List Segment) (fs : List FoundDefinition) → ((f : FoundDefinition) → IsIn fs f → IsIn (entries list) f) → StandFor list table segments → Known list table → form_in list ≡ LibraryForm
     → AllByRecursion (Passing segments) (flat_map (export_of list table) fs)
 exports_pass list table segments [] among stand k form = tt
 exports_pass list table segments (f ∷ fs) among stand k form =
@@ -381,7 +381,7 @@ exports_pass list table segments (f ∷ fs) among stand k form =
     (all-both (Passing segments) (export_of list table f) (flat_map (export_of list table) fs) (export_passes list table segments f (among f (inl refl)) stand k form) (exports_pass list table segments fs (λ g is. among g (inr is)) stand k form))
 
 -- the ENTRY records of a load segment
-given_exports : (list : List Member) (table : List Told) (segments : List Segment) (number : ℕ) → StandFor list table segments → Known list table → AllByRecursion (Passing segments) (exports_for (form_in list) number (exports list table))
+given_exports : (list : List Member) (table : List EquateAnswer) (segments : List Segment) (number : ℕ) → StandFor list table segments → Known list table → AllByRecursion (Passing segments) (exports_for (form_in list) number (exports list table))
 unfolding exports
 given_exports list table segments number stand k = by_form (form_in list) refl
   where
@@ -393,7 +393,7 @@ given_exports list table segments number stand k = by_form (form_in list) refl
     by_form Program e = tt
     by_form LibraryForm e = by_number (eqb number 1) (exports_pass list table segments (entries list) (λ f is. is) stand k e)
 
-loads_pass : (list : List Member) (table : List Told) (segments : List Segment) (tables : List Image) (front xs : List (List ℕ)) (segs : List Segment) → StandFor list table segments → Known list table → load_names list ≡ front ++ xs
+loads_pass : (list : List Member) (table : List EquateAnswer) (segments : List Segment) (tables : List Image) (front xs : List (List ℕ)) (segs : List Segment) → StandFor list table segments → Known list table → load_names list ≡ front ++ xs
     → AreWrittenAs (load_images list table (length front + 1) xs ++ tables) segs → AllByRecursion (NoSkipped list) (map (linked list table) xs)
     → ((rest : List Segment) → AreWrittenAs tables rest → AllPass segments (table_number list) rest) → AllPass segments (length front + 1) segs
 loads_pass list table segments tables front [] segs stand k parts written none rest =
@@ -438,33 +438,33 @@ table_kind number [] = tt
 table_kind number (t ∷ ts) = (refl, tt)
 
 -- the headers before the pathnames
-abbrev front_headers : List Member → List Told → List Fields
+abbrev front_headers : List Member → List EquateAnswer → List Fields
 front_headers list table = load_headers list ++ table_headers (table_number list) (targets list table)
 
-front_kinds : (list : List Member) (table : List Told) → Known list table → AllByRecursion (λ (f : Fields). eqb (form_of f.kind) 0x04 ≡ false) (front_headers list table)
+front_kinds : (list : List Member) (table : List EquateAnswer) → Known list table → AllByRecursion (λ (f : Fields). eqb (form_of f.kind) 0x04 ≡ false) (front_headers list table)
 front_kinds list table k =
     all-both (λ (f : Fields). eqb (form_of f.kind) 0x04 ≡ false) (load_headers list) (table_headers (table_number list) (targets list table)) (no_pathnames (load_headers list) (plain_loads list k.kinds)) (table_kind (table_number list) (targets list table))
 
-abbrev paths_number : List Member → List Told → ℕ
+abbrev paths_number : List Member → List EquateAnswer → ℕ
 paths_number list table = table_number list + length (table_images (table_number list) (targets list table))
 
-front_stands : (list : List Member) (table : List Told) (segments : List Segment) → StandFor list table segments
+front_stands : (list : List Member) (table : List EquateAnswer) (segments : List Segment) → StandFor list table segments
     → map plain segments ≡ front_headers list table ++ path_headers (table_number list + length (table_headers (table_number list) (targets list table))) (setting_in list).runtimes
 unfolding linked_headers
 front_stands list table segments stand =
     stand.headers ∙ sym (append_assoc (load_headers list) (table_headers (table_number list) (targets list table)) (path_headers (table_number list + length (table_headers (table_number list) (targets list table))) (setting_in list).runtimes))
 
-front_size : (list : List Member) (table : List Told) → length (front_headers list table) ≡ length (load_names list) + length (table_images (table_number list) (targets list table))
+front_size : (list : List Member) (table : List EquateAnswer) → length (front_headers list table) ≡ length (load_names list) + length (table_images (table_number list) (targets list table))
 front_size list table =
     length-append (load_headers list) (table_headers (table_number list) (targets list table)) ∙ ap (λ (n : ℕ). n + length (table_headers (table_number list) (targets list table))) (count-headers list)
     ∙ ap (λ (n : ℕ). length (load_names list) + n) (sym (same_count (table_number list) (targets list table)))
 
-length-images : (list : List Member) (table : List Told) (number : ℕ) (xs : List (List ℕ)) → length (load_images list table number xs) ≡ length xs
+length-images : (list : List Member) (table : List EquateAnswer) (number : ℕ) (xs : List (List ℕ)) → length (load_images list table number xs) ≡ length xs
 length-images list table number [] = refl
 length-images list table number (x ∷ xs) = ap suc (length-images list table (number + 1) xs)
 
 -- as many rows are read as there are run-time library files
-rows_read : (list : List Member) (table : List Told) (segments : List Segment) → StandFor list table segments → Known list table → AreWrittenAs (images list table) segments → length (paths_of segments) ≡ length (setting_in list).runtimes
+rows_read : (list : List Member) (table : List EquateAnswer) (segments : List Segment) → StandFor list table segments → Known list table → AreWrittenAs (images list table) segments → length (paths_of segments) ≡ length (setting_in list).runtimes
 unfolding images
 rows_read list table segments stand k written =
     let loads = load_images list table 1 (load_names list) in
@@ -472,11 +472,11 @@ rows_read list table segments stand k written =
     let last = path_images (paths_number list table) (setting_in list).runtimes in
     let grouped : AreWrittenAs ((loads ++ tables) ++ last) segments = subst (λ (l : List Image). AreWrittenAs l segments) (sym (append_assoc loads tables last)) written in
     let size : length (loads ++ tables) ≡ length (front_headers list table) = omega (arith, length-append loads tables, length-images list table 1 (load_names list), front_size list table) in
-    let behind : AreWrittenAs last (drop (length (front_headers list table)) segments) = subst (λ (n : ℕ). AreWrittenAs last (drop n segments)) size (written_behind (loads ++ tables) last segments grouped) in
-    ap length (paths_behind (front_headers list table) (path_headers (table_number list + length (table_headers (table_number list) (targets list table))) (setting_in list).runtimes) segments (front_stands list table segments stand) (front_kinds list table k))
-    ∙ paths_last most_paths (paths_number list table) (setting_in list).runtimes (drop (length (front_headers list table)) segments) refl k.paths.paths k.paths.few behind
+    let following : AreWrittenAs last (drop (length (front_headers list table)) segments) = subst (λ (n : ℕ). AreWrittenAs last (drop n segments)) size (written_after (loads ++ tables) last segments grouped) in
+    ap length (paths_after (front_headers list table) (path_headers (table_number list + length (table_headers (table_number list) (targets list table))) (setting_in list).runtimes) segments (front_stands list table segments stand) (front_kinds list table k))
+    ∙ paths_last most_paths (paths_number list table) (setting_in list).runtimes (drop (length (front_headers list table)) segments) refl k.paths.paths k.paths.few following
 
-paths_pass : (list : List Member) (table : List Told) (segments : List Segment) (number : ℕ) (runtimes : List RuntimeFile) (rest : List Segment) → list_any (λ (u : Segment). eqb (form_of u.fields.kind) 0x04) (take (number - 1) segments) ≡ false
+paths_pass : (list : List Member) (table : List EquateAnswer) (segments : List Segment) (number : ℕ) (runtimes : List RuntimeFile) (rest : List Segment) → list_any (λ (u : Segment). eqb (form_of u.fields.kind) 0x04) (take (number - 1) segments) ≡ false
     → AllByRecursion IsPath (map (λ r. r.path) runtimes) → length runtimes ≤ most_paths → AreWrittenAs (path_images number runtimes) rest → AllPass segments number rest
 paths_pass list table segments number [] [] before all few written = tt
 paths_pass list table segments number [] (s ∷ rest) before all few written = absurd written
@@ -487,7 +487,7 @@ paths_pass list table segments number (r ∷ runtimes) (s ∷ []) before all few
     let count : length paths ≡ length (r ∷ runtimes) = length-map (r ∷ runtimes) (λ (one : RuntimeFile). one.path) in
     (path_passes segments number most_paths paths s refl written.0 before all (omega (arith, count, few)) (omega arith), tt)
 
-table_pass : (list : List Member) (table : List Told) (segments : List Segment) (ts : List Target) (more : List Image) (rest : List Segment) → StandFor list table segments → Known list table → AllByRecursion (IsCalled list) ts
+table_pass : (list : List Member) (table : List EquateAnswer) (segments : List Segment) (ts : List Target) (more : List Image) (rest : List Segment) → StandFor list table segments → Known list table → AllByRecursion (IsCalled list) ts
     → AllByRecursion (IsTarget segments) ts → AreWrittenAs (table_images (table_number list) ts ++ more) rest
     → ((segs : List Segment) → AreWrittenAs more segs → AllPass segments (table_number list + length (table_images (table_number list) ts)) segs) → AllPass segments (table_number list) rest
 table_pass list table segments [] more rest stand k called there written go =
@@ -501,7 +501,7 @@ front-all : {A : Type 0} → (P : A → Type 0) (xs ys : List A) → AllByRecurs
 front-all P [] ys all = tt
 front-all P (x ∷ xs) ys all = (all.0, front-all P xs ys all.1)
 
-all_pass : (list : List Member) (table : List Told) (segments : List Segment) → StandFor list table segments → Known list table → NamesNoSkipped list table → AreWrittenAs (images list table) segments → AllPass segments 1 segments
+all_pass : (list : List Member) (table : List EquateAnswer) (segments : List Segment) → StandFor list table segments → Known list table → NamesNoSkipped list table → AreWrittenAs (images list table) segments → AllPass segments 1 segments
 unfolding linked_cells images
 all_pass list table segments stand k none written =
     let tables = table_images (table_number list) (targets list table) in
@@ -535,17 +535,17 @@ no_later segments pass =
     ∙ ap (λ (o : Option LoadFault). option_or o (option_or (first_in (pathnames_fault segments) 1 segments) (first_in (table_fault segments) 1 segments))) two
     ∙ ap (λ (o : Option LoadFault). option_or o (first_in (table_fault segments) 1 segments)) three ∙ four
 
-segments_some : (list : List Member) (table : List Told) (segments : List Segment) → StandFor list table segments → (load_names list ≡ [] → ⊥) → segments ≡ [] → ⊥
+segments_some : (list : List Member) (table : List EquateAnswer) (segments : List Segment) → StandFor list table segments → (load_names list ≡ [] → ⊥) → segments ≡ [] → ⊥
 unfolding linked_headers
 segments_some list table segments stand some none =
-    let empty : [] ≡ load_headers list ++ behind_headers list table = sym (ap (map plain) none) ∙ stand.headers in
-    some (by_names (load_names list) (omega (arith, ap length empty, length-append (load_headers list) (behind_headers list table), count-headers list)))
+    let empty : [] ≡ load_headers list ++ after_headers list table = sym (ap (map plain) none) ∙ stand.headers in
+    some (by_names (load_names list) (omega (arith, ap length empty, length-append (load_headers list) (after_headers list table), count-headers list)))
   where
     by_names : (l : List (List ℕ)) → length l ≡ 0 → l ≡ []
     by_names [] e = refl
     by_names (x ∷ l) e = absurd (omega (arith, e))
 
-written_loaded : (files : LinkInput) (list : List Member) (table : List Told) → HasBytes files → IsLinkable files list table → NamesNoSkipped list table
+written_loaded : (files : LinkInput) (list : List Member) (table : List EquateAnswer) → HasBytes files → IsLinkable files list table → NamesNoSkipped list table
     → (segments : List Segment) × IsLoadable (written_file list table) segments × StandFor list table segments
 unfolding written_file
 written_loaded files list table bytes is none =
@@ -565,7 +565,7 @@ has_no_load_fault files output bytes is none fault first = let loaded = is_loade
 
 -- ---- run-time library files
 
-no_load_skipped : (list : List Member) (table : List Told) (number : ℕ) → Known list table → form_in list ≡ LibraryForm → is_skipped_load (load_headers list) number ≡ false
+no_load_skipped : (list : List Member) (table : List EquateAnswer) (number : ℕ) → Known list table → form_in list ≡ LibraryForm → is_skipped_load (load_headers list) number ≡ false
 no_load_skipped list table number k form = by_header (load_header (load_headers list) number) refl
   where
     by_header : (o : Option Fields) → load_header (load_headers list) number ≡ o → is_skipped_load (load_headers list) number ≡ false
@@ -587,7 +587,7 @@ names_through P Q [] go all = tt
 names_through P Q (Byte b ∷ cs) go all = (tt, names_through P Q cs go all.1)
 names_through P Q (Part file segment offset shift index ∷ cs) go all = (go segment all.0, names_through P Q cs go all.1)
 
-loads_unskipped : (list : List Member) (table : List Told) (xs : List (List ℕ)) → Known list table → form_in list ≡ LibraryForm → targets list table ≡ [] → AllByRecursion (NoSkipped list) (map (linked list table) xs)
+loads_unskipped : (list : List Member) (table : List EquateAnswer) (xs : List (List ℕ)) → Known list table → form_in list ≡ LibraryForm → targets list table ≡ [] → AllByRecursion (NoSkipped list) (map (linked list table) xs)
 loads_unskipped list table [] k form none = tt
 loads_unskipped list table (x ∷ xs) k form none =
     (names_through (Reaches list (targets list table) (number_in (load_names list) x)) (λ (n : ℕ). is_skipped_load (load_headers list) n ≡ false) (linked list table x) named (linked_reaches list table x k.reach), loads_unskipped list table xs k form none)
@@ -596,7 +596,7 @@ loads_unskipped list table (x ∷ xs) k form none =
     named n (OfLoad load near) = no_load_skipped list table n k form
     named n (OfTable is some) = absurd (some none)
 
-library_unskipped : (list : List Member) (table : List Told) → Known list table → form_in list ≡ LibraryForm → NamesNoSkipped list table
+library_unskipped : (list : List Member) (table : List EquateAnswer) → Known list table → form_in list ≡ LibraryForm → NamesNoSkipped list table
 unfolding linked_cells
 library_unskipped list table k form =
     let none = no_targets list (targets list table) k.called form in
@@ -609,7 +609,7 @@ library_unskipped list table k form =
       entries = subst (AllByRecursion (λ (t : Target). t.file ≡ 1 → is_skipped_load (load_headers list) t.segment ≡ false)) (sym none) tt;
     }
 
-library_headers : (list : List Member) (table : List Told) → Known list table → form_in list ≡ LibraryForm → linked_headers list table ≡ load_headers list
+library_headers : (list : List Member) (table : List EquateAnswer) → Known list table → form_in list ≡ LibraryForm → linked_headers list table ≡ load_headers list
 unfolding linked_headers
 library_headers list table k form =
     ap (λ (ts : List Target). load_headers list ++ (table_headers (table_number list) ts ++ path_headers (table_number list + length (table_headers (table_number list) ts)) (setting_in list).runtimes)) (no_targets list (targets list table) k.called form)

@@ -16,7 +16,7 @@ use Rattle.omf_format.specs.File.{Segment, IsFile}
 use Rattle.load_meaning.specs.declared.table.Target.{Target}
 use Rattle.load_meaning.specs.Cells.{Cell, cells}
 use Rattle.load_meaning.specs.Table.{file_entry}
-use Rattle.load_meaning.specs.WrittenBody.{written_cells, zeros_behind}
+use Rattle.load_meaning.specs.WrittenBody.{written_cells, zeros_after}
 use Rattle.load_meaning.specs.laws.StoredLaws.{zeros-le}
 use Rattle.load_meaning.specs.WrittenFile.{Image, image_body, image_fields, image_text, file_text, IsImage, IsReadAs, AreReadAs, IsExport}
 use Rattle.load_meaning.specs.laws.WrittenFileLaws.{file_stands_for}
@@ -35,8 +35,8 @@ use Rattle.link_meaning.specs.laws.MemberLists.{in_filter, filter_in}
 use Rattle.link_meaning.specs.Member.{Member, RuntimeFile, setting_in, form_in}
 use Rattle.link_meaning.specs.Layout.{in_load, load_length, distinct, load_names, load_members, lesser_bank, load_segment_kind, least_bank, greatest_align, of_first, load_fields, headers_from, load_headers}
 use Rattle.link_meaning.specs.LinkFaults.{LinkInput, HasBytes, may_not_stand, HasKindFault, HasCountFault, is_too_long, HasLengthFault, Orgs, Count, Lengths, Kinds, HasLayoutFault, Reading, Objects, Names, Layout, IsResolved}
-use Rattle.link_meaning.specs.LinkValues.{Told}
-use Rattle.link_meaning.specs.LinkedCells.{table_number, items, state_behind, targets, linked}
+use Rattle.link_meaning.specs.LinkValues.{EquateAnswer}
+use Rattle.link_meaning.specs.LinkedCells.{table_number, items, state_after, targets, linked}
 use Rattle.link_meaning.specs.LinkWritten.{byte_under, patches_of_cells, image_of, load_images, table_images, images, written_file, table_cells, linked_cells, HaveCells, AreMade, start, exports, exports_for, path_images, path_cells}
 use Rattle.link_meaning.specs.laws.RunCells.{AreRuns, runs_written, runs_stand}
 use Rattle.link_meaning.specs.laws.LinkedRuns.{HasCells, MembersHave, linked_has, AreSoundItems, members_have, AreSized, few_on}
@@ -70,7 +70,7 @@ pub few_loads : (files : LinkInput) (list : List Member) → IsResolved files li
 few_loads files list resolved = elim (cases_lt 254 (length (load_names list))) [
   | inl lt ↦
       let x = get_or (load_names list) 254 [] in
-      absurd (no_count files list resolved _ (record { load_name = x; there = slice_get-get_or (load_names list) 254 [] lt; told = refl }))
+      absurd (no_count files list resolved _ (record { load_name = x; there = slice_get-get_or (load_names list) 254 [] lt; reported = refl }))
   | inr le ↦ le
 ]
 
@@ -84,7 +84,7 @@ short_from files list before (f ∷ rest) resolved parts none = by_test (is_too_
   where
     by_test : (b : Bool) → is_too_long f ≡ b → (is_too_long f ≡ false → HasNone (HasLengthFault list) (before ++ f ∷ []) → AllByRecursion (λ g. is_too_long g ≡ false) (f ∷ rest))
         → AllByRecursion (λ g. is_too_long g ≡ false) (f ∷ rest)
-    by_test true is go = absurd (no_lengths files list resolved _ (record { before = before; item = f; after = rest; parts = parts; none = none; here = record { long = is; told = refl } }))
+    by_test true is go = absurd (no_lengths files list resolved _ (record { before = before; item = f; after = rest; parts = parts; none = none; here = record { long = is; reported = refl } }))
     by_test false is go = go is (none_more (HasLengthFault list) before f none (λ fault has. true_false (sym has.long ∙ is)))
 
 pub short_loads : (files : LinkInput) (list : List Member) → IsResolved files list → AllByRecursion (λ f. is_too_long f ≡ false) (load_headers list)
@@ -102,7 +102,7 @@ standing_from files list before (f ∷ rest) resolved parts none = by_test (may_
   where
     by_test : (b : Bool) → may_not_stand (form_in list) f ≡ b → (may_not_stand (form_in list) f ≡ false → HasNone (HasKindFault list) (before ++ f ∷ []) → AllByRecursion (λ g. may_not_stand (form_in list) g ≡ false) (f ∷ rest))
         → AllByRecursion (λ g. may_not_stand (form_in list) g ≡ false) (f ∷ rest)
-    by_test true is go = absurd (no_kinds files list resolved _ (record { before = before; item = f; after = rest; parts = parts; none = none; here = record { other = is; told = refl } }))
+    by_test true is go = absurd (no_kinds files list resolved _ (record { before = before; item = f; after = rest; parts = parts; none = none; here = record { other = is; reported = refl } }))
     by_test false is go = go is (none_more (HasKindFault list) before f none (λ fault has. true_false (sym has.other ∙ is)))
 
 pub standing_loads : (files : LinkInput) (list : List Member) → IsResolved files list → AllByRecursion (λ f. may_not_stand (form_in list) f ≡ false) (load_headers list)
@@ -195,7 +195,7 @@ unfolding image_of image_text
 image_fits f cs es exported header version number name len small runs short =
     let image : Image = record { fields = f; content = map byte_under cs; patches = patches_of_cells cs; exports = es; whole = false } in
     let n = length (image_body image) in
-    let zeros : zeros_behind (written_cells (map byte_under cs) (patches_of_cells cs)) ≤ length cs = subst (λ (l : List Cell). zeros_behind l ≤ length cs) (sym (runs_stand cs runs)) (zeros-le cs) in
+    let zeros : zeros_after (written_cells (map byte_under cs) (patches_of_cells cs)) ≤ length cs = subst (λ (l : List Cell). zeros_after l ≤ length cs) (sym (runs_stand cs runs)) (zeros-le cs) in
     let whole : length (header_bytes (image_fields image) n ++ image_body image) ≡ 0x37 + length f.name + n =
     omega (arith, length-append (header_bytes (image_fields image) n) (image_body image), length-header (image_fields image) n header.load_name) in
     let size : length (map byte_under cs) ≡ length cs = length-map cs byte_under in
@@ -221,7 +221,7 @@ image_fits f cs es exported header version number name len small runs short =
       bare = λ e. absurd cc;
     }
 
-load_image : (list : List Member) (table : List Told) (number : ℕ) (x : List ℕ) (es : List Record) → AllByRecursion IsExport es → HasHeader (load_fields list number x) → number < 2 ^ 16 → is_too_long (load_fields list number x) ≡ false
+load_image : (list : List Member) (table : List EquateAnswer) (number : ℕ) (x : List ℕ) (es : List Record) → AllByRecursion IsExport es → HasHeader (load_fields list number x) → number < 2 ^ 16 → is_too_long (load_fields list number x) ≡ false
     → HasCells (load_length x list) (linked list table x) → length (image_text (image_of (load_fields list number x) (linked list table x) es)) ≤ 0x1000000
     → IsImage (image_of (load_fields list number x) (linked list table x) es)
 unfolding load_fields
@@ -247,7 +247,7 @@ exports_for_fit LibraryForm number es all = by_test (eqb number 1)
     by_test true = all
     by_test false = tt
 
-load_all : (list : List Member) (table : List Told) (number : ℕ) (xs : List (List ℕ)) → AllByRecursion IsExport (exports list table) → ((m : Member) → IsIn list m → HasHeader m.segment.fields) → MembersHave list table
+load_all : (list : List Member) (table : List EquateAnswer) (number : ℕ) (xs : List (List ℕ)) → AllByRecursion IsExport (exports list table) → ((m : Member) → IsIn list m → HasHeader m.segment.fields) → MembersHave list table
     → ((x : List ℕ) → IsIn xs x → IsIn (load_names list) x) → number + length xs ≤ 255 → AllByRecursion (λ f. is_too_long f ≡ false) (headers_from list number xs)
     → length (file_text (load_images list table number xs)) ≤ 0x1000000 → AllByRecursion IsImage (load_images list table number xs)
 load_all list table number [] exported each have among few shorts size = tt
@@ -282,7 +282,7 @@ cells_read : (f : Fields) (cs : List Cell) (es : List Record) (s : Segment) → 
 unfolding image_of
 cells_read f cs es s runs is = is.cells' ∙ runs_stand cs runs
 
-loads_read : (list : List Member) (table : List Told) (number : ℕ) (xs : List (List ℕ)) (tables : List Image) (last : List (List Cell)) (segments : List Segment) → MembersHave list table
+loads_read : (list : List Member) (table : List EquateAnswer) (number : ℕ) (xs : List (List ℕ)) (tables : List Image) (last : List (List Cell)) (segments : List Segment) → MembersHave list table
     → ((rest : List Segment) → AreReadAs tables rest → HaveCells last rest) → AreReadAs (load_images list table number xs ++ tables) segments → HaveCells (map (linked list table) xs ++ last) segments
 loads_read list table number [] tables last segments have rest are = rest segments are
 loads_read list table number (x ∷ xs) tables last [] have rest are = absurd are
@@ -297,11 +297,11 @@ path_read number (r ∷ runtimes) (s ∷ []) are = (pathnames_cells number (map 
 path_read number (r ∷ runtimes) (s ∷ u ∷ segments) are = absurd are.1
 
 -- the table, and what stands behind it
-behind_read : (number : ℕ) (ts : List Target) (more : List Image) (last : List (List Cell)) (segments : List Segment) → number < 2 ^ 16 → length ts ≤ 4680
+following_read : (number : ℕ) (ts : List Target) (more : List Image) (last : List (List Cell)) (segments : List Segment) → number < 2 ^ 16 → length ts ≤ 4680
     → ((rest : List Segment) → AreReadAs more rest → HaveCells last rest) → AreReadAs (table_images number ts ++ more) segments → HaveCells (table_cells ts ++ last) segments
-behind_read number [] more last segments small few rest are = rest segments are
-behind_read number (t ∷ ts) more last [] small few rest are = absurd are
-behind_read number (t ∷ ts) more last (s ∷ segments) small few rest are =
+following_read number [] more last segments small few rest are = rest segments are
+following_read number (t ∷ ts) more last [] small few rest are = absurd are
+following_read number (t ∷ ts) more last (s ∷ segments) small few rest are =
     ((table_stands_for number (map file_entry (t ∷ ts)) small (omega (arith, length-map (t ∷ ts) (λ (u : Target). file_entry u), few))).1 s are.0, rest segments are.1)
 
 -- ---- the file
@@ -313,8 +313,8 @@ in_at list front m back parts = subst (λ (l : List Member). IsIn l m) (sym part
     there [] = inl refl
     there (o ∷ front) = inr (there front)
 
-few_targets : (list : List Member) (table : List Told) → table_number list < 2 ^ 16 → AreMade list table start (items list) → AreSoundItems list table (items list) → length (targets list table) ≤ 4680
-unfolding targets state_behind
+few_targets : (list : List Member) (table : List EquateAnswer) → table_number list < 2 ^ 16 → AreMade list table start (items list) → AreSoundItems list table (items list) → length (targets list table) ≤ 4680
+unfolding targets state_after
 few_targets list table small are sound = few_on list table start (items list) small (omega arith) are sound
 
 length-headers : (list : List Member) (number : ℕ) (xs : List (List ℕ)) → length (headers_from list number xs) ≡ length xs
@@ -326,7 +326,7 @@ unfolding load_headers
 count-headers list = length-headers list 1 (load_names list)
 
 -- each of them can be written
-pub are_images : (files : LinkInput) (list : List Member) (table : List Told) → HasBytes files → IsResolved files list → AreSoundItems list table (items list)
+pub are_images : (files : LinkInput) (list : List Member) (table : List EquateAnswer) → HasBytes files → IsResolved files list → AreSoundItems list table (items list)
     → AreMade list table start (items list) → length (written_file list table) ≤ 0x1000000 → MembersHave list table × AllByRecursion IsImage (images list table)
 unfolding written_file images load_headers
 are_images files list table bytes resolved sound are short =
@@ -343,13 +343,13 @@ are_images files list table bytes resolved sound are short =
     let parts = text_both first last in
     let paths = has_paths files list bytes resolved.program in
     let exported = exports_fit list table read (omega (arith, loads, count-headers list)) (short_loads files list resolved) in
-    let behind = path_all (table_number list + length tables) (setting_in list).runtimes (omega (arith, loads, count-tables (table_number list) (targets list table))) paths.paths paths.few in (
+    let following = path_all (table_number list + length tables) (setting_in list).runtimes (omega (arith, loads, count-tables (table_number list) (targets list table))) paths.paths paths.few in (
       have,
       all-append first last (load_all list table 1 (load_names list) exported each have (λ x is. is) (omega (arith, loads)) (short_loads files list resolved) (omega (arith, parts, short)))
-          (all-append tables (path_images (table_number list + length tables) (setting_in list).runtimes) (table_all (table_number list) (targets list table) small few) behind),
+          (all-append tables (path_images (table_number list + length tables) (setting_in list).runtimes) (table_all (table_number list) (targets list table) small few) following),
     )
 
-pub stands_for : (files : LinkInput) (list : List Member) (table : List Told) → HasBytes files → IsResolved files list → AreSoundItems list table (items list)
+pub stands_for : (files : LinkInput) (list : List Member) (table : List EquateAnswer) → HasBytes files → IsResolved files list → AreSoundItems list table (items list)
     → AreMade list table start (items list) → length (written_file list table) ≤ 0x1000000
     → (segments : List Segment) × IsFile segments (written_file list table) × AreReadAs (images list table) segments × HaveCells (linked_cells list table) segments
 unfolding written_file images linked_cells
@@ -368,5 +368,5 @@ stands_for files list table bytes resolved sound are short =
       made.1,
       made.2,
       loads_read list table 1 (load_names list) last (table_cells (targets list table) ++ path_cells runtimes) made.0 both.0
-          (λ rest r. behind_read (table_number list) (targets list table) (path_images number runtimes) (path_cells runtimes) rest small few (λ more q. path_read number runtimes more q) r) made.2,
+          (λ rest r. following_read (table_number list) (targets list table) (path_images number runtimes) (path_cells runtimes) rest small few (λ more q. path_read number runtimes more q) r) made.2,
     )

@@ -9,12 +9,12 @@ use Rattle.omf_format.specs.Record.{Record}
 use Rattle.omf_format.specs.Header.{alignment_of}
 use Rattle.load_meaning.specs.Cells.{Cell}
 use Rattle.link_meaning.specs.declared.fault.LinkCause.{LinkCause}
-use Rattle.object_meaning.specs.Sizes.{Located, size_at, located_from, place_behind, records_with_offsets, body_size}
+use Rattle.object_meaning.specs.Sizes.{Located, size_at, located_from, place_after, records_with_offsets, body_size}
 use Rattle.link_meaning.specs.Member.{Member}
 use Rattle.link_meaning.specs.Layout.{aligned_from, in_load, end_from, load_length, offset_of}
 use Rattle.link_meaning.specs.laws.LayoutLaws.{aligned_from-least, alignment-some}
-use Rattle.link_meaning.specs.LinkValues.{Told}
-use Rattle.link_meaning.specs.LinkedCells.{Item, LinkState, Made, zeros, items_from, items, cells_before, made, state_after_item, state_from, state_behind, member_cells, cells_from, linked, table_number}
+use Rattle.link_meaning.specs.LinkValues.{EquateAnswer}
+use Rattle.link_meaning.specs.LinkedCells.{Item, LinkState, Made, zeros, items_from, items, cells_before, made, state_after_item, state_from, state_after, member_cells, cells_from, linked, table_number}
 use Rattle.link_meaning.specs.LinkWritten.{AreMade, start}
 use Rattle.link_meaning.specs.laws.RunCells.{AreRuns}
 use Rattle.link_meaning.specs.laws.MadeLaws.{no_runs, both_runs, zero_runs, length-zeros, length-made, IsSoundAt, runs-made, Few}
@@ -25,19 +25,19 @@ abbrev pub item : ℕ → Member → Located → Item
 item place m r = record { place = place; member = m; here = r }
 
 -- each of these records is sound
-abbrev pub AreSoundItems : List Member → List Told → List Item → Type 0
+abbrev pub AreSoundItems : List Member → List EquateAnswer → List Item → Type 0
 AreSoundItems list table [] = Unit {0}
 AreSoundItems list table (i ∷ is) = IsSoundAt list table i i.here.content × AreSoundItems list table is
 
-pub state_from-append : (list : List Member) (table : List Told) (state : LinkState) (xs ys : List Item) → state_from list table state (xs ++ ys) ≡ state_from list table (state_from list table state xs) ys
+pub state_from-append : (list : List Member) (table : List EquateAnswer) (state : LinkState) (xs ys : List Item) → state_from list table state (xs ++ ys) ≡ state_from list table (state_from list table state xs) ys
 state_from-append list table state [] ys = refl
 state_from-append list table state (x ∷ xs) ys = state_from-append list table (state_after_item state x (made list table state x)) xs ys
 
-pub made-append : (list : List Member) (table : List Told) (state : LinkState) (xs ys : List Item) → AreMade list table state (xs ++ ys) → AreMade list table state xs × AreMade list table (state_from list table state xs) ys
+pub made-append : (list : List Member) (table : List EquateAnswer) (state : LinkState) (xs ys : List Item) → AreMade list table state (xs ++ ys) → AreMade list table state xs × AreMade list table (state_from list table state xs) ys
 made-append list table state [] ys are = (tt, are)
 made-append list table state (x ∷ xs) ys are = let rest = made-append list table (state_after_item state x (made list table state x)) xs ys are.2 in ((are.0, are.1, rest.0), rest.1)
 
-sound-append : (list : List Member) (table : List Told) (xs ys : List Item) → AreSoundItems list table (xs ++ ys) → AreSoundItems list table xs × AreSoundItems list table ys
+sound-append : (list : List Member) (table : List EquateAnswer) (xs ys : List Item) → AreSoundItems list table (xs ++ ys) → AreSoundItems list table xs × AreSoundItems list table ys
 sound-append list table [] ys are = (tt, are)
 sound-append list table (x ∷ xs) ys are = let rest = sound-append list table xs ys are.1 in ((are.0, rest.0), rest.1)
 
@@ -47,7 +47,7 @@ Below n [] = Unit {0}
 Below n (i ∷ is) = (i.place ≤ n) × Below n is
 
 -- a state is at no later place than its records
-pub state_place : (list : List Member) (table : List Told) (state : LinkState) (n : ℕ) (is : List Item) → state.place ≤ n → Below n is → (state_from list table state is).place ≤ n
+pub state_place : (list : List Member) (table : List EquateAnswer) (state : LinkState) (n : ℕ) (is : List Item) → state.place ≤ n → Below n is → (state_from list table state is).place ≤ n
 state_place list table state n [] le below = le
 state_place list table state n (i ∷ is) le below = state_place list table (state_after_item state i (made list table state i)) n is (by_made (made list table state i)) below.1
   where
@@ -63,7 +63,7 @@ record Walked (place : ℕ) (loc : ℕ) (state : LinkState) : Type 0 where
   few : Few state.targets
 
 -- one record more
-one_more : (list : List Member) (table : List Told) (place : ℕ) (m : Member) (state : LinkState) (r : Located) (done : List Cell) → table_number list < 2 ^ 16
+one_more : (list : List Member) (table : List EquateAnswer) (place : ℕ) (m : Member) (state : LinkState) (r : Located) (done : List Cell) → table_number list < 2 ^ 16
     → cells_before state (item place m r) ≡ done → length done ≡ r.location → AreRuns done → Few state.targets → IsSoundAt list table (item place m r) r.content
     → (x : Made) → made list table state (item place m r) ≡ Ok x → Walked place (r.location + size_at r.location r.content) (state_after_item state (item place m r) (made list table state (item place m r)))
 unfolding made
@@ -80,9 +80,9 @@ one_more list table place m state r done small before size runs few sound x e =
     } in
     subst (λ (g : Result Made LinkCause). Walked place (r.location + size_at r.location r.content) (state_after_item state i g)) (sym e) walked
 
-walk : (list : List Member) (table : List Told) (place : ℕ) (m : Member) (state : LinkState) (loc : ℕ) (founds : List (ℕ × Record)) → table_number list < 2 ^ 16 → Walked place loc state
+walk : (list : List Member) (table : List EquateAnswer) (place : ℕ) (m : Member) (state : LinkState) (loc : ℕ) (founds : List (ℕ × Record)) → table_number list < 2 ^ 16 → Walked place loc state
     → AreMade list table state (map (item place m) (located_from loc founds)) → AreSoundItems list table (map (item place m) (located_from loc founds))
-    → Walked place (place_behind loc founds) (state_from list table state (map (item place m) (located_from loc founds)))
+    → Walked place (place_after loc founds) (state_from list table state (map (item place m) (located_from loc founds)))
 walk list table place m state loc [] small walked are sound = walked
 walk list table place m state loc (found ∷ founds) small walked are sound =
     let r : Located = record { at = found.0; location = loc; content = found.1 } in
@@ -92,9 +92,9 @@ walk list table place m state loc (found ∷ founds) small walked are sound =
     (one_more list table place m state r state.cells small before walked.size walked.runs walked.few sound.0 are.0 are.1) are.2 sound.1
 
 -- from a state at an earlier place on
-walk_all : (list : List Member) (table : List Told) (place : ℕ) (m : Member) (state : LinkState) (found : ℕ × Record) (founds : List (ℕ × Record)) → table_number list < 2 ^ 16 → state.place < place → Few state.targets
+walk_all : (list : List Member) (table : List EquateAnswer) (place : ℕ) (m : Member) (state : LinkState) (found : ℕ × Record) (founds : List (ℕ × Record)) → table_number list < 2 ^ 16 → state.place < place → Few state.targets
     → AreMade list table state (map (item place m) (located_from 0 (found ∷ founds))) → AreSoundItems list table (map (item place m) (located_from 0 (found ∷ founds)))
-    → Walked place (place_behind 0 (found ∷ founds)) (state_from list table state (map (item place m) (located_from 0 (found ∷ founds))))
+    → Walked place (place_after 0 (found ∷ founds)) (state_from list table state (map (item place m) (located_from 0 (found ∷ founds))))
 walk_all list table place m state found founds small earlier few are sound =
     let r : Located = record { at = found.0; location = 0; content = found.1 } in
     let other : eqb state.place place ≡ false = ne_eqb state.place place (λ (e : state.place ≡ place). absurd (omega (arith, e, earlier))) in
@@ -103,7 +103,7 @@ walk_all list table place m state found founds small earlier few are sound =
     (one_more list table place m state r [] small before refl no_runs few sound.0 are.0 are.1) are.2 sound.1
 
 -- the targets stay few
-pub few_on : (list : List Member) (table : List Told) (state : LinkState) (is : List Item) → table_number list < 2 ^ 16 → Few state.targets → AreMade list table state is → AreSoundItems list table is → Few (state_from list table state is).targets
+pub few_on : (list : List Member) (table : List EquateAnswer) (state : LinkState) (is : List Item) → table_number list < 2 ^ 16 → Few state.targets → AreMade list table state is → AreSoundItems list table is → Few (state_from list table state is).targets
 unfolding made
 few_on list table state [] small few are sound = few
 few_on list table state (i ∷ is) small few are sound =
@@ -183,10 +183,10 @@ up_to front m back =
     append-none (i ∷ l) = ap (λ (k : List Item). i ∷ k) (append-none l)
 
 -- what the walk over a member's records ends with
-member_walked : (list : List Member) (table : List Told) (front : List Member) (m : Member) (back : List Member) → table_number list < 2 ^ 16 → list ≡ front ++ m ∷ back
+member_walked : (list : List Member) (table : List EquateAnswer) (front : List Member) (m : Member) (back : List Member) → table_number list < 2 ^ 16 → list ≡ front ++ m ∷ back
     → AreMade list table start (items list) → AreSoundItems list table (items list) → (found : ℕ × Record) (founds : List (ℕ × Record)) → m.segment.records ≡ found ∷ founds
-    → Walked (length front + 1) (body_size m.segment) (state_behind list table (filter (λ (i : Item). leb i.place (length front + 1)) (items list)))
-unfolding items state_behind records_with_offsets body_size
+    → Walked (length front + 1) (body_size m.segment) (state_after list table (filter (λ (i : Item). leb i.place (length front + 1)) (items list)))
+unfolding items state_after records_with_offsets body_size
 member_walked list table front m back small parts are sound found founds records =
     let n = length front + 1 in
     let own = map (item n m) (located_from 0 m.segment.records) in
@@ -204,21 +204,21 @@ member_walked list table front m back small parts are sound found founds records
     let walked = walk_all list table n m before found founds small (omega (arith, earlier)) few
     (subst (λ (l : List (ℕ × Record)). AreMade list table before (map (item n m) (located_from 0 l))) records made2.0)
     (subst (λ (l : List (ℕ × Record)). AreSoundItems list table (map (item n m) (located_from 0 l))) records sound2.0) in
-    let again : Walked n (place_behind 0 m.segment.records) (state_from list table before own) = subst (λ (l : List (ℕ × Record)). Walked n (place_behind 0 l) (state_from list table before (map (item n m) (located_from 0 l)))) (sym records) walked in
-    subst (Walked n (place_behind 0 m.segment.records)) (sym (ap (state_from list table start) kept ∙ state_from-append list table start (items_from 1 front) own)) again
+    let again : Walked n (place_after 0 m.segment.records) (state_from list table before own) = subst (λ (l : List (ℕ × Record)). Walked n (place_after 0 l) (state_from list table before (map (item n m) (located_from 0 l)))) (sym records) walked in
+    subst (Walked n (place_after 0 m.segment.records)) (sym (ap (state_from list table start) kept ∙ state_from-append list table start (items_from 1 front) own)) again
 
 -- the member's cells: those of its records, and RESSPC zeros
 pub record HasCells (size : ℕ) (cells : List Cell) : Type 0 where
   pub size' : length cells ≡ size
   pub runs : AreRuns cells
 
-member_has : (list : List Member) (table : List Told) (front : List Member) (m : Member) (back : List Member) → table_number list < 2 ^ 16 → list ≡ front ++ m ∷ back
+member_has : (list : List Member) (table : List EquateAnswer) (front : List Member) (m : Member) (back : List Member) → table_number list < 2 ^ 16 → list ≡ front ++ m ∷ back
     → AreMade list table start (items list) → AreSoundItems list table (items list) → (found : ℕ × Record) (founds : List (ℕ × Record)) → m.segment.records ≡ found ∷ founds
     → HasCells (body_size m.segment + m.segment.fields.res_spc) (member_cells list table (length front + 1) m)
 unfolding member_cells
 member_has list table front m back small parts are sound found founds records =
     let walked = member_walked list table front m back small parts are sound found founds records in
-    let state = state_behind list table (filter (λ (i : Item). leb i.place (length front + 1)) (items list)) in
+    let state = state_after list table (filter (λ (i : Item). leb i.place (length front + 1)) (items list)) in
     record {
       size' = omega (arith, length-append state.cells (zeros m.segment.fields.res_spc), walked.size, length-zeros m.segment.fields.res_spc);
       runs = both_runs state.cells (zeros m.segment.fields.res_spc) walked.runs (zero_runs m.segment.fields.res_spc);
@@ -227,7 +227,7 @@ member_has list table front m back small parts are sound found founds records =
 -- ---- load segments
 
 -- each member has LENGTH cells
-abbrev pub MembersHave : List Member → List Told → Type 0
+abbrev pub MembersHave : List Member → List EquateAnswer → Type 0
 MembersHave list table = (front : List Member) (m : Member) (back : List Member) → list ≡ front ++ m ∷ back → HasCells m.segment.fields.length (member_cells list table (length front + 1) m)
 
 -- where LENGTH of each member counts its records' cells and RESSPC, and each has a record
@@ -235,7 +235,7 @@ abbrev pub AreSized : List Member → Type 0
 AreSized list = (front : List Member) (m : Member) (back : List Member) → list ≡ front ++ m ∷ back
     → (m.segment.fields.length ≡ body_size m.segment + m.segment.fields.res_spc) × ((found : ℕ × Record) × (founds : List (ℕ × Record)) × (m.segment.records ≡ found ∷ founds))
 
-pub members_have : (list : List Member) (table : List Told) → table_number list < 2 ^ 16 → AreMade list table start (items list) → AreSoundItems list table (items list) → AreSized list → MembersHave list table
+pub members_have : (list : List Member) (table : List EquateAnswer) → table_number list < 2 ^ 16 → AreMade list table start (items list) → AreSoundItems list table (items list) → AreSized list → MembersHave list table
 members_have list table small are sound sized front m back parts =
     let of = sized front m back parts in
     subst (λ (n : ℕ). HasCells n (member_cells list table (length front + 1) m)) (sym of.0) (member_has list table front m back small parts are sound of.1.0 of.1.1 of.1.2)
@@ -258,14 +258,14 @@ offset_is list front m back load_name end parts here is =
     ∙ ap (aligned_from (alignment_of m.segment.fields.align)) (sym is)
 
 -- one member more
-abbrev Goes : List Member → List Told → List ℕ → List Member → List Member → Type 0
+abbrev Goes : List Member → List EquateAnswer → List ℕ → List Member → List Member → Type 0
 Goes list table load_name front members = (cells : List Cell) → length cells ≡ end_from 0 load_name front → AreRuns cells
     → HasCells (end_from 0 load_name list) (cells_from list table load_name cells (length front + 1) members)
 
 end_one : (end : ℕ) (load_name : List ℕ) (m : Member) (b : Bool) → in_load load_name m ≡ b → end_from end load_name (m ∷ []) ≡ cond b (aligned_from (alignment_of m.segment.fields.align) end + m.segment.fields.length) end
 end_one end load_name m b is = ap (λ (t : Bool). cond t (aligned_from (alignment_of m.segment.fields.align) end + m.segment.fields.length) end) is
 
-load_step : (list : List Member) (table : List Told) (load_name : List ℕ) (front : List Member) (m : Member) (members : List Member) (cells : List Cell) → MembersHave list table → list ≡ front ++ m ∷ members
+load_step : (list : List Member) (table : List EquateAnswer) (load_name : List ℕ) (front : List Member) (m : Member) (members : List Member) (cells : List Cell) → MembersHave list table → list ≡ front ++ m ∷ members
     → length cells ≡ end_from 0 load_name front → AreRuns cells → Goes list table load_name (front ++ m ∷ []) members → HasCells (end_from 0 load_name list) (cells_from list table load_name cells (length front + 1) (m ∷ members))
 load_step list table load_name front m members cells have parts size runs go = by_bool (in_load load_name m) refl
   where
@@ -299,7 +299,7 @@ load_step list table load_name front m members cells have parts size runs go = b
         (both_runs (cells ++ zeros (offset_of list place m - length cells)) (member_cells list table place m) (both_runs cells (zeros (offset_of list place m - length cells)) runs (zero_runs (offset_of list place m - length cells))) own.runs))
     by_bool false is = by_test false is (after false is cells refl runs)
 
-load_has : (list : List Member) (table : List Told) (load_name : List ℕ) (front members : List Member) (cells : List Cell) → MembersHave list table → list ≡ front ++ members
+load_has : (list : List Member) (table : List EquateAnswer) (load_name : List ℕ) (front members : List Member) (cells : List Cell) → MembersHave list table → list ≡ front ++ members
     → length cells ≡ end_from 0 load_name front → AreRuns cells → HasCells (end_from 0 load_name list) (cells_from list table load_name cells (length front + 1) members)
 load_has list table load_name front [] cells have parts size runs =
     record { size' = size ∙ ap (end_from 0 load_name) (sym (parts ∙ append-none front)); runs = runs }
@@ -312,6 +312,6 @@ load_has list table load_name front (m ∷ members) cells have parts size runs =
     (λ c s r. load_has list table load_name (front ++ m ∷ []) members c have (parts ∙ sym (append_assoc front (m ∷ []) members)) s r)
 
 -- a load segment has LENGTH cells, bytes and whole places
-pub linked_has : (list : List Member) (table : List Told) (load_name : List ℕ) → MembersHave list table → HasCells (load_length load_name list) (linked list table load_name)
+pub linked_has : (list : List Member) (table : List EquateAnswer) (load_name : List ℕ) → MembersHave list table → HasCells (load_length load_name list) (linked list table load_name)
 unfolding load_length linked
 linked_has list table load_name have = load_has list table load_name [] list [] have refl refl no_runs

@@ -24,7 +24,7 @@ use Rattle.load_meaning.specs.laws.TableLaws.{table_laid_out}
 use Rattle.load_meaning.specs.laws.WrittenTableLaws.{length-table_bytes}
 use Rattle.load_meaning.specs.LoadTable.{is_table, entry_count, table_checks}
 use Rattle.load_meaning.specs.Loadable.{Fault, is_express, express_name, segment_refusal, record_refusal, IsLoadSegment, shape_fault, is_kept, is_dynamic_at, patch_refusal, target_fault, table_flaw, table_fault, patch_list, IsTarget, pathnames_fault, pathnames_flaw, entry_refusal}
-use Rattle.load_meaning.specs.laws.LayingLaws.{Has, get-front, get-behind}
+use Rattle.load_meaning.specs.laws.LayingLaws.{Has, get-front, get-following}
 use Rattle.load_meaning.specs.laws.StoredLaws.{written_is, length-data}
 use Rattle.load_meaning.specs.WrittenBody.{with_stored}
 use Rattle.load_meaning.specs.WrittenFile.{Image, IsImage, AreReadAs, table_fields, table_image, pathnames_image, pathnames_fields}
@@ -37,7 +37,7 @@ use Rattle.link_meaning.specs.Member.{Member, setting_in, RuntimeFile, form_in}
 use Rattle.link_meaning.specs.laws.ReadMembers.{HasHeader}
 use Rattle.link_meaning.specs.laws.MadeLaws.{FitsPlace}
 use Rattle.link_meaning.specs.Layout.{in_load, distinct, load_names, number_in, load_members, of_first, load_fields, headers_from, load_headers}
-use Rattle.link_meaning.specs.LinkValues.{Told, found_value}
+use Rattle.link_meaning.specs.LinkValues.{EquateAnswer, found_value}
 use Rattle.link_meaning.specs.Fitting.{load_header, is_dynamic_load, length_of}
 use Rattle.link_meaning.specs.LinkedCells.{table_number, targets, linked}
 use Rattle.link_meaning.specs.LinkFaults.{may_not_stand, is_too_long}
@@ -53,7 +53,7 @@ use Rattle.link_meaning.specs.laws.WrittenSegments.{IsWritten, length_written, b
 
 -- ---- headers and cells of what is read
 
-headers_read : (list : List Member) (table : List Told) (number : ℕ) (xs : List (List ℕ)) (tables : List Image) (last : List Fields) (segments : List Segment)
+headers_read : (list : List Member) (table : List EquateAnswer) (number : ℕ) (xs : List (List ℕ)) (tables : List Image) (last : List Fields) (segments : List Segment)
     → ((rest : List Segment) → AreReadAs tables rest → map (λ (s : Segment). plain_fields s.fields) rest ≡ last) → AreReadAs (load_images list table number xs ++ tables) segments
     → map (λ (s : Segment). plain_fields s.fields) segments ≡ headers_from list number xs ++ last
 unfolding image_of load_fields
@@ -70,8 +70,8 @@ cells_read (cs ∷ all) [] have = absurd have
 cells_read (cs ∷ all) (s ∷ segments) have = ap (λ (c : List Cell). c ∷ map cells segments) have.0 ∙ ap (λ (l : List (List Cell)). cs ∷ l) (cells_read all segments have.1)
 
 -- the headers behind those of the load segments
-abbrev pub behind_headers : List Member → List Told → List Fields
-behind_headers list table =
+abbrev pub after_headers : List Member → List EquateAnswer → List Fields
+after_headers list table =
     table_headers (table_number list) (targets list table) ++ path_headers (table_number list + length (table_headers (table_number list) (targets list table))) (setting_in list).runtimes
 
 path_read : (number : ℕ) (runtimes : List RuntimeFile) (segments : List Segment) → AreReadAs (path_images number runtimes) segments → map (λ (s : Segment). plain_fields s.fields) segments ≡ path_headers number runtimes
@@ -82,13 +82,13 @@ path_read number (r ∷ runtimes) [] are = absurd are
 path_read number (r ∷ runtimes) (s ∷ []) are = ap (λ (f : Fields). plain_fields f ∷ []) are.0.fields
 path_read number (r ∷ runtimes) (s ∷ u ∷ segments) are = absurd are.1
 
-behind_read : (number : ℕ) (ts : List Target) (more : List Image) (last : List Fields) (segments : List Segment)
+following_read : (number : ℕ) (ts : List Target) (more : List Image) (last : List Fields) (segments : List Segment)
     → ((rest : List Segment) → AreReadAs more rest → map (λ (s : Segment). plain_fields s.fields) rest ≡ last) → AreReadAs (table_images number ts ++ more) segments
     → map (λ (s : Segment). plain_fields s.fields) segments ≡ table_headers number ts ++ last
 unfolding table_image table_fields
-behind_read number [] more last segments rest are = rest segments are
-behind_read number (t ∷ ts) more last [] rest are = absurd are
-behind_read number (t ∷ ts) more last (s ∷ segments) rest are =
+following_read number [] more last segments rest are = rest segments are
+following_read number (t ∷ ts) more last [] rest are = absurd are
+following_read number (t ∷ ts) more last (s ∷ segments) rest are =
     ap (λ (f : Fields). plain_fields f ∷ map (λ (u : Segment). plain_fields u.fields) segments) are.0.fields
     ∙ ap (λ (l : List Fields). table_fields number (length (table_bytes (map file_entry (t ∷ ts)))) ∷ l) (rest segments are.1)
 
@@ -96,11 +96,11 @@ pub same_count : (number : ℕ) (ts : List Target) → length (table_images numb
 same_count number [] = refl
 same_count number (t ∷ ts) = refl
 
-pub stands : (list : List Member) (table : List Told) (segments : List Segment) → AreReadAs (images list table) segments → HaveCells (linked_cells list table) segments → StandFor list table segments
+pub stands : (list : List Member) (table : List EquateAnswer) (segments : List Segment) → AreReadAs (images list table) segments → HaveCells (linked_cells list table) segments → StandFor list table segments
 unfolding images linked_headers load_headers
 stands list table segments read have = record {
-  headers = headers_read list table 1 (load_names list) (tables ++ path_images number (setting_in list).runtimes) (behind_headers list table) segments
-      (λ rest r. behind_read (table_number list) (targets list table) (path_images number (setting_in list).runtimes) _ rest
+  headers = headers_read list table 1 (load_names list) (tables ++ path_images number (setting_in list).runtimes) (after_headers list table) segments
+      (λ rest r. following_read (table_number list) (targets list table) (path_images number (setting_in list).runtimes) _ rest
       (λ more q. path_read number (setting_in list).runtimes more q ∙ ap (λ (n : ℕ). path_headers (table_number list + n) (setting_in list).runtimes) (same_count (table_number list) (targets list table))) r) read;
   cells' = cells_read (linked_cells list table) segments have;
 }
@@ -225,14 +225,14 @@ pub record HasLoad (list : List Member) (segments : List Segment) (number : ℕ)
   pub kind : s.fields.kind ≡ fields.kind
   pub length' : s.fields.length ≡ fields.length
 
-pub load_there : (list : List Member) (table : List Told) (segments : List Segment) (number : ℕ) → StandFor list table segments → IsLoad (length (load_names list)) number → HasLoad list segments number
+pub load_there : (list : List Member) (table : List EquateAnswer) (segments : List Segment) (number : ℕ) → StandFor list table segments → IsLoad (length (load_names list)) number → HasLoad list segments number
 unfolding linked_headers
 load_there list table segments zero stand is = absurd (omega (arith, is.0))
 load_there list table segments (suc k) stand is =
     let count = count-headers list in
     let inside : k < length (load_headers list) = omega (arith, count, is.1) in
     let f = some_at (load_headers list) k inside in
-    let found : slice_get (map plain segments) k ≡ Some f.0 = ap (λ (l : List Fields). slice_get l k) stand.headers ∙ get-front (load_headers list) (behind_headers list table) k inside ∙ f.1 in
+    let found : slice_get (map plain segments) k ≡ Some f.0 = ap (λ (l : List Fields). slice_get l k) stand.headers ∙ get-front (load_headers list) (after_headers list table) k inside ∙ f.1 in
     let s = mapped plain segments k f.0 found in
     let place : suc k - 1 ≡ k = omega arith in
     record {
@@ -250,7 +250,7 @@ record HasTable (segments : List Segment) (number : ℕ) : Type 0 where
   pub is : segment_at segments number ≡ Some s
   pub kind : s.fields.kind ≡ 0x0002
 
-table_there : (list : List Member) (table : List Told) (segments : List Segment) → StandFor list table segments → (targets list table ≡ [] → ⊥) → HasTable segments (table_number list)
+table_there : (list : List Member) (table : List EquateAnswer) (segments : List Segment) → StandFor list table segments → (targets list table ≡ [] → ⊥) → HasTable segments (table_number list)
 unfolding linked_headers table_fields
 table_there list table segments stand some = by_targets (targets list table) refl
   where
@@ -262,8 +262,8 @@ table_there list table segments stand some = by_targets (targets list table) ref
         let more = path_headers (table_number list + length (table_headers (table_number list) (t ∷ ts))) (setting_in list).runtimes in
         let parts : map plain segments ≡ load_headers list ++ f ∷ more =
         stand.headers ∙ ap (λ (l : List Target). load_headers list ++ (table_headers (table_number list) l ++ path_headers (table_number list + length (table_headers (table_number list) l)) (setting_in list).runtimes)) e in
-        let behind : k ≡ length (load_headers list) + 0 = omega (arith, count-headers list) in
-        let found : slice_get (map plain segments) k ≡ Some f = ap (λ (l : List Fields). slice_get l k) parts ∙ get-behind (load_headers list) (f ∷ more) k 0 behind in
+        let following : k ≡ length (load_headers list) + 0 = omega (arith, count-headers list) in
+        let found : slice_get (map plain segments) k ≡ Some f = ap (λ (l : List Fields). slice_get l k) parts ∙ get-following (load_headers list) (f ∷ more) k 0 following in
         let s = mapped plain segments k f found in
         let place : table_number list ≡ suc k = omega arith in
         record { s = s.0; is = ap (segment_at segments) place ∙ s.1; kind = ap (λ (g : Fields). g.kind) s.2 }
@@ -313,7 +313,7 @@ length_read list segments number l =
     l.length' ∙ sym (ap (λ (o : Option Fields). elim o as (λ x. ℕ) [ None ↦ 0 | Some f ↦ f.length ]) l.header)
 
 -- a patch that names what it may, and nothing that is skipped, may stand there
-patch_passes : (list : List Member) (table : List Told) (segments : List Segment) (s : Segment) (own : ℕ) (p : Patch) → StandFor list table segments → s.fields.seg_num ≡ own → p.file ≡ 1 → p.location + p.count ≤ s.fields.length
+patch_passes : (list : List Member) (table : List EquateAnswer) (segments : List Segment) (s : Segment) (own : ℕ) (p : Patch) → StandFor list table segments → s.fields.seg_num ≡ own → p.file ≡ 1 → p.location + p.count ≤ s.fields.length
     → Reaches list (targets list table) own p.segment → is_skipped_load (load_headers list) p.segment ≡ false → patch_refusal segments s p ≡ None
 unfolding patch_refusal
 patch_passes list table segments s own p stand number file inside reaches none = by_reach reaches
@@ -456,7 +456,7 @@ name_of_load : (list : List Member) (number : ℕ) (x : List ℕ) → length (lo
 unfolding load_fields
 name_of_load list number x = length-trim 32 x
 
-pub load_passes : (list : List Member) (table : List Told) (segments : List Segment) (number : ℕ) (x : List ℕ) (es : List Record) (s : Segment) → AllByRecursion (λ r. entry_refusal segments r ≡ None) es → StandFor list table segments → IsWritten (image_of (load_fields list number x) (linked list table x) es) s
+pub load_passes : (list : List Member) (table : List EquateAnswer) (segments : List Segment) (number : ℕ) (x : List ℕ) (es : List Record) (s : Segment) → AllByRecursion (λ r. entry_refusal segments r ≡ None) es → StandFor list table segments → IsWritten (image_of (load_fields list number x) (linked list table x) es) s
     → AllByRecursion (λ (c : Cell). Names (Reaches list (targets list table) number) c) (linked list table x)
     → AllByRecursion (λ (c : Cell). Names (λ (n : ℕ). is_skipped_load (load_headers list) n ≡ false) c) (linked list table x)
     → PlainKind (load_fields list number x).kind → length x ≡ 10 → Passes segments number s
@@ -491,7 +491,7 @@ load_passes list table segments number x es s names stand is reach none kind ten
 -- ---- what is known of linkable files
 
 -- of the linked list and the table
-pub record Known (list : List Member) (table : List Told) : Type 0 where
+pub record Known (list : List Member) (table : List EquateAnswer) : Type 0 where
   pub reach : MembersReach list table
   pub called : AllByRecursion (IsCalled list) (targets list table)
   pub kinds : (m : Member) → IsIn list m → PlainKind m.segment.fields.kind
@@ -525,7 +525,7 @@ none_before form (f ∷ fs) last (s ∷ segments) e all =
     tails a b xs ys e = cc
 
 -- a target is there
-target_there : (list : List Member) (table : List Told) (segments : List Segment) (t : Target) → StandFor list table segments → IsCalledHere list t → is_skipped_load (load_headers list) t.segment ≡ false → IsTarget segments t
+target_there : (list : List Member) (table : List EquateAnswer) (segments : List Segment) (t : Target) → StandFor list table segments → IsCalledHere list t → is_skipped_load (load_headers list) t.segment ≡ false → IsTarget segments t
 target_there list table segments t stand called none =
     let l = load_there list table segments t.segment stand called.load in
     inl (record {
@@ -537,7 +537,7 @@ target_there list table segments t stand called none =
       inside = omega (arith, called.inside, length_read list segments t.segment l);
     })
 
-pub targets_there : (list : List Member) (table : List Told) (segments : List Segment) (ts : List Target) → StandFor list table segments → length (paths_of segments) ≡ length (setting_in list).runtimes → AllByRecursion (IsCalled list) ts
+pub targets_there : (list : List Member) (table : List EquateAnswer) (segments : List Segment) (ts : List Target) → StandFor list table segments → length (paths_of segments) ≡ length (setting_in list).runtimes → AllByRecursion (IsCalled list) ts
     → AllByRecursion (λ (t : Target). t.file ≡ 1 → is_skipped_load (load_headers list) t.segment ≡ false) ts → AllByRecursion (IsTarget segments) ts
 targets_there list table segments [] stand rows called none = tt
 targets_there list table segments (t ∷ ts) stand rows called none = (by_file called.0.1, targets_there list table segments ts stand rows called.1 none.1)
@@ -568,11 +568,11 @@ fits_there list t far few called =
     let fits = far t.file t.segment t.offset called.inside in
     record { user = omega arith; file = omega (arith, called.file'.1, few); segment = fits.0; offset = fits.1; loaded = tt }
 
-fits_entry : (list : List Member) (table : List Told) (t : Target) → Known list table → IsCalled list t → FitsEntry (file_entry t)
+fits_entry : (list : List Member) (table : List EquateAnswer) (t : Target) → Known list table → IsCalled list t → FitsEntry (file_entry t)
 fits_entry list table t k (form, inl here) = fits_here list t k.few k.short here
 fits_entry list table t k (form, inr far) = fits_there list t k.far k.paths.few far
 
-pub entries_fit : (list : List Member) (table : List Told) (ts : List Target) → Known list table → AllByRecursion (IsCalled list) ts → (k : ℕ) (entry : Entry) → slice_get (map file_entry ts) k ≡ Some entry → FitsEntry entry
+pub entries_fit : (list : List Member) (table : List EquateAnswer) (ts : List Target) → Known list table → AllByRecursion (IsCalled list) ts → (k : ℕ) (entry : Entry) → slice_get (map file_entry ts) k ≡ Some entry → FitsEntry entry
 entries_fit list table ts known called k entry e =
     let t = mapped (λ (u : Target). file_entry u) ts k entry e in
     subst FitsEntry t.2 (fits_entry list table t.0 known (all_at (IsCalled list) ts k t.0 called t.1))
@@ -611,7 +611,7 @@ exports_of_table : (number : ℕ) (entries : List Entry) → (table_image number
 unfolding table_image
 exports_of_table number entries = refl
 
-pub table_passes' : (list : List Member) (table : List Told) (segments : List Segment) (s : Segment) (ts : List Target) → StandFor list table segments → IsWritten (table_image (table_number list) (map file_entry ts)) s
+pub table_passes' : (list : List Member) (table : List EquateAnswer) (segments : List Segment) (s : Segment) (ts : List Target) → StandFor list table segments → IsWritten (table_image (table_number list) (map file_entry ts)) s
     → AllByRecursion (λ (f : Fields). eqb (form_of f.kind) 0x02 ≡ false) (load_headers list) → ((k : ℕ) (entry : Entry) → slice_get (map file_entry ts) k ≡ Some entry → FitsEntry entry) → AllByRecursion (IsTarget segments) ts
     → Passes segments (table_number list) s
 unfolding table_flaw linked_headers
@@ -639,7 +639,7 @@ table_passes' list table segments s ts stand is kinds fits there =
     ap (λ (k : ℕ). first_of (table_checks segments (segment_bytes s) k)) entries' ∙ table_passes segments ts (segment_bytes s) there laid in
     let place : number - 1 ≡ length (load_headers list) = omega (arith, count-headers list) in
     let before : list_any is_table (take (number - 1) segments) ≡ false =
-    ap (λ (k : ℕ). list_any is_table (take k segments)) place ∙ none_before 0x02 (load_headers list) (behind_headers list table) segments stand.headers kinds in
+    ap (λ (k : ℕ). list_any is_table (take k segments)) place ∙ none_before 0x02 (load_headers list) (after_headers list table) segments stand.headers kinds in
     let sized : not (eqb s.fields.length (12 + 14 * entry_count s.fields.length)) ≡ false = ap not (eq-eqb s.fields.length (12 + 14 * entry_count s.fields.length) (size ∙ ap (λ (k : ℕ). 12 + 14 * k) (sym entries'))) in
     let rest = table_checks segments (segment_bytes s) (entry_count s.fields.length) in
     let four : Bool × ℕ = (not (eqb s.fields.length (12 + 14 * entry_count s.fields.length)), s.fields.length) in

@@ -25,9 +25,9 @@ use Rattle.object_meaning.specs.Sizes.{size_at}
 use Rattle.omf_format.specs.Number.{padding}
 use Rattle.link_meaning.specs.Member.{Member, LinkSetting}
 use Rattle.link_meaning.specs.Layout.{load_headers}
-use Rattle.link_meaning.specs.LinkValues.{Told, value_in}
+use Rattle.link_meaning.specs.LinkValues.{EquateAnswer, value_in}
 use Rattle.link_meaning.specs.Fitting as fitting
-use Rattle.link_meaning.specs.Fitting.{PatchPlace, Fit, Number, Place, number_fit, place_fit, distance_fit, or_does_not_fit, is_dynamic_load, is_call, target_of, has_room_for, call_fit, fit_value, parts, entry_of, fit_cells, targets_behind, value_or_cause, is_far, length_there, may_call}
+use Rattle.link_meaning.specs.Fitting.{PatchPlace, Fit, Number, Place, number_fit, place_fit, distance_fit, or_does_not_fit, is_dynamic_load, is_call, target_of, has_room_for, call_fit, fit_value, parts, entry_of, fit_cells, targets_after, value_or_cause, is_far, length_there, may_call}
 use Rattle.link_meaning.specs.LinkedCells.{Item, LinkState, Made, zeros, made_by, table_number, frame_of, cells_before}
 use Rattle.link_meaning.specs.laws.RunCells.{Piece, One, Whole, cells_of, IsPiece, AreRuns}
 
@@ -105,7 +105,7 @@ one_made a b e = cc
 size_is : (a x : Made) (n : ℕ) → okay a ≡ okay x → length a.0 ≡ n → length x.0 ≡ n
 size_is a x n e is = ap (λ (y : Made). length y.0) (sym (one_made a x e)) ∙ is
 
-pub length-made : (list : List Member) (table : List Told) (state : LinkState) (i : Item) (r : Record) (x : Made) → made_by list table state i r ≡ Ok x → length x.0 ≡ size_at i.here.location r
+pub length-made : (list : List Member) (table : List EquateAnswer) (state : LinkState) (i : Item) (r : Record) (x : Made) → made_by list table state i r ≡ Ok x → length x.0 ≡ size_at i.here.location r
 length-made list table state i End x e = size_is _ x _ e refl
 length-made list table state i (Const bytes) x e = size_is _ x _ e (length-bytes bytes)
 length-made list table state i (LongConst bytes) x e = size_is _ x _ e (length-bytes bytes)
@@ -126,7 +126,7 @@ length-made list table state i (Equate global name size form private expr) x e =
 length-made list table state i (Formula code count n expr) x e =
     let v = bind_ok (value_or_cause (value_in list table i.place i.member i.here.location expr)) _ x e in
     let fit = bind_ok (fit_value (load_headers list) (frame_of list i) state.targets (cells_before state i) code count n v.0) _ x v.2 in
-    size_is _ x _ fit.2 (length-fit (table_number list) count (targets_behind state.targets fit.0) fit.0)
+    size_is _ x _ fit.2 (length-fit (table_number list) count (targets_after state.targets fit.0) fit.0)
 length-made list table state i (Entry segment offset name) x e = size_is _ x _ e refl
 
 -- ---- what fits
@@ -223,10 +223,10 @@ with_few targets t few fits = by_test (list_any (is_same t) targets) fits
     by_test true e = few
     by_test false e = omega (arith, length-append targets (t ∷ []), ltb-true _ _ e)
 
-few_behind : (targets : List Target) (fit : Fit) → Few targets → FitsFit targets fit → Few (targets_behind targets fit)
-few_behind targets (Number n) few is = few
-few_behind targets (Place segment offset shift) few is = few
-few_behind targets (fitting.Entry t) few is = with_few targets t few is
+few_after : (targets : List Target) (fit : Fit) → Few targets → FitsFit targets fit → Few (targets_after targets fit)
+few_after targets (Number n) few is = few
+few_after targets (Place segment offset shift) few is = few
+few_after targets (fitting.Entry t) few is = with_few targets t few is
 
 entry_below : (targets : List Target) (t : Target) → entry_of targets t ≤ length targets
 entry_below targets t = by_option (position (is_same t) targets) (λ i e. (position-Some (is_same t) targets i t e).0)
@@ -244,7 +244,7 @@ fit_runs table count targets all (fitting.Entry t) small few counts is =
 -- ---- a record
 
 -- what is known of the record: a count is 1 to 4, and the places that its expression stands for fit
-abbrev pub IsSoundAt : List Member → List Told → Item → Record → Type 0
+abbrev pub IsSoundAt : List Member → List EquateAnswer → Item → Record → Type 0
 IsSoundAt list table i End = Unit {0}
 IsSoundAt list table i (Const bytes) = Unit {0}
 IsSoundAt list table i (LongConst bytes) = Unit {0}
@@ -283,7 +283,7 @@ value_ok (Ok w) v e = ap okay_value (same w v e)
     same a b e = cc
 value_ok (Err fault) v e = absurd cc
 
-pub runs-made : (list : List Member) (table : List Told) (state : LinkState) (i : Item) (r : Record) (x : Made) → table_number list < 2 ^ 16 → Few state.targets → IsSoundAt list table i r → made_by list table state i r ≡ Ok x
+pub runs-made : (list : List Member) (table : List EquateAnswer) (state : LinkState) (i : Item) (r : Record) (x : Made) → table_number list < 2 ^ 16 → Few state.targets → IsSoundAt list table i r → made_by list table state i r ≡ Ok x
     → AreRuns x.0 × Few x.1
 runs-made list table state i End x small few is e = is_made _ x e (no_runs, few)
 runs-made list table state i (Const bytes) x small few is e = is_made _ x e (byte_runs bytes, few)
@@ -307,6 +307,6 @@ runs-made list table state i (Formula code count n expr) x small few is e =
     let fit = bind_ok (fit_value (load_headers list) (frame_of list i) state.targets (cells_before state i) code count n v.0) _ x v.2 in
     let value = value_ok (value_in list table i.place i.member i.here.location expr) v.0 v.1 in
     let fits = fits_fit (load_headers list) (frame_of list i) state.targets (cells_before state i) code count n v.0 fit.0 fit.1 (is.1 v.0 value) in
-    let all = few_behind state.targets fit.0 few fits in
-    is_made _ x fit.2 (fit_runs (table_number list) count state.targets (targets_behind state.targets fit.0) fit.0 small all is.0 fits, all)
+    let all = few_after state.targets fit.0 few fits in
+    is_made _ x fit.2 (fit_runs (table_number list) count state.targets (targets_after state.targets fit.0) fit.0 small all is.0 fits, all)
 runs-made list table state i (Entry segment offset name) x small few is e = is_made _ x e (no_runs, few)

@@ -12,7 +12,7 @@ use Rattle.omf_format.specs.Record.{Record, End, Const, LongConst, Align, Org, S
 use Rattle.omf_format.specs.File.{Segment}
 use Rattle.link_meaning.specs.First.{IsIn}
 use Rattle.link_meaning.specs.laws.MemberLists.{filter_in}
-use Rattle.object_meaning.specs.Sizes.{Located, size_at, located_from, records_with_offsets, place_behind, body_size}
+use Rattle.object_meaning.specs.Sizes.{Located, size_at, located_from, records_with_offsets, place_after, body_size}
 use Rattle.link_meaning.specs.Member.{Member}
 use Rattle.object_meaning.specs.Defines.{Definition, outer_scope, title_of, defined_by, defined_in}
 use Rattle.link_meaning.specs.Search.{FoundDefinition, entries_from, entries}
@@ -128,9 +128,9 @@ place_fits files list place m at resolved whole is =
 
 -- ---- definitions
 
-pub behind-le : (loc : ℕ) (founds : List (ℕ × Record)) → loc ≤ place_behind loc founds
-behind-le loc [] = omega arith
-behind-le loc (found ∷ founds) = omega (arith, behind-le (loc + size_at loc found.1) founds)
+pub following-le : (loc : ℕ) (founds : List (ℕ × Record)) → loc ≤ place_after loc founds
+following-le loc [] = omega arith
+following-le loc (found ∷ founds) = omega (arith, following-le (loc + size_at loc found.1) founds)
 
 pub in-append : {A : Type 0} (xs ys : List A) (x : A) → IsIn (xs ++ ys) x → IsIn xs x ⊎ IsIn ys x
 in-append [] ys x is = inr is
@@ -164,12 +164,12 @@ by_record at place (Entry segment offset name) d is = absurd is
 abbrev pub of_located : Located → List Definition
 of_located r = defined_by r.at r.location r.content
 
-by_records : (loc : ℕ) (founds : List (ℕ × Record)) (d : Definition) → IsIn (flat_map of_located (located_from loc founds)) d → d.place ≤ place_behind loc founds
+by_records : (loc : ℕ) (founds : List (ℕ × Record)) (d : Definition) → IsIn (flat_map of_located (located_from loc founds)) d → d.place ≤ place_after loc founds
 by_records loc [] d is = absurd is
 by_records loc (found ∷ founds) d is =
     let r : Located = record { at = found.0; location = loc; content = found.1 } in
     elim (in-append (of_located r) (flat_map of_located (located_from (loc + size_at loc found.1) founds)) d (subst (λ (l : List Definition). IsIn l d) (flat_map-cons of_located r (located_from (loc + size_at loc found.1) founds)) is)) [
-      | inl h ↦ omega (arith, by_record found.0 loc found.1 d h, behind-le (loc + size_at loc found.1) founds)
+      | inl h ↦ omega (arith, by_record found.0 loc found.1 d h, following-le (loc + size_at loc found.1) founds)
       | inr h ↦ by_records (loc + size_at loc found.1) founds d h
     ]
 

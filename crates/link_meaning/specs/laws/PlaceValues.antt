@@ -16,9 +16,9 @@ use Rattle.link_meaning.specs.laws.MemberLists.{in_filter, filter_in}
 use Rattle.link_meaning.specs.Member.{Member, setting_in}
 use Rattle.object_meaning.specs.Terms.{asks_value, asked_by, asked_in, tree_in}
 use Rattle.link_meaning.specs.Search.{FoundDefinition, entries, finds, outside}
-use Rattle.link_meaning.specs.Rings.{has_expr, is_equate, equates, names_in, LeadsTo}
-use Rattle.link_meaning.specs.LinkValues.{Told, value_of_definition, place_value, found_value, if_ok, label_value, member_environment, value_or_equate_fault, tree_value, value_in, IsTable, outside_value}
-use Rattle.link_meaning.specs.laws.TableLaws.{in_entries, tells_of, by_rings, in_found, is_outside}
+use Rattle.link_meaning.specs.Cycles.{has_expr, is_equate, equates, names_in, LeadsTo}
+use Rattle.link_meaning.specs.LinkValues.{EquateAnswer, value_of_definition, place_value, found_value, if_ok, label_value, member_environment, value_or_equate_fault, tree_value, value_in, IsTable, outside_value}
+use Rattle.link_meaning.specs.laws.TableLaws.{in_entries, reports_of, by_cycles, in_found, is_outside}
 use Rattle.link_meaning.specs.laws.MadeLaws.{FitsPlace}
 use Rattle.link_meaning.specs.laws.PlaceFits.{IsPlaceIn, entry_there}
 
@@ -79,16 +79,16 @@ module _ (P : ℕ → ℕ → Type 0) where
   -- ---- trees
 
   -- what a name is told in that member fits
-  abbrev LabelFits : List Member → List Told → ℕ → Member → List ℕ → Type 0
+  abbrev LabelFits : List Member → List EquateAnswer → ℕ → Member → List ℕ → Type 0
   LabelFits list table place m name = (weak : Bool) (v : Value) → label_value list table weak (finds list place m name) ≡ Some v → FitsPlace P v
 
   all_front : {A : Type 0} → (P : A → Type 0) (xs ys : List A) → AllByRecursion P (xs ++ ys) → AllByRecursion P xs
   all_front P [] ys all = tt
   all_front P (x ∷ xs) ys all = (all.0, all_front P xs ys all.1)
 
-  all_behind : {A : Type 0} → (P : A → Type 0) (xs ys : List A) → AllByRecursion P (xs ++ ys) → AllByRecursion P ys
-  all_behind P [] ys all = all
-  all_behind P (x ∷ xs) ys all = all_behind P xs ys all.1
+  all_following : {A : Type 0} → (P : A → Type 0) (xs ys : List A) → AllByRecursion P (xs ++ ys) → AllByRecursion P ys
+  all_following P [] ys all = all
+  all_following P (x ∷ xs) ys all = all_following P xs ys all.1
 
   known_ok : (at : ℕ) (o : Option Value) (v : Value) → known_or_fault at o ≡ Ok v → o ≡ Some v
   known_ok at None v e = absurd (not_bad (Unknown at) v e)
@@ -102,7 +102,7 @@ module _ (P : ℕ → ℕ → Type 0) where
     here : FitsPlace P (place_value list place m location)
     first : FitsPlace P (place_value list place m 0)
 
-  operand_fits : (list : List Member) (table : List Told) (place : ℕ) (m : Member) (location at : ℕ) (term : Term) → HasPlaces list place m location → AllByRecursion (LabelFits list table place m) (asks_value term)
+  operand_fits : (list : List Member) (table : List EquateAnswer) (place : ℕ) (m : Member) (location at : ℕ) (term : Term) → HasPlaces list place m location → AllByRecursion (LabelFits list table place m) (asks_value term)
       → (v : Value) → operand_value (member_environment list table place m location) at term ≡ Ok v → FitsPlace P v
   unfolding operand_value member_environment
   operand_fits list table place m location at (Operator code) has all = bad_fits NotRelocatable
@@ -117,7 +117,7 @@ module _ (P : ℕ → ℕ → Type 0) where
       by_code true all v e = all.0 (eqb code 0x82) v (known_ok at (label_value list table (eqb code 0x82) (finds list place m name)) v e)
       by_code false all v e = let n = bind_ok (known_or_fault at ((member_environment list table place m location).attribute code name)) (λ k. Ok (Fixed k)) v e in fine_fits (Fixed n.0) tt v n.2
 
-  value_fits : (list : List Member) (table : List Told) (place : ℕ) (m : Member) (location l at : ℕ) (tree : Tree) → HasPlaces list place m location → AllByRecursion (LabelFits list table place m) (asked_by tree)
+  value_fits : (list : List Member) (table : List EquateAnswer) (place : ℕ) (m : Member) (location l at : ℕ) (tree : Tree) → HasPlaces list place m location → AllByRecursion (LabelFits list table place m) (asked_by tree)
       → (v : Value) → value (member_environment list table place m location) l at tree ≡ Ok v → FitsPlace P v
   value_fits list table place m location l at (Leaf term) has all v e = operand_fits list table place m location at term has all v e
   value_fits list table place m location l at (Unary code x) has all v e =
@@ -129,15 +129,15 @@ module _ (P : ℕ → ℕ → Type 0) where
       let b = bind_ok (value env l (at + size_of l x) y) (λ u. apply_two code a.0 u) v a.2 in
       two_fits code a.0 b.0
       (value_fits list table place m location l at x has (all_front (LabelFits list table place m) (asked_by x) (asked_by y) all) a.0 a.1)
-      (value_fits list table place m location l (at + size_of l x) y has (all_behind (LabelFits list table place m) (asked_by x) (asked_by y) all) b.0 b.1) v b.2
+      (value_fits list table place m location l (at + size_of l x) y has (all_following (LabelFits list table place m) (asked_by x) (asked_by y) all) b.0 b.1) v b.2
 
-  settled_ok : (list : List Member) (table : List Told) (place : ℕ) (m : Member) (tree : Tree) (r : Result Value ValueFault) (v : Value) → value_or_equate_fault list table place m tree r ≡ Ok v → r ≡ Ok v
+  settled_ok : (list : List Member) (table : List EquateAnswer) (place : ℕ) (m : Member) (tree : Tree) (r : Result Value ValueFault) (v : Value) → value_or_equate_fault list table place m tree r ≡ Ok v → r ≡ Ok v
   settled_ok list table place m tree (Ok w) v e = e
   settled_ok list table place m tree (Err DivideByZero) v e = absurd (not_bad DivideByZero v e)
   settled_ok list table place m tree (Err NotRelocatable) v e = absurd (not_bad NotRelocatable v e)
   settled_ok list table place m tree (Err (Unknown at)) v e = absurd (not_bad _ v e)
 
-  tree_fits : (list : List Member) (table : List Told) (place : ℕ) (m : Member) (location : ℕ) (tree : Option Tree) → HasPlaces list place m location → AllByRecursion (LabelFits list table place m) (asked_in tree)
+  tree_fits : (list : List Member) (table : List EquateAnswer) (place : ℕ) (m : Member) (location : ℕ) (tree : Option Tree) → HasPlaces list place m location → AllByRecursion (LabelFits list table place m) (asked_in tree)
       → (v : Value) → tree_value list table place m location tree ≡ Ok v → FitsPlace P v
   tree_fits list table place m location None has all v e = bad_fits NotRelocatable v e
   tree_fits list table place m location (Some tree) has all v e =
@@ -153,7 +153,7 @@ module _ (P : ℕ → ℕ → Type 0) where
       same a b e = cc
   if_ok_is (Err fault) v e = absurd cc
 
-  label_fits : (list : List Member) (table : List Told) (found : List FoundDefinition) → ((f : FoundDefinition) → IsIn found f → (v : Value) → found_value list table f ≡ Ok v → FitsPlace P v)
+  label_fits : (list : List Member) (table : List EquateAnswer) (found : List FoundDefinition) → ((f : FoundDefinition) → IsIn found f → (v : Value) → found_value list table f ≡ Ok v → FitsPlace P v)
       → (weak : Bool) (v : Value) → label_value list table weak found ≡ Some v → FitsPlace P v
   label_fits list table [] each true v e = subst (FitsPlace P) (same (Fixed 0) v e) tt
     where
@@ -163,11 +163,11 @@ module _ (P : ℕ → ℕ → Type 0) where
   label_fits list table (f ∷ found) each weak v e = each f (inl refl) v (if_ok_is (found_value list table f) v e)
 
   -- what an equate is told fits
-  abbrev ToldFits : List Told → FoundDefinition → Type 0
-  ToldFits table e = (v : Value) → value_of_definition table e.place e.definition.at ≡ Ok v → FitsPlace P v
+  abbrev ReportedFits : List EquateAnswer → FoundDefinition → Type 0
+  ReportedFits table e = (v : Value) → value_of_definition table e.place e.definition.at ≡ Ok v → FitsPlace P v
 
   -- where each entry is a place, and what each equate to which it leads is told fits, what a name found fits
-  found_fits : (list : List Member) (table : List Told) (f : FoundDefinition) → FitsPlace P (cond (eqb f.place 0) (outside_value f) (place_value list f.place f.member f.definition.place)) → (is_equate f ≡ true → ToldFits table f)
+  found_fits : (list : List Member) (table : List EquateAnswer) (f : FoundDefinition) → FitsPlace P (cond (eqb f.place 0) (outside_value f) (place_value list f.place f.member f.definition.place)) → (is_equate f ≡ true → ReportedFits table f)
       → (v : Value) → found_value list table f ≡ Ok v → FitsPlace P v
   found_fits list table f here equate v e = by_expr f.definition.expr refl e
     where
@@ -180,7 +180,7 @@ module _ (P : ℕ → ℕ → Type 0) where
 
 -- ---- all expressions of a list
 
-module _ (P : ℕ → ℕ → Type 0) (list : List Member) (table : List Told) (is_table : IsTable list table)
+module _ (P : ℕ → ℕ → Type 0) (list : List Member) (table : List EquateAnswer) (is_table : IsTable list table)
     (there : (place : ℕ) (m : Member) (at : ℕ) → IsPlaceIn list place m at → FitsPlace P (place_value list place m at))
     (beyond : (f : FoundDefinition) → IsIn (outside (setting_in list)) f → FitsPlace P (outside_value f)) where
   from_start : (place : ℕ) (m : Member) (at : ℕ) → IsPlaceIn list place m at → IsPlaceIn list place m 0
@@ -205,15 +205,15 @@ module _ (P : ℕ → ℕ → Type 0) (list : List Member) (table : List Told) (
           by_test true e = absurd (omega (arith, le, eqb-true n 0 e))
           by_test false e = refl
 
-  names : (place : ℕ) (m : Member) (asked : List (List ℕ)) → ((name : List ℕ) → IsIn asked name → (f : FoundDefinition) → IsIn (finds list place m name) f → is_equate f ≡ true → ToldFits P table f)
+  names : (place : ℕ) (m : Member) (asked : List (List ℕ)) → ((name : List ℕ) → IsIn asked name → (f : FoundDefinition) → IsIn (finds list place m name) f → is_equate f ≡ true → ReportedFits P table f)
       → AllByRecursion (LabelFits P list table place m) asked
   names place m asked equate =
       all_in (LabelFits P list table place m) asked (λ name is. label_fits P list table (finds list place m name) (λ f found. found_fits P list table f (stands place m name f found) (equate name is f found)))
 
   -- what an equate is told fits, where it fits for those to which it leads
-  told_step : (e : FoundDefinition) → IsIn (equates list) e → ((f : FoundDefinition) → LeadsTo list e f → ToldFits P table f) → ToldFits P table e
+  reported_step : (e : FoundDefinition) → IsIn (equates list) e → ((f : FoundDefinition) → LeadsTo list e f → ReportedFits P table f) → ReportedFits P table e
   unfolding value_in equates
-  told_step e is go v t = by_expr e.definition.expr refl (sym (tells_of list table (equates list) table is_table.rows e is) ∙ t)
+  reported_step e is go v t = by_expr e.definition.expr refl (sym (reports_of list table (equates list) table is_table.rows e is) ∙ t)
     where
       entry : IsPlaceIn list e.place e.member e.definition.place
       entry = entry_there list e (in_filter is_equate (entries list) e is)
@@ -229,8 +229,8 @@ module _ (P : ℕ → ℕ → Type 0) (list : List Member) (table : List Told) (
           (names e.place e.member (asked_in tree) (λ name asked f found equate. go f (record { name = name; asked = subst (λ (y : Option (List ℕ)). IsIn (names_in e.member.segment.fields.lab_len y) name) (sym same) asked; found = found; equate = equate })))
           v w
 
-  told_fits : (e : FoundDefinition) → IsIn (equates list) e → ToldFits P table e
-  told_fits = by_rings list (ToldFits P table) is_table.straight told_step
+  reported_fits : (e : FoundDefinition) → IsIn (equates list) e → ReportedFits P table e
+  reported_fits = by_cycles list (ReportedFits P table) is_table.straight reported_step
 
   equate_in : (place : ℕ) (m : Member) (name : List ℕ) (f : FoundDefinition) → IsIn (finds list place m name) f → is_equate f ≡ true → IsIn (equates list) f
   unfolding equates
@@ -241,12 +241,12 @@ module _ (P : ℕ → ℕ → Type 0) (list : List Member) (table : List Told) (
   unfolding value_in
   expression_fits place m location text is =
       let tree = tree_in m.segment.fields.lab_len text in
-      tree_fits P list table place m location tree (places place m location is) (names place m (asked_in tree) (λ name asked f found equate. told_fits f (equate_in place m name f found equate)))
+      tree_fits P list table place m location tree (places place m location is) (names place m (asked_in tree) (λ name asked f found equate. reported_fits f (equate_in place m name f found equate)))
 
   -- what an entry stands for fits
   pub entry_fits : (f : FoundDefinition) → IsIn (entries list) f → (v : Value) → found_value list table f ≡ Ok v → FitsPlace P v
   unfolding equates
-  entry_fits f is = found_fits P list table f (in_member f is) (λ equate. told_fits f (filter_in is_equate (entries list) f is equate))
+  entry_fits f is = found_fits P list table f (in_member f is) (λ equate. reported_fits f (filter_in is_equate (entries list) f is equate))
     where
       in_member : (f : FoundDefinition) → IsIn (entries list) f → FitsPlace P (cond (eqb f.place 0) (outside_value f) (place_value list f.place f.member f.definition.place))
       in_member f is =

@@ -32,9 +32,9 @@ none_decided (s ∷ steps) all e = settle (filter (is_seen_by_step s) all) refl 
     settle [] is e go = (is, go e)
     settle (f ∷ found) is e go = absurd cc
 
-pub none_behind : (front back : List Step) (all : List FoundDefinition) → AllNone (front ++ back) all → AllNone back all
-none_behind [] back all none = none
-none_behind (s ∷ front) back all none = none_behind front back all none.1
+pub none_after : (front back : List Step) (all : List FoundDefinition) → AllNone (front ++ back) all → AllNone back all
+none_after [] back all none = none
+none_after (s ∷ front) back all none = none_after front back all none.1
 
 abbrev pub found_at : ℕ → Member → Definition → FoundDefinition
 found_at place m d = record { place = place; member = m; definition = d }
@@ -61,11 +61,11 @@ entry_in defines place (x ∷ list) m d (inl same) is = (
     in_front (y ∷ xs) ys f (inr more) = inr (in_front xs ys f more)
 entry_in defines place (x ∷ list) m d (inr more) is =
     let rest = entry_in defines (place + 1) list m d more is in
-    (rest.0, behind (map (λ e. found_at place x e) (defines x.segment)) (entries_from defines (place + 1) list) (found_at rest.0 m d) rest.1)
+    (rest.0, following (map (λ e. found_at place x e) (defines x.segment)) (entries_from defines (place + 1) list) (found_at rest.0 m d) rest.1)
   where
-    behind : (xs ys : List FoundDefinition) (f : FoundDefinition) → IsIn ys f → IsIn (xs ++ ys) f
-    behind [] ys f is = is
-    behind (y ∷ xs) ys f is = inr (behind xs ys f is)
+    following : (xs ys : List FoundDefinition) (f : FoundDefinition) → IsIn ys f → IsIn (xs ++ ys) f
+    following [] ys f is = is
+    following (y ∷ xs) ys f is = inr (following xs ys f is)
 
 -- ---- what is defined for a member's unit or for all is found
 
@@ -178,7 +178,7 @@ fresh_name offers list place u m name at sound none row there =
     let among = filter_in (λ (f : FoundDefinition). bytes_eq name f.definition.name) (entries list) (found_at entry.0 m d.0) entry.1 passes in
     let steps = none_decided (steps_of list place u) (with_this_name name (entries list)) (none_first (finds_inside list place u name) (with_this_name name (outside (setting_in list))) none) in
     not_there m u r.offer.private d.0 (with_this_name name (entries list)) entry.0 among d.3 r.way
-    (none_behind (map Within (used_data list u)) (outer_steps u) (with_this_name name (entries list)) steps.1)
+    (none_after (map Within (used_data list u)) (outer_steps u) (with_this_name name (entries list)) steps.1)
 
 any_is : (p : Definition → Bool) (ds : List Definition) → list_any p ds ≡ true → (d : Definition) × IsIn ds d × (p d ≡ true)
 any_is p [] e = let clash : false ≡ true = e in absurd cc

@@ -21,10 +21,10 @@ use Rattle.link_meaning.specs.Member.{Member, LinkSetting, setting_in, form_in}
 use Rattle.link_meaning.specs.declared.form.LinkForm.TheVariants.{Program, Runtime as LibraryForm}
 use Rattle.link_meaning.specs.declared.form.LinkForm.{LinkForm}
 use Rattle.link_meaning.specs.Layout.{in_load, load_names, number_in, load_of, load_headers, offset_of}
-use Rattle.link_meaning.specs.LinkValues.{Told, value_in}
+use Rattle.link_meaning.specs.LinkValues.{EquateAnswer, value_in}
 use Rattle.link_meaning.specs.Fitting as fitting
-use Rattle.link_meaning.specs.Fitting.{PatchPlace, Fit, Number, Place, number_fit, place_fit, distance_fit, or_does_not_fit, is_dynamic_load, length_of, is_call, target_of, has_room_for, call_fit, fit_value, parts, entry_of, fit_cells, targets_behind, value_or_cause, is_far, length_there, length_outside, may_call}
-use Rattle.link_meaning.specs.LinkedCells.{Item, LinkState, Made, zeros, made_by, made, table_number, frame_of, items_from, items, cells_before, state_after_item, state_from, state_behind, targets, member_cells, cells_from, linked}
+use Rattle.link_meaning.specs.Fitting.{PatchPlace, Fit, Number, Place, number_fit, place_fit, distance_fit, or_does_not_fit, is_dynamic_load, length_of, is_call, target_of, has_room_for, call_fit, fit_value, parts, entry_of, fit_cells, targets_after, value_or_cause, is_far, length_there, length_outside, may_call}
+use Rattle.link_meaning.specs.LinkedCells.{Item, LinkState, Made, zeros, made_by, made, table_number, frame_of, items_from, items, cells_before, state_after_item, state_from, state_after, targets, member_cells, cells_from, linked}
 use Rattle.link_meaning.specs.LinkWritten.{AreMade, start}
 use Rattle.link_meaning.specs.LinkLoadable.{IsLoad, Reaches, OfLoad, OfTable, Names, IsCalled, IsNamed, IsCalledHere, IsCalledThere}
 use Rattle.link_meaning.specs.laws.MadeLaws.{FitsPlace, okay, one_made, value_ok, own_file}
@@ -207,7 +207,7 @@ pub record Keeps (list : List Member) (own : ℕ) (before : List Target) (x : Ma
   pub grows : x.1 ≡ [] → before ≡ []
 
 fit_keeps : (list : List Member) (own count : ℕ) (targets : List Target) (fit : Fit) → AllByRecursion (IsCalled list) targets → ReachesFit list own fit
-    → Keeps list own targets (fit_cells (table_number list) count (targets_behind targets fit) fit, targets_behind targets fit)
+    → Keeps list own targets (fit_cells (table_number list) count (targets_after targets fit) fit, targets_after targets fit)
 fit_keeps list own count targets (Number n) all is = record { cells' = byte_names _ (little_bytes count n); called = all; grows = λ none. none }
 fit_keeps list own count targets (Place segment offset shift) all is = record {
   cells' = part_names (Reaches list targets own) (record { location = 0; count = count; file = 1; segment = segment; offset = offset; shift = shift }) 0 count (OfLoad is.0 is.1);
@@ -228,10 +228,10 @@ keeps_bytes : (list : List Member) (own : ℕ) (targets : List Target) (cells : 
 keeps_bytes list own targets cells x all names e = keeps_is list own targets (cells, targets) x e (record { cells' = names; called = all; grows = λ none. none })
 
 -- an expression that stands here names load segments
-abbrev pub ValuesIn : List Member → List Told → Item → Type 0
+abbrev pub ValuesIn : List Member → List EquateAnswer → Item → Type 0
 ValuesIn list table i = (text : List ℕ) (v : Value) → value_in list table i.place i.member i.here.location text ≡ Ok v → FitsPlace (IsNamed list) v
 
-made_keeps : (list : List Member) (table : List Told) (state : LinkState) (i : Item) (r : Record) (x : Made) → ValuesIn list table i → AllByRecursion (IsCalled list) state.targets → made_by list table state i r ≡ Ok x
+made_keeps : (list : List Member) (table : List EquateAnswer) (state : LinkState) (i : Item) (r : Record) (x : Made) → ValuesIn list table i → AllByRecursion (IsCalled list) state.targets → made_by list table state i r ≡ Ok x
     → Keeps list (load_of list i.member) state.targets x
 made_keeps list table state i End x in' all e = keeps_bytes list _ state.targets [] x all tt e
 made_keeps list table state i (Const bytes) x in' all e = keeps_bytes list _ state.targets (map Byte bytes) x all (byte_names _ bytes) e
@@ -267,7 +267,7 @@ record Reached (list : List Member) (place own : ℕ) (before : List Target) (st
   grows : state.targets ≡ [] → before ≡ []
 
 -- one record more of that member
-one_more : (list : List Member) (table : List Told) (place own : ℕ) (before : List Target) (state : LinkState) (i : Item) (x : Made) → ValuesIn list table i → i.place ≡ place → load_of list i.member ≡ own
+one_more : (list : List Member) (table : List EquateAnswer) (place own : ℕ) (before : List Target) (state : LinkState) (i : Item) (x : Made) → ValuesIn list table i → i.place ≡ place → load_of list i.member ≡ own
     → Reached list place own before state → made list table state i ≡ Ok x → Reached list place own before (state_after_item state i (Ok x))
 unfolding made
 one_more list table place own before state i x in' at number is e =
@@ -283,10 +283,10 @@ one_more list table place own before state i x in' at number is e =
     }
 
 -- these records belong to that member
-abbrev AreOf : List Member → List Told → ℕ → ℕ → List Item → Type 0
+abbrev AreOf : List Member → List EquateAnswer → ℕ → ℕ → List Item → Type 0
 AreOf list table place own is = AllByRecursion (λ (i : Item). (i.place ≡ place) × (load_of list i.member ≡ own) × ValuesIn list table i) is
 
-own_walk : (list : List Member) (table : List Told) (place own : ℕ) (before : List Target) (state : LinkState) (is : List Item) → AreMade list table state is → AreOf list table place own is → Reached list place own before state
+own_walk : (list : List Member) (table : List EquateAnswer) (place own : ℕ) (before : List Target) (state : LinkState) (is : List Item) → AreMade list table state is → AreOf list table place own is → Reached list place own before state
     → Reached list place own before (state_from list table state is)
 own_walk list table place own before state [] are of r = r
 own_walk list table place own before state (i ∷ is) are of r =
@@ -299,7 +299,7 @@ pub record Called (list : List Member) (before after : List Target) : Type 0 whe
   pub called : AllByRecursion (IsCalled list) after
   pub grows : after ≡ [] → before ≡ []
 
-called_walk : (list : List Member) (table : List Told) (before : List Target) (state : LinkState) (is : List Item) → AreMade list table state is → AllByRecursion (ValuesIn list table) is → Called list before state.targets
+called_walk : (list : List Member) (table : List EquateAnswer) (before : List Target) (state : LinkState) (is : List Item) → AreMade list table state is → AllByRecursion (ValuesIn list table) is → Called list before state.targets
     → Called list before (state_from list table state is).targets
 unfolding made
 called_walk list table before state [] are in' c = c
@@ -309,7 +309,7 @@ called_walk list table before state (i ∷ is) are in' c =
     called_walk list table before (state_after_item state i (made list table state i)) is are.2 in'.1 (subst (λ (g : Result Made LinkCause). Called list before (state_after_item state i g).targets) (sym are.1) next)
 
 -- behind a member's records the state stands at its place
-at_place : (list : List Member) (table : List Told) (place : ℕ) (state : LinkState) (is : List Item) → state.place ≡ place → AreMade list table state is → AllByRecursion (λ (i : Item). i.place ≡ place) is → (state_from list table state is).place ≡ place
+at_place : (list : List Member) (table : List EquateAnswer) (place : ℕ) (state : LinkState) (is : List Item) → state.place ≡ place → AreMade list table state is → AllByRecursion (λ (i : Item). i.place ≡ place) is → (state_from list table state is).place ≡ place
 at_place list table place state [] at are of = at
 at_place list table place state (i ∷ is) at are of =
     at_place list table place (state_after_item state i (made list table state i)) is (subst (λ (g : Result Made LinkCause). (state_after_item state i g).place ≡ place) (sym are.1) of.0) are.2 of.1
@@ -317,18 +317,18 @@ at_place list table place state (i ∷ is) at are of =
 -- ---- members
 
 -- the values of all records name load segments
-abbrev pub AllIn : List Member → List Told → List Item → Type 0
+abbrev pub AllIn : List Member → List EquateAnswer → List Item → Type 0
 AllIn list table is = AllByRecursion (ValuesIn list table) is
 
 front-all : {A : Type 0} → (P : A → Type 0) (xs ys : List A) → AllByRecursion P (xs ++ ys) → AllByRecursion P xs
 front-all P [] ys all = tt
 front-all P (x ∷ xs) ys all = (all.0, front-all P xs ys all.1)
 
-behind-all : {A : Type 0} → (P : A → Type 0) (xs ys : List A) → AllByRecursion P (xs ++ ys) → AllByRecursion P ys
-behind-all P [] ys all = all
-behind-all P (x ∷ xs) ys all = behind-all P xs ys all.1
+following-all : {A : Type 0} → (P : A → Type 0) (xs ys : List A) → AllByRecursion P (xs ++ ys) → AllByRecursion P ys
+following-all P [] ys all = all
+following-all P (x ∷ xs) ys all = following-all P xs ys all.1
 
-are_of : (list : List Member) (table : List Told) (place : ℕ) (m : Member) (rs : List Located) → AllIn list table (map (item place m) rs) → AreOf list table place (load_of list m) (map (item place m) rs)
+are_of : (list : List Member) (table : List EquateAnswer) (place : ℕ) (m : Member) (rs : List Located) → AllIn list table (map (item place m) rs) → AreOf list table place (load_of list m) (map (item place m) rs)
 are_of list table place m [] all = tt
 are_of list table place m (r ∷ rs) all = ((refl, refl, all.0), are_of list table place m rs all.1)
 
@@ -350,10 +350,10 @@ parts_of list front m back parts = record {
   kept = ap (λ (l : List Member). filter (λ (i : Item). leb i.place (length front + 1)) (items_from 1 l)) parts ∙ up_to front m back;
 }
 
-pub member_reaches : (list : List Member) (table : List Told) (front : List Member) (m : Member) (back : List Member) → list ≡ front ++ m ∷ back → AreMade list table start (items list) → AllIn list table (items list)
+pub member_reaches : (list : List Member) (table : List EquateAnswer) (front : List Member) (m : Member) (back : List Member) → list ≡ front ++ m ∷ back → AreMade list table start (items list) → AllIn list table (items list)
     → (found : ℕ × Record) (founds : List (ℕ × Record)) → m.segment.records ≡ found ∷ founds
     → AllByRecursion (λ c. Names (Reaches list (targets list table) (load_of list m)) c) (member_cells list table (length front + 1) m)
-unfolding items state_behind targets member_cells
+unfolding items state_after targets member_cells
 member_reaches list table front m back parts are in' found founds records =
     let n = length front + 1 in
     let own = map (item n m) (located_from 0 m.segment.records) in
@@ -363,7 +363,7 @@ member_reaches list table front m back parts are in' found founds records =
     let all1 = subst (AllIn list table) of.whole in' in
     let before = state_from list table start (items_from 1 front) in
     let made2 = made-append list table before own rest made1.1 in
-    let all2 = behind-all (ValuesIn list table) (items_from 1 front) (own ++ rest) all1 in
+    let all2 = following-all (ValuesIn list table) (items_from 1 front) (own ++ rest) all1 in
     let first = called_walk list table [] start (items_from 1 front) made1.0 (front-all (ValuesIn list table) (items_from 1 front) (own ++ rest) all1) (record { called = tt; grows = λ none. none }) in
     let earlier : before.place ≤ length front = state_place list table start (length front) (items_from 1 front) (omega arith) (are_below (length front) 1 front (omega arith)) in
     let other : eqb before.place n ≡ false = ne_eqb before.place n (λ (e : before.place ≡ n). absurd (omega (arith, e, earlier))) in
@@ -377,7 +377,7 @@ member_reaches list table front m back parts are in' found founds records =
     let at : state.place ≡ n = by_records own refl made2.0 (places_of n m (located_from 0 m.segment.records)) in
     let here : AllByRecursion (λ c. Names (Reaches list state.targets (load_of list m)) c) state.cells =
     subst (λ (b : Bool). AllByRecursion (λ c. Names (Reaches list state.targets (load_of list m)) c) (cond b state.cells [])) (eq-eqb state.place n at) walked.cells' in
-    let final = called_walk list table state.targets state rest made2.1 (behind-all (ValuesIn list table) own rest all2) (record { called = walked.called; grows = λ none. none }) in
+    let final = called_walk list table state.targets state rest made2.1 (following-all (ValuesIn list table) own rest all2) (record { called = walked.called; grows = λ none. none }) in
     let ends : state_from list table start (items_from 1 list) ≡ state_from list table state rest =
     ap (state_from list table start) of.whole ∙ state_from-append list table start (items_from 1 front) (own ++ rest) ∙ state_from-append list table before own rest in
     let grows : (state_from list table start (items_from 1 list)).targets ≡ [] → state.targets ≡ [] = λ none. final.grows (sym (ap (λ (s : LinkState). s.targets) ends) ∙ none) in
@@ -399,14 +399,14 @@ member_reaches list table front m back parts are in' found founds records =
         at_place list table (length front + 1) (state_after_item before i (made list table before i)) is (subst (λ (g : Result Made LinkCause). (state_after_item before i g).place ≡ length front + 1) (sym are.1) all.0) are.2 all.1
 
 -- all targets are called
-pub targets_called : (list : List Member) (table : List Told) → AreMade list table start (items list) → AllIn list table (items list) → AllByRecursion (IsCalled list) (targets list table)
-unfolding targets state_behind
+pub targets_called : (list : List Member) (table : List EquateAnswer) → AreMade list table start (items list) → AllIn list table (items list) → AllByRecursion (IsCalled list) (targets list table)
+unfolding targets state_after
 targets_called list table are in' = (called_walk list table [] start (items list) are in' (record { called = tt; grows = λ none. none })).called
 
 -- ---- load segments
 
 -- the cells of each member name what they may
-abbrev pub MembersReach : List Member → List Told → Type 0
+abbrev pub MembersReach : List Member → List EquateAnswer → Type 0
 MembersReach list table = (front : List Member) (m : Member) (back : List Member) → list ≡ front ++ m ∷ back
     → AllByRecursion (λ c. Names (Reaches list (targets list table) (load_of list m)) c) (member_cells list table (length front + 1) m)
 
@@ -414,7 +414,7 @@ load_number : (list : List Member) (m : Member) (x : List ℕ) → in_load x m �
 unfolding load_of
 load_number list m x is = ap (number_in (load_names list)) ((bytes_eq-Decides m.segment.fields.load_name x).0 is)
 
-from_reaches : (list : List Member) (table : List Told) (x : List ℕ) (front members : List Member) (cells : List Cell) → MembersReach list table → list ≡ front ++ members
+from_reaches : (list : List Member) (table : List EquateAnswer) (x : List ℕ) (front members : List Member) (cells : List Cell) → MembersReach list table → list ≡ front ++ members
     → AllByRecursion (λ c. Names (Reaches list (targets list table) (number_in (load_names list) x)) c) cells
     → AllByRecursion (λ c. Names (Reaches list (targets list table) (number_in (load_names list) x)) c) (cells_from list table x cells (length front + 1) members)
 from_reaches list table x front [] cells reach parts all = all
@@ -441,6 +441,6 @@ from_reaches list table x front (m ∷ members) cells reach parts all =
         (all-both P cells (zeros (offset_of list place m - length cells)) all (zero_names _ (offset_of list place m - length cells))) own)
     by_test false is go = go cells all
 
-pub linked_reaches : (list : List Member) (table : List Told) (x : List ℕ) → MembersReach list table → AllByRecursion (λ c. Names (Reaches list (targets list table) (number_in (load_names list) x)) c) (linked list table x)
+pub linked_reaches : (list : List Member) (table : List EquateAnswer) (x : List ℕ) → MembersReach list table → AllByRecursion (λ c. Names (Reaches list (targets list table) (number_in (load_names list) x)) c) (linked list table x)
 unfolding linked
 linked_reaches list table x reach = from_reaches list table x [] list [] reach refl tt

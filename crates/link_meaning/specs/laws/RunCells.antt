@@ -145,8 +145,8 @@ length-under cells = length-map (map byte_under cells) (λ (b : ℕ). Byte b) �
 under-append : (xs ys : List Cell) → under (xs ++ ys) ≡ under xs ++ under ys
 under-append xs ys = ap (map Byte) (map-append byte_under xs ys) ∙ map-append (λ (b : ℕ). Byte b) (map byte_under xs) (map byte_under ys)
 
-behind_both : (front rest : List Cell) (n k : ℕ) → length front ≡ n → drop (n + k) (front ++ rest) ≡ drop k rest
-behind_both front rest n k is = subst (λ (i : ℕ). drop (i + k) (front ++ rest) ≡ drop k rest) is (drop-append-add front rest k)
+after_both : (front rest : List Cell) (n k : ℕ) → length front ≡ n → drop (n + k) (front ++ rest) ≡ drop k rest
+after_both front rest n k is = subst (λ (i : ℕ). drop (i + k) (front ++ rest) ≡ drop k rest) is (drop-append-add front rest k)
 
 -- one patch over the bytes of its cells
 one_over : (done cells rest : List Cell) (p : Patch) → p.location ≡ length done → length cells ≡ p.count → parts_from p 0 p.count ≡ cells
@@ -154,7 +154,7 @@ one_over : (done cells rest : List Cell) (p : Patch) → p.location ≡ length d
 one_over done cells rest p at size is =
     let first : take p.location (done ++ (under cells ++ rest)) ≡ done = take_at done (under cells ++ rest) p.location (sym at) in
     let last : drop (p.location + p.count) (done ++ (under cells ++ rest)) ≡ rest =
-    behind_both done (under cells ++ rest) p.location p.count (sym at) ∙ drop_at (under cells) rest p.count (length-under cells ∙ size) in
+    after_both done (under cells ++ rest) p.location p.count (sym at) ∙ drop_at (under cells) rest p.count (length-under cells ∙ size) in
     ap (λ (l : List Cell). l ++ parts_from p 0 p.count ++ drop (p.location + p.count) (done ++ (under cells ++ rest))) first
     ∙ ap (λ (l : List Cell). done ++ l ++ drop (p.location + p.count) (done ++ (under cells ++ rest))) is
     ∙ ap (λ (l : List Cell). done ++ cells ++ l) last

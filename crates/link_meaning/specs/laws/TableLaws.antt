@@ -21,8 +21,8 @@ use Rattle.link_meaning.specs.Member.{Member, RuntimeFile, LinkSetting, setting_
 use Rattle.object_meaning.specs.Terms.{asks_value, asked_by, asked_in, term_at, tree_in}
 use Rattle.link_meaning.specs.declared.search.Step.{Step}
 use Rattle.link_meaning.specs.Search.{FoundDefinition, is_seen_by_step, or_else, first_step_found, steps_of, with_this_name, entries, finds, finds_inside, outside_of, outside_from, outside}
-use Rattle.link_meaning.specs.Rings.{is_equate, equates, names_in, LeadsTo, Path, Last, Through, IsCircular}
-use Rattle.link_meaning.specs.LinkValues.{Told, value_of_definition, found_value, if_ok, label_value, member_environment, fault_found, fault_named, value_or_equate_fault, tree_value, value_in, equate_value, AreTold, IsTable}
+use Rattle.link_meaning.specs.Cycles.{is_equate, equates, names_in, LeadsTo, Path, Last, Through, IsCircular}
+use Rattle.link_meaning.specs.LinkValues.{EquateAnswer, value_of_definition, found_value, if_ok, label_value, member_environment, fault_found, fault_named, value_or_equate_fault, tree_value, value_in, equate_value, AreReported, IsTable}
 
 -- ---- members of lists
 
@@ -87,7 +87,7 @@ is_outside setting f is = outside_all 2 setting.runtimes f is
 pub in_entries : (list : List Member) (place : ℕ) (m : Member) (name : List ℕ) (f : FoundDefinition) → is_equate f ≡ true → IsIn (finds list place m name) f → IsIn (entries list) f
 in_entries list place m name f equate is = elim (in_found list place m name f is) [
   | inl h ↦ h
-  | inr h ↦ absurd (no_equate (sym (ap Rattle.link_meaning.specs.Rings.has_expr (is_outside (setting_in list) f h).place) ∙ equate))
+  | inr h ↦ absurd (no_equate (sym (ap Rattle.link_meaning.specs.Cycles.has_expr (is_outside (setting_in list) f h).place) ∙ equate))
 ]
   where
     no_equate : false ≡ true → ⊥
@@ -100,30 +100,30 @@ in_equates list e f leads = filter_in is_equate (entries list) f (in_entries lis
 -- ---- the same value where the same names are told
 
 -- two tables tell the same of what a name found first
-abbrev pub Alike : List Member → List Told → List Told → List FoundDefinition → Type 0
+abbrev pub Alike : List Member → List EquateAnswer → List EquateAnswer → List FoundDefinition → Type 0
 Alike list a b [] = Unit {0}
 Alike list a b (f ∷ found) = found_value list a f ≡ found_value list b f
 
-abbrev pub AreAlike : List Member → List Told → List Told → ℕ → Member → List (List ℕ) → Type 0
+abbrev pub AreAlike : List Member → List EquateAnswer → List EquateAnswer → ℕ → Member → List (List ℕ) → Type 0
 AreAlike list a b place m names = AllByRecursion (λ name. Alike list a b (finds list place m name)) names
 
 pub all_front : {A : Type 0} → (P : A → Type 0) (xs ys : List A) → AllByRecursion P (xs ++ ys) → AllByRecursion P xs
 all_front P [] ys all = tt
 all_front P (x ∷ xs) ys all = (all.0, all_front P xs ys all.1)
 
-pub all_behind : {A : Type 0} → (P : A → Type 0) (xs ys : List A) → AllByRecursion P (xs ++ ys) → AllByRecursion P ys
-all_behind P [] ys all = all
-all_behind P (x ∷ xs) ys all = all_behind P xs ys all.1
+pub all_following : {A : Type 0} → (P : A → Type 0) (xs ys : List A) → AllByRecursion P (xs ++ ys) → AllByRecursion P ys
+all_following P [] ys all = all
+all_following P (x ∷ xs) ys all = all_following P xs ys all.1
 
-label_same : (list : List Member) (a b : List Told) (weak : Bool) (found : List FoundDefinition) → Alike list a b found → label_value list a weak found ≡ label_value list b weak found
+label_same : (list : List Member) (a b : List EquateAnswer) (weak : Bool) (found : List FoundDefinition) → Alike list a b found → label_value list a weak found ≡ label_value list b weak found
 label_same list a b weak [] same = refl
 label_same list a b weak (f ∷ found) same = ap if_ok same
 
-fault_same : (list : List Member) (a b : List Told) (fault : ValueFault) (found : List FoundDefinition) → Alike list a b found → fault_found list a fault found ≡ fault_found list b fault found
+fault_same : (list : List Member) (a b : List EquateAnswer) (fault : ValueFault) (found : List FoundDefinition) → Alike list a b found → fault_found list a fault found ≡ fault_found list b fault found
 fault_same list a b fault [] same = refl
 fault_same list a b fault (f ∷ found) same = ap (λ (r : Result Value ValueFault). elim r [ Ok v ↦ fault | Err of ↦ of ]) same
 
-operand_same : (list : List Member) (a b : List Told) (place : ℕ) (m : Member) (location at : ℕ) (term : Term) → AreAlike list a b place m (asks_value term)
+operand_same : (list : List Member) (a b : List EquateAnswer) (place : ℕ) (m : Member) (location at : ℕ) (term : Term) → AreAlike list a b place m (asks_value term)
     → operand_value (member_environment list a place m location) at term ≡ operand_value (member_environment list b place m location) at term
 unfolding operand_value member_environment
 operand_same list a b place m location at (Operator code) all = refl
@@ -140,27 +140,27 @@ operand_same list a b place m location at (Named code name) all = by_code (nat_l
     by_code true all = ap (known_or_fault at) (label_same list a b (code == 0x82) (finds list place m name) all.0)
     by_code false all = refl
 
-value_same : (list : List Member) (a b : List Told) (place : ℕ) (m : Member) (location l at : ℕ) (tree : Tree) → AreAlike list a b place m (asked_by tree)
+value_same : (list : List Member) (a b : List EquateAnswer) (place : ℕ) (m : Member) (location l at : ℕ) (tree : Tree) → AreAlike list a b place m (asked_by tree)
     → value (member_environment list a place m location) l at tree ≡ value (member_environment list b place m location) l at tree
 value_same list a b place m location l at (Leaf term) all = operand_same list a b place m location at term all
 value_same list a b place m location l at (Unary code x) all = ap (λ (r : Result Value ValueFault). r >>= λ v. apply_one code v) (value_same list a b place m location l at x all)
 value_same list a b place m location l at (Binary code x y) all =
     let P = λ (name : List ℕ). Alike list a b (finds list place m name) in
     let left = value_same list a b place m location l at x (all_front P (asked_by x) (asked_by y) all) in
-    let right = value_same list a b place m location l (at + size_of l x) y (all_behind P (asked_by x) (asked_by y) all) in
+    let right = value_same list a b place m location l (at + size_of l x) y (all_following P (asked_by x) (asked_by y) all) in
     ap (λ (r : Result Value ValueFault). r >>= λ v. value (member_environment list a place m location) l (at + size_of l x) y >>= λ w. apply_two code v w) left
     ∙ ap (λ (r : Result Value ValueFault). value (member_environment list b place m location) l at x >>= λ v. r >>= λ w. apply_two code v w) right
 
 -- a term of the tree asks for what the tree asks for
-abbrev AlikeAt : List Member → List Told → List Told → ℕ → Member → Option Term → Type 0
+abbrev AlikeAt : List Member → List EquateAnswer → List EquateAnswer → ℕ → Member → Option Term → Type 0
 AlikeAt list a b place m None = Unit {0}
 AlikeAt list a b place m (Some term) = AreAlike list a b place m (asks_value term)
 
-either_alike : (list : List Member) (a b : List Told) (place : ℕ) (m : Member) (x y : Option Term) → AlikeAt list a b place m x → AlikeAt list a b place m y → AlikeAt list a b place m (option_or x y)
+either_alike : (list : List Member) (a b : List EquateAnswer) (place : ℕ) (m : Member) (x y : Option Term) → AlikeAt list a b place m x → AlikeAt list a b place m y → AlikeAt list a b place m (option_or x y)
 either_alike list a b place m None y p q = q
 either_alike list a b place m (Some t) y p q = p
 
-term_alike : (list : List Member) (a b : List Told) (place : ℕ) (m : Member) (l want at : ℕ) (tree : Tree) → AreAlike list a b place m (asked_by tree)
+term_alike : (list : List Member) (a b : List EquateAnswer) (place : ℕ) (m : Member) (l want at : ℕ) (tree : Tree) → AreAlike list a b place m (asked_by tree)
     → AlikeAt list a b place m (term_at l want at tree)
 term_alike list a b place m l want at (Leaf term) all = by_place (at == want)
   where
@@ -172,9 +172,9 @@ term_alike list a b place m l want at (Binary code x y) all =
     let P = λ (name : List ℕ). Alike list a b (finds list place m name) in
     either_alike list a b place m (term_at l want at x) (term_at l want (at + size_of l x) y)
     (term_alike list a b place m l want at x (all_front P (asked_by x) (asked_by y) all))
-    (term_alike list a b place m l want (at + size_of l x) y (all_behind P (asked_by x) (asked_by y) all))
+    (term_alike list a b place m l want (at + size_of l x) y (all_following P (asked_by x) (asked_by y) all))
 
-named_same : (list : List Member) (a b : List Told) (place : ℕ) (m : Member) (fault : ValueFault) (term : Option Term) → AlikeAt list a b place m term
+named_same : (list : List Member) (a b : List EquateAnswer) (place : ℕ) (m : Member) (fault : ValueFault) (term : Option Term) → AlikeAt list a b place m term
     → fault_named list a place m fault term ≡ fault_named list b place m fault term
 named_same list a b place m fault None all = refl
 named_same list a b place m fault (Some (Operator code)) all = refl
@@ -188,7 +188,7 @@ named_same list a b place m fault (Some (Named code name)) all = by_code (nat_le
     by_code true all = fault_same list a b fault (finds list place m name) all.0
     by_code false all = refl
 
-settled_same : (list : List Member) (a b : List Told) (place : ℕ) (m : Member) (tree : Tree) (r : Result Value ValueFault) → AreAlike list a b place m (asked_by tree)
+settled_same : (list : List Member) (a b : List EquateAnswer) (place : ℕ) (m : Member) (tree : Tree) (r : Result Value ValueFault) → AreAlike list a b place m (asked_by tree)
     → value_or_equate_fault list a place m tree r ≡ value_or_equate_fault list b place m tree r
 settled_same list a b place m tree (Ok v) all = refl
 settled_same list a b place m tree (Err DivideByZero) all = refl
@@ -199,14 +199,14 @@ settled_same list a b place m tree (Err (Unknown at)) all =
     failed : ValueFault → Result Value ValueFault
     failed f = Err f
 
-tree_same : (list : List Member) (a b : List Told) (place : ℕ) (m : Member) (location : ℕ) (tree : Option Tree) → AreAlike list a b place m (asked_in tree)
+tree_same : (list : List Member) (a b : List EquateAnswer) (place : ℕ) (m : Member) (location : ℕ) (tree : Option Tree) → AreAlike list a b place m (asked_in tree)
     → tree_value list a place m location tree ≡ tree_value list b place m location tree
 tree_same list a b place m location None all = refl
 tree_same list a b place m location (Some tree) all =
     ap (value_or_equate_fault list a place m tree) (value_same list a b place m location m.segment.fields.lab_len 0 tree all)
     ∙ settled_same list a b place m tree (value (member_environment list b place m location) m.segment.fields.lab_len 0 tree) all
 
-pub equate_same : (list : List Member) (a b : List Told) (e : FoundDefinition) → AreAlike list a b e.place e.member (names_in e.member.segment.fields.lab_len e.definition.expr)
+pub equate_same : (list : List Member) (a b : List EquateAnswer) (e : FoundDefinition) → AreAlike list a b e.place e.member (names_in e.member.segment.fields.lab_len e.definition.expr)
     → equate_value list a e ≡ equate_value list b e
 unfolding value_in
 equate_same list a b e all = by_expr e.definition.expr all
@@ -278,8 +278,8 @@ one_below n (x ∷ xs) all q is = by_test (eqb q x) refl is (λ more. one_below 
 
 -- ---- the law
 
-abbrev Tells : List Member → List Told → Type 0
-Tells list table = (e : FoundDefinition) → IsIn (equates list) e → value_of_definition table e.place e.definition.at ≡ equate_value list table e
+abbrev Reports : List Member → List EquateAnswer → Type 0
+Reports list table = (e : FoundDefinition) → IsIn (equates list) e → value_of_definition table e.place e.definition.at ≡ equate_value list table e
 
 is_in_at : {A : Type 0} → (xs : List A) (k : ℕ) (x : A) → slice_get xs k ≡ Some x → IsIn xs x
 is_in_at [] k x e = absurd cc
@@ -289,12 +289,12 @@ is_in_at {A} (y ∷ ys) zero x e = inl (some_same y x e)
     some_same y x e = cc
 is_in_at (y ∷ ys) (suc k) x e = inr (is_in_at ys k x e)
 
-found_same : (list : List Member) (a b : List Told) (e f : FoundDefinition) (name : List ℕ)
+found_same : (list : List Member) (a b : List EquateAnswer) (e f : FoundDefinition) (name : List ℕ)
     → IsIn (names_in e.member.segment.fields.lab_len e.definition.expr) name → IsIn (finds list e.place e.member name) f
     → ((g : FoundDefinition) → LeadsTo list e g → value_of_definition a g.place g.definition.at ≡ value_of_definition b g.place g.definition.at) → found_value list a f ≡ found_value list b f
 found_same list a b e f name asked found go = by_test (is_equate f) refl
   where
-    no_expr : (x : Option (List ℕ)) (p r s : Result Value ValueFault) → Rattle.link_meaning.specs.Rings.has_expr x ≡ false
+    no_expr : (x : Option (List ℕ)) (p r s : Result Value ValueFault) → Rattle.link_meaning.specs.Cycles.has_expr x ≡ false
         → elim x as (λ y. Result Value ValueFault) [ None ↦ p | Some text ↦ r ] ≡ elim x as (λ y. Result Value ValueFault) [ None ↦ p | Some text ↦ s ]
     no_expr None p r s is = refl
     no_expr (Some text) p r s is = let clash : true ≡ false = is in absurd cc
@@ -305,7 +305,7 @@ found_same list a b e f name asked found go = by_test (is_equate f) refl
         let leads : LeadsTo list e f = record { name = name; asked = asked; found = found; equate = is } in
         ap (λ (r : Result Value ValueFault). elim f.definition.expr as (λ y. Result Value ValueFault) [ None ↦ Ok (cond (eqb f.place 0) (Rattle.link_meaning.specs.LinkValues.outside_value f) (Rattle.link_meaning.specs.LinkValues.place_value list f.place f.member f.definition.place)) | Some text ↦ r ]) (go f leads)
 
-pub alike_from : (list : List Member) (a b : List Told) (e : FoundDefinition)
+pub alike_from : (list : List Member) (a b : List EquateAnswer) (e : FoundDefinition)
     → ((g : FoundDefinition) → LeadsTo list e g → value_of_definition a g.place g.definition.at ≡ value_of_definition b g.place g.definition.at)
     → AreAlike list a b e.place e.member (names_in e.member.segment.fields.lab_len e.definition.expr)
 alike_from list a b e go =
@@ -316,34 +316,34 @@ alike_from list a b e go =
     by_found [] each = tt
     by_found (f ∷ found) each = each f (inl refl)
 
-told_same : (n : ℕ) (list : List Member) (a b : List Told) (visited : List ℕ) (e : FoundDefinition) (k : ℕ) → Tells list a → Tells list b
+reported_same : (n : ℕ) (list : List Member) (a b : List EquateAnswer) (visited : List ℕ) (e : FoundDefinition) (k : ℕ) → Reports list a → Reports list b
     → ((g : FoundDefinition) → IsIn (equates list) g → IsCircular list g → ⊥) → slice_get (equates list) k ≡ Some e → AllByRecursion (Before list e) visited
     → IsDistinct eqb (k ∷ visited) → length visited + n ≡ length (equates list) → value_of_definition a e.place e.definition.at ≡ value_of_definition b e.place e.definition.at
 unfolding IsDistinct
-told_same zero list a b visited e k p q straight at before distinct size =
+reported_same zero list a b visited e k p q straight at before distinct size =
     let within = one_below (length (equates list)) (k ∷ visited) (below_length (equates list) k e at, all_below list e visited before) in
     let few : length (k ∷ visited) ≤ length (equates list) = length-le_from_distinct_below (k ∷ visited) (length (equates list)) distinct within in
     absurd (omega (arith, few, size))
-told_same (suc n) list a b visited e k p q straight at before distinct size =
+reported_same (suc n) list a b visited e k p q straight at before distinct size =
     let here = is_in_at (equates list) k e at in
     p e here
     ∙ equate_same list a b e (alike_from list a b e (λ f leads.
     let inside = in_equates list e f leads in
     let place = position_of (equates list) f inside in
     let reached : AllByRecursion (Before list f) (k ∷ visited) = ((e, at, Last e f leads), all_on list e f visited before leads) in
-    told_same n list a b (k ∷ visited) f place.0 p q straight place.1 reached
+    reported_same n list a b (k ∷ visited) f place.0 p q straight place.1 reached
     (apart list f place.0 (k ∷ visited) (straight f inside) place.1 reached, distinct) (omega (arith, size))))
     ∙ sym (q e here)
 
-pub tells_of : (list : List Member) (table : List Told) (es : List FoundDefinition) (rows : List Told) → AreTold list table es rows
+pub reports_of : (list : List Member) (table : List EquateAnswer) (es : List FoundDefinition) (rows : List EquateAnswer) → AreReported list table es rows
     → (e : FoundDefinition) → IsIn es e → value_of_definition table e.place e.definition.at ≡ equate_value list table e
-tells_of list table [] rows are e is = absurd is
-tells_of list table (x ∷ es) [] are e is = absurd are
-tells_of list table (x ∷ es) (t ∷ rows) are e (inl same) =
+reports_of list table [] rows are e is = absurd is
+reports_of list table (x ∷ es) [] are e is = absurd are
+reports_of list table (x ∷ es) (t ∷ rows) are e (inl same) =
     subst (λ (y : FoundDefinition). value_of_definition table y.place y.definition.at ≡ equate_value list table y) same are.3
-tells_of list table (x ∷ es) (t ∷ rows) are e (inr more) = tells_of list table es rows are.4 e more
+reports_of list table (x ∷ es) (t ∷ rows) are e (inr more) = reports_of list table es rows are.4 e more
 
-rows_same : (list : List Member) (a b : List Told) (es : List FoundDefinition) (xs ys : List Told) → AreTold list a es xs → AreTold list b es ys
+rows_same : (list : List Member) (a b : List EquateAnswer) (es : List FoundDefinition) (xs ys : List EquateAnswer) → AreReported list a es xs → AreReported list b es ys
     → ((e : FoundDefinition) → IsIn es e → value_of_definition a e.place e.definition.at ≡ value_of_definition b e.place e.definition.at) → xs ≡ ys
 rows_same list a b [] [] [] p q same = refl
 rows_same list a b [] [] (y ∷ ys) p q same = absurd q
@@ -353,42 +353,42 @@ rows_same list a b (e ∷ es) (x ∷ xs) [] p q same = absurd q
 rows_same list a b (e ∷ es) (x ∷ xs) (y ∷ ys) p q same =
     let answer : x.answer ≡ y.answer = p.2 ∙ same e (inl refl) ∙ sym q.2 in
     let head : x ≡ y = ap (λ (n : ℕ). row n x.at x.answer) (p.0 ∙ sym q.0) ∙ ap (λ (n : ℕ). row y.place n x.answer) (p.1 ∙ sym q.1) ∙ ap (row y.place y.at) answer in
-    ap (λ (t : Told). t ∷ xs) head ∙ ap (λ (l : List Told). y ∷ l) (rows_same list a b es xs ys p.4 q.4 (λ f is. same f (inr is)))
+    ap (λ (t : EquateAnswer). t ∷ xs) head ∙ ap (λ (l : List EquateAnswer). y ∷ l) (rows_same list a b es xs ys p.4 q.4 (λ f is. same f (inr is)))
   where
-    row : ℕ → ℕ → Result Value ValueFault → Told
+    row : ℕ → ℕ → Result Value ValueFault → EquateAnswer
     row place at answer = record { place = place; at = at; answer = answer }
 
-pub one_table : (list : List Member) (a b : List Told) → IsTable list a → IsTable list b → a ≡ b
+pub one_table : (list : List Member) (a b : List EquateAnswer) → IsTable list a → IsTable list b → a ≡ b
 unfolding IsDistinct
 one_table list a b p q =
-    let tells_a = tells_of list a (equates list) a p.rows in
-    let tells_b = tells_of list b (equates list) b q.rows in
+    let reports_a = reports_of list a (equates list) a p.rows in
+    let reports_b = reports_of list b (equates list) b q.rows in
     rows_same list a b (equates list) a b p.rows q.rows (λ e is.
     let place = position_of (equates list) e is in
-    told_same (length (equates list)) list a b [] e place.0 tells_a tells_b p.straight place.1 tt (tt, tt) (omega arith))
+    reported_same (length (equates list)) list a b [] e place.0 reports_a reports_b p.straight place.1 tt (tt, tt) (omega arith))
 
 -- ---- from equates to those that lead to them
 
-by_rings_from : (n : ℕ) (list : List Member) (P : FoundDefinition → Type 0) (visited : List ℕ) (e : FoundDefinition) (k : ℕ) → ((g : FoundDefinition) → IsIn (equates list) g → IsCircular list g → ⊥)
+by_cycles_from : (n : ℕ) (list : List Member) (P : FoundDefinition → Type 0) (visited : List ℕ) (e : FoundDefinition) (k : ℕ) → ((g : FoundDefinition) → IsIn (equates list) g → IsCircular list g → ⊥)
     → ((g : FoundDefinition) → IsIn (equates list) g → ((f : FoundDefinition) → LeadsTo list g f → P f) → P g) → slice_get (equates list) k ≡ Some e → AllByRecursion (Before list e) visited
     → IsDistinct eqb (k ∷ visited) → length visited + n ≡ length (equates list) → P e
 unfolding IsDistinct
-by_rings_from zero list P visited e k straight step at before distinct size =
+by_cycles_from zero list P visited e k straight step at before distinct size =
     let within = one_below (length (equates list)) (k ∷ visited) (below_length (equates list) k e at, all_below list e visited before) in
     let few : length (k ∷ visited) ≤ length (equates list) = length-le_from_distinct_below (k ∷ visited) (length (equates list)) distinct within in
     absurd (omega (arith, few, size))
-by_rings_from (suc n) list P visited e k straight step at before distinct size =
+by_cycles_from (suc n) list P visited e k straight step at before distinct size =
     step e (is_in_at (equates list) k e at) (λ f leads.
     let inside = in_equates list e f leads in
     let place = position_of (equates list) f inside in
     let reached : AllByRecursion (Before list f) (k ∷ visited) = ((e, at, Last e f leads), all_on list e f visited before leads) in
-    by_rings_from n list P (k ∷ visited) f place.0 straight step place.1 reached
+    by_cycles_from n list P (k ∷ visited) f place.0 straight step place.1 reached
     (apart list f place.0 (k ∷ visited) (straight f inside) place.1 reached, distinct) (omega (arith, size)))
 
 -- Without rings, what holds of an equate where it holds of all to which it leads, holds of every equate.
-pub by_rings : (list : List Member) (P : FoundDefinition → Type 0) → ((g : FoundDefinition) → IsIn (equates list) g → IsCircular list g → ⊥)
+pub by_cycles : (list : List Member) (P : FoundDefinition → Type 0) → ((g : FoundDefinition) → IsIn (equates list) g → IsCircular list g → ⊥)
     → ((g : FoundDefinition) → IsIn (equates list) g → ((f : FoundDefinition) → LeadsTo list g f → P f) → P g) → (e : FoundDefinition) → IsIn (equates list) e → P e
 unfolding IsDistinct
-by_rings list P straight step e is =
+by_cycles list P straight step e is =
     let place = position_of (equates list) e is in
-    by_rings_from (length (equates list)) list P [] e place.0 straight step place.1 tt (tt, tt) (omega arith)
+    by_cycles_from (length (equates list)) list P [] e place.0 straight step place.1 tt (tt, tt) (omega arith)

@@ -55,9 +55,9 @@ zeros_front bytes n i is lt =
     length-zeros zero = refl
     length-zeros (suc n) = ap suc (length-zeros n)
 
-zeros_behind : (bytes : List ℕ) (at n i : ℕ) → drop at bytes ≡ replicate n 0 → i < n → number_at 1 (at + i) bytes ≡ 0
+zeros_after : (bytes : List ℕ) (at n i : ℕ) → drop at bytes ≡ replicate n 0 → i < n → number_at 1 (at + i) bytes ≡ 0
 unfolding number_at
-zeros_behind bytes at n i is lt = ap (little_number 1) (sym (drop-drop i at bytes)) ∙ ap (λ (l : List ℕ). little_number 1 (drop i l)) is ∙ zero_number n i lt
+zeros_after bytes at n i is lt = ap (little_number 1) (sym (drop-drop i at bytes)) ∙ ap (λ (l : List ℕ). little_number 1 (drop i l)) is ∙ zero_number n i lt
 
 -- ---- entries
 
@@ -141,4 +141,4 @@ table_passes segments targets bytes all is =
     pass_both (zero_checks bytes 0 8) (entries_checks segments bytes 0 n ++ zero_checks bytes (entry_start n) 4)
     (zeros_pass bytes 0 8 (λ i lt. let place : 0 + i ≡ i = omega arith in ap (λ (k : ℕ). number_at 1 k bytes) place ∙ zeros_front bytes 8 i is.front lt))
     (pass_both (entries_checks segments bytes 0 n) (zero_checks bytes (entry_start n) 4) (entries_pass segments bytes 0 n entry)
-    (zeros_pass bytes (entry_start n) 4 (λ i lt. zeros_behind bytes (entry_start n) 4 i back lt)))
+    (zeros_pass bytes (entry_start n) 4 (λ i lt. zeros_after bytes (entry_start n) 4 i back lt)))

@@ -8,9 +8,9 @@ use Rattle.omf_format.specs.Record.{Record, End, Const, LongConst, Align, Org, S
 use Rattle.link_meaning.specs.laws.OutsideLaws.{outside_fits}
 use Rattle.link_meaning.specs.Search.{FoundDefinition, outside}
 use Rattle.link_meaning.specs.First.{IsIn}
-use Rattle.object_meaning.specs.Sizes.{Located, size_at, located_from, records_with_offsets, place_behind, body_size}
+use Rattle.object_meaning.specs.Sizes.{Located, size_at, located_from, records_with_offsets, place_after, body_size}
 use Rattle.link_meaning.specs.Member.{Member, setting_in}
-use Rattle.link_meaning.specs.LinkValues.{Told, place_value, value_in, IsTable, outside_value}
+use Rattle.link_meaning.specs.LinkValues.{EquateAnswer, place_value, value_in, IsTable, outside_value}
 use Rattle.link_meaning.specs.LinkFaults.{LinkInput, HasBytes, IsResolved}
 use Rattle.link_meaning.specs.LinkedCells.{Item, items_from, items}
 use Rattle.link_meaning.specs.LinkWritten.{LinkedStandsFor}
@@ -18,12 +18,12 @@ use Rattle.link_meaning.specs.laws.MadeLaws.{FitsPatch, IsSoundAt}
 use Rattle.link_meaning.specs.laws.PlaceValues as values
 use Rattle.link_meaning.specs.laws.LinkedRuns.{AreSoundItems}
 use Rattle.link_meaning.specs.laws.ReadMembers.{IsRead, members_read, read_size, read_records}
-use Rattle.link_meaning.specs.laws.PlaceFits.{IsPlaceIn, place_fits, behind-le}
+use Rattle.link_meaning.specs.laws.PlaceFits.{IsPlaceIn, place_fits, following-le}
 use Rattle.link_meaning.specs.laws.LinkWrittenLaws.{stands_for}
 
 -- ---- all of a resolved list
 
-module _ (files : LinkInput) (list : List Member) (table : List Told) (bytes : HasBytes files) (resolved : IsResolved files list) (is_table : IsTable list table) where
+module _ (files : LinkInput) (list : List Member) (table : List EquateAnswer) (bytes : HasBytes files) (resolved : IsResolved files list) (is_table : IsTable list table) where
   read : (m : Member) → IsIn list m → IsRead m.segment
   read m is = members_read files list m bytes resolved.program is
 
@@ -62,13 +62,13 @@ module _ (files : LinkInput) (list : List Member) (table : List Told) (bytes : H
   record_sound place m r is (Formula code count n expr) fits = (fits.1, expression_fits place m r.location expr is)
   record_sound place m r is (Entry segment offset name) fits = tt
 
-  records_sound : (front : List Member) (m : Member) (back : List Member) → list ≡ front ++ m ∷ back → (loc : ℕ) (founds : List (ℕ × Record)) → place_behind loc founds ≤ body_size m.segment
+  records_sound : (front : List Member) (m : Member) (back : List Member) → list ≡ front ++ m ∷ back → (loc : ℕ) (founds : List (ℕ × Record)) → place_after loc founds ≤ body_size m.segment
       → AllByRecursion (λ found. IsRecord (layout_of m.segment.fields.version m.segment.fields.lab_len) found.1) founds
       → AreSoundItems list table (map (λ r. record { place = length front + 1; member = m; here = r }) (located_from loc founds))
   records_sound front m back parts loc [] le all = tt
   records_sound front m back parts loc (found ∷ founds) le all =
       let r : Located = record { at = found.0; location = loc; content = found.1 } in
-      let is : IsPlaceIn list (length front + 1) m loc = record { front = front; back = back; parts = parts; number = refl; inside = omega (arith, le, behind-le (loc + size_at loc found.1) founds) } in
+      let is : IsPlaceIn list (length front + 1) m loc = record { front = front; back = back; parts = parts; number = refl; inside = omega (arith, le, following-le (loc + size_at loc found.1) founds) } in
       (record_sound (length front + 1) m r is found.1 all.0, records_sound front m back parts (loc + size_at loc found.1) founds le all.1)
 
   sound-append : (xs ys : List Item) → AreSoundItems list table xs → AreSoundItems list table ys → AreSoundItems list table (xs ++ ys)

@@ -17,7 +17,7 @@ use Rattle.orca_meaning.specs.Token as tokens
 use Rattle.asm_meaning.specs.Constant.{Constants}
 use Rattle.asm_meaning.specs.Elements as elements
 use Rattle.asm_meaning.specs.Elements.{bytes_of_digits, bytes_of_group_digits, packed_digits, without_spaces, list_pieces}
-use Rattle.asm_meaning.specs.Pieces.{records_of, records_behind}
+use Rattle.asm_meaning.specs.Pieces.{records_of, records_after}
 use Rattle.asm_meaning.specs.State.{State, Segment, cells_of, greatest_length, with_local_record, in_segment}
 use Rattle.asm_meaning.specs.Statement.{IsStep, constants_of}
 use Rattle.list_meaning.specs.laws.LineText.{HasNoBlank}
@@ -160,7 +160,7 @@ digits_read byte bytes are =
 
 fixed_gives : (constants : Constants) (msb : Bool) (byte : ℕ) (bytes : List ℕ) → length (byte ∷ bytes) ≤ 223
     → (list_pieces constants msb (Some (record { repeat = elements.Once; value = elements.Fixed (byte ∷ bytes) } ∷ [])) >>= λ pieces. Ok (records_of pieces)) ≡ Ok (Const (byte ∷ bytes) ∷ [])
-unfolding elements.element_pieces records_behind
+unfolding elements.element_pieces records_after
 fixed_gives constants msb byte bytes few = rw (le-leb (length (byte ∷ bytes)) 223 few) refl
 
 pub bytes_step : (state : State) (s : Segment) (number byte : ℕ) (bytes : List ℕ) → state.segment ≡ Some s → AreBytes (byte ∷ bytes) → length (byte ∷ bytes) ≤ 223
@@ -172,9 +172,9 @@ bytes_step state s number byte bytes here are few room =
     dc_step state s number (quoted_value (codes "H") inner) (record { repeat = elements.Once; value = elements.Fixed (byte ∷ bytes) }) (Const (byte ∷ bytes) ∷ []) here
     (refl, (refl, ink_push inner (codes "'") (all_ink (byte ∷ bytes) are) (refl, tt)))
     (record {
-      behind_repeat = quoted_value (codes "H") inner;
+      after_repeat = quoted_value (codes "H") inner;
       kind = elements.Hexadecimal;
-      behind_quote = inner ++ codes "'";
+      after_quote = inner ++ codes "'";
       repeat = (refl, refl);
       of_kind = refl;
       value = (inner, byte ∷ bytes, closed_found inner [] (all_unquoted (byte ∷ bytes) are), digits_read byte bytes are, refl);

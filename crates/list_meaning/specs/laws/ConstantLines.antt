@@ -28,7 +28,7 @@ use Rattle.asm_meaning.specs.Elements.{Element, AreElements, list_pieces}
 use Rattle.asm_meaning.specs.Formulas.{expression_text}
 use Rattle.asm_meaning.specs.Operations as asm_operations
 use Rattle.asm_meaning.specs.Operations.{operation_of}
-use Rattle.asm_meaning.specs.Pieces.{records_of, records_behind}
+use Rattle.asm_meaning.specs.Pieces.{records_of, records_after}
 use Rattle.asm_meaning.specs.State.{State, Segment, cells_of, greatest_length, with_local_record, in_segment}
 use Rattle.asm_meaning.specs.Statement.{IsStep, IsDone, constants_of}
 use Rattle.list_meaning.specs.laws.LineText.{HasNoBlank}
@@ -63,11 +63,11 @@ module _ (p : ℕ → Bool) (named : (byte : ℕ) → is_name_byte byte ≡ true
 
   pub in_name : (name : List ℕ) → IsPlainName name → AllByRecursion (λ byte. p byte ≡ false) name
   in_name [] is = absurd is
-  in_name (byte ∷ name) is = (named byte (start_is_byte byte is.0), behind name is.1)
+  in_name (byte ∷ name) is = (named byte (start_is_byte byte is.0), following name is.1)
     where
-      behind : (name : List ℕ) → AllByRecursion (λ b. is_name_byte b ≡ true) name → AllByRecursion (λ byte. p byte ≡ false) name
-      behind [] are = tt
-      behind (byte ∷ name) are = (named byte are.0, behind name are.1)
+      following : (name : List ℕ) → AllByRecursion (λ b. is_name_byte b ≡ true) name → AllByRecursion (λ byte. p byte ≡ false) name
+      following [] are = tt
+      following (byte ∷ name) are = (named byte are.0, following name are.1)
 
   pub in_digits : (ds : List ℕ) → AllDigits 16 ds → AllByRecursion (λ byte. p byte ≡ false) ds
   in_digits [] are = tt
@@ -159,9 +159,9 @@ count_text n is = by n is
     by (suc (suc (suc (suc zero)))) is = refl
     by (suc (suc (suc (suc (suc more))))) is = absurd (omega (arith, is.1))
 
-pub ink_push : (text behind : List ℕ) → HasNoBlank text → HasNoBlank behind → HasNoBlank (text ++ behind)
-ink_push [] behind p q = q
-ink_push (byte ∷ text) behind p q = (p.0, ink_push text behind p.1 q)
+pub ink_push : (text following : List ℕ) → HasNoBlank text → HasNoBlank following → HasNoBlank (text ++ following)
+ink_push [] following p q = q
+ink_push (byte ∷ text) following p q = (p.0, ink_push text following p.1 q)
 
 same_kind : (n : ℕ) (rest : List ℕ) → IsCount n → elements.kind_at (0x41 ∷ (0x30 + n) ∷ rest) ≡ Some (elements.Number n, rest)
 unfolding elements.kind_at
@@ -176,9 +176,9 @@ same_kind n rest is = rw (le-leb 0x31 (0x30 + n) (omega (arith, is.0)), le-leb (
 element_read : (n : ℕ) (t : Tree) → IsCount n → CanWrite t → AreElements (0x41 ∷ (0x30 + n) ∷ 0x27 ∷ (formula_text t ++ codes "'")) (element_of n t ∷ [])
 unfolding tokens.digits_at tokens.operator_at tokens.spelled_at
 element_read n t is can = record {
-  behind_repeat = 0x41 ∷ (0x30 + n) ∷ 0x27 ∷ (formula_text t ++ codes "'");
+  after_repeat = 0x41 ∷ (0x30 + n) ∷ 0x27 ∷ (formula_text t ++ codes "'");
   kind = elements.Number n;
-  behind_quote = formula_text t ++ codes "'";
+  after_quote = formula_text t ++ codes "'";
   repeat = (refl, refl);
   of_kind = same_kind n (0x27 ∷ (formula_text t ++ codes "'")) is;
   value = (formula_text t, t ∷ [], closed_found (formula_text t) [] (no_quote t can), subst (λ (l : List ℕ). MeansAt Labels l t []) (append-nil (formula_text t)) (formula_read t [] can tt refl), refl);
@@ -201,24 +201,24 @@ sums_step state s number n t here is can are open' few room =
 
 name_quote : (name : List ℕ) → IsPlainName name → HasNoQuote name
 name_quote [] is = absurd is
-name_quote (byte ∷ name) is = (quote_name byte (start_is_byte byte is.0), behind name is.1)
+name_quote (byte ∷ name) is = (quote_name byte (start_is_byte byte is.0), following name is.1)
   where
-    behind : (name : List ℕ) → AllByRecursion (λ b. is_name_byte b ≡ true) name → HasNoQuote name
-    behind [] are = tt
-    behind (byte ∷ name) are = (quote_name byte are.0, behind name are.1)
+    following : (name : List ℕ) → AllByRecursion (λ b. is_name_byte b ≡ true) name → HasNoQuote name
+    following [] are = tt
+    following (byte ∷ name) are = (quote_name byte are.0, following name are.1)
 
 whole_name : (name : List ℕ) → IsPlainName name → name_at name ≡ Some (name, [])
 whole_name name is = ap name_at (sym (append-nil name)) ∙ name_read name [] is tt
 
 pub asks_step : (state : State) (s : Segment) (number : ℕ) (name : List ℕ) → state.segment ≡ Some s → IsPlainName name → cells_of (with_local_record [] 0x4E (Strong name ∷ []) s) ≤ greatest_length s.class
     → IsStep state (line_of 0 number (said_text (StrongIs name))) (Ok (in_segment (with_local_record [] 0x4E (Strong name ∷ [])) state))
-unfolding said_text elements.kind_at tokens.digits_at elements.element_pieces records_behind
+unfolding said_text elements.kind_at tokens.digits_at elements.element_pieces records_after
 asks_step state s number name here is room =
     dc_step state s number (quoted_value (codes "R") name) (record { repeat = elements.Once; value = elements.Asked (name ∷ []) }) (Strong name ∷ []) here (refl, (refl, ink_push name (codes "'") (name_ink name is) (refl, tt)))
     (record {
-      behind_repeat = quoted_value (codes "R") name;
+      after_repeat = quoted_value (codes "R") name;
       kind = elements.References;
-      behind_quote = name ++ codes "'";
+      after_quote = name ++ codes "'";
       repeat = (refl, refl);
       of_kind = refl;
       value = (name, name ∷ [], closed_found name [] (name_quote name is), whole_name name is, refl);
@@ -227,14 +227,14 @@ asks_step state s number name here is room =
 pub weakly_step : (state : State) (s : Segment) (number : ℕ) (name : List ℕ) → state.segment ≡ Some s → IsPlainName name
     → cells_of (with_local_record [] 0x4E (Formula 0xEB 2 0 (expression_text (Leaf (expression.Named 0x82 name))) ∷ []) s) ≤ greatest_length s.class
     → IsStep state (line_of 0 number (said_text (WeakIs name))) (Ok (in_segment (with_local_record [] 0x4E (Formula 0xEB 2 0 (expression_text (Leaf (expression.Named 0x82 name))) ∷ [])) state))
-unfolding said_text elements.kind_at tokens.digits_at elements.element_pieces records_behind
+unfolding said_text elements.kind_at tokens.digits_at elements.element_pieces records_after
 weakly_step state s number name here is room =
     dc_step state s number (quoted_value (codes "S") name) (record { repeat = elements.Once; value = elements.Weak (name ∷ []) }) (Formula 0xEB 2 0 (expression_text (Leaf (expression.Named 0x82 name))) ∷ []) here
     (refl, (refl, ink_push name (codes "'") (name_ink name is) (refl, tt)))
     (record {
-      behind_repeat = quoted_value (codes "S") name;
+      after_repeat = quoted_value (codes "S") name;
       kind = elements.WeakReferences;
-      behind_quote = name ++ codes "'";
+      after_quote = name ++ codes "'";
       repeat = (refl, refl);
       of_kind = refl;
       value = (name, name ∷ [], closed_found name [] (name_quote name is), whole_name name is, refl);

@@ -19,5 +19,5 @@ use Rattle.list_meaning.specs.Listing.{listing_of}
 use Rattle.list_meaning.specs.Worked.{AreWorked}
 
 pub worked : AreWorked
-unfolding listing_of characters.is_name sizes.records_with_offsets sizes.body_size listing.front_of listed.said_text digits.hexadecimal fmt.digits listing.said_from listing.given_by listing.said_rest listing.widths_rest listing.said_instruction instruction.operand_bytes lengths.length_of lengths.has_long_operand matrix.matrix instruction.kind_of listed.spelling_of listed.shape_of listing.widths_behind listed.listing_text operation.mnemonics terms.tree_in listing.split_last listing.formula_given listing.formula_listable listing.simple_of listing.weak_of listing.record_by expression.terms_in expression.first_terms expression.term_field field.number_field field.name_field names.name_size names.name_at numbers.number_at
+unfolding listing_of characters.is_name sizes.records_with_offsets sizes.body_size listing.front_of listed.said_text digits.hexadecimal fmt.digits listing.said_from listing.given_by listing.said_rest listing.widths_rest listing.said_instruction instruction.operand_bytes lengths.length_of lengths.has_long_operand matrix.matrix instruction.kind_of listed.spelling_of listed.shape_of listing.widths_following listed.listing_text operation.mnemonics terms.tree_in listing.split_last listing.formula_given listing.formula_listable listing.simple_of listing.weak_of listing.record_by expression.terms_in expression.first_terms expression.term_field field.number_field field.name_field names.name_size names.name_at numbers.number_at
 worked = record { first = refl; second = refl; third = refl }

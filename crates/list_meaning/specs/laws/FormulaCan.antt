@@ -18,7 +18,7 @@ use Rattle.list_meaning.specs.Listing.{is_listable, is_among, term_may_stand, te
 use Rattle.list_meaning.specs.laws.FormulaLaw.{IsPlainName, CanWrite, sign_of, operator_of}
 use Rattle.list_meaning.specs.laws.SumLaw.{AreUnknown, has_open}
 use Rattle.list_meaning.specs.laws.BytesLine.{up_from, within}
-use Rattle.list_meaning.specs.laws.Behind.{KnowsOnly}
+use Rattle.list_meaning.specs.laws.After.{KnowsOnly}
 
 -- ---- names
 

@@ -16,7 +16,7 @@ use Rattle.orca_meaning.specs.Characters.{is_name_start, is_name_byte, folded}
 use Rattle.orca_meaning.specs.laws.Complete.{operator_levels}
 use Rattle.orca_meaning.specs.laws.Front.{expects_after}
 use Rattle.orca_meaning.specs.Token as tokens
-use Rattle.orca_meaning.specs.Token.{Operand, Here, Number, Label, Token, Value, Before, Between, Opens, Closes, Found, name_at, operator_at, token_at, expects_behind, Stand}
+use Rattle.orca_meaning.specs.Token.{Operand, Here, Number, Label, Token, Value, Before, Between, Opens, Closes, Found, name_at, operator_at, token_at, expects_following, Stand}
 use Rattle.orca_meaning.specs.Formula.{sign_code, operator_code, Formula, Single, Group, Signed, Joined, level_of, IsFormula, tokens_of, tree_of, MeansAt}
 use Rattle.list_meaning.specs.laws.Numbers.{HasNoDigit, number_token}
 use Rattle.list_meaning.specs.Listed.{as_operand, formula_text}
@@ -89,7 +89,7 @@ HasNoColon (byte ∷ rest) = (byte == 0x3A) ≡ false
 no_attribute : (byte : ℕ) (tail : List ℕ) → HasNoColon tail → tokens.attribute_at name_at (byte ∷ tail) ≡ None
 unfolding tokens.attribute_at
 no_attribute byte [] none = refl
-no_attribute byte (colon ∷ behind) none = rw none refl
+no_attribute byte (colon ∷ following) none = rw none refl
 
 name_has_no_colon : (name rest : List ℕ) → AllByRecursion (λ b. is_name_byte b ≡ true) name → EndsName rest → HasNoColon (name ++ rest)
 name_has_no_colon [] [] are ends = tt
@@ -254,11 +254,11 @@ formed (Binary code a b) =
 
 stand_append : (e : Bool) (text : List ℕ) (a b : List Token) (middle rest : List ℕ) → Stand Labels e text a middle → Stand Labels (expects_after e a) middle b rest → Stand Labels e text (a ++ b) rest
 stand_append e text [] b middle rest p q = subst (λ (l : List ℕ). Stand Labels e l b rest) p q
-stand_append e text (t ∷ a) b middle rest p q = (p.0, p.1, stand_append (expects_behind t) p.0 a b middle rest p.2 q)
+stand_append e text (t ∷ a) b middle rest p q = (p.0, p.1, stand_append (expects_following t) p.0 a b middle rest p.2 q)
 
 expects_append : (e : Bool) (a b : List Token) → expects_after e (a ++ b) ≡ expects_after (expects_after e a) b
 expects_append e [] b = refl
-expects_append e (t ∷ a) b = expects_append (expects_behind t) a b
+expects_append e (t ∷ a) b = expects_append (expects_following t) a b
 
 expects_none : (f : Formula) → expects_after true (tokens_of f) ≡ false
 expects_none (Single operand) = refl

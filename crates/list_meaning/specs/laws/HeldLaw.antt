@@ -20,7 +20,7 @@ use Rattle.asm_meaning.specs.Constant as constant
 use Rattle.asm_meaning.specs.Constant.{Constants, Written, amount}
 use Rattle.asm_meaning.specs.Instruction as instructions
 use Rattle.asm_meaning.specs.Instruction.{Widths, instruction, kind_of, mode_of_tree, with_amount}
-use Rattle.asm_meaning.specs.Pieces.{records_of, records_behind}
+use Rattle.asm_meaning.specs.Pieces.{records_of, records_after}
 use Rattle.asm_meaning.specs.State.{State, Segment, cells_of, greatest_length, with_local_record, in_segment}
 use Rattle.asm_meaning.specs.Statement.{IsStep, IsDone, IsOperandOf, Good, constants_of}
 use Rattle.list_meaning.specs.laws.LineText.{HasNoBlank, IsTaken}
@@ -107,8 +107,8 @@ operand_ink way w has =
 
 -- ---- it is taken
 
-no_semicolon : (text : List ℕ) → (byte : ℕ) (behind : List ℕ) → text ≡ byte ∷ behind → is_name_start byte ≡ true → (slice_index text 0 == 0x3B) ≡ false
-no_semicolon text byte behind whole start = ap (λ (l : List ℕ). slice_index l 0 == 0x3B) whole ∙ by (eqb byte 0x3B) refl
+no_semicolon : (text : List ℕ) → (byte : ℕ) (following : List ℕ) → text ≡ byte ∷ following → is_name_start byte ≡ true → (slice_index text 0 == 0x3B) ≡ false
+no_semicolon text byte following whole start = ap (λ (l : List ℕ). slice_index l 0 == 0x3B) whole ∙ by (eqb byte 0x3B) refl
   where
     by : (b : Bool) → eqb byte 0x3B ≡ b → eqb byte 0x3B ≡ false
     by true e = let clash : true ≡ false = sym start ∙ ap is_name_start (eqb-true byte 0x3B e) in absurd cc
@@ -209,7 +209,7 @@ unplaced (Moved name false n) has = refl
 
 held_gives : (constants : Constants) (widths : Widths) (k : ℕ) (m : Mnemonic) (way : Mode) (w : Wanted) → slice_get matrix k ≡ Some (m, way) → HasName w → IsUnknown constants w
     → (instruction constants widths m (meaning_in way w) >>= λ pieces. Ok (records_of pieces)) ≡ Ok (held_records widths k m way w)
-unfolding instruction with_amount records_behind
+unfolding instruction with_amount records_after
 held_gives constants widths k m way w is has unknown =
     rw (one_mode k m way is, stays constants w unknown, same_mode way, no_shift way, unplaced w has, opcode_back k m way is) refl
 

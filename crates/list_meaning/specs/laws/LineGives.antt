@@ -19,7 +19,7 @@ use Rattle.asm_meaning.specs.declared.directives.Switch.{Switch}
 use Rattle.asm_meaning.specs.declared.directives.Switch.TheVariants.{LongA, LongI, Msb}
 use Rattle.asm_meaning.specs.Constant.{Constants}
 use Rattle.asm_meaning.specs.Instruction.{Widths, operand_bytes, opcode_in}
-use Rattle.asm_meaning.specs.Pieces.{place_behind, length_at}
+use Rattle.asm_meaning.specs.Pieces.{place_after, length_at}
 use Rattle.asm_meaning.specs.State.{State, Segment, cells_of, greatest_length, with_local_record, with_records, in_segment, local_of, with_switch_set, Names, with_label}
 use Rattle.asm_meaning.specs.Statement.{IsStep, constants_of, with_kind}
 use Rattle.list_meaning.specs.Listed.{ListedStatement, NextAlignIs, NextOrg, StartIs, KindIs, SwitchIs, Ds, Aligns, OrgIs, UsingIs, StrongIs, Labels, Equates, Instructs, Bytes, WeakIs, FormulaIs, EndIs, Wanted, None', Number, Banks, Label, Moved, said_text}
@@ -111,7 +111,7 @@ left_marked said state s number form contents here gives names widths header ste
 }
 
 same_local : (name : List ℕ) (at : ℕ) → IsPlainName name → local_of name 0x4E (length_at at []) ++ [] ≡ records.Label false name 0 0x4E 0 ∷ []
-unfolding length_at place_behind
+unfolding length_at place_after
 same_local [] at is = absurd is
 same_local (byte ∷ name) at is = let none : at - at ≡ 0 = omega arith in rw none refl
 
@@ -257,7 +257,7 @@ left_kind state s number n here step = record {
 
 -- a line that can stand there, in a segment that it doesn't make too long
 abbrev pub Room : State → Segment → ListedStatement → Type 0
-Room state s said = place_behind 0 (s.body ++ records_said state.widths said) ≤ greatest_length s.class
+Room state s said = place_after 0 (s.body ++ records_said state.widths said) ≤ greatest_length s.class
 
 number_records_same : (w : Widths) (m : Mnemonic) (way : Mode) (bytes n : ℕ) → bytes ≡ operand_bytes w m way
     → number_records w (opcode_in m way) m way n ≡ instruction_records w m way (Number bytes n)
@@ -276,7 +276,7 @@ line_instruction state s number m way (Number bytes n) here can room =
     let contents = number_records w (opcode_in m way) m way n in
     let same = number_records_same w m way bytes n size in
     let fits : n < 256 ^ operand_bytes w m way = subst (λ (k : ℕ). n < 256 ^ k) size can.1.2 in
-    let fit : place_behind 0 (s.body ++ contents) ≤ greatest_length s.class = subst (λ (l : List Record). place_behind 0 (s.body ++ l) ≤ greatest_length s.class) (sym same) room in
+    let fit : place_after 0 (s.body ++ contents) ≤ greatest_length s.class = subst (λ (l : List Record). place_after 0 (s.body ++ l) ≤ greatest_length s.class) (sym same) room in
     left_marked (Instructs m way (Number bytes n)) state s number 0x4D contents here (sym same) refl refl refl
     (subst (λ (k : ℕ). IsStep state (line_of 0 number (said_text (Instructs m way (Number k n)))) (Ok (in_segment (with_local_record [] 0x4D contents) state))) (sym size)
     (number_step state s number (opcode_in m way) m way n here can.0 can.1.0 can.1.3 fits fit))
@@ -307,7 +307,7 @@ line_gives state s number (UsingIs name) here can room = left_marked (UsingIs na
 line_gives state s number (StrongIs name) here can room = left_marked (StrongIs name) state s number 0x4E (records.Strong name ∷ []) here refl refl refl refl (asks_step state s number name here can room)
 line_gives state s number (Labels false name) here can room =
     left_local state s number name here can.0
-    (local_step state s number name here can.0 can.1 (subst (λ (l : List Record). place_behind 0 (s.body ++ l) ≤ greatest_length s.class) (sym (same_local name (cells_of s) can.0)) room))
+    (local_step state s number name here can.0 can.1 (subst (λ (l : List Record). place_after 0 (s.body ++ l) ≤ greatest_length s.class) (sym (same_local name (cells_of s) can.0)) room))
 line_gives state s number (Labels true name) here can room =
     left_grown (Labels true name) state s number name None (records.Label true name 0 0x4E 0 ∷ []) [] here can.0 refl refl refl refl (global_step state s number name here can.0 can.1 room)
 line_gives state s number (Equates false name n) here can room =

@@ -44,7 +44,7 @@ use Rattle.orca_meaning.specs.Length.{length_of}
 use Rattle.omf_format.specs.Field.{◌>>=◌}
 use Rattle.asm_meaning.specs.Constant.{Constants}
 use Rattle.asm_meaning.specs.Instruction.{Widths, instruction, modes_of_form, modes_of, kind_of, without_amount, operand_bytes, opcode_in}
-use Rattle.asm_meaning.specs.Pieces.{records_of, records_behind}
+use Rattle.asm_meaning.specs.Pieces.{records_of, records_after}
 use Rattle.asm_meaning.specs.Statement.{IsOperandOf, Good, constants_of}
 use Rattle.list_meaning.specs.Listed as listed
 use Rattle.list_meaning.specs.Listed.{Ds, Instructs, said_text, spelling_of}
@@ -138,7 +138,7 @@ missing m = Good (record { form = forms.Nothing; prefix = Bare; trees = [] }) (r
 
 implied_gives : (constants : Constants) (widths : Widths) (m : Mnemonic) → has_mode m Implied ≡ true
     → (instruction constants widths m no_operand >>= λ pieces. Ok (records_of pieces)) ≡ Ok (Const (opcode_in m Implied ∷ []) ∷ [])
-unfolding no_operand instruction modes_of_form modes_of kind_of without_amount operand_bytes length_of records_behind
+unfolding no_operand instruction modes_of_form modes_of kind_of without_amount operand_bytes length_of records_after
 implied_gives constants widths m has = rw has refl
 
 pub implied_step : (state : State) (s : Segment) (number : ℕ) (m : Mnemonic) → state.segment ≡ Some s → has_mode m Implied ≡ true

@@ -7,7 +7,7 @@ use Rattle.orca_meaning.specs.declared.forms.OperandUse.{OperandUse}
 use Rattle.orca_meaning.specs.declared.forms.OperandUse.TheVariants.{Never, Accumulator, Signature, Always}
 use Rattle.orca_meaning.specs.Characters.{is_blank}
 use Rattle.orca_meaning.specs.Operation.{operation_use}
-use Rattle.orca_meaning.specs.Quotes.{outside_from, is_closed, quote_behind}
+use Rattle.orca_meaning.specs.Quotes.{outside_from, is_closed, quote_following}
 use Rattle.list_meaning.specs.Listed.{with_leading_space, statement_text}
 use Rattle.orca_meaning.specs.Line.{Fields, is_ink, is_comment, next_blank, next_ink, next_outside, three_fields, operand_span, fields_of, part, span}
 
@@ -39,10 +39,10 @@ no_blank (byte ∷ front) none = rw none.0 (omega (arith, no_blank front none.1)
 all_outside : (quote : Option ℕ) (text : List ℕ) → HasNoBlank text → outside_from is_blank quote text ≡ length text
 unfolding outside_from
 all_outside quote [] none = refl
-all_outside quote (byte ∷ text) none = by (is_closed quote) (all_outside (quote_behind quote byte) text none.1)
+all_outside quote (byte ∷ text) none = by (is_closed quote) (all_outside (quote_following quote byte) text none.1)
   where
-    by : (b : Bool) → outside_from is_blank (quote_behind quote byte) text ≡ length text
-        → cond (b && is_blank byte) 0 (outside_from is_blank (quote_behind quote byte) text + 1) ≡ length (byte ∷ text)
+    by : (b : Bool) → outside_from is_blank (quote_following quote byte) text ≡ length text
+        → cond (b && is_blank byte) 0 (outside_from is_blank (quote_following quote byte) text + 1) ≡ length (byte ∷ text)
     by true same = rw none.0 (omega (arith, same))
     by false same = omega (arith, same)
 
@@ -84,8 +84,8 @@ module _ (label operation operand : List ℕ) (label_is : HasNoBlank label) (ope
   label_end : next_blank text 0 ≡ a
   label_end = let found : position_or_len is_blank text ≡ length label = blank_at label (operation ++ with_leading_space operand) label_is in omega (arith, found)
 
-  behind_label : drop (a + 1) text ≡ operation ++ with_leading_space operand
-  behind_label = drop-past label (operation ++ with_leading_space operand) 0x20
+  after_label : drop (a + 1) text ≡ operation ++ with_leading_space operand
+  after_label = drop-past label (operation ++ with_leading_space operand) 0x20
 
   at_label : drop a text ≡ 0x20 ∷ (operation ++ with_leading_space operand)
   at_label = drop_at label (0x20 ∷ (operation ++ with_leading_space operand)) a refl
@@ -106,10 +106,10 @@ module _ (label operation operand : List ℕ) (label_is : HasNoBlank label) (ope
   end_of op (byte ∷ more) is = blank_at op (byte ∷ more) is
 
   operation_end : next_blank text (a + 1) ≡ a + 1 + c
-  operation_end = ap (λ (l : List ℕ). a + 1 + position_or_len is_blank l) behind_label ∙ ap (λ (k : ℕ). a + 1 + k) (end_of operation operand (all_ink operation operation_is))
+  operation_end = ap (λ (l : List ℕ). a + 1 + position_or_len is_blank l) after_label ∙ ap (λ (k : ℕ). a + 1 + k) (end_of operation operand (all_ink operation operation_is))
 
-  behind_operation : drop (a + 1 + c) text ≡ with_leading_space operand
-  behind_operation = drop-more (a + 1) c text ∙ ap (drop c) behind_label ∙ drop_at operation (with_leading_space operand) c refl
+  after_operation : drop (a + 1 + c) text ≡ with_leading_space operand
+  after_operation = drop-more (a + 1) c text ∙ ap (drop c) after_label ∙ drop_at operation (with_leading_space operand) c refl
 
   abbrev pub gap : ℕ
   gap = length (with_leading_space operand) - length operand
@@ -119,14 +119,14 @@ module _ (label operation operand : List ℕ) (label_is : HasNoBlank label) (ope
   first_of_operand (byte ∷ more) is = let here : position_or_len is_ink (byte ∷ more) ≡ 0 = ink_first byte more is.0 in omega (arith, here)
 
   operand_from : next_ink text (a + 1 + c) ≡ a + 1 + c + gap
-  operand_from = ap (λ (l : List ℕ). a + 1 + c + position_or_len is_ink l) behind_operation ∙ ap (λ (k : ℕ). a + 1 + c + k) (first_of_operand operand operand_is)
+  operand_from = ap (λ (l : List ℕ). a + 1 + c + position_or_len is_ink l) after_operation ∙ ap (λ (k : ℕ). a + 1 + c + k) (first_of_operand operand operand_is)
 
   dropped : (more : List ℕ) → drop (length (with_leading_space more) - length more) (with_leading_space more) ≡ more
   dropped [] = refl
   dropped (byte ∷ more) = let one : length (with_leading_space (byte ∷ more)) - length (byte ∷ more) ≡ 1 = omega arith in ap (λ (k : ℕ). drop k (0x20 ∷ byte ∷ more)) one
 
   pub at_operand : drop (a + 1 + c + gap) text ≡ operand
-  at_operand = drop-more (a + 1 + c) gap text ∙ ap (drop gap) behind_operation ∙ dropped operand
+  at_operand = drop-more (a + 1 + c) gap text ∙ ap (drop gap) after_operation ∙ dropped operand
 
   operand_end : next_outside text (a + 1 + c + gap) ≡ a + 1 + c + gap + length operand
   operand_end = ap (λ (l : List ℕ). a + 1 + c + gap + outside_from is_blank None l) at_operand ∙ ap (λ (k : ℕ). a + 1 + c + gap + k) (all_outside None operand operand_is)

@@ -24,7 +24,7 @@ use Rattle.list_meaning.specs.Listing.{listing_from}
 use Rattle.list_meaning.specs.Flat.{zeros, places_from, contents_of, flat, Defined, comparable_definition, definitions, used_by, asked_by, AreAlike, AreAllAlike}
 use Rattle.list_meaning.specs.ListingLaws.{IsReadAgain, Whole, TooLong, ListingIsReadAgain, LineIsRead}
 use Rattle.list_meaning.specs.laws.WholeLaw.{text_expands}
-use Rattle.list_meaning.specs.laws.Behind.{Leads, leads_steps}
+use Rattle.list_meaning.specs.laws.After.{Leads, leads_steps}
 use Rattle.list_meaning.specs.laws.Content.{defs_at, defs_from, defs_from-append, places_from-append}
 use Rattle.list_meaning.specs.laws.ReadFacts.{IsReadSegment, segment_read}
 use Rattle.list_meaning.specs.laws.SegmentLines.{Ready, IsEndedAs, AreEndedAs, FileRan, file_runs}
@@ -32,29 +32,29 @@ use Rattle.list_meaning.specs.laws.SegmentLines.{Ready, IsEndedAs, AreEndedAs, F
 -- ---- definitions
 
 -- the displacement in the file isn't told
-same_told : (l at place : ℕ) (r : Record) → map (comparable_definition l) (defined_by at place r) ≡ defs_at l place r
-same_told l at place (Rattle.omf_format.specs.Record.Label global name size form private) = refl
-same_told l at place (Rattle.omf_format.specs.Record.Equate global name size form private expr) = refl
-same_told l at place _ = refl
+same_reported : (l at place : ℕ) (r : Record) → map (comparable_definition l) (defined_by at place r) ≡ defs_at l place r
+same_reported l at place (Rattle.omf_format.specs.Record.Label global name size form private) = refl
+same_reported l at place (Rattle.omf_format.specs.Record.Equate global name size form private expr) = refl
+same_reported l at place _ = refl
 
-told_located : (l at : ℕ) (founds : List (ℕ × Record)) → map (comparable_definition l) (flat_map (λ r. defined_by r.at r.location r.content) (located_from at founds)) ≡ defs_from l at (map (λ found. found.1) founds)
-told_located l at [] = refl
-told_located l at (found ∷ founds) =
+reported_located : (l at : ℕ) (founds : List (ℕ × Record)) → map (comparable_definition l) (flat_map (λ r. defined_by r.at r.location r.content) (located_from at founds)) ≡ defs_from l at (map (λ found. found.1) founds)
+reported_located l at [] = refl
+reported_located l at (found ∷ founds) =
     let each = λ (r : Located). defined_by r.at r.location r.content in
     let first = defined_by found.0 at found.1 in
-    let behind = flat_map each (located_from (at + size_at at found.1) founds) in
+    let following = flat_map each (located_from (at + size_at at found.1) founds) in
     ap (map (comparable_definition l)) (flat_map-cons each (record { at = found.0; location = at; content = found.1 }) (located_from (at + size_at at found.1) founds))
-    ∙ map-append (comparable_definition l) first behind ∙ ap (λ (d : List Defined). d ++ map (comparable_definition l) behind) (same_told l found.0 at found.1)
-    ∙ ap (λ (d : List Defined). defs_at l at found.1 ++ d) (told_located l (at + size_at at found.1) founds)
+    ∙ map-append (comparable_definition l) first following ∙ ap (λ (d : List Defined). d ++ map (comparable_definition l) following) (same_reported l found.0 at found.1)
+    ∙ ap (λ (d : List Defined). defs_at l at found.1 ++ d) (reported_located l (at + size_at at found.1) founds)
 
 -- SEGNAME
 titled : List ℕ → ℕ → List Defined
 titled [] kind = []
 titled (byte ∷ name) kind = record { name = byte ∷ name; scope = outer_scope (is_private kind); place = 0; value = None } ∷ []
 
-title_told : (l : ℕ) (s : Segment) → map (comparable_definition l) (title_of s) ≡ titled s.fields.name s.fields.kind
+title_reported : (l : ℕ) (s : Segment) → map (comparable_definition l) (title_of s) ≡ titled s.fields.name s.fields.kind
 unfolding title_of titled
-title_told l s = by s.fields.name refl
+title_reported l s = by s.fields.name refl
   where
     by : (name : List ℕ) → s.fields.name ≡ name → map (comparable_definition l) (title_of s) ≡ titled name s.fields.kind
     by [] e = rw e refl
@@ -64,8 +64,8 @@ definitions_are : (s : Segment) → definitions s ≡ titled s.fields.name s.fie
 unfolding defined_in records_with_offsets
 definitions_are s =
     let l = s.fields.lab_len in
-    let behind = flat_map (λ r. defined_by r.at r.location r.content) (located_from 0 s.records) in
-    map-append (comparable_definition l) (title_of s) behind ∙ ap (λ (d : List Defined). d ++ map (comparable_definition l) behind) (title_told l s) ∙ ap (λ (d : List Defined). titled s.fields.name s.fields.kind ++ d) (told_located l 0 s.records)
+    let following = flat_map (λ r. defined_by r.at r.location r.content) (located_from 0 s.records) in
+    map-append (comparable_definition l) (title_of s) following ∙ ap (λ (d : List Defined). d ++ map (comparable_definition l) following) (title_reported l s) ∙ ap (λ (d : List Defined). titled s.fields.name s.fields.kind ++ d) (reported_located l 0 s.records)
 
 -- ---- a segment
 
@@ -154,20 +154,20 @@ unfolding right
 next_same state line a b p q = same_right a b (step_once state line (Ok a) (Ok b) p q)
 
 -- of lines without a fault each leaves what it was written for
-line_left : (first last state : State) (number : ℕ) (before behind : List ListedStatement) (said : ListedStatement) → Leads first number (before ++ said ∷ behind) last → AreSteps first (numbered_lines 0 number (map said_text before)) state
+line_left : (first last state : State) (number : ℕ) (before following : List ListedStatement) (said : ListedStatement) → Leads first number (before ++ said ∷ following) last → AreSteps first (numbered_lines 0 number (map said_text before)) state
     → (next : State) × IsStep state (line_of 0 (number + length before) (said_text said)) (Ok next) × IsLeft said state next
 unfolding numbered_lines
-line_left first last state number [] behind said leads steps =
+line_left first last state number [] following said leads steps =
     let same : number + 0 ≡ number = omega arith in
     subst (λ (s : State). (next : State) × IsStep s (line_of 0 (number + 0) (said_text said)) (Ok next) × IsLeft said s next) steps
     (subst (λ (n : ℕ). (next : State) × IsStep first (line_of 0 n (said_text said)) (Ok next) × IsLeft said first next) (sym same) (leads.0, leads.1.0, leads.1.1))
-line_left first last state number (x ∷ before) behind said leads steps =
+line_left first last state number (x ∷ before) following said leads steps =
     let same : leads.0 ≡ steps.0 = next_same first (line_of 0 number (said_text x)) leads.0 steps.0 leads.1.0 steps.1 in
     let count : number + 1 + length before ≡ number + length (x ∷ before) = omega arith in
     subst (λ (n : ℕ). (next : State) × IsStep state (line_of 0 n (said_text said)) (Ok next) × IsLeft said state next) count
-    (line_left leads.0 last state (number + 1) before behind said leads.2 (subst (λ (s : State). AreSteps s (numbered_lines 0 (number + 1) (map said_text before)) state) (sym same) steps.2))
+    (line_left leads.0 last state (number + 1) before following said leads.2 (subst (λ (s : State). AreSteps s (numbered_lines 0 (number + 1) (map said_text before)) state) (sym same) steps.2))
 
 pub line_is_read : LineIsRead
-line_is_read file segments before behind said state fits is listed steps =
-    let ran = file_leads file segments (before ++ said ∷ behind) fits is listed in
-    line_left start ran.last state 1 before behind said ran.leads steps
+line_is_read file segments before following said state fits is listed steps =
+    let ran = file_leads file segments (before ++ said ∷ following) fits is listed in
+    line_left start ran.last state 1 before following said ran.leads steps

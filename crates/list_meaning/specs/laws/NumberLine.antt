@@ -29,7 +29,7 @@ use Rattle.asm_meaning.specs.Constant as constant
 use Rattle.asm_meaning.specs.Constant.{Constants, Known, amount}
 use Rattle.asm_meaning.specs.Instruction as instructions
 use Rattle.asm_meaning.specs.Instruction.{Widths, instruction, kind_of, operand_bytes, with_amount, without_amount}
-use Rattle.asm_meaning.specs.Pieces.{records_of, records_behind}
+use Rattle.asm_meaning.specs.Pieces.{records_of, records_after}
 use Rattle.asm_meaning.specs.State.{State, Segment, cells_of, greatest_length, with_local_record, in_segment}
 use Rattle.asm_meaning.specs.Statement.{IsStep, IsDone, IsOperandOf, Good, constants_of}
 use Rattle.list_meaning.specs.laws.LineText.{HasNoBlank, IsTaken}
@@ -140,7 +140,7 @@ number_records w k m way n = Const (k ∷ little_bytes (operand_bytes w m way) n
 
 number_gives : (constants : Constants) (w : Widths) (k : ℕ) (m : Mnemonic) (way : Mode) (n : ℕ) → slice_get matrix k ≡ Some (m, way) → TakesNumber way → n < 256 ^ operand_bytes w m way
     → (instruction constants w m (meaning_in way (Number (operand_bytes w m way) n)) >>= λ pieces. Ok (records_of pieces)) ≡ Ok (number_records w k m way n)
-unfolding instruction with_amount records_behind
+unfolding instruction with_amount records_after
 number_gives constants w k m way n is takes fits =
     let same : n / 2 ^ 0 ≡ n = omega arith in
     let few : leb (length (k ∷ little_bytes (operand_bytes w m way) n)) 223 ≡ true = le-leb (length (k ∷ little_bytes (operand_bytes w m way) n)) 223 (omega (arith, length-bytes_low_first 0 (operand_bytes w m way) n, few_bytes w m way)) in
@@ -171,7 +171,7 @@ is_gathered_operand m means = Good (record { form = forms.Accumulator; prefix = 
 
 gathered_gives : (constants : Constants) (w : Widths) (k : ℕ) (m : Mnemonic) → slice_get matrix k ≡ Some (m, modes.Accumulator)
     → (instruction constants w m gathered >>= λ pieces. Ok (records_of pieces)) ≡ Ok (Const (k ∷ []) ∷ [])
-unfolding gathered instruction without_amount operand_bytes lengths.length_of records_behind
+unfolding gathered instruction without_amount operand_bytes lengths.length_of records_after
 gathered_gives constants w k m is = rw (one_mode k m modes.Accumulator is, opcode_back k m modes.Accumulator is) refl
 
 taken_a : (way : OperandUse) → is_never way ≡ false → IsTaken way (codes "A")
@@ -213,21 +213,21 @@ is_banks_operand : (m : Mnemonic) (source destination : ℕ) → not (means_accu
 unfolding banks_meaning operands.whole_index operands.index_at tokens.operator_at tokens.spelled_at
 is_banks_operand m source destination alone low high =
     let text = number_text 2 source ++ (0x2C ∷ number_text 2 destination) in
-    let behind = number_text 2 destination in
+    let following = number_text 2 destination in
     let a : source < 2 ^ 32 = omega (arith, low) in
     let b : destination < 2 ^ 32 = omega (arith, high) in
     let other : is_accumulator (Some m) text ≡ false = rw (not_true (means_accumulator (use_of m)) alone) refl in
     Good (record { form = forms.Pair; prefix = Bare; trees = Leaf (expression.Constant source) ∷ Leaf (expression.Constant destination) ∷ [] })
     (record {
-      is = IsTwo other refl (Leaf (expression.Constant source)) (Leaf (expression.Constant destination)) behind (number_means 2 source (0x2C ∷ behind) a refl refl) refl
-          (subst (λ (l : List ℕ). MeansAt Labels l (Leaf (expression.Constant destination)) []) (append-nil behind) (number_means 2 destination [] b tt refl)) refl;
+      is = IsTwo other refl (Leaf (expression.Constant source)) (Leaf (expression.Constant destination)) following (number_means 2 source (0x2C ∷ following) a refl refl) refl
+          (subst (λ (l : List ℕ). MeansAt Labels l (Leaf (expression.Constant destination)) []) (append-nil following) (number_means 2 destination [] b tt refl)) refl;
       shallow = (omega arith, (omega arith, tt));
       small = rw (lt-leb (2 ^ 32) source a, lt-leb (2 ^ 32) destination b) refl;
     }) refl
 
 banks_gives : (constants : Constants) (w : Widths) (k : ℕ) (m : Mnemonic) (source destination : ℕ) → slice_get matrix k ≡ Some (m, modes.Move) → source < 256 → destination < 256
     → (instruction constants w m (banks_meaning source destination) >>= λ pieces. Ok (records_of pieces)) ≡ Ok (Const (k ∷ destination ∷ source ∷ []) ∷ [])
-unfolding banks_meaning instruction records_behind
+unfolding banks_meaning instruction records_after
 banks_gives constants w k m source destination is low high =
     rw (one_mode k m modes.Move is, known constants source, known constants destination, lt-ltb source 256 low, lt-ltb destination 256 high, opcode_back k m modes.Move is) refl
 

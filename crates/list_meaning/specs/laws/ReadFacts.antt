@@ -59,8 +59,8 @@ all_bytes l [] bytes rest are is = tt
 all_bytes l (found ∷ founds) bytes rest are is =
     let text = λ (g : ℕ × Record). spelling l g.1 in
     let whole : bytes ≡ spelling l found.1 ++ (flat_map text founds ++ rest) = is ∙ ap (λ (x : List ℕ). x ++ rest) (flat_map-cons text found founds) ∙ append_assoc (spelling l found.1) (flat_map text founds) rest in
-    let behind : drop (length (spelling l found.1)) bytes ≡ flat_map text founds ++ rest = ap (drop (length (spelling l found.1))) whole ∙ drop_at (spelling l found.1) (flat_map text founds ++ rest) (length (spelling l found.1)) refl in
-    (spelled_bytes l found.1 (IsBytes-front bytes (spelling l found.1) (flat_map text founds ++ rest) are whole), all_bytes l founds (drop (length (spelling l found.1)) bytes) rest (IsBytes-drop (length (spelling l found.1)) bytes are) behind)
+    let following : drop (length (spelling l found.1)) bytes ≡ flat_map text founds ++ rest = ap (drop (length (spelling l found.1))) whole ∙ drop_at (spelling l found.1) (flat_map text founds ++ rest) (length (spelling l found.1)) refl in
+    (spelled_bytes l found.1 (IsBytes-front bytes (spelling l found.1) (flat_map text founds ++ rest) are whole), all_bytes l founds (drop (length (spelling l found.1)) bytes) rest (IsBytes-drop (length (spelling l found.1)) bytes are) following)
 
 -- END is the last and no other
 abbrev pub EndsLast : List Record → Type 0

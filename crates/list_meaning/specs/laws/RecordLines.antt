@@ -28,7 +28,7 @@ use Rattle.asm_meaning.specs.laws.PieceLaws.{all-append}
 use Rattle.list_meaning.specs.Listed as listed
 use Rattle.list_meaning.specs.Listed.{ListedStatement, Aligns, OrgIs, Ds, UsingIs, StrongIs, Labels, Equates, Instructs, WeakIs, FormulaIs, Wanted, Moved}
 use Rattle.list_meaning.specs.Listing as listing
-use Rattle.list_meaning.specs.Listing.{PendingRun, Given, instruction_of_opcode, said_rest, widths_rest, is_listable, is_among, simple_of, weak_of, record_by, is_record, with_run_written, then_said, with_name, behind_byte, split_last, dc_of_formula, held_back, is_held, formula_given, formula_listable, term_listable, term_may_stand, is_open, is_some_name, is_some_wanted, both_long, follows_opcode, are_short, if_short, number_of, equate_given, on_tree, given_by}
+use Rattle.list_meaning.specs.Listing.{PendingRun, Given, instruction_of_opcode, said_rest, widths_rest, is_listable, is_among, simple_of, weak_of, record_by, is_record, with_run_written, then_said, with_name, after_byte, split_last, dc_of_formula, held_back, is_held, formula_given, formula_listable, term_listable, term_may_stand, is_open, is_some_name, is_some_wanted, both_long, follows_opcode, are_short, if_short, number_of, equate_given, on_tree, given_by}
 use Rattle.list_meaning.specs.Flat.{parts_from, respelled, text_or}
 use Rattle.list_meaning.specs.Given.{records_said, name_said, widths_said, code_of, tree_of}
 use Rattle.list_meaning.specs.laws.BytesLine.{AreBytes}
@@ -40,7 +40,7 @@ use Rattle.list_meaning.specs.laws.FormulaCan.{plain_name, can_write, open_is, p
 use Rattle.list_meaning.specs.laws.ConstantLines.{IsCount}
 use Rattle.list_meaning.specs.laws.LineGives.{IsInstruction}
 use Rattle.list_meaning.specs.laws.RunGives.{IsConst, Runs, rest_runs}
-use Rattle.list_meaning.specs.laws.Behind.{KnowsOnly, given, widths_after, names_after, given-append, widths_after-append, names_after-append, IsFine, AreFine, AreFine-append}
+use Rattle.list_meaning.specs.laws.After.{KnowsOnly, given, widths_after, names_after, given-append, widths_after-append, names_after-append, IsFine, AreFine, AreFine-append}
 use Rattle.list_meaning.specs.laws.Content.{IsLike, SameAt, same_const, same_long, same_line}
 
 -- ---- what the lines of a record do
@@ -220,21 +220,21 @@ simple_is l equates _ w formed names is = absurd cc
 split_is : (run : List ℕ) (found : List ℕ × ℕ) → split_last run ≡ Some found → run ≡ found.0 ++ found.1 ∷ []
 unfolding split_last
 split_is [] found is = absurd cc
-split_is (byte ∷ behind) found is = by (split_last behind) refl (λ y. split_is behind y) is
+split_is (byte ∷ following) found is = by (split_last following) refl (λ y. split_is following y) is
   where
     some_is : (x y : List ℕ × ℕ) → Some x ≡ Some y → x ≡ y
     some_is x y e = cc
 
-    none_is : (behind : List ℕ) → split_last behind ≡ None → behind ≡ []
+    none_is : (following : List ℕ) → split_last following ≡ None → following ≡ []
     none_is [] e = refl
     none_is (x ∷ rest) e = by_rest (split_last rest) e
       where
-        by_rest : (o : Option (List ℕ × ℕ)) → behind_byte x o ≡ None → x ∷ rest ≡ []
+        by_rest : (o : Option (List ℕ × ℕ)) → after_byte x o ≡ None → x ∷ rest ≡ []
         by_rest None e = absurd cc
         by_rest (Some y) e = absurd cc
 
-    by : (o : Option (List ℕ × ℕ)) → split_last behind ≡ o → ((y : List ℕ × ℕ) → split_last behind ≡ Some y → behind ≡ y.0 ++ y.1 ∷ []) → behind_byte byte o ≡ Some found → byte ∷ behind ≡ found.0 ++ found.1 ∷ []
-    by None at inner e = ap (λ (l : List ℕ). byte ∷ l) (none_is behind at) ∙ ap (λ (z : List ℕ × ℕ). z.0 ++ z.1 ∷ []) (some_is ([], byte) found e)
+    by : (o : Option (List ℕ × ℕ)) → split_last following ≡ o → ((y : List ℕ × ℕ) → split_last following ≡ Some y → following ≡ y.0 ++ y.1 ∷ []) → after_byte byte o ≡ Some found → byte ∷ following ≡ found.0 ++ found.1 ∷ []
+    by None at inner e = ap (λ (l : List ℕ). byte ∷ l) (none_is following at) ∙ ap (λ (z : List ℕ × ℕ). z.0 ++ z.1 ∷ []) (some_is ([], byte) found e)
     by (Some y) at inner e = ap (λ (l : List ℕ). byte ∷ l) (inner y at) ∙ ap (λ (z : List ℕ × ℕ). z.0 ++ z.1 ∷ []) (some_is (byte ∷ y.0, y.1) found e)
 
 front_bytes : (front : List ℕ) (k : ℕ) → AreBytes (front ++ k ∷ []) → AreBytes front × (k < 256)

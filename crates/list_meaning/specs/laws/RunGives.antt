@@ -19,12 +19,12 @@ use Rattle.asm_meaning.specs.declared.directives.Switch.TheVariants.{LongA, Long
 use Rattle.asm_meaning.specs.Instruction.{Widths, kind_of, operand_bytes, opcode_in}
 use Rattle.asm_meaning.specs.laws.PieceLaws.{all-append}
 use Rattle.list_meaning.specs.Listed.{ListedStatement, SwitchIs, Instructs, Bytes, Number}
-use Rattle.list_meaning.specs.Listing.{instruction_of_opcode, behind_opcode, widths_behind, turns_between, same_bool, operand_by, written_or, said_instruction, widths_past, said_rest, widths_rest}
+use Rattle.list_meaning.specs.Listing.{instruction_of_opcode, after_opcode, widths_following, turns_between, same_bool, operand_by, written_or, said_instruction, widths_past, said_rest, widths_rest}
 use Rattle.list_meaning.specs.laws.ModeLaw.{has_it}
 use Rattle.list_meaning.specs.laws.RunLaw.{decoded_is, opcode_is, two_bytes, no_bytes, rejoined}
 use Rattle.list_meaning.specs.laws.BytesLine.{AreBytes}
 use Rattle.list_meaning.specs.laws.NumberLine.{TakesNumber, few_bytes}
-use Rattle.list_meaning.specs.laws.Behind.{given, widths_after, names_after, given-append, widths_after-append, names_after-append, AreFine, AreFine-append}
+use Rattle.list_meaning.specs.laws.After.{given, widths_after, names_after, given-append, widths_after-append, names_after-append, AreFine, AreFine-append}
 
 -- ---- bytes
 
@@ -72,16 +72,16 @@ module _ (equates : List (List ℕ)) (align : ℕ) (names : List (List ℕ)) whe
   pub runs_on : (w v u : Widths) (xs ys : List ListedStatement) (a b : List ℕ) → Runs equates align names w v xs a → Runs equates align names v u ys b → Runs equates align names w u (xs ++ ys) (a ++ b)
   runs_on w v u xs ys a b p q =
       let whole = given-append w xs ys in
-      let behind : given (widths_after w xs) ys ≡ given v ys = ap (λ (x : Widths). given x ys) p.widths in
+      let following : given (widths_after w xs) ys ≡ given v ys = ap (λ (x : Widths). given x ys) p.widths in
       record {
         fine = AreFine-append equates align names w xs ys p.fine
             (subst (λ (n : List (List ℕ)). AreFine equates align n (widths_after w xs) ys) (sym p.same_names) (subst (λ (x : Widths). AreFine equates align names x ys) (sym p.widths) q.fine));
         widths = widths_after-append w xs ys ∙ ap (λ (x : Widths). widths_after x ys) p.widths ∙ q.widths;
         same_names = names_after-append names xs ys ∙ ap (λ (n : List (List ℕ)). names_after n ys) p.same_names ∙ q.same_names;
-        consts = subst (AllByRecursion IsConst) (sym whole) (all-append IsConst (given w xs) (given (widths_after w xs) ys) p.consts (subst (AllByRecursion IsConst) (sym behind) q.consts));
+        consts = subst (AllByRecursion IsConst) (sym whole) (all-append IsConst (given w xs) (given (widths_after w xs) ys) p.consts (subst (AllByRecursion IsConst) (sym following) q.consts));
         bytes_given = ap (flat_map content_of) whole ∙ flat_map-append content_of (given w xs) (given (widths_after w xs) ys)
             ∙ ap (λ (l : List ℕ). l ++ flat_map content_of (given (widths_after w xs) ys)) p.bytes_given
-            ∙ ap (λ (l : List Record). a ++ flat_map content_of l) behind ∙ ap (λ (l : List ℕ). a ++ l) q.bytes_given;
+            ∙ ap (λ (l : List Record). a ++ flat_map content_of l) following ∙ ap (λ (l : List ℕ). a ++ l) q.bytes_given;
       }
 
   -- DC H
@@ -197,24 +197,24 @@ module _ (equates : List (List ℕ)) (align : ℕ) (names : List (List ℕ)) whe
       by false false ea ei = record { fine = (tt, (tt, tt)); widths = refl; same_names = refl; consts = tt; bytes_given = refl }
 
   -- an instruction of the rest, whole or cut by its end
-  instruction_runs : (w : Widths) (opcode : ℕ) (bytes : List ℕ) → opcode < 256 → AreBytes bytes → length bytes ≤ behind_opcode w opcode
+  instruction_runs : (w : Widths) (opcode : ℕ) (bytes : List ℕ) → opcode < 256 → AreBytes bytes → length bytes ≤ after_opcode w opcode
       → Runs equates align names w (widths_past w opcode bytes) (said_instruction w opcode bytes) (opcode ∷ bytes)
   unfolding said_instruction
-  instruction_runs w opcode bytes fits are most = by (eqb (length bytes) (behind_opcode w opcode)) refl
+  instruction_runs w opcode bytes fits are most = by (eqb (length bytes) (after_opcode w opcode)) refl
     where
       few : length bytes ≤ 3
       few = omega (arith, most, few_bytes w (instruction_of_opcode opcode).0 (instruction_of_opcode opcode).1)
 
-      by : (b : Bool) → eqb (length bytes) (behind_opcode w opcode) ≡ b
-          → Runs equates align names w (cond b (widths_behind (instruction_of_opcode opcode).0 bytes w) w)
-          (cond b (written_or (instruction_of_opcode opcode).0 (instruction_of_opcode opcode).1 (opcode ∷ bytes) (operand_by (kind_of (instruction_of_opcode opcode).1) bytes) ++ turns_between w (widths_behind (instruction_of_opcode opcode).0 bytes w)) (Bytes (opcode ∷ bytes) ∷ []))
+      by : (b : Bool) → eqb (length bytes) (after_opcode w opcode) ≡ b
+          → Runs equates align names w (cond b (widths_following (instruction_of_opcode opcode).0 bytes w) w)
+          (cond b (written_or (instruction_of_opcode opcode).0 (instruction_of_opcode opcode).1 (opcode ∷ bytes) (operand_by (kind_of (instruction_of_opcode opcode).1) bytes) ++ turns_between w (widths_following (instruction_of_opcode opcode).0 bytes w)) (Bytes (opcode ∷ bytes) ∷ []))
           (opcode ∷ bytes)
       by true e =
-          let v = widths_behind (instruction_of_opcode opcode).0 bytes w in
+          let v = widths_following (instruction_of_opcode opcode).0 bytes w in
           let lines = written_or (instruction_of_opcode opcode).0 (instruction_of_opcode opcode).1 (opcode ∷ bytes) (operand_by (kind_of (instruction_of_opcode opcode).1) bytes) in
           subst (λ (l : List ℕ). Runs equates align names w v (lines ++ turns_between w v) l) (append-nil (opcode ∷ bytes))
           (runs_on w w v lines (turns_between w v) (opcode ∷ bytes) []
-          (written_runs w (instruction_of_opcode opcode).0 (instruction_of_opcode opcode).1 opcode bytes (decoded_is opcode fits) (opcode_is opcode fits) fits are (eqb-true (length bytes) (behind_opcode w opcode) e)) (turns_run w v))
+          (written_runs w (instruction_of_opcode opcode).0 (instruction_of_opcode opcode).1 opcode bytes (decoded_is opcode fits) (opcode_is opcode fits) fits are (eqb-true (length bytes) (after_opcode w opcode) e)) (turns_run w v))
       by false e = bytes_run w opcode bytes fits are few
 
   -- the rest of a run, of which so many bytes were taken
@@ -222,12 +222,12 @@ module _ (equates : List (List ℕ)) (align : ℕ) (names : List (List ℕ)) whe
   unfolding said_rest widths_rest
   rest_runs w zero [] are = record { fine = tt; widths = refl; same_names = refl; consts = tt; bytes_given = refl }
   rest_runs w (suc taken) [] are = record { fine = tt; widths = refl; same_names = refl; consts = tt; bytes_given = refl }
-  rest_runs w (suc taken) (byte ∷ behind) are = rest_runs w taken behind are.1
-  rest_runs w zero (opcode ∷ behind) are =
-      let n = behind_opcode w opcode in
-      let bytes = take n behind in
+  rest_runs w (suc taken) (byte ∷ following) are = rest_runs w taken following are.1
+  rest_runs w zero (opcode ∷ following) are =
+      let n = after_opcode w opcode in
+      let bytes = take n following in
       let v = widths_past w opcode bytes in
-      let most : length bytes ≤ n = omega (arith, length-take n behind) in
-      subst (λ (l : List ℕ). Runs equates align names w (widths_rest v (length bytes) behind) (said_instruction w opcode bytes ++ said_rest v (length bytes) behind) (opcode ∷ l)) (rejoined n behind)
-      (runs_on w v (widths_rest v (length bytes) behind) (said_instruction w opcode bytes) (said_rest v (length bytes) behind) (opcode ∷ bytes) (drop (length bytes) behind)
-      (instruction_runs w opcode bytes are.0 (take_bytes n behind are.1) most) (rest_runs v (length bytes) behind are.1))
+      let most : length bytes ≤ n = omega (arith, length-take n following) in
+      subst (λ (l : List ℕ). Runs equates align names w (widths_rest v (length bytes) following) (said_instruction w opcode bytes ++ said_rest v (length bytes) following) (opcode ∷ l)) (rejoined n following)
+      (runs_on w v (widths_rest v (length bytes) following) (said_instruction w opcode bytes) (said_rest v (length bytes) following) (opcode ∷ bytes) (drop (length bytes) following)
+      (instruction_runs w opcode bytes are.0 (take_bytes n following are.1) most) (rest_runs v (length bytes) following are.1))

@@ -39,7 +39,7 @@ use Rattle.list_meaning.specs.laws.ConstantLines.{in_name, in_digits, in_formula
 use Rattle.list_meaning.specs.laws.BytesLine.{AreBytes, digits_of}
 use Rattle.list_meaning.specs.laws.MoreLines.{IsLoadName, front_is}
 use Rattle.list_meaning.specs.laws.LineGives.{FitsOperand}
-use Rattle.list_meaning.specs.laws.Behind.{IsFine}
+use Rattle.list_meaning.specs.laws.After.{IsFine}
 use Rattle.list_meaning.specs.laws.WholeLaw.{IsSaidLine}
 
 -- ---- bytes that no field has

@@ -21,8 +21,8 @@ use Rattle.asm_meaning.specs.declared.directives.Class.TheVariants.{Code, Data}
 use Rattle.asm_meaning.specs.declared.directives.Switch.TheVariants.{LongA, LongI}
 use Rattle.asm_meaning.specs.Constant.{Constants}
 use Rattle.asm_meaning.specs.Instruction.{Widths}
-use Rattle.asm_meaning.specs.Pieces.{place_behind}
-use Rattle.asm_meaning.specs.laws.PieceLaws.{all-append, place_behind-append}
+use Rattle.asm_meaning.specs.Pieces.{place_after}
+use Rattle.asm_meaning.specs.laws.PieceLaws.{all-append, place_after-append}
 use Rattle.asm_meaning.specs.laws.ObjectFileLaws.{same_place}
 use Rattle.asm_meaning.specs.State as states
 use Rattle.asm_meaning.specs.State.{State, Segment, Ended, state_after_start, state_after_end, with_local_record, in_segment, ended_of, bank_size_of, no_names}
@@ -37,7 +37,7 @@ use Rattle.list_meaning.specs.laws.FormulaLaw.{IsPlainName}
 use Rattle.list_meaning.specs.laws.FormulaCan.{plain_name}
 use Rattle.list_meaning.specs.laws.MoreLines.{IsLoadName, padded, next_align_step, next_org_step, start_step, data_step, end_step}
 use Rattle.list_meaning.specs.laws.LineGives.{Stands, line_gives}
-use Rattle.list_meaning.specs.laws.Behind.{Leads, leads_on, one_more, given, widths_after, given-append, AreFine, AreFine-append, Holds, Ran, lines_run}
+use Rattle.list_meaning.specs.laws.After.{Leads, leads_on, one_more, given, widths_after, given-append, AreFine, AreFine-append, Holds, Ran, lines_run}
 use Rattle.list_meaning.specs.laws.RunGives.{Runs, rest_runs}
 use Rattle.list_meaning.specs.laws.Content.{Alike, alike_cons, alike_end, spaces_of}
 use Rattle.list_meaning.specs.laws.RecordLines.{IsKnown, record_given}
@@ -168,8 +168,8 @@ records_written f equates l b (found ∷ next ∷ founds) lines same low fits kn
     let first = record_given f equates b l found.1 g same low known.0.0 known.0.1 are ends.0 parts.gives in
     let put = first.put in
     let others = records_written f equates l g.1 (next ∷ founds) parts.more same low fits known.1 ends.1 put.bytes parts.rest in
-    let behind : given (widths_after b.widths g.0) others.mids ≡ given g.1.widths others.mids = ap (λ (w : Widths). given w others.mids) put.widths in
-    let gives : given b.widths (g.0 ++ others.mids) ≡ given b.widths g.0 ++ given g.1.widths others.mids = given-append b.widths g.0 others.mids ∙ ap (λ (r : List Record). given b.widths g.0 ++ r) behind in
+    let following : given (widths_after b.widths g.0) others.mids ≡ given g.1.widths others.mids = ap (λ (w : Widths). given w others.mids) put.widths in
+    let gives : given b.widths (g.0 ++ others.mids) ≡ given b.widths g.0 ++ given g.1.widths others.mids = given-append b.widths g.0 others.mids ∙ ap (λ (r : List Record). given b.widths g.0 ++ r) following in
     let rs = map (λ (x : ℕ × Record). x.1) (next ∷ founds) in
     record {
       mids = g.0 ++ others.mids;
@@ -179,7 +179,7 @@ records_written f equates l b (found ∷ next ∷ founds) lines same low fits kn
           (subst (λ (n : List (List ℕ)). AreFine equates f.align n (widths_after b.widths g.0) others.mids) (sym put.names)
           (subst (λ (w : Widths). AreFine equates f.align g.1.names w others.mids) (sym put.widths) others.fine));
       alike = λ at. subst (Alike f.lab_len f.res_spc at b.run (found.1 ∷ rs)) (sym gives)
-          (alike_cons f.lab_len f.res_spc at b.run g.1.run found.1 rs (given b.widths g.0) (given g.1.widths others.mids) (put.same at) (others.alike (place_behind at (given b.widths g.0))));
+          (alike_cons f.lab_len f.res_spc at b.run g.1.run found.1 rs (given b.widths g.0) (given g.1.widths others.mids) (put.same at) (others.alike (place_after at (given b.widths g.0))));
     }
 
 -- an equate's name is among those of the segment's equates
@@ -293,15 +293,15 @@ pub record Ready (align org : ℕ) (ended : List Ended) (state : State) : Type 0
   pub front : state.front ≡ []
   pub ended_is : state.ended ≡ ended
 
-record ReadyBehind (align org : ℕ) (ended : List Ended) (state : State) (number : ℕ) (lines : List ListedStatement) : Type 0 where
+record ReadyAfter (align org : ℕ) (ended : List Ended) (state : State) (number : ℕ) (lines : List ListedStatement) : Type 0 where
   next : State
   leads : Leads state number lines next
   ready : Ready align org ended next
 
-align_ready : (n : ℕ) (ended : List Ended) (state : State) (number : ℕ) → (n == 0 || (is_power_of_two n && nat_le n 0x10000)) ≡ true → Ready 0 0 ended state → ReadyBehind n 0 ended state number (unless_zero NextAlignIs n)
+align_ready : (n : ℕ) (ended : List Ended) (state : State) (number : ℕ) → (n == 0 || (is_power_of_two n && nat_le n 0x10000)) ≡ true → Ready 0 0 ended state → ReadyAfter n 0 ended state number (unless_zero NextAlignIs n)
 align_ready n ended state number may ready = by (eqb n 0) refl may
   where
-    by : (b : Bool) → eqb n 0 ≡ b → (b || (is_power_of_two n && nat_le n 0x10000)) ≡ true → ReadyBehind n 0 ended state number (cond b [] (NextAlignIs n ∷ []))
+    by : (b : Bool) → eqb n 0 ≡ b → (b || (is_power_of_two n && nat_le n 0x10000)) ≡ true → ReadyAfter n 0 ended state number (cond b [] (NextAlignIs n ∷ []))
     by true e may = record { next = state; leads = refl; ready = subst (λ (k : ℕ). Ready k 0 ended state) (sym (eqb-true n 0 e)) ready }
     by false e may =
         let both = and_parts (is_power_of_two n) (nat_le n 0x10000) may in
@@ -311,10 +311,10 @@ align_ready n ended state number may ready = by (eqb n 0) refl may
           ready = record { none = ready.none; outside = ready.outside; org_is = ready.org_is; align_is = refl; front = ready.front; ended_is = ready.ended_is };
         }
 
-org_ready : (align n : ℕ) (ended : List Ended) (state : State) (number : ℕ) → n < 2 ^ 32 → Ready align 0 ended state → ReadyBehind align n ended state number (unless_zero NextOrg n)
+org_ready : (align n : ℕ) (ended : List Ended) (state : State) (number : ℕ) → n < 2 ^ 32 → Ready align 0 ended state → ReadyAfter align n ended state number (unless_zero NextOrg n)
 org_ready align n ended state number fits ready = by (eqb n 0) refl
   where
-    by : (b : Bool) → eqb n 0 ≡ b → ReadyBehind align n ended state number (cond b [] (NextOrg n ∷ []))
+    by : (b : Bool) → eqb n 0 ≡ b → ReadyAfter align n ended state number (cond b [] (NextOrg n ∷ []))
     by true e = record { next = state; leads = refl; ready = subst (λ (k : ℕ). Ready align k ended state) (sym (eqb-true n 0 e)) ready }
     by false e = record {
       next = record state { org = n };
@@ -505,13 +505,13 @@ module _ (s : format.Segment) (lines : List ListedStatement) (ended : List Ended
       records_written s.fields (equates_of s) read.layout (at_front s.fields) s.records parts.more read.same_names read.fields.lab_len res_fits
       (all_known (equates_of s) read.layout s.records (λ name is. is) read.forms read.bytes) read.ends tt parts.rest
 
-  first : ReadyBehind f.align 0 ended state number (unless_zero NextAlignIs f.align)
+  first : ReadyAfter f.align 0 ended state number (unless_zero NextAlignIs f.align)
   first = align_ready s.fields.align ended state number listed'.align ready
 
   abbrev number1 : ℕ
   number1 = number + length (unless_zero NextAlignIs f.align)
 
-  second : ReadyBehind f.align f.org ended first.next number1 (unless_zero NextOrg f.org)
+  second : ReadyAfter f.align f.org ended first.next number1 (unless_zero NextOrg f.org)
   second = org_ready f.align f.org ended first.next number1 read.fields.org first.ready
 
   abbrev number2 : ℕ
@@ -523,9 +523,9 @@ module _ (s : format.Segment) (lines : List ListedStatement) (ended : List Ended
   third : HasBegun (f.bank_size == 0) f.name (without_padding f.load_name) f.align f.org ended second.next number2
   third = begins (f.bank_size == 0) f.name (without_padding f.load_name) f.align f.org ended second.next number2 (plain_name f.name listed'.name) load.0 second.ready
 
-  kind_room : place_behind 0 (third.s.body ++ []) ≤ states.greatest_length third.s.class
-  unfolding place_behind
-  kind_room = subst (λ (l : List Record). place_behind 0 (l ++ []) ≤ states.greatest_length third.s.class) (sym third.body) (omega arith)
+  kind_room : place_after 0 (third.s.body ++ []) ≤ states.greatest_length third.s.class
+  unfolding place_after
+  kind_room = subst (λ (l : List Record). place_after 0 (l ++ []) ≤ states.greatest_length third.s.class) (sym third.body) (omega arith)
 
   fourth : Stands (KindIs f.kind) third.next third.s (number2 + 1)
   fourth = line_gives third.next third.s (number2 + 1) (KindIs f.kind) third.here (omega (arith, read.fields.kind), listed'.listed) kind_room
@@ -550,16 +550,16 @@ module _ (s : format.Segment) (lines : List ListedStatement) (ended : List Ended
   records' = given both_long written.mids
 
   -- LENGTH is the place behind the records
-  cells : place_behind 0 records' ≡ f.length
+  cells : place_after 0 records' ≡ f.length
   unfolding body_size
-  cells = sym ((written.alike 0).behind) ∙ ap (λ (k : ℕ). k + s.fields.res_spc) (sym (same_place 0 s.records)) ∙ sym listed'.size
+  cells = sym ((written.alike 0).following) ∙ ap (λ (k : ℕ). k + s.fields.res_spc) (sym (same_place 0 s.records)) ∙ sym listed'.size
 
-  room : place_behind 0 (fourth.leaves.after.body ++ given fourth.next.widths inner_lines) ≤ states.greatest_length fourth.leaves.after.class
+  room : place_after 0 (fourth.leaves.after.body ++ given fourth.next.widths inner_lines) ≤ states.greatest_length fourth.leaves.after.class
   room =
       let class : fourth.leaves.after.class ≡ class_of (f.bank_size == 0) = fourth.leaves.class ∙ third.class in
       let most : f.length ≤ states.greatest_length (class_of (f.bank_size == 0)) = subst (λ (k : ℕ). f.length ≤ k) (sym (same_greatest (f.bank_size == 0))) listed'.most in
-      subst (λ (l : List Record). place_behind 0 (l ++ records') ≤ states.greatest_length fourth.leaves.after.class) (sym body_none)
-      (subst (λ (c : Class). place_behind 0 records' ≤ states.greatest_length c) (sym class) (subst (λ (k : ℕ). k ≤ states.greatest_length (class_of (f.bank_size == 0))) (sym cells) most))
+      subst (λ (l : List Record). place_after 0 (l ++ records') ≤ states.greatest_length fourth.leaves.after.class) (sym body_none)
+      (subst (λ (c : Class). place_after 0 records' ≤ states.greatest_length c) (sym class) (subst (λ (k : ℕ). k ≤ states.greatest_length (class_of (f.bank_size == 0))) (sym cells) most))
 
   ran : Ran fourth.next.widths inner_lines fourth.next fourth.leaves.after (number2 + 1 + 1)
   ran = lines_run (equates_of s) f.align (f.name ∷ []) fourth.next.widths fourth.next fourth.leaves.after (number2 + 1 + 1) inner_lines holds (tt, (tt, written.fine)) room
@@ -568,7 +568,7 @@ module _ (s : format.Segment) (lines : List ListedStatement) (ended : List Ended
   last_state = state_after_end (in_segment (with_local_record [] 0x4E (End ∷ [])) ran.last)
 
   abbrev ending : Ended
-  ending = record { header = record ran.after.header { length = place_behind 0 (ran.after.body ++ End ∷ []) }; body = ran.after.body ++ End ∷ [] }
+  ending = record { header = record ran.after.header { length = place_after 0 (ran.after.body ++ End ∷ []) }; body = ran.after.body ++ End ∷ [] }
 
   body_is : ran.after.body ≡ records'
   body_is = ran.body ∙ ap (λ (l : List Record). l ++ given both_long written.mids) body_none
@@ -591,17 +591,17 @@ module _ (s : format.Segment) (lines : List ListedStatement) (ended : List Ended
       ∙ ap (λ (l : List ListedStatement). a ++ l) (append_assoc o tail (written.mids ++ EndIs ∷ [])) in
       let at_end : Leads ran.last (number2 + 1 + 1 + length inner_lines) (EndIs ∷ []) last_state = (last_state, (end_step ran.last ran.after (number2 + 1 + 1 + length inner_lines) ran.here, end_left), refl) in
       let inside = leads_on fourth.next ran.last last_state (number2 + 1 + 1) inner_lines (EndIs ∷ []) ran.leads at_end in
-      let behind_start : Leads second.next number2 (b ∷ KindIs f.kind ∷ (inner_lines ++ EndIs ∷ [])) last_state = (third.next, (third.step, third.left), (fourth.next, (fourth.step, (third.s, third.here, fourth.leaves)), inside)) in
-      let behind_align : Leads first.next number1 (o ++ (b ∷ KindIs f.kind ∷ (inner_lines ++ EndIs ∷ []))) last_state =
-      leads_on first.next second.next last_state number1 o (b ∷ KindIs f.kind ∷ (inner_lines ++ EndIs ∷ [])) second.leads behind_start in
+      let after_start : Leads second.next number2 (b ∷ KindIs f.kind ∷ (inner_lines ++ EndIs ∷ [])) last_state = (third.next, (third.step, third.left), (fourth.next, (fourth.step, (third.s, third.here, fourth.leaves)), inside)) in
+      let after_align : Leads first.next number1 (o ++ (b ∷ KindIs f.kind ∷ (inner_lines ++ EndIs ∷ []))) last_state =
+      leads_on first.next second.next last_state number1 o (b ∷ KindIs f.kind ∷ (inner_lines ++ EndIs ∷ [])) second.leads after_start in
       subst (λ (l : List ListedStatement). Leads state number l last_state) (sym whole)
-      (leads_on state first.next last_state number a (o ++ (b ∷ KindIs f.kind ∷ (inner_lines ++ EndIs ∷ []))) first.leads behind_align)
+      (leads_on state first.next last_state number a (o ++ (b ∷ KindIs f.kind ∷ (inner_lines ++ EndIs ∷ []))) first.leads after_align)
 
   header_is : ran.after.header ≡ record third.s.header { kind = f.kind }
   header_is = ran.header ∙ fourth.leaves.header
 
   is_ended : IsEndedAs s ending
-  unfolding place_behind
+  unfolding place_after
   is_ended = record {
     name = ap (λ (h : Fields). h.name) header_is ∙ third.name_is;
     load_name = ap (λ (h : Fields). h.load_name) header_is ∙ third.load_is ∙ load.1;
@@ -609,7 +609,7 @@ module _ (s : format.Segment) (lines : List ListedStatement) (ended : List Ended
     bank_size = ap (λ (h : Fields). h.bank_size) header_is ∙ third.bank ∙ same_bank f.bank_size listed'.bank;
     org = ap (λ (h : Fields). h.org) header_is ∙ third.org_is;
     align = ap (λ (h : Fields). h.align) header_is ∙ third.align_is;
-    length' = ap (λ (l : List Record). place_behind 0 (l ++ End ∷ [])) body_is ∙ place_behind-append 0 records' (End ∷ []) ∙ omega (arith, cells);
+    length' = ap (λ (l : List Record). place_after 0 (l ++ End ∷ [])) body_is ∙ place_after-append 0 records' (End ∷ []) ∙ omega (arith, cells);
     spaced = ap (λ (h : Fields). h.res_spc) header_is ∙ third.spaced;
     written = records';
     body = ap (λ (l : List Record). l ++ End ∷ []) body_is;
@@ -643,10 +643,10 @@ module _ (s : format.Segment) (lines : List ListedStatement) (ended : List Ended
         (kind_line s.fields.kind (omega (arith, read.fields.kind)) rest.1.0, (fine_line [] 0 [] both_long (SwitchIs LongA true) tt rest.1.1.0, (fine_line [] 0 [] both_long (SwitchIs LongI true) tt rest.1.1.1.0, tt))),
       ) in
       let inside = mids_said (equates_of s) s.fields.align (s.fields.name ∷ []) both_long written.mids written.fine short_mids.0 in
-      let behind = all-append IsSaidLine written.mids (EndIs ∷ []) inside (end_line short_mids.1.0, tt) in
+      let following = all-append IsSaidLine written.mids (EndIs ∷ []) inside (end_line short_mids.1.0, tt) in
       subst (AllByRecursion IsSaidLine) (sym parts.whole)
       (all-append IsSaidLine (a ++ (o ++ tail)) parts.more (all-append IsSaidLine a (o ++ tail) (align_said s.fields.align listed'.align short_a.0) (all-append IsSaidLine o tail (org_said s.fields.org read.fields.org short_o.0) front))
-      (subst (AllByRecursion IsSaidLine) (sym written.whole) behind))
+      (subst (AllByRecursion IsSaidLine) (sym written.whole) following))
 
   segment_runs : SegmentRan s ended state number lines
   segment_runs = record { last = last_state; leads = leads; e = ending; ready = ready_again; is = is_ended; said = said }

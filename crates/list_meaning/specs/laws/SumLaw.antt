@@ -15,7 +15,7 @@ use Rattle.asm_meaning.specs.Constant.{Constants, KnownValue, Number, Open, Divi
 use Rattle.asm_meaning.specs.Elements as elements
 use Rattle.asm_meaning.specs.Elements.{Element, list_pieces}
 use Rattle.asm_meaning.specs.Formulas.{expression_text, checked_formula}
-use Rattle.asm_meaning.specs.Pieces.{records_of, records_behind}
+use Rattle.asm_meaning.specs.Pieces.{records_of, records_after}
 use Rattle.list_meaning.specs.laws.FormulaLaw.{CanWrite}
 use Rattle.list_meaning.specs.Listing.{is_open}
 
@@ -88,7 +88,7 @@ element_of count tree = record { repeat = elements.Once; value = elements.Number
 
 pub sum_gives : (constants : Constants) (msb : Bool) (count : ℕ) (t : Tree) → CanWrite t → AreUnknown constants t → has_open t ≡ true → pending 1 t ≤ 64
     → (list_pieces constants msb (Some (element_of count t ∷ [])) >>= λ pieces. Ok (records_of pieces)) ≡ Ok (Formula 0xEB count 0 (expression_text t) ∷ [])
-unfolding elements.element_pieces checked_formula amount records_behind
+unfolding elements.element_pieces checked_formula amount records_after
 sum_gives constants msb count t can are open' few =
     rw (le-ltb 64 (pending 1 t) few, no_large t can, open_worth constants t can are open', same_values constants t can are) refl
 
@@ -110,8 +110,8 @@ closed_found front rest none = by (position_or_len (λ byte. byte == 0x27) (fron
     by : (n : ℕ) → n ≡ length front → cond (nat_lt n (length (front ++ 0x27 ∷ rest))) (seen (take n (front ++ 0x27 ∷ rest)) (drop (n + 1) (front ++ 0x27 ∷ rest))) None ≡ seen front rest
     by n same =
         let inside : ltb n (length (front ++ 0x27 ∷ rest)) ≡ true = lt-ltb n (length (front ++ 0x27 ∷ rest)) (omega (arith, same, length-append front (0x27 ∷ rest))) in
-        rw inside (ap (λ (l : List ℕ). seen l (drop (n + 1) (front ++ 0x27 ∷ rest))) (take_at front (0x27 ∷ rest) n (sym same)) ∙ ap (λ (l : List ℕ). seen front l) (behind n same))
+        rw inside (ap (λ (l : List ℕ). seen l (drop (n + 1) (front ++ 0x27 ∷ rest))) (take_at front (0x27 ∷ rest) n (sym same)) ∙ ap (λ (l : List ℕ). seen front l) (following n same))
       where
-        behind : (n : ℕ) → n ≡ length front → drop (n + 1) (front ++ 0x27 ∷ rest) ≡ rest
-        behind n same =
+        following : (n : ℕ) → n ≡ length front → drop (n + 1) (front ++ 0x27 ∷ rest) ≡ rest
+        following n same =
             ap (λ (l : List ℕ). drop (n + 1) l) (sym (append_assoc front (0x27 ∷ []) rest)) ∙ drop_at (front ++ 0x27 ∷ []) rest (n + 1) (omega (arith, same, length-append front (0x27 ∷ [])))

@@ -179,13 +179,13 @@ abbrev some_header : HeaderFault → Option HeaderFault
 some_header of = Some of
 
 -- a header's fault is told as in any file
-pub header_fault-told : (of : HeaderFault) (start : ℕ) (file : List ℕ) → header_fault (drop start file) ≡ Some of
+pub header_fault-reported : (of : HeaderFault) (start : ℕ) (file : List ℕ) → header_fault (drop start file) ≡ Some of
     → HasReadFault start file (as_load (to_file_header_fault start (version_of (drop start file)) of))
 unfolding front_fault
-header_fault-told of start file e =
+header_fault-reported of start file e =
     let there : header_fault (drop start file) ≡ some_header of = e in
     OfFront (rw there refl)
 
 -- and so is a record's
-pub record_fault-told : (of : RecordFault) → answer_fault (Err of) ≡ Some (as_load (to_file_record_fault of))
-record_fault-told of = refl
+pub record_fault-reported : (of : RecordFault) → answer_fault (Err of) ≡ Some (as_load (to_file_record_fault of))
+record_fault-reported of = refl

@@ -6,7 +6,7 @@ use Rattle.std.specs.Option.{option_or}
 use Rattle.std.proofs.lemmas.Bool.{and_parts, not-false, eqb-true, eqb-false, ltb-true, ltb-false}
 use Rattle.std.proofs.lemmas.List.{length-drop, length-take}
 use Rattle.omf_format.specs.Number.{number_at}
-use Rattle.load_meaning.specs.Pathnames.{most_paths, is_path_byte, IsRow, AreRows, ArePaths, path_start, path_size, first_path, behind_path, paths_in, row_flaw, end_flaw, rows_flaw}
+use Rattle.load_meaning.specs.Pathnames.{most_paths, is_path_byte, IsRow, AreRows, ArePaths, path_start, path_size, first_path, after_path, paths_in, row_flaw, end_flaw, rows_flaw}
 
 if_none : (c : Bool) (x : ℕ) (y : Option ℕ) → (if c then Some x else y) ≡ None → (c ≡ false) × (y ≡ None)
 if_none true x y e = absurd cc
@@ -90,7 +90,7 @@ nonzero n le = by_test (eqb n 0) refl
 
 -- behind the last row no path is read
 no_more : (n : ℕ) (bytes : List ℕ) → number_at 2 0 bytes ≡ 0 → paths_in (suc n) bytes ≡ []
-no_more n bytes is = ap (λ (k : ℕ). if eqb k 0 then [] else first_path bytes ∷ paths_in n (behind_path bytes)) is
+no_more n bytes is = ap (λ (k : ℕ). if eqb k 0 then [] else first_path bytes ∷ paths_in n (after_path bytes)) is
 
 pub rows_there : (more rows at : ℕ) (bytes : List ℕ) → rows_flaw more rows at bytes ≡ None → RowsThere more rows bytes
 rows_there zero rows at bytes e = by_end (ends rows at bytes (Some at) e)
@@ -98,15 +98,15 @@ rows_there zero rows at bytes e = by_end (ends rows at bytes (Some at) e)
     by_end : Ends rows bytes (Some at) → RowsThere zero rows bytes
     by_end (AtZero is two one) = record { are = (two, is); few = omega arith; some = omega (arith, one) }
     by_end (AtRow none) = absurd (some_none at none)
-rows_there (suc n) rows at bytes e = by_end (λ f. rows_there n (rows + 1) (at + path_start + path_size bytes) (behind_path bytes) f) (ends rows at bytes row e)
+rows_there (suc n) rows at bytes e = by_end (λ f. rows_there n (rows + 1) (at + path_start + path_size bytes) (after_path bytes) f) (ends rows at bytes row e)
   where
     made : AreRows (rows + 2) (paths_in (suc n) bytes) bytes × (length (paths_in (suc n) bytes) ≤ suc n) × (1 ≤ rows + length (paths_in (suc n) bytes)) → RowsThere (suc n) rows bytes
     made all = record { are = all.0; few = all.1; some = all.2 }
 
     row : Option ℕ
-    row = if not (eqb (number_at 2 0 bytes) (rows + 2)) then Some at else option_or (row_flaw at bytes) (rows_flaw n (rows + 1) (at + path_start + path_size bytes) (behind_path bytes))
+    row = if not (eqb (number_at 2 0 bytes) (rows + 2)) then Some at else option_or (row_flaw at bytes) (rows_flaw n (rows + 1) (at + path_start + path_size bytes) (after_path bytes))
 
-    by_end : (rows_flaw n (rows + 1) (at + path_start + path_size bytes) (behind_path bytes) ≡ None → RowsThere n (rows + 1) (behind_path bytes)) → Ends rows bytes row → RowsThere (suc n) rows bytes
+    by_end : (rows_flaw n (rows + 1) (at + path_start + path_size bytes) (after_path bytes) ≡ None → RowsThere n (rows + 1) (after_path bytes)) → Ends rows bytes row → RowsThere (suc n) rows bytes
     by_end more (AtZero is two one) = let none = no_more n bytes is in
         made (subst (λ (ps : List (List ℕ)). AreRows (rows + 2) ps bytes × (length ps ≤ suc n) × (1 ≤ rows + length ps)) (sym none) ((two, is), omega arith, omega (arith, one)))
     by_end more (AtRow none) =
@@ -114,18 +114,18 @@ rows_there (suc n) rows at bytes e = by_end (λ f. rows_there n (rows + 1) (at +
         let is : number_at 2 0 bytes ≡ rows + 2 = eqb-true _ (rows + 2) (not-false _ number.0) in
         let both = none_both (row_flaw at bytes) _ number.1 in
         let here = row_is (rows + 2) at bytes is both.0 in
-        let behind = more both.1 in
+        let following = more both.1 in
         let next : rows + 1 + 2 ≡ rows + 2 + 1 = omega arith in
-        let paths : paths_in (suc n) bytes ≡ first_path bytes ∷ paths_in n (behind_path bytes) =
-        ap (λ (c : Bool). if c then [] else first_path bytes ∷ paths_in n (behind_path bytes)) (nonzero (number_at 2 0 bytes) (omega (arith, is))) in
+        let paths : paths_in (suc n) bytes ≡ first_path bytes ∷ paths_in n (after_path bytes) =
+        ap (λ (c : Bool). if c then [] else first_path bytes ∷ paths_in n (after_path bytes)) (nonzero (number_at 2 0 bytes) (omega (arith, is))) in
         made (subst (λ (ps : List (List ℕ)). AreRows (rows + 2) ps bytes × (length ps ≤ suc n) × (1 ≤ rows + length ps)) (sym paths) (
           (
             here.0,
-            subst (λ (k : ℕ). AreRows k (paths_in n (behind_path bytes)) (drop (11 + length (first_path bytes)) bytes)) next
-                (subst (λ (k : ℕ). AreRows (rows + 1 + 2) (paths_in n (behind_path bytes)) (drop (11 + k) bytes)) (sym here.1) behind.are),
+            subst (λ (k : ℕ). AreRows k (paths_in n (after_path bytes)) (drop (11 + length (first_path bytes)) bytes)) next
+                (subst (λ (k : ℕ). AreRows (rows + 1 + 2) (paths_in n (after_path bytes)) (drop (11 + k) bytes)) (sym here.1) following.are),
           ),
-          omega (arith, behind.few),
-          omega (arith, behind.some),
+          omega (arith, following.few),
+          omega (arith, following.some),
         ))
 
 whole : (more : ℕ) (bytes : List ℕ) → RowsThere more 0 bytes → AreRows 2 (paths_in more bytes) bytes × (1 ≤ length (paths_in more bytes)) × (length (paths_in more bytes) ≤ more)

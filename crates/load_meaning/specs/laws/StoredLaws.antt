@@ -11,8 +11,8 @@ use Rattle.byteorder.specs.Endian.{little_bytes, little_number}
 use Rattle.byteorder.specs.Numbers.{little_number-reads_back}
 use Rattle.omf_format.specs.Number.{number_at}
 use Rattle.load_meaning.specs.Cells.{Cell, Byte, Part, Patch, parts_from, with_patch, patched_cells}
-use Rattle.load_meaning.specs.WrittenBody.{IsWrittenPatch, AreWritten, super_form, stored_as, stored_bytes, with_stored, is_zero, zeros_behind, written_cells, written_data}
-use Rattle.load_meaning.specs.laws.LayingLaws.{get-front, get-behind, get-take, get-drop, same_list, Covers, Has, Missed, Found, look, laid, Fit, length-laid, get-missed, get-found, Apart}
+use Rattle.load_meaning.specs.WrittenBody.{IsWrittenPatch, AreWritten, super_form, stored_as, stored_bytes, with_stored, is_zero, zeros_after, written_cells, written_data}
+use Rattle.load_meaning.specs.laws.LayingLaws.{get-front, get-following, get-take, get-drop, same_list, Covers, Has, Missed, Found, look, laid, Fit, length-laid, get-missed, get-found, Apart}
 use Rattle.load_meaning.specs.laws.FormLaws.{Holds, length-stored}
 
 -- ---- the patches of a body
@@ -152,24 +152,24 @@ all_get (d ∷ cells) zero c all e = subst (λ (x : Cell). is_zero x ≡ true) (
     cell_is x y e = cc
 all_get (d ∷ cells) (suc k) c all e = all_get cells k c (and_parts (is_zero d) (list_all is_zero cells) all).1 e
 
-pub zeros-le : (cells : List Cell) → zeros_behind cells ≤ length cells
+pub zeros-le : (cells : List Cell) → zeros_after cells ≤ length cells
 zeros-le [] = omega arith
 zeros-le (c ∷ cells) = elim (cases_Bool (list_all is_zero (c ∷ cells))) [
   | inl all ↦ rw all (omega arith)
   | inr not_all ↦ let rest = zeros-le cells in rw not_all (omega arith)
 ]
 
-zero_cell : (cells : List Cell) (k : ℕ) (c : Cell) → length cells ≤ k + zeros_behind cells → slice_get cells k ≡ Some c → is_zero c ≡ true
+zero_cell : (cells : List Cell) (k : ℕ) (c : Cell) → length cells ≤ k + zeros_after cells → slice_get cells k ≡ Some c → is_zero c ≡ true
 zero_cell [] k c past e = absurd cc
 zero_cell (d ∷ cells) k c past e = elim (cases_Bool (list_all is_zero (d ∷ cells))) [
   | inl all ↦ all_get (d ∷ cells) k c all e
   | inr not_all ↦
-      let tail : zeros_behind (d ∷ cells) ≡ zeros_behind cells = rw not_all refl in
+      let tail : zeros_after (d ∷ cells) ≡ zeros_after cells = rw not_all refl in
       more k (omega (arith, past, tail)) e (λ (i : ℕ). zero_cell cells i c)
 ]
   where
-    more : (i : ℕ) → suc (length cells) ≤ i + zeros_behind cells → slice_get (d ∷ cells) i ≡ Some c
-        → ((j : ℕ) → length cells ≤ j + zeros_behind cells → slice_get cells j ≡ Some c → is_zero c ≡ true) → is_zero c ≡ true
+    more : (i : ℕ) → suc (length cells) ≤ i + zeros_after cells → slice_get (d ∷ cells) i ≡ Some c
+        → ((j : ℕ) → length cells ≤ j + zeros_after cells → slice_get cells j ≡ Some c → is_zero c ≡ true) → is_zero c ≡ true
     more zero past' e' again = absurd (omega (arith, zeros-le cells, past'))
     more (suc i) past' e' again = again i (omega (arith, past')) e'
 
@@ -204,7 +204,7 @@ restored own patches content are = same_list all (take m all ++ replicate (lengt
     all = with_stored own content patches
 
     m : ℕ
-    m = length content - zeros_behind cells
+    m = length content - zeros_after cells
 
     len : length all ≡ length content
     len = ap length (stored-laid own content patches) ∙ length-laid (stored_bytes own) patches content (fit-stored own (length content) patches are)
@@ -218,9 +218,9 @@ restored own patches content are = same_list all (take m all ++ replicate (lengt
     cells_len : length cells ≡ length content
     cells_len = ap length (patched-laid (map Byte content) patches) ∙ length-laid parts patches (map Byte content) fit-cells ∙ length-map content (λ (n : ℕ). Byte n)
 
-    behind : (k : ℕ) → m ≤ k → k < length content → slice_get (take m all ++ replicate (length content - length (take m all)) 0) k ≡ Some 0
-    behind k from lt =
-        get-behind (take m all) (replicate (length content - length (take m all)) 0) k (k - m) (omega (arith, from, size))
+    following : (k : ℕ) → m ≤ k → k < length content → slice_get (take m all ++ replicate (length content - length (take m all)) 0) k ≡ Some 0
+    following k from lt =
+        get-following (take m all) (replicate (length content - length (take m all)) 0) k (k - m) (omega (arith, from, size))
         ∙ get-replicate (length content - length (take m all)) (k - m) (omega (arith, from, lt, size))
 
     apart : Apart patches
@@ -246,7 +246,7 @@ restored own patches content are = same_list all (take m all ++ replicate (lengt
     at k = elim (cases_lt k m) [
       | inl lt ↦ sym (get-front (take m all) (replicate (length content - length (take m all)) 0) k (omega (arith, lt, size)) ∙ get-take m all k lt)
       | inr from ↦ elim (cases_lt k (length content)) [
-        | inl lt ↦ at_zero k from lt (look patches k) ∙ sym (behind k from lt)
+        | inl lt ↦ at_zero k from lt (look patches k) ∙ sym (following k from lt)
         | inr past ↦
             slice_get_past all k (omega (arith, past, len))
             ∙ sym (slice_get_past (take m all ++ replicate (length content - length (take m all)) 0) k (omega (arith, past, length-append (take m all) (replicate (length content - length (take m all)) 0), length-replicate {A = ℕ} (length content - length (take m all)) 0, size)))
@@ -269,16 +269,16 @@ all_zero [] each = refl
 all_zero (c ∷ cells) each = and_from (is_zero c) (list_all is_zero cells) (each 0 c refl) (all_zero cells (λ k d e. each (suc k) d e))
 
 -- the cells from a place on are zeros
-zeros_reach : (cells : List Cell) (n : ℕ) → ((k : ℕ) (c : Cell) → n ≤ k → slice_get cells k ≡ Some c → is_zero c ≡ true) → length cells ≤ n + zeros_behind cells
+zeros_reach : (cells : List Cell) (n : ℕ) → ((k : ℕ) (c : Cell) → n ≤ k → slice_get cells k ≡ Some c → is_zero c ≡ true) → length cells ≤ n + zeros_after cells
 zeros_reach [] n each = omega arith
 zeros_reach (c ∷ cells) zero each =
     let all = all_zero (c ∷ cells) (λ k d e. each k d (omega arith) e) in
-    let is : zeros_behind (c ∷ cells) ≡ length (c ∷ cells) = rw all refl in
+    let is : zeros_after (c ∷ cells) ≡ length (c ∷ cells) = rw all refl in
     omega (arith, is)
 zeros_reach (c ∷ cells) (suc n) each = elim (cases_Bool (list_all is_zero (c ∷ cells))) [
-  | inl all ↦ let is : zeros_behind (c ∷ cells) ≡ length (c ∷ cells) = rw all refl in omega (arith, is)
+  | inl all ↦ let is : zeros_after (c ∷ cells) ≡ length (c ∷ cells) = rw all refl in omega (arith, is)
   | inr not_all ↦
-      let is : zeros_behind (c ∷ cells) ≡ zeros_behind cells = rw not_all refl in
+      let is : zeros_after (c ∷ cells) ≡ zeros_after cells = rw not_all refl in
       let rest = zeros_reach cells n (λ k d le e. each (suc k) d (omega (arith, le)) e) in
       omega (arith, is, rest)
 ]
@@ -288,13 +288,13 @@ HasPart cells k = (c : Cell) × (slice_get cells k ≡ Some c) × (is_zero c ≡
 
 -- up to the last that isn't
 pub zeros_exact : (cells : List Cell) (n : ℕ) → ((k : ℕ) (c : Cell) → n ≤ k → slice_get cells k ≡ Some c → is_zero c ≡ true) → (n ≡ 0) ⊎ ((1 ≤ n) × HasPart cells (n - 1))
-    → n ≤ length cells → n ≡ length cells - zeros_behind cells
+    → n ≤ length cells → n ≡ length cells - zeros_after cells
 zeros_exact cells n each (inl none) le = omega (arith, zeros_reach cells n each, zeros-le cells, none)
 zeros_exact cells n each (inr some) le =
     omega (arith, zeros_reach cells n each, not_more, zeros-le cells, some.0)
   where
-    not_more : n - 1 + zeros_behind cells < length cells
-    not_more = elim (cases_lt (n - 1 + zeros_behind cells) (length cells)) [
+    not_more : n - 1 + zeros_after cells < length cells
+    not_more = elim (cases_lt (n - 1 + zeros_after cells) (length cells)) [
       | inl lt ↦ lt
       | inr past ↦ let clash : false ≡ true = sym some.1.2 ∙ zero_cell cells (n - 1) some.1.0 past some.1.1 in absurd cc
     ]
@@ -303,9 +303,9 @@ pub cells_size : (content : List ℕ) (patches : List Patch) → AreWritten (len
 cells_size content patches are = ap length (patched-laid (map Byte content) patches) ∙ length-laid parts patches (map Byte content) (fit-cells patches content are) ∙ length-map content (λ (n : ℕ). Byte n)
 
 -- what is left behind the data
-pub zeros_left : (own : ℕ) (content : List ℕ) (patches : List Patch) → AreWritten (length content) 0 patches → length content - length (written_data own content patches) ≡ zeros_behind (written_cells content patches)
+pub zeros_left : (own : ℕ) (content : List ℕ) (patches : List Patch) → AreWritten (length content) 0 patches → length content - length (written_data own content patches) ≡ zeros_after (written_cells content patches)
 unfolding written_data written_cells
 zeros_left own content patches are =
     let cells = patched_cells (map Byte content) patches in
     let all = with_stored own content patches in
-    omega (arith, length-take (length content - zeros_behind cells) all, length-data own patches content are, zeros-le cells, cells_size content patches are)
+    omega (arith, length-take (length content - zeros_after cells) all, length-data own patches content are, zeros-le cells, cells_size content patches are)

@@ -19,7 +19,7 @@ use Rattle.load_meaning.specs.laws.ExportLaws.{exports_content, exports_patches}
 use Rattle.load_meaning.specs.WrittenFile.{IsExport}
 use Rattle.load_meaning.specs.Cells.{Byte, Patch, segment_bytes, patched_cells, super_patch, patches_in, patches_of, cells}
 use Rattle.load_meaning.specs.WrittenPages.{pages_of, pages_text, Rise}
-use Rattle.load_meaning.specs.WrittenBody.{IsWrittenPatch, AreWritten, is_own, is_short, super_form, lone_record, with_stored, zeros_behind, written_cells, written_data, data_records, is_form, has_none, of_form, patches_stored_alone, super_records, supers_from, body_records, body_text, HasBody}
+use Rattle.load_meaning.specs.WrittenBody.{IsWrittenPatch, AreWritten, is_own, is_short, super_form, lone_record, with_stored, zeros_after, written_cells, written_data, data_records, is_form, has_none, of_form, patches_stored_alone, super_records, supers_from, body_records, body_text, HasBody}
 use Rattle.load_meaning.specs.laws.PageLaws.{read_again}
 use Rattle.load_meaning.specs.laws.LayingLaws.{Has, Missed, same_laid}
 use Rattle.load_meaning.specs.laws.FormLaws.{IsForm, Own2, Own3, Other3, Named, NamedBank, form_is, Holds, super_gives, lone_gives, lone_fits, lone_content}
@@ -198,7 +198,7 @@ data_fits (byte ∷ bytes) short = ((short, refl), tt)
 
 pub length-written : (own : ℕ) (content : List ℕ) (patches : List Patch) → length (written_data own content patches) ≤ length content
 unfolding written_data
-length-written own content patches = omega (arith, length-take (length content - zeros_behind (written_cells content patches)) (with_stored own content patches))
+length-written own content patches = omega (arith, length-take (length content - zeros_after (written_cells content patches)) (with_stored own content patches))
 
 pub records_fit : (own : ℕ) (content : List ℕ) (patches : List Patch) → length content ≤ 0xFFFFFF → AreWritten (length content) 0 patches → AllByRecursion IsBodyRecord (body_records own content patches)
 unfolding body_records

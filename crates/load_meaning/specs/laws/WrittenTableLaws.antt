@@ -12,7 +12,7 @@ use Rattle.load_meaning.specs.declared.table.Entry.{Entry}
 use Rattle.load_meaning.specs.Cells.{Byte, cells}
 use Rattle.load_meaning.specs.Table.{entry_bytes, table_bytes}
 use Rattle.load_meaning.specs.laws.TableLaws.{length-entry_bytes}
-use Rattle.load_meaning.specs.WrittenBody.{zeros_behind, written_cells, written_data, data_records, body_records, body_text}
+use Rattle.load_meaning.specs.WrittenBody.{zeros_after, written_cells, written_data, data_records, body_records, body_text}
 use Rattle.load_meaning.specs.laws.StoredLaws.{zeros-le}
 use Rattle.load_meaning.specs.WrittenFile.{image_body, IsImage, IsReadAs, table_fields, table_image, TableStandsFor, image_records}
 
@@ -40,7 +40,7 @@ plain_data (byte ∷ bytes) =
 
 length-plain : (own : ℕ) (content : List ℕ) → length (written_data own content []) ≤ length content
 unfolding written_data
-length-plain own content = omega (arith, length-take (length content - zeros_behind (written_cells content [])) content)
+length-plain own content = omega (arith, length-take (length content - zeros_after (written_cells content [])) content)
 
 -- it is hardly longer than the content
 pub length-plain_body : (own : ℕ) (content : List ℕ) → length (body_text own content []) ≤ 5 + length content
@@ -50,7 +50,7 @@ length-plain_body own content =
     let all : length (flat_map (spelling written_layout) (data' ++ [])) ≡ length (flat_map (spelling written_layout) data') = ap (λ rs. length (flat_map (spelling written_layout) rs)) (append-nil data') in
     omega (arith, all, plain_data (written_data own content []), length-plain own content)
 
-zeros_within : (content : List ℕ) → zeros_behind (written_cells content []) ≤ length content
+zeros_within : (content : List ℕ) → zeros_after (written_cells content []) ≤ length content
 unfolding written_cells
 zeros_within content = omega (arith, zeros-le (map Byte content), length-map content (λ (n : ℕ). Byte n))
 

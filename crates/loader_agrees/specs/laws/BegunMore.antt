@@ -25,7 +25,7 @@ use Rattle.loader_agrees.specs.laws.EntryReads.{its_call, number_within}
 use Rattle.loader_agrees.specs.laws.Joining.{IsQuiet, AreMore, sound_more}
 use Rattle.loader_agrees.specs.laws.Reads.{headed}
 use Rattle.loader_agrees.specs.laws.Rows.{IsReached, few_paths, runtime_called, all_reached, row_heads}
-use Rattle.loader_agrees.specs.laws.RowUsers.{Lies, Front, Midst, Behind, lies, front_at, midst_at, behind_at, AreCalled, AreRows, row_kept, without_handle, id_there, row_user, attached_made, its_there, its_attached}
+use Rattle.loader_agrees.specs.laws.RowUsers.{Lies, Front, Midst, After, lies, front_at, midst_at, after_at, AreCalled, AreRows, row_kept, without_handle, id_there, row_user, attached_made, its_there, its_attached}
 
 -- each of these is the list of segments of a run-time library file
 abbrev pub AreRuntimes : List (List Segment) → Type 0
@@ -88,7 +88,7 @@ module _ (old new : Loaded) (path : List ℕ) (segments : List Segment) (all : L
       go : (place : ℕ) (kept : LoadedUser) → Lies old.users None joined place (Some kept) → (slice_get old.users place ≡ Some (Some kept)) ⊎ IsQuiet kept
       go place kept (Front less is) = inl is
       go place kept (Midst at is) = absurd cc
-      go place kept (Behind j at is) =
+      go place kept (After j at is) =
           let one = row_kept (paths_of segments) all j (Some kept) is in
           let same : joined_kept one.0 (map head_of one.1) ≡ kept = sym (same_Some kept (joined_kept one.0 (map head_of one.1)) one.3) in
           inr (subst IsQuiet same (quiet one.0 one.1 (called j one.1 one.2.segments') (begun.shorts j one.1 one.2.segments')))
@@ -108,12 +108,12 @@ module _ (old new : Loaded) (path : List ℕ) (segments : List Segment) (all : L
       which : (p : ℕ) (k : LoadedUser) → Lies old.users (Some its) joined p (Some k) → ((p ≢ length old.users) × (slice_get middle p ≡ Some (Some k))) ⊎ ((p ≡ length old.users) × (k ≡ its))
       which p k (Front less is) = inl ((λ e. omega (arith, e, less)), front_at old.users None joined p (Some k) is)
       which p k (Midst at is) = inr (at, same_Some k its is)
-      which p k (Behind j at is) = inl ((λ e. omega (arith, e, at)), ap (slice_get middle) at ∙ behind_at old.users None joined j ∙ is)
+      which p k (After j at is) = inl ((λ e. omega (arith, e, at)), ap (slice_get middle) at ∙ after_at old.users None joined j ∙ is)
 
       stays : (p : ℕ) (k : LoadedUser) → Lies old.users None joined p (Some k) → slice_get made p ≡ Some (Some k)
       stays p k (Front less is) = front_at old.users (Some its) joined p (Some k) is
       stays p k (Midst at is) = absurd cc
-      stays p k (Behind j at is) = ap (slice_get made) at ∙ behind_at old.users (Some its) joined j ∙ is
+      stays p k (After j at is) = ap (slice_get made) at ∙ after_at old.users (Some its) joined j ∙ is
 
   -- an entry for another file leads to a segment of that row's user
   far_call : (t : Target) → 2 ≤ t.file → IsReached (map (map head_of) all) t → IsCall made id t × (t.file < 2 ^ 16) × (t.segment < 2 ^ 16)

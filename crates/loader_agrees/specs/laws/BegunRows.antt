@@ -25,7 +25,7 @@ use Rattle.loader_agrees.specs.laws.Begun.{user_agrees, others_agree, begun_keep
 use Rattle.loader_agrees.specs.laws.Joining.{user_stays}
 use Rattle.loader_agrees.specs.laws.Keeping.{AllKept, far_kept}
 use Rattle.loader_agrees.specs.laws.Rows.{IsReached, row_heads}
-use Rattle.loader_agrees.specs.laws.RowUsers.{Lies, Front, Midst, Behind, lies, IsRow, AreRows, row_kept, user_row, id_at, id_there, without_handle, handles_same, outline_rows, user_there, stay, row_user, attached_made, attached_stays, its_attached}
+use Rattle.loader_agrees.specs.laws.RowUsers.{Lies, Front, Midst, After, lies, IsRow, AreRows, row_kept, user_row, id_at, id_there, without_handle, handles_same, outline_rows, user_there, stay, row_user, attached_made, attached_stays, its_attached}
 use Rattle.loader_agrees.specs.laws.Seeing.{user_is}
 
 module _ (held : FileMap) (old new : Loaded) (state : Machine) (path : List ℕ) (segments : List Segment) (paths : List (List ℕ)) (all : List (List Segment)) (id : ℕ) (entry : Option ℕ)
@@ -87,7 +87,7 @@ module _ (held : FileMap) (old new : Loaded) (state : Machine) (path : List ℕ)
       go (Midst at its') =
           let same : user ≡ its = same_Some user its its' in
           far (one_load held path segs segments (subst (λ (x : LoadedUser). HoldsLoad held x.path segs) same holds') holds) at
-      go (Behind j at row') =
+      go (After j at row') =
           let one = row_kept paths all j (Some user) row' in
           let same : user ≡ joined_kept one.0 (map head_of one.1) = same_Some user (joined_kept one.0 (map head_of one.1)) one.3 in
           let segs_same = one_load held one.0 segs one.1 (subst (λ (x : LoadedUser). HoldsLoad held x.path segs) same holds') (files j one.0 one.1 one.2) in
@@ -178,7 +178,7 @@ module _ (held : FileMap) (old new : Loaded) (state : Machine) (path : List ℕ)
       (subst (λ (u : User). UserAgrees held new.memory (far_of new.memory.slots (kept_outlines made) id) id k u) (sym user_is')
       (subst (λ (x : LoadedUser). UserAgrees held new.memory (far_of new.memory.slots (kept_outlines made) id) id x its_user) (sym kept_is)
       (user_agrees held old new path segments id entry sound begun holds ids (far_of new.memory.slots (kept_outlines made) id) none_active)))
-  each_agrees p k user (Behind j at is) (Behind i at' is') =
+  each_agrees p k user (After j at is) (After i at' is') =
       let one = row_kept paths all j (Some k) is in
       let kept_is : k ≡ joined_kept one.0 (map head_of one.1) = same_Some k (joined_kept one.0 (map head_of one.1)) one.3 in
       let same : i ≡ j = omega (arith, at, at', same_count) in
@@ -189,11 +189,11 @@ module _ (held : FileMap) (old new : Loaded) (state : Machine) (path : List ℕ)
       two_Some : (a b : User) → Some (Some a) ≡ Some (Some b) → a ≡ b
       two_Some a b e = cc
   each_agrees p k user (Front less is) (Midst at is') = absurd (omega (arith, less, at, same_count))
-  each_agrees p k user (Front less is) (Behind j at is') = absurd (omega (arith, less, at, same_count))
+  each_agrees p k user (Front less is) (After j at is') = absurd (omega (arith, less, at, same_count))
   each_agrees p k user (Midst at is) (Front less is') = absurd (omega (arith, less, at, same_count))
-  each_agrees p k user (Midst at is) (Behind j at' is') = absurd (omega (arith, at', at, same_count))
-  each_agrees p k user (Behind j at is) (Front less is') = absurd (omega (arith, less, at, same_count))
-  each_agrees p k user (Behind j at is) (Midst at' is') = absurd (omega (arith, at', at, same_count))
+  each_agrees p k user (Midst at is) (After j at' is') = absurd (omega (arith, at', at, same_count))
+  each_agrees p k user (After j at is) (Front less is') = absurd (omega (arith, less, at, same_count))
+  each_agrees p k user (After j at is) (Midst at' is') = absurd (omega (arith, at', at, same_count))
 
   -- after a load with its rows the loader agrees with the next state
   pub agrees_rows : Agrees held new next

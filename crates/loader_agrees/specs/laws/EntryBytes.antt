@@ -42,13 +42,13 @@ module _ (xs ys : List Entry) (rest : List ℕ) where
   abbrev up_to : List ℕ
   up_to = replicate 8 0 ++ flat_map entry_bytes xs
 
-  abbrev behind : List ℕ
-  behind = flat_map entry_bytes ys ++ (replicate 4 0 ++ rest)
+  abbrev following : List ℕ
+  following = flat_map entry_bytes ys ++ (replicate 4 0 ++ rest)
 
   up_length : length up_to ≡ entry_start (length xs)
   up_length = omega (arith, length-append (replicate 8 0) (flat_map entry_bytes xs), length-replicate {A = ℕ} 8 0, flat_length xs)
 
-  split : (e : Entry) → table_bytes (xs ++ e ∷ ys) ++ rest ≡ up_to ++ (head_bytes e ++ (code_bytes e.loaded ++ behind))
+  split : (e : Entry) → table_bytes (xs ++ e ∷ ys) ++ rest ≡ up_to ++ (head_bytes e ++ (code_bytes e.loaded ++ following))
   unfolding table_bytes
   split e = ap (λ (mid : List ℕ). ((replicate 8 0 ++ mid) ++ replicate 4 0) ++ rest)
       (flat_map-append entry_bytes xs (e ∷ ys) ∙ ap (λ (m : List ℕ). flat_map entry_bytes xs ++ m) (flat_map-cons entry_bytes e ys ∙ ap (λ (x : List ℕ). x ++ flat_map entry_bytes ys) (entry_is e)))
@@ -57,7 +57,7 @@ module _ (xs ys : List Entry) (rest : List ℕ) where
   pub segment_is : (e : Entry) (bytes : List ℕ) → bytes ≡ table_bytes (xs ++ e ∷ ys) ++ rest → e.segment < 256 ^ 2 → number_at 2 (entry_start (length xs) + 4) bytes ≡ e.segment
   segment_is e bytes is fits =
       ap (number_at 2 (entry_start (length xs) + 4)) (is ∙ split e)
-      ∙ number_part 2 4 (entry_start (length xs)) up_to (head_bytes e) (code_bytes e.loaded ++ behind) up_length (omega (arith, head_length e))
+      ∙ number_part 2 4 (entry_start (length xs)) up_to (head_bytes e) (code_bytes e.loaded ++ following) up_length (omega (arith, head_length e))
       ∙ ap (number_at 2 4) (segment_in (little_bytes 2 e.user) (little_bytes 2 e.file) (little_bytes 2 e.segment) (little_bytes 4 e.offset))
       ∙ number_rest 2 0 4 (little_bytes 2 e.user ++ little_bytes 2 e.file) (little_bytes 2 e.segment ++ little_bytes 4 e.offset) refl
       ∙ number_written 2 e.segment (little_bytes 4 e.offset) fits
@@ -65,7 +65,7 @@ module _ (xs ys : List Entry) (rest : List ℕ) where
   pub file_is : (e : Entry) (bytes : List ℕ) → bytes ≡ table_bytes (xs ++ e ∷ ys) ++ rest → e.file < 256 ^ 2 → number_at 2 (entry_start (length xs) + 2) bytes ≡ e.file
   file_is e bytes is fits =
       ap (number_at 2 (entry_start (length xs) + 2)) (is ∙ split e)
-      ∙ number_part 2 2 (entry_start (length xs)) up_to (head_bytes e) (code_bytes e.loaded ++ behind) up_length (omega (arith, head_length e))
+      ∙ number_part 2 2 (entry_start (length xs)) up_to (head_bytes e) (code_bytes e.loaded ++ following) up_length (omega (arith, head_length e))
       ∙ ap (number_at 2 2) (file_part (little_bytes 2 e.user) (little_bytes 2 e.file) (little_bytes 2 e.segment) (little_bytes 4 e.offset))
       ∙ number_rest 2 0 2 (little_bytes 2 e.user) (little_bytes 2 e.file ++ (little_bytes 2 e.segment ++ little_bytes 4 e.offset)) refl
       ∙ number_written 2 e.file (little_bytes 2 e.segment ++ little_bytes 4 e.offset) fits
@@ -73,7 +73,7 @@ module _ (xs ys : List Entry) (rest : List ℕ) where
   pub offset_is : (e : Entry) (bytes : List ℕ) → bytes ≡ table_bytes (xs ++ e ∷ ys) ++ rest → e.offset < 256 ^ 4 → number_at 4 (entry_start (length xs) + 6) bytes ≡ e.offset
   offset_is e bytes is fits =
       ap (number_at 4 (entry_start (length xs) + 6)) (is ∙ split e)
-      ∙ number_part 4 6 (entry_start (length xs)) up_to (head_bytes e) (code_bytes e.loaded ++ behind) up_length (omega (arith, head_length e))
+      ∙ number_part 4 6 (entry_start (length xs)) up_to (head_bytes e) (code_bytes e.loaded ++ following) up_length (omega (arith, head_length e))
       ∙ number_rest 4 0 6 (little_bytes 2 e.user ++ little_bytes 2 e.file ++ little_bytes 2 e.segment) (little_bytes 4 e.offset) refl
       ∙ ap (number_at 4 0) (sym (append-nil (little_bytes 4 e.offset))) ∙ number_written 4 e.offset [] fits
 
@@ -83,10 +83,10 @@ module _ (xs ys : List Entry) (rest : List ℕ) where
   code_set e loaded bytes is =
       let front = up_to ++ head_bytes e in
       let long : length front ≡ entry_start (length xs) + 10 = omega (arith, length-append up_to (head_bytes e), up_length, head_length e) in
-      let here : bytes ≡ front ++ (code_bytes e.loaded ++ behind) = is ∙ split e ∙ sym (one_more up_to (head_bytes e) (code_bytes e.loaded ++ behind)) in
+      let here : bytes ≡ front ++ (code_bytes e.loaded ++ following) = is ∙ split e ∙ sym (one_more up_to (head_bytes e) (code_bytes e.loaded ++ following)) in
       ap (written_at (entry_start (length xs) + 10) (code_bytes loaded)) here
-      ∙ put front (code_bytes e.loaded) (code_bytes loaded) behind (entry_start (length xs) + 10) long (length-code_bytes e.loaded) (length-code_bytes loaded)
-      ∙ one_more up_to (head_bytes e) (code_bytes loaded ++ behind) ∙ sym (split (record e { loaded = loaded }))
+      ∙ put front (code_bytes e.loaded) (code_bytes loaded) following (entry_start (length xs) + 10) long (length-code_bytes e.loaded) (length-code_bytes loaded)
+      ∙ one_more up_to (head_bytes e) (code_bytes loaded ++ following) ∙ sym (split (record e { loaded = loaded }))
     where
       put : (front was piece tail : List ℕ) (at : ℕ) → length front ≡ at → length was ≡ 4 → length piece ≡ 4 → written_at at piece (front ++ (was ++ tail)) ≡ front ++ (piece ++ tail)
       put front was piece tail at long four size =

@@ -28,16 +28,16 @@ use Rattle.loader_agrees.specs.laws.Reads.{head_at}
 -- an element of a list, and what is before and behind it
 record Splits {X : Type 0} (xs : List X) (k : ℕ) (x : X) : Type 0 where
   before : List X
-  behind : List X
-  whole : xs ≡ before ++ x ∷ behind
+  following : List X
+  whole : xs ≡ before ++ x ∷ following
   long : length before ≡ k
 
 splits : {X : Type 0} (xs : List X) (k : ℕ) (x : X) → slice_get xs k ≡ Some x → Splits xs k x
 splits [] k x is = absurd cc
-splits (y ∷ xs) zero x is = record { before = []; behind = xs; whole = ap (λ z. z ∷ xs) (same_Some y x is); long = refl }
+splits (y ∷ xs) zero x is = record { before = []; following = xs; whole = ap (λ z. z ∷ xs) (same_Some y x is); long = refl }
 splits (y ∷ xs) (suc k) x is =
     let at = splits xs k x is in
-    record { before = y ∷ at.before; behind = at.behind; whole = ap (λ zs. y ∷ zs) at.whole; long = ap suc at.long }
+    record { before = y ∷ at.before; following = at.following; whole = ap (λ zs. y ∷ zs) at.whole; long = ap suc at.long }
 
 module _ (at : AddressSetting) (targets : List Target) (bytes : List ℕ) (front : IsFront (table_bytes (map (entry_for at) targets)) bytes) (k : ℕ) (t : Target) (is : slice_get targets k ≡ Some t) where
   here : Splits targets k t
@@ -46,22 +46,22 @@ module _ (at : AddressSetting) (targets : List Target) (bytes : List ℕ) (front
   long : length (map (entry_for at) here.before) ≡ k
   long = length-map here.before (entry_for at) ∙ here.long
 
-  parted : bytes ≡ table_bytes (map (entry_for at) here.before ++ entry_for at t ∷ map (entry_for at) here.behind) ++ front.0
+  parted : bytes ≡ table_bytes (map (entry_for at) here.before ++ entry_for at t ∷ map (entry_for at) here.following) ++ front.0
   parted = front.1 ∙ ap (λ (ts : List Target). table_bytes (map (entry_for at) ts) ++ front.0) here.whole
-      ∙ ap (λ (es : List Entry). table_bytes es ++ front.0) (map-append (entry_for at) here.before (t ∷ here.behind))
+      ∙ ap (λ (es : List Entry). table_bytes es ++ front.0) (map-append (entry_for at) here.before (t ∷ here.following))
 
   -- the file, the segment and the offset that an entry in memory names are those of its target
   pub file_read : t.file < 256 ^ 2 → number_at 2 (entry_start k + 2) bytes ≡ t.file
   file_read fits = ap (λ (n : ℕ). number_at 2 (entry_start n + 2) bytes) (sym long)
-      ∙ file_is (map (entry_for at) here.before) (map (entry_for at) here.behind) front.0 (entry_for at t) bytes parted fits
+      ∙ file_is (map (entry_for at) here.before) (map (entry_for at) here.following) front.0 (entry_for at t) bytes parted fits
 
   pub segment_read : t.segment < 256 ^ 2 → number_at 2 (entry_start k + 4) bytes ≡ t.segment
   segment_read fits = ap (λ (n : ℕ). number_at 2 (entry_start n + 4) bytes) (sym long)
-      ∙ segment_is (map (entry_for at) here.before) (map (entry_for at) here.behind) front.0 (entry_for at t) bytes parted fits
+      ∙ segment_is (map (entry_for at) here.before) (map (entry_for at) here.following) front.0 (entry_for at t) bytes parted fits
 
   pub offset_read : t.offset < 256 ^ 4 → number_at 4 (entry_start k + 6) bytes ≡ t.offset
   offset_read fits = ap (λ (n : ℕ). number_at 4 (entry_start n + 6) bytes) (sym long)
-      ∙ offset_is (map (entry_for at) here.before) (map (entry_for at) here.behind) front.0 (entry_for at t) bytes parted fits
+      ∙ offset_is (map (entry_for at) here.before) (map (entry_for at) here.following) front.0 (entry_for at t) bytes parted fits
 
 -- ---- a table of a load file
 

@@ -27,7 +27,7 @@ use Rattle.loader_machine.specs.Refusals.{bytes_refusal, info_refusal}
 use Rattle.loader_machine.specs.Steps.{Sees, StandsIn, IsAt, Nowhere, In, place_reply}
 use Rattle.loader_machine.specs.laws.OnceLaws.{active_is, one_load}
 use Rattle.loader_agrees.specs.Agrees.{LoadedUser, Loaded, Outline, outlines, kept_outlines, far_in, seen_by, AreThere, UserAgrees, Agrees, IsSound, Met}
-use Rattle.loader_agrees.specs.Acts.{IsActive, HasLent, HasTold, LiesIn}
+use Rattle.loader_agrees.specs.Acts.{IsActive, HasBorrowed, HasReported, LiesIn}
 use Rattle.loader_agrees.specs.laws.Lists.{number_map}
 use Rattle.loader_agrees.specs.laws.Seeing.{IsKept, kept_is, refuses, does}
 use Rattle.loader_agrees.specs.laws.Apart.{back}
@@ -123,24 +123,24 @@ module _ (held : FileMap) (loader : Loaded) (state : Machine) (agrees : Agrees h
 
   module _ (Makes : MakesRoom) where
     -- the bytes that are lent are those of the machine
-    pub lent_met : (id number at count : ℕ) (bytes : List ℕ) → HasLent loader id number at count bytes → Met Makes held state (Bytes id number at count) (Shown bytes) loader
-    lent_met id number at count bytes lent =
-        let is = lent.can.is in
-        let whole = stands (setting_with (far_in loader id) id loader.memory.slots is.kept.handles) (held_at (user id number lent.h is) number).pokes (its_segment id number lent.h is).0 in
-        let front = begins id number lent.h is in
-        let shown : bytes ≡ take count (drop at whole) = lent.is ∙ ap (λ (bs : List ℕ). take count (drop at bs)) front.1
-        ∙ within_front whole front.0 at count (omega (arith, lent.can.inside, stands_size id number lent.h is)) in (
+    pub borrowed_met : (id number at count : ℕ) (bytes : List ℕ) → HasBorrowed loader id number at count bytes → Met Makes held state (Bytes id number at count) (Shown bytes) loader
+    borrowed_met id number at count bytes loaned =
+        let is = loaned.can.is in
+        let whole = stands (setting_with (far_in loader id) id loader.memory.slots is.kept.handles) (held_at (user id number loaned.h is) number).pokes (its_segment id number loaned.h is).0 in
+        let front = begins id number loaned.h is in
+        let shown : bytes ≡ take count (drop at whole) = loaned.is ∙ ap (λ (bs : List ℕ). take count (drop at bs)) front.1
+        ∙ within_front whole front.0 at count (omega (arith, loaned.can.inside, stands_size id number loaned.h is)) in (
           state,
           does held loader state agrees id (λ seen. bytes_refusal state.slots seen number at count) (Shown bytes) state _
-              (ap (λ (t : Slots). bytes_refusal t (seen_by loader id) number at count) (sym agrees.slots) ∙ lent.can.passes)
-              (user id number lent.h is) (one id number lent.h is).made
-              (whole, stands_there id number lent.h is, ap (λ (bs : List ℕ). Shown bs) shown, refl),
+              (ap (λ (t : Slots). bytes_refusal t (seen_by loader id) number at count) (sym agrees.slots) ∙ loaned.can.passes)
+              (user id number loaned.h is) (one id number loaned.h is).made
+              (whole, stands_there id number loaned.h is, ap (λ (bs : List ℕ). Shown bs) shown, refl),
           agrees,
         )
 
-    pub lent_refused : (id number at count : ℕ) (fault : LoaderFault) → bytes_refusal loader.memory.slots (seen_by loader id) number at count ≡ Some fault
+    pub borrowed_refused : (id number at count : ℕ) (fault : LoaderFault) → bytes_refusal loader.memory.slots (seen_by loader id) number at count ≡ Some fault
         → Met Makes held state (Bytes id number at count) (Refused fault) loader
-    lent_refused id number at count fault is = (
+    borrowed_refused id number at count fault is = (
       state,
       refuses held loader state agrees id (λ seen. bytes_refusal state.slots seen number at count) fault _
           (ap (λ (t : Slots). bytes_refusal t (seen_by loader id) number at count) (sym agrees.slots) ∙ is),
@@ -148,24 +148,24 @@ module _ (held : FileMap) (loader : Loaded) (state : Machine) (agrees : Agrees h
     )
 
     -- what is told of a segment is what the machine tells
-    pub told_met : (id number : ℕ) (where' : Presence) (length' kind : ℕ) → HasTold loader id number where' length' kind
+    pub reported_met : (id number : ℕ) (where' : Presence) (length' kind : ℕ) → HasReported loader id number where' length' kind
         → Met Makes held state (Info id number) (SegmentIs where' length' kind) loader
-    told_met id number where' length' kind told =
-        let kept = kept_is held loader state agrees id told.kept told.made in
-        let segment = headed kept.does_agree.segments number told.head (ap (λ (hs : List SegmentHead). at_number hs number) (sym kept.does_agree.heads) ∙ told.head') in
+    reported_met id number where' length' kind reported =
+        let kept = kept_is held loader state agrees id reported.kept reported.made in
+        let segment = headed kept.does_agree.segments number reported.head (ap (λ (hs : List SegmentHead). at_number hs number) (sym kept.does_agree.heads) ∙ reported.head') in
         let reply : SegmentIs where' length' kind ≡ SegmentIs (presence_at state.slots (handles_of kept.user) number) segment.0.fields.length segment.0.fields.kind =
-        ap (λ (p : Presence). SegmentIs p length' kind) (told.presence_is ∙ ap (λ (t : Slots). presence_at t told.kept.handles number) agrees.slots
+        ap (λ (p : Presence). SegmentIs p length' kind) (reported.presence_is ∙ ap (λ (t : Slots). presence_at t reported.kept.handles number) agrees.slots
         ∙ ap (λ (hs : List (Option Handle)). presence_at state.slots hs number) (ap (λ (o : Outline). o.handles) kept.does_agree.same))
-        ∙ ap (λ (n : ℕ). SegmentIs (presence_at state.slots (handles_of kept.user) number) n kind) (told.length_is ∙ sym (ap (λ (head : SegmentHead). head.length) segment.2))
-        ∙ ap (λ (n : ℕ). SegmentIs (presence_at state.slots (handles_of kept.user) number) segment.0.fields.length n) (told.kind_is ∙ sym (ap (λ (head : SegmentHead). head.kind) segment.2)) in (
+        ∙ ap (λ (n : ℕ). SegmentIs (presence_at state.slots (handles_of kept.user) number) n kind) (reported.length_is ∙ sym (ap (λ (head : SegmentHead). head.length) segment.2))
+        ∙ ap (λ (n : ℕ). SegmentIs (presence_at state.slots (handles_of kept.user) number) segment.0.fields.length n) (reported.kind_is ∙ sym (ap (λ (head : SegmentHead). head.kind) segment.2)) in (
           state,
-          does held loader state agrees id (λ seen. info_refusal seen number) (SegmentIs where' length' kind) state _ told.passes
-              kept.user kept.made (sees_of id told.kept kept, segment.0, segment.1, reply, refl),
+          does held loader state agrees id (λ seen. info_refusal seen number) (SegmentIs where' length' kind) state _ reported.passes
+              kept.user kept.made (sees_of id reported.kept kept, segment.0, segment.1, reply, refl),
           agrees,
         )
 
-    pub told_refused : (id number : ℕ) (fault : LoaderFault) → info_refusal (seen_by loader id) number ≡ Some fault → Met Makes held state (Info id number) (Refused fault) loader
-    told_refused id number fault is = (state, refuses held loader state agrees id (λ seen. info_refusal seen number) fault _ is, agrees)
+    pub reported_refused : (id number : ℕ) (fault : LoaderFault) → info_refusal (seen_by loader id) number ≡ Some fault → Met Makes held state (Info id number) (Refused fault) loader
+    reported_refused id number fault is = (state, refuses held loader state agrees id (λ seen. info_refusal seen number) fault _ is, agrees)
 
     -- where an address lies is where the machine has it
     pub lies_met : (address id number offset : ℕ) → LiesIn loader address id number offset → Met Makes held state (Where address) (place_reply (In id number offset)) loader

@@ -27,17 +27,17 @@ use Rattle.loader_agrees.specs.laws.Seeing.{user_is, made_at}
 pub data Lies {X : Type 0} (xs : List X) (y : X) (zs : List X) (p : ℕ) (x : X) : Type 0 where
   Front : p < length xs → slice_get xs p ≡ Some x → Lies xs y zs p x
   Midst : p ≡ length xs → x ≡ y → Lies xs y zs p x
-  Behind : (j : ℕ) → p ≡ length xs + (1 + j) → slice_get zs j ≡ Some x → Lies xs y zs p x
+  After : (j : ℕ) → p ≡ length xs + (1 + j) → slice_get zs j ≡ Some x → Lies xs y zs p x
 
 module _ {X : Type 0} where
   later : (w : X) (xs : List X) (y : X) (zs : List X) (p : ℕ) (x : X) → Lies xs y zs p x → Lies (w ∷ xs) y zs (suc p) x
   later w xs y zs p x (Front less is) = Front (omega (arith, less)) is
   later w xs y zs p x (Midst at is) = Midst (omega (arith, at)) is
-  later w xs y zs p x (Behind j at is) = Behind j (omega (arith, at)) is
+  later w xs y zs p x (After j at is) = After j (omega (arith, at)) is
 
   pub lies : (xs : List X) (y : X) (zs : List X) (p : ℕ) (x : X) → slice_get (xs ++ y ∷ zs) p ≡ Some x → Lies xs y zs p x
   lies [] y zs zero x is = Midst refl (sym (same_Some y x is))
-  lies [] y zs (suc p) x is = Behind p (omega arith) is
+  lies [] y zs (suc p) x is = After p (omega arith) is
   lies (w ∷ xs) y zs zero x is = Front (omega arith) is
   lies (w ∷ xs) y zs (suc p) x is = later w xs y zs p x (lies xs y zs p x is)
 
@@ -50,9 +50,9 @@ module _ {X : Type 0} where
   midst_at [] y zs = refl
   midst_at (w ∷ xs) y zs = midst_at xs y zs
 
-  pub behind_at : (xs : List X) (y : X) (zs : List X) (j : ℕ) → slice_get (xs ++ y ∷ zs) (length xs + (1 + j)) ≡ slice_get zs j
-  behind_at [] y zs j = let e : 0 + (1 + j) ≡ suc j = omega arith in ap (slice_get (y ∷ zs)) e
-  behind_at (w ∷ xs) y zs j = let e : suc (length xs) + (1 + j) ≡ suc (length xs + (1 + j)) = omega arith in ap (slice_get (w ∷ (xs ++ y ∷ zs))) e ∙ behind_at xs y zs j
+  pub after_at : (xs : List X) (y : X) (zs : List X) (j : ℕ) → slice_get (xs ++ y ∷ zs) (length xs + (1 + j)) ≡ slice_get zs j
+  after_at [] y zs j = let e : 0 + (1 + j) ≡ suc j = omega arith in ap (slice_get (y ∷ zs)) e
+  after_at (w ∷ xs) y zs j = let e : suc (length xs) + (1 + j) ≡ suc (length xs + (1 + j)) = omega arith in ap (slice_get (w ∷ (xs ++ y ∷ zs))) e ∙ after_at xs y zs j
 
 -- the j-th of the attached users
 pub record IsRow (paths : List (List ℕ)) (all : List (List Segment)) (j : ℕ) (path : List ℕ) (segments : List Segment) : Type 0 where
@@ -153,7 +153,7 @@ module _ (users : List (Option LoadedUser)) (paths : List (List ℕ)) (all : Lis
   pub row_user : (j : ℕ) → j < length paths → (p : List ℕ) × (ss : List Segment) × IsRow paths all j p ss × (user_of made (id + 1 + j) ≡ Some (joined_kept p (map head_of ss)))
   row_user j less =
       let one = row_there paths all j rows.long less in
-      let there : slice_get made (length users + (1 + j)) ≡ Some (Some (joined_kept one.0 (map head_of one.1))) = behind_at users (Some its) (joined_kepts paths all) j ∙ one.3 in
+      let there : slice_get made (length users + (1 + j)) ≡ Some (Some (joined_kept one.0 (map head_of one.1))) = after_at users (Some its) (joined_kepts paths all) j ∙ one.3 in
       let at : first_id + (length users + (1 + j)) ≡ id + 1 + j = omega (arith, rows.id_is) in
       (one.0, one.1, one.2, subst (λ (n : ℕ). user_of made n ≡ Some (joined_kept one.0 (map head_of one.1))) at (user_there made (length users + (1 + j)) (joined_kept one.0 (map head_of one.1)) there))
 
@@ -191,7 +191,7 @@ module _ (users : List (Option LoadedUser)) (paths : List (List ℕ)) (all : Lis
       few_by : (p : ℕ) (k : LoadedUser) → Which p k → length k.attached ≤ most_paths
       few_by p k (Front less is) = rows.attached.few p k is
       few_by p k (Midst at is) = let same : its ≡ k = sym (same_Some k its is) in subst (λ (x : LoadedUser). length x.attached ≤ most_paths) same (omega (arith, rows.few, length-ids (id + 1) (length paths)))
-      few_by p k (Behind j at is) =
+      few_by p k (After j at is) =
           let one = row_kept paths all j (Some k) is in
           let same : joined_kept one.0 (map head_of one.1) ≡ k = sym (same_Some k (joined_kept one.0 (map head_of one.1)) one.3) in
           subst (λ (x : LoadedUser). length x.attached ≤ most_paths) same (omega arith)
@@ -207,7 +207,7 @@ module _ (users : List (Option LoadedUser)) (paths : List (List ℕ)) (all : Lis
           let row = row_user i here.0 in
           let life : Running ≡ k.life = sym runs ∙ ap (λ (x : LoadedUser). x.life) same in
           (joined_kept row.0 (map head_of row.1), ap (user_of made) here.1 ∙ row.3, subst (λ l. IsJoined l (joined_kept row.0 (map head_of row.1))) life (dynamic i row.0 row.1 row.2))
-      each_by p i n k (Behind j at is) found = absurd (alone j k i n is found)
+      each_by p i n k (After j at is) found = absurd (alone j k i n is found)
 
       each : (p i n : ℕ) (k : LoadedUser) → slice_get made p ≡ Some (Some k) → slice_get k.attached i ≡ Some n → (other : LoadedUser) × (user_of made n ≡ Some other) × IsJoined k.life other
       each p i n k is found = each_by p i n k (lies users (Some its) (joined_kepts paths all) p (Some k) is) found
@@ -220,9 +220,9 @@ module _ (users : List (Option LoadedUser)) (paths : List (List ℕ)) (all : Lis
       once_by p q i j n a b (Front less is) (Midst at is') one two = absurd (omega (arith, old_id p i n a is one, its_id b j n is' two))
       once_by p q i j n a b (Midst at is) (Front less is') one two = absurd (omega (arith, old_id q j n b is' two, its_id a i n is one))
       once_by p q i j n a b (Midst at is) (Midst at' is') one two = (omega (arith, at, at'), omega (arith, its_id a i n is one, its_id b j n is' two))
-      once_by p q i j n a b (Behind m at is) w one two = absurd (alone m a i n is one)
-      once_by p q i j n a b (Front less is) (Behind m at is') one two = absurd (alone m b j n is' two)
-      once_by p q i j n a b (Midst at is) (Behind m at' is') one two = absurd (alone m b j n is' two)
+      once_by p q i j n a b (After m at is) w one two = absurd (alone m a i n is one)
+      once_by p q i j n a b (Front less is) (After m at is') one two = absurd (alone m b j n is' two)
+      once_by p q i j n a b (Midst at is) (After m at' is') one two = absurd (alone m b j n is' two)
 
       once : (p q i j n : ℕ) (a b : LoadedUser) → slice_get made p ≡ Some (Some a) → slice_get made q ≡ Some (Some b) → slice_get a.attached i ≡ Some n → slice_get b.attached j ≡ Some n → (p ≡ q) × (i ≡ j)
       once p q i j n a b is is' one two = once_by p q i j n a b (lies users (Some its) (joined_kepts paths all) p (Some a) is) (lies users (Some its) (joined_kepts paths all) q (Some b) is') one two

@@ -13,7 +13,7 @@ use Rattle.load_meaning.specs.declared.load.LoadCause.TheVariants as cause
 use Rattle.load_meaning.specs.declared.table.Target.{Target}
 use Rattle.load_meaning.specs.Cells.{segment_bytes}
 use Rattle.load_meaning.specs.Table.{entry_start}
-use Rattle.load_meaning.specs.Pathnames.{has_pathnames, most_paths, paths_in, paths_of, first_path, behind_path}
+use Rattle.load_meaning.specs.Pathnames.{has_pathnames, most_paths, paths_in, paths_of, first_path, after_path}
 use Rattle.load_meaning.specs.LoadTable.{is_table, table_of, targets_of}
 use Rattle.load_meaning.specs.Loadable.{Fault, first_in, in_segment, IsLoadable}
 use Rattle.load_meaning.specs.Runtime.{kind_fault, runtime_fault, IsRuntime}
@@ -21,7 +21,7 @@ use Rattle.load_meaning.specs.laws.CellLaws.{loadable_has}
 use Rattle.loader_machine.specs.declared.seen.SegmentHead.{SegmentHead}
 use Rattle.loader_machine.specs.declared.faults.LoaderFault.TheVariants.{BadFile}
 use Rattle.loader_machine.specs.Heads.{head_of, at_number}
-use Rattle.loader_machine.specs.Found.{HoldsLoad, HoldsRuntime, FileFound, Unread, Bad, Good, IsRowFound, Joined, Stops, Joins, JoinsFound, AreJoined, joined_behind}
+use Rattle.loader_machine.specs.Found.{HoldsLoad, HoldsRuntime, FileFound, Unread, Bad, Good, IsRowFound, Joined, Stops, Joins, JoinsFound, AreJoined, joined_after}
 use Rattle.loader_machine.specs.Steps.{is_reached, lost_from, lost_in, lost_refusal}
 use Rattle.loader_agrees.specs.laws.Begun.{decide}
 use Rattle.loader_agrees.specs.laws.RowUsers.{IsRow, AreCalled}
@@ -30,9 +30,9 @@ use Rattle.loader_agrees.specs.laws.RowUsers.{IsRow, AreCalled}
 
 few_in : (n : ℕ) (bytes : List ℕ) → length (paths_in n bytes) ≤ n
 few_in zero bytes = omega arith
-few_in (suc n) bytes = go (number_at 2 0 bytes == 0) (few_in n (behind_path bytes))
+few_in (suc n) bytes = go (number_at 2 0 bytes == 0) (few_in n (after_path bytes))
   where
-    go : (b : Bool) → length (paths_in n (behind_path bytes)) ≤ n → length (cond b [] (first_path bytes ∷ paths_in n (behind_path bytes))) ≤ suc n
+    go : (b : Bool) → length (paths_in n (after_path bytes)) ≤ n → length (cond b [] (first_path bytes ∷ paths_in n (after_path bytes))) ≤ suc n
     go true rest = omega arith
     go false rest = omega (arith, rest)
 
@@ -151,13 +151,13 @@ runtime_load held path segments holds = record { file = holds.file; is_held = ho
 abbrev AreHeld : FileMap → List (List ℕ) → List (List Segment) → Type 0
 AreHeld held paths all = (j : ℕ) (path : List ℕ) (segments : List Segment) → IsRow paths all j path segments → HoldsRuntime held path segments
 
-held_behind : (held : FileMap) (path : List ℕ) (paths : List (List ℕ)) (segments : List Segment) (all others : List (List Segment)) → HoldsRuntime held path segments → all ≡ segments ∷ others → AreHeld held paths others
+held_after : (held : FileMap) (path : List ℕ) (paths : List (List ℕ)) (segments : List Segment) (all others : List (List Segment)) → HoldsRuntime held path segments → all ≡ segments ∷ others → AreHeld held paths others
     → AreHeld held (path ∷ paths) all
-held_behind held path paths segments all others holds e rest zero p ss row =
+held_after held path paths segments all others holds e rest zero p ss row =
     let same : path ≡ p = same_Some path p row.path' in
     let same' : segments ≡ ss = same_Some segments ss (ap (λ (l : List (List Segment)). slice_get l 0) (sym e) ∙ row.segments') in
     subst (λ (q : List ℕ). HoldsRuntime held q ss) same (subst (HoldsRuntime held path) same' holds)
-held_behind held path paths segments all others holds e rest (suc j) p ss row =
+held_after held path paths segments all others holds e rest (suc j) p ss row =
     rest j p ss (record { path' = row.path'; segments' = ap (λ (l : List (List Segment)). slice_get l (suc j)) (sym e) ∙ row.segments' })
 
 held_found : (held : FileMap) (path : List ℕ) (paths : List (List ℕ)) (all : List (List Segment)) (found : FileFound) → IsRowFound held path found → JoinsFound found (AreJoined held paths) (Joins all)
@@ -166,9 +166,9 @@ held_found held path paths all Unread is joins rest = absurd cc
 held_found held path paths all (Bad fault) is joins rest = absurd cc
 held_found held path paths all (Good segments) is joins rest = go joins.0 joins.1 joins.2
   where
-    go : (joined : Joined) → AreJoined held paths joined → Joins all ≡ joined_behind segments joined → AreHeld held (path ∷ paths) all
+    go : (joined : Joined) → AreJoined held paths joined → Joins all ≡ joined_after segments joined → AreHeld held (path ∷ paths) all
     go (Stops reads why) are e = absurd cc
-    go (Joins others) are e = let same : all ≡ segments ∷ others = cc in held_behind held path paths segments all others is same (rest others are)
+    go (Joins others) are e = let same : all ≡ segments ∷ others = cc in held_after held path paths segments all others is same (rest others are)
 
 pub rows_held : (held : FileMap) (paths : List (List ℕ)) (all : List (List Segment)) → AreJoined held paths (Joins all) → AreHeld held paths all
 rows_held held [] all joined j path segments row = let none = row.path' in absurd cc

@@ -25,7 +25,7 @@ use Rattle.loader_machine.specs.State.{User, Machine, UserSeen, fresh, held_at, 
 use Rattle.loader_machine.specs.Presences.{Presence, Absent, Purged, Idle, Active, presence, presence_at, handle_at, lies_in, lies_at}
 use Rattle.loader_machine.specs.Stands.{stands}
 use Rattle.loader_machine.specs.Alloc.{alloc_want, is_locked, level_in, is_movable}
-use Rattle.loader_machine.specs.Found.{HoldsFile, HoldsLoad, HoldsFault, HoldsRuntime, HoldsRuntimeFault, FileFound, Unread, Bad, Good, IsFound, IsRowFound, Joined, Stops, Joins, JoinsFound, AreJoined, joined_behind}
+use Rattle.loader_machine.specs.Found.{HoldsFile, HoldsLoad, HoldsFault, HoldsRuntime, HoldsRuntimeFault, FileFound, Unread, Bad, Good, IsFound, IsRowFound, Joined, Stops, Joins, JoinsFound, AreJoined, joined_after}
 use Rattle.loader_machine.specs.Commands.{Command, Banks, Load, LoadSegment, UnloadSegment, Jsl, ShutDown, Restart, Purge, Poke, Bytes, Where, Info, Alloc, Free, Lock, Unlock, Level, StateOf, Room, Compact, Reply, Entered, Shown, SegmentIs, Placed, BlockIs, RoomIs, Moved}
 use Rattle.loader_machine.specs.Refusals.{Refuse, load_refusal, rows_refusal, purge_refusal, free_refusal, change_refusal, state_refusal}
 use Rattle.loader_machine.specs.Steps.{seen_of, Sees, IsSeen, Decides, Does, Either, with_slots, with_both, with_segment, active_block, with_block_changed, Put, NoSlots, Lacks, PutIn, Lands, Begins, lost_refusal, LoadsJoined, LoadsFound, StepsLoad, begun_users, again_users, setting_in, Activation, OutOfSlots, OutOfRoom, Made, ComesAnew, ComesFirst, Activates, Answers, MakesActive, StandsIn, IsAt, AddressPlace, Nowhere, In, IsLocated, place_reply, EntersEntry, EntersSegment, Enters, target_at_code, address_of, no_jsl, StepsJsl, StepsShutDown, are_there, RestartsInPlace, StepsRestart, StepsAlloc, StepsChange, Steps}
@@ -117,7 +117,7 @@ row_once held path (Good a) (Good b) p q = ap (λ (ss : List Segment). Good ss) 
 joins_same : (found : FileFound) (Rest : Joined → Type 0) → ((x y : Joined) → Rest x → Rest y → x ≡ y) → (a b : Joined) → JoinsFound found Rest a → JoinsFound found Rest b → a ≡ b
 joins_same Unread Rest one a b x y = x ∙ sym y
 joins_same (Bad fault) Rest one a b x y = x ∙ sym y
-joins_same (Good segments) Rest one a b x y = x.2 ∙ ap (joined_behind segments) (one x.0 y.0 x.1 y.1) ∙ sym y.2
+joins_same (Good segments) Rest one a b x y = x.2 ∙ ap (joined_after segments) (one x.0 y.0 x.1 y.1) ∙ sym y.2
 
 -- the files of rows come to one thing
 pub joined_once : (held : FileMap) (paths : List (List ℕ)) (a b : Joined) → AreJoined held paths a → AreJoined held paths b → a ≡ b

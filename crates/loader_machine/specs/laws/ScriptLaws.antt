@@ -29,11 +29,11 @@ written-push_skipped lines line skipped =
     let none : written (line ∷ []) ≡ [] = rw skipped refl in
     filter-append (λ l. not (is_skipped l)) lines (line ∷ []) ∙ ap (λ (more : List (List ℕ)). written lines ++ more) none ∙ append-nil (written lines)
 
-written-append : (lines behind : List (List ℕ)) (line : List ℕ) → is_skipped line ≡ false
-    → written (lines ++ line ∷ behind) ≡ written lines ++ line ∷ written behind
-written-append lines behind line is =
-    let one : written (line ∷ behind) ≡ line ∷ written behind = rw is refl in
-    filter-append (λ l. not (is_skipped l)) lines (line ∷ behind) ∙ ap (λ (more : List (List ℕ)). written lines ++ more) one
+written-append : (lines following : List (List ℕ)) (line : List ℕ) → is_skipped line ≡ false
+    → written (lines ++ line ∷ following) ≡ written lines ++ line ∷ written following
+written-append lines following line is =
+    let one : written (line ∷ following) ≡ line ∷ written following = rw is refl in
+    filter-append (λ l. not (is_skipped l)) lines (line ∷ following) ∙ ap (λ (more : List (List ℕ)). written lines ++ more) one
 
 -- good lines and a skipped one are good
 pub AreGood-push_skipped : (lines : List (List ℕ)) (commands : List Command) (line : List ℕ) → AreGood lines commands
@@ -86,23 +86,23 @@ pub IsScript-same : (text : List ℕ) (a b : List Command) → IsScript text a �
 IsScript-same text a b p q = Give-same true (written (lines_of text)) a b p.give q.give
 
 -- the command of a line among good ones
-give_inside : (lines behind : List (List ℕ)) (line : List ℕ) (a b : List Command) → Give false lines a
-    → Give false (lines ++ line ∷ behind) b → (command : Command) × (line_command false line ≡ Ok command)
-give_inside [] behind line [] [] p q = absurd q
-give_inside [] behind line [] (y ∷ b) p q = (y, q.0)
-give_inside [] behind line (x ∷ a) b p q = absurd p
-give_inside (l ∷ lines) behind line [] b p q = absurd p
-give_inside (l ∷ lines) behind line (x ∷ a) [] p q = absurd q
-give_inside (l ∷ lines) behind line (x ∷ a) (y ∷ b) p q = give_inside lines behind line a b p.1 q.1
+give_inside : (lines following : List (List ℕ)) (line : List ℕ) (a b : List Command) → Give false lines a
+    → Give false (lines ++ line ∷ following) b → (command : Command) × (line_command false line ≡ Ok command)
+give_inside [] following line [] [] p q = absurd q
+give_inside [] following line [] (y ∷ b) p q = (y, q.0)
+give_inside [] following line (x ∷ a) b p q = absurd p
+give_inside (l ∷ lines) following line [] b p q = absurd p
+give_inside (l ∷ lines) following line (x ∷ a) [] p q = absurd q
+give_inside (l ∷ lines) following line (x ∷ a) (y ∷ b) p q = give_inside lines following line a b p.1 q.1
 
-Give-inside : (lines behind : List (List ℕ)) (line : List ℕ) (a b : List Command) → Give true lines a
-    → Give true (lines ++ line ∷ behind) b → (command : Command) × (line_command (is_start a) line ≡ Ok command)
-Give-inside [] behind line [] [] p q = absurd q
-Give-inside [] behind line [] (y ∷ b) p q = (y, q.0)
-Give-inside [] behind line (x ∷ a) b p q = absurd p
-Give-inside (l ∷ lines) behind line [] b p q = absurd p
-Give-inside (l ∷ lines) behind line (x ∷ a) [] p q = absurd q
-Give-inside (l ∷ lines) behind line (x ∷ a) (y ∷ b) p q = give_inside lines behind line a b p.1 q.1
+Give-inside : (lines following : List (List ℕ)) (line : List ℕ) (a b : List Command) → Give true lines a
+    → Give true (lines ++ line ∷ following) b → (command : Command) × (line_command (is_start a) line ≡ Ok command)
+Give-inside [] following line [] [] p q = absurd q
+Give-inside [] following line [] (y ∷ b) p q = (y, q.0)
+Give-inside [] following line (x ∷ a) b p q = absurd p
+Give-inside (l ∷ lines) following line [] b p q = absurd p
+Give-inside (l ∷ lines) following line (x ∷ a) [] p q = absurd q
+Give-inside (l ∷ lines) following line (x ∷ a) (y ∷ b) p q = give_inside lines following line a b p.1 q.1
 
 abbrev failed : ScriptCause → Result Command ScriptCause
 failed cause = Err cause
@@ -111,19 +111,19 @@ no_command : (r : Result Command ScriptCause) (cause : ScriptCause) (command : C
 no_command r cause command p q = let clash : failed cause ≡ Ok command = sym p ∙ q in cc
 
 -- no bad line is among good ones
-not_good : (before behind : List (List ℕ)) (line : List ℕ) (cause : ScriptCause) (a b : List Command) → AreGood before a
-    → IsBad (length before) (is_start a) line cause → AreGood (before ++ line ∷ behind) b → ⊥
-not_good before behind line cause a b good (OneTooMany all is) whole =
-    omega (arith, length-append before (line ∷ behind), whole.few)
-not_good before behind line cause a b good (NoCommand more is none) whole =
-    let gives = Give-inside (written before) (written behind) line a b good.give (rw (written-append before behind line is) at whole.give) in
+not_good : (before following : List (List ℕ)) (line : List ℕ) (cause : ScriptCause) (a b : List Command) → AreGood before a
+    → IsBad (length before) (is_start a) line cause → AreGood (before ++ line ∷ following) b → ⊥
+not_good before following line cause a b good (OneTooMany all is) whole =
+    omega (arith, length-append before (line ∷ following), whole.few)
+not_good before following line cause a b good (NoCommand more is none) whole =
+    let gives = Give-inside (written before) (written following) line a b good.give (rw (written-append before following line is) at whole.give) in
     no_command (line_command (is_start a) line) cause gives.0 none gives.1
 
 -- no text is a script and has a bad line
 pub no_script : (text : List ℕ) (commands : List Command) (number : ℕ) (cause : ScriptCause) → IsScript text commands
     → IsFirstBadLine text number cause → ⊥
 no_script text commands number cause script first =
-    not_good first.before first.behind first.line cause first.commands commands first.good first.bad
+    not_good first.before first.following first.line cause first.commands commands first.good first.bad
     (subst (λ (lines : List (List ℕ)). AreGood lines commands) first.lines script)
 
 -- two lists that are one, parted at an element each
@@ -154,7 +154,7 @@ bad_same before is_first line a b (NoCommand less is none) (NoCommand more this 
 -- a text has one first bad line, with one cause
 pub IsFirstBadLine-same : (text : List ℕ) (m n : ℕ) (a b : ScriptCause) → IsFirstBadLine text m a → IsFirstBadLine text n b → (m ≡ n) × (a ≡ b)
 IsFirstBadLine-same text m n a b p q =
-    elim (sides p.before q.before p.behind q.behind p.line q.line (sym p.lines ∙ q.lines)) [
+    elim (sides p.before q.before p.following q.following p.line q.line (sym p.lines ∙ q.lines)) [
       | inl same ↦ at_one same.0 same.1
       | inr (inl longer) ↦ absurd (not_good p.before longer.0 p.line a p.commands q.commands p.good p.bad
           (subst (λ (lines : List (List ℕ)). AreGood lines q.commands) longer.1 q.good))

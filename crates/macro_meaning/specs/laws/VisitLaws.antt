@@ -8,7 +8,7 @@ use Rattle.macro_meaning.specs.declared.statements.Kind.TheVariants.{Number, Fla
 use Rattle.macro_meaning.specs.declared.statements.Statement.{Statement}
 use Rattle.macro_meaning.specs.declared.statements.Statement.TheVariants.{Declare, Set, Middle, BranchIf, Branch, Count, Nothing, Leave, Note, Define}
 use Rattle.macro_meaning.specs.Condition.{Answer, answer_of, IsNumber, Formula, NoFormula, IsCondition, IsConditionBy, comparison}
-use Rattle.macro_meaning.specs.Effect.{Effect, SymbolSetting, pair_or_earlier_fault, or_bad, going, setting, middle_of, noting, printed_answer, counting, IsBranchIf, IsMiddle, IsNote, IsSetting, IsDone, IsDoneBy, operation_or_anop, IsAfterCut, without_sequence_symbol, IsAfterText, begins_definition, IsShort, IsWithTexts, substituted_line, IsWritten, IsDeed}
+use Rattle.macro_meaning.specs.Effect.{Effect, SymbolSetting, pair_or_earlier_fault, or_bad, going, setting, middle_of, noting, printed_answer, counting, IsBranchIf, IsMiddle, IsNote, IsSetting, IsDone, IsDoneBy, operation_or_anop, IsAfterCut, without_sequence_symbol, IsAfterText, begins_definition, IsShort, IsWithTexts, substituted_line, IsWritten, IsEffect}
 use Rattle.macro_meaning.specs.Pieces.{unquoted_text, pieces}
 use Rattle.macro_meaning.specs.Statements.{target_name}
 use Rattle.macro_meaning.specs.Symbol.{Values}
@@ -72,8 +72,8 @@ done_once values Note text label operand d e p q = note_once values (pieces 0x2C
 done_once values Define text label operand d e p q = p ∙ sym q
 
 -- a line does one thing
-pub deed_once : (s : SymbolSetting) (line : Line) (d e : Effect) → IsDeed s line d → IsDeed s line e → d ≡ e
-deed_once s line d e p q = by_comment (is_comment line.text) p q
+pub effect_once : (s : SymbolSetting) (line : Line) (d e : Effect) → IsEffect s line d → IsEffect s line e → d ≡ e
+effect_once s line d e p q = by_comment (is_comment line.text) p q
   where
     by_statement : (text : List ℕ) (fields : Fields) (o : Option Statement) → IsDoneBy s text fields o d → IsDoneBy s text fields o e → d ≡ e
     by_statement text fields None p q = p ∙ sym q
@@ -109,7 +109,7 @@ visit_once program before v given given' move move' p q = by_line (line_at progr
     by_count : (line : Line) (b : Bool) → IsVisitOf program before v line b given move → IsVisitOf program before v line b given' move' → (given ≡ given') × (move ≡ move')
     by_count line true p q = (p.0 ∙ sym q.0, p.1 ∙ sym q.1)
     by_count line false p q =
-        let same : p.0 ≡ q.0 = deed_once (setting_of program v line.number) line p.0 q.0 p.1 q.1 in
+        let same : p.0 ≡ q.0 = effect_once (setting_of program v line.number) line p.0 q.0 p.1 q.1 in
         (p.2 ∙ ap (given_by line) same ∙ sym q.2, p.3 ∙ ap (move_of program before v line) same ∙ sym q.3)
 
     by_line : (o : Option Line) → IsVisitAt program before v o given move → IsVisitAt program before v o given' move' → (given ≡ given') × (move ≡ move')
@@ -134,15 +134,15 @@ same_visit : (v w : Visit) → On v ≡ On w → v ≡ w
 unfolding visit_of
 same_visit v w e = ap (λ (m : Move). visit_of m v) e
 
-pub follow_once : (program : Program) (before : List Visit) (v : Visit) (ws xs : List Visit) (given given' : List Line) (end behind : Move) → IsEnd end → IsEnd behind
-    → Follow program before v ws given end → Follow program before v xs given' behind → (given ≡ given') × (end ≡ behind)
-follow_once program before v [] [] given given' end behind is is' p q = visit_once program before v given given' end behind p q
-follow_once program before v [] (x ∷ xs) given given' end behind is is' p q =
+pub follow_once : (program : Program) (before : List Visit) (v : Visit) (ws xs : List Visit) (given given' : List Line) (end following : Move) → IsEnd end → IsEnd following
+    → Follow program before v ws given end → Follow program before v xs given' following → (given ≡ given') × (end ≡ following)
+follow_once program before v [] [] given given' end following is is' p q = visit_once program before v given given' end following p q
+follow_once program before v [] (x ∷ xs) given given' end following is is' p q =
     absurd (not_on end x is (visit_once program before v given q.0 end (On x) p q.2).1)
-follow_once program before v (w ∷ ws) [] given given' end behind is is' p q =
-    absurd (not_on behind w is' (visit_once program before v given' p.0 behind (On w) q p.2).1)
-follow_once program before v (w ∷ ws) (x ∷ xs) given given' end behind is is' p q =
+follow_once program before v (w ∷ ws) [] given given' end following is is' p q =
+    absurd (not_on following w is' (visit_once program before v given' p.0 following (On w) q p.2).1)
+follow_once program before v (w ∷ ws) (x ∷ xs) given given' end following is is' p q =
     let step = visit_once program before v p.0 q.0 (On w) (On x) p.2 q.2 in
     let w_is : w ≡ x = same_visit w x step.1 in
-    let rest = follow_once program (before ++ v ∷ []) w ws xs p.1 q.1 end behind is is' p.4 (subst (λ (y : Visit). Follow program (before ++ v ∷ []) y xs q.1 behind) (sym w_is) q.4) in
+    let rest = follow_once program (before ++ v ∷ []) w ws xs p.1 q.1 end following is is' p.4 (subst (λ (y : Visit). Follow program (before ++ v ∷ []) y xs q.1 following) (sym w_is) q.4) in
     (p.3 ∙ ap (λ (f : List Line). f ++ p.1) step.0 ∙ ap (λ (r : List Line). q.0 ++ r) rest.0 ∙ sym q.3, rest.1)

@@ -157,8 +157,8 @@ pub none_of : {B : Type 0} (f : Record → List B) (entries : List Record) → (
 none_of f [] none all = refl
 none_of f (r ∷ entries) none all = flat_map-cons f r entries ∙ ap (λ l. l ++ flat_map f entries) (none r all.0) ∙ none_of f entries none all.1
 
-behind : {B : Type 0} (f : Record → List B) (records entries : List Record) → ((r : Record) → is_entry r ≡ true → f r ≡ []) → AreEntries entries → flat_map f (records ++ entries) ≡ flat_map f records
-behind f records entries none all = flat_map-append f records entries ∙ ap (λ l. flat_map f records ++ l) (none_of f entries none all) ∙ append-nil (flat_map f records)
+following : {B : Type 0} (f : Record → List B) (records entries : List Record) → ((r : Record) → is_entry r ≡ true → f r ≡ []) → AreEntries entries → flat_map f (records ++ entries) ≡ flat_map f records
+following f records entries none all = flat_map-append f records entries ∙ ap (λ l. flat_map f records ++ l) (none_of f entries none all) ∙ append-nil (flat_map f records)
 
 -- ---- the cells of a written segment
 
@@ -179,9 +179,9 @@ cells_and own content patches entries s number len are has =
     let rs = body_records own content patches in
     let t = alone has.end rs s in
     let bytes : body_bytes s ≡ body_bytes t =
-    ap (flat_map (λ (found : ℕ × Record). content_of found.1)) has.records' ∙ flat-placed content_of has.end (rs ++ entries) refl ∙ behind content_of rs entries entry_content has.entries' ∙ sym (flat-placed content_of has.end rs refl) in
+    ap (flat_map (λ (found : ℕ × Record). content_of found.1)) has.records' ∙ flat-placed content_of has.end (rs ++ entries) refl ∙ following content_of rs entries entry_content has.entries' ∙ sym (flat-placed content_of has.end rs refl) in
     let patches' : given t s.records ≡ given t t.records =
-    ap (given t) has.records' ∙ flat-placed (patches_in t) has.end (rs ++ entries) refl ∙ behind (patches_in t) rs entries (entry_patches t) has.entries' ∙ sym (flat-placed (patches_in t) has.end rs refl) in
+    ap (given t) has.records' ∙ flat-placed (patches_in t) has.end (rs ++ entries) refl ∙ following (patches_in t) rs entries (entry_patches t) has.entries' ∙ sym (flat-placed (patches_in t) has.end rs refl) in
     cells_same s t refl bytes patches' ∙ cells_are own content patches t number len are (has.end, [], tt, ap (placed has.end) (sym (append-nil rs)))
 
 -- A segment that is written for unbroken cells has these cells.

@@ -6,7 +6,7 @@ use Rattle.std.specs.List.{list_all, AllByRecursion}
 use Rattle.std.proofs.lemmas.Bool.{cases_Bool, and_parts, and_from, eqb-true}
 use Rattle.std.proofs.lemmas.List.{append-nil, length-map, length-append, length-replicate, length-take, length-drop, map-append, take_at, take-append-le, drop-append-le}
 use Rattle.load_meaning.specs.Cells.{Cell, Byte, Part, Patch}
-use Rattle.load_meaning.specs.WrittenBody.{stored_bytes, with_stored, is_zero, zeros_behind, written_cells, written_data, body_records, data_records, patches_stored_alone, lone_record, supers_from}
+use Rattle.load_meaning.specs.WrittenBody.{stored_bytes, with_stored, is_zero, zeros_after, written_cells, written_data, body_records, data_records, patches_stored_alone, lone_record, supers_from}
 use Rattle.load_meaning.specs.laws.LayingLaws.{laid, Fit}
 use Rattle.load_meaning.specs.laws.StoredLaws.{stored-laid, fit-stored, length-data}
 use Rattle.object_meaning.specs.laws.RunLaws.{IsBodyRecord}
@@ -37,7 +37,7 @@ all-zero (c ∷ cells) e =
     ap (λ (d : Cell). d ∷ cells) (zero-is c both.0) ∙ ap (λ (l : List Cell). Byte 0 ∷ l) (all-zero cells both.1)
 
 -- zeros stand behind them
-pub front-zeros : (cells : List Cell) → cells ≡ front cells ++ zero_cells (zeros_behind cells)
+pub front-zeros : (cells : List Cell) → cells ≡ front cells ++ zero_cells (zeros_after cells)
 front-zeros [] = refl
 front-zeros (c ∷ cells) = elim (cases_Bool (list_all is_zero (c ∷ cells))) [
   | inl all ↦ rw all (all-zero (c ∷ cells) all)
@@ -53,7 +53,7 @@ all-zeros zero = refl
 all-zeros (suc n) = all-zeros n
 
 -- no zeros stand at their end
-pub front-ends : (cells : List Cell) → zeros_behind (front cells) ≡ 0
+pub front-ends : (cells : List Cell) → zeros_after (front cells) ≡ 0
 front-ends [] = refl
 front-ends (c ∷ cells) = elim (cases_Bool (list_all is_zero (c ∷ cells))) [
   | inl all ↦ rw all refl
@@ -63,10 +63,10 @@ front-ends (c ∷ cells) = elim (cases_Bool (list_all is_zero (c ∷ cells))) [
     clash : {b : Bool} → b ≡ true → b ≡ false → ⊥
     clash x y = cc
 
-    by_front : (list_all is_zero (c ∷ front cells) ≡ true) ⊎ (list_all is_zero (c ∷ front cells) ≡ false) → list_all is_zero (c ∷ cells) ≡ false → zeros_behind (front cells) ≡ 0 → zeros_behind (c ∷ front cells) ≡ 0
+    by_front : (list_all is_zero (c ∷ front cells) ≡ true) ⊎ (list_all is_zero (c ∷ front cells) ≡ false) → list_all is_zero (c ∷ cells) ≡ false → zeros_after (front cells) ≡ 0 → zeros_after (c ∷ front cells) ≡ 0
     by_front (inl all) not_all rest =
         let whole : list_all is_zero (c ∷ cells) ≡ true =
-        ap (λ (l : List Cell). list_all is_zero (c ∷ l)) (front-zeros cells) ∙ all-append (c ∷ front cells) (zero_cells (zeros_behind cells)) all (all-zeros (zeros_behind cells)) in
+        ap (λ (l : List Cell). list_all is_zero (c ∷ l)) (front-zeros cells) ∙ all-append (c ∷ front cells) (zero_cells (zeros_after cells)) all (all-zeros (zeros_after cells)) in
         absurd (clash whole not_all)
     by_front (inr some) not_all rest = rw some rest
 
@@ -97,7 +97,7 @@ stretches-more at (Part f s o sh zero ∷ cells) n =
 
 pub stretches-front : (cells : List Cell) → stretches cells ≡ stretches (front cells)
 unfolding stretches
-stretches-front cells = ap (stretches_from 0) (front-zeros cells) ∙ stretches-more 0 (front cells) (zeros_behind cells)
+stretches-front cells = ap (stretches_from 0) (front-zeros cells) ∙ stretches-more 0 (front cells) (zeros_after cells)
 
 -- ---- pieces lie inside the front
 
@@ -123,8 +123,8 @@ laid-more {A} piece (p ∷ patches) xs ys fit =
 
 -- ---- a body for all cells is that of the front
 
-bytes-more : (cells : List Cell) → bytes_in cells ≡ bytes_in (front cells) ++ replicate (zeros_behind cells) 0
-bytes-more cells = ap bytes_in (front-zeros cells) ∙ map-append byte_in (front cells) (zero_cells (zeros_behind cells)) ∙ ap (λ (l : List ℕ). bytes_in (front cells) ++ l) (zeros (zeros_behind cells))
+bytes-more : (cells : List Cell) → bytes_in cells ≡ bytes_in (front cells) ++ replicate (zeros_after cells) 0
+bytes-more cells = ap bytes_in (front-zeros cells) ∙ map-append byte_in (front cells) (zero_cells (zeros_after cells)) ∙ ap (λ (l : List ℕ). bytes_in (front cells) ++ l) (zeros (zeros_after cells))
   where
     zeros : (n : ℕ) → bytes_in (zero_cells n) ≡ replicate n 0
     zeros zero = refl
@@ -157,16 +157,16 @@ data-front : (own : ℕ) (cells : List Cell) → first_broken cells ≡ None →
 unfolding written_data
 data-front own cells un all =
     let f = front cells in
-    let z = zeros_behind cells in
+    let z = zeros_after cells in
     let ps = stretches f in
     let few = bytes_in f in
     let all_f = written-front cells all in
     let un_f = unbroken-front cells un in
-    let size : length (bytes_in cells) - zeros_behind (written_cells (bytes_in cells) (stretches cells)) ≡ length few =
-    let e = ap zeros_behind (given_back cells un all) in
+    let size : length (bytes_in cells) - zeros_after (written_cells (bytes_in cells) (stretches cells)) ≡ length few =
+    let e = ap zeros_after (given_back cells un all) in
     omega (arith, e, ap length (bytes-more cells), length-append few (replicate z 0), length-replicate {A = ℕ} z 0) in
-    let size_f : length few - zeros_behind (written_cells few ps) ≡ length few =
-    let e = ap zeros_behind (given_back f un_f all_f) in
+    let size_f : length few - zeros_after (written_cells few ps) ≡ length few =
+    let e = ap zeros_after (given_back f un_f all_f) in
     omega (arith, e, front-ends cells) in
     let fit = fit-stored own (length few) ps (stretches_written f all_f) in
     let stored' : with_stored own (bytes_in cells) (stretches cells) ≡ with_stored own few ps ++ replicate z 0 =

@@ -24,27 +24,27 @@ same_members size a b (p ∷ ps) [] p_are q_are there back = absurd (there p (in
 same_members size a b (p ∷ ps) (q ∷ qs) p_are q_are there back =
     ap (λ (r : Patch). r ∷ ps) heads ∙ ap (λ (l : List Patch). q ∷ l) (same_members size (p.location + p.count) (q.location + q.count) ps qs p_are.2 q_are.2 tail_there tail_back)
   where
-    behind : (low : ℕ) (rs : List Patch) (r : Patch) → AreWritten size low rs → Has rs r → low ≤ r.location
-    behind low rs r are has = (written_is size low rs r are has).1
+    following : (low : ℕ) (rs : List Patch) (r : Patch) → AreWritten size low rs → Has rs r → low ≤ r.location
+    following low rs r are has = (written_is size low rs r are has).1
 
     heads : p ≡ q
     heads = elim (there p (inl refl)) [
       | inl same ↦ same
       | inr more ↦ elim (back q (inl refl)) [
         | inl same ↦ sym same
-        | inr more' ↦ absurd (omega (arith, behind (q.location + q.count) qs p q_are.2 more, behind (p.location + p.count) ps q p_are.2 more', (count_some size p p_are.0).0, (count_some size q q_are.0).0))
+        | inr more' ↦ absurd (omega (arith, following (q.location + q.count) qs p q_are.2 more, following (p.location + p.count) ps q p_are.2 more', (count_some size p p_are.0).0, (count_some size q q_are.0).0))
       ]
     ]
 
     tail_there : (r : Patch) → Has ps r → Has qs r
     tail_there r has = elim (there r (inr has)) [
-      | inl same ↦ absurd (let at = behind (p.location + p.count) ps r p_are.2 has in let here : r.location ≡ p.location = ap (λ (x : Patch). x.location) (same ∙ sym heads) in omega (arith, at, here, (count_some size p p_are.0).0))
+      | inl same ↦ absurd (let at = following (p.location + p.count) ps r p_are.2 has in let here : r.location ≡ p.location = ap (λ (x : Patch). x.location) (same ∙ sym heads) in omega (arith, at, here, (count_some size p p_are.0).0))
       | inr more ↦ more
     ]
 
     tail_back : (r : Patch) → Has qs r → Has ps r
     tail_back r has = elim (back r (inr has)) [
-      | inl same ↦ absurd (let at = behind (q.location + q.count) qs r q_are.2 has in let here : r.location ≡ q.location = ap (λ (x : Patch). x.location) (same ∙ heads) in omega (arith, at, here, (count_some size q q_are.0).0))
+      | inl same ↦ absurd (let at = following (q.location + q.count) qs r q_are.2 has in let here : r.location ≡ q.location = ap (λ (x : Patch). x.location) (same ∙ heads) in omega (arith, at, here, (count_some size q q_are.0).0))
       | inr more ↦ more
     ]
 
@@ -61,9 +61,9 @@ Steady cells = (k f s o : ℕ) (sh : ℤ) (i : ℕ) → slice_get cells (suc k) 
 abbrev Leads : List Cell → Type 0
 Leads cells = (f s o : ℕ) (sh : ℤ) (i : ℕ) → slice_get cells 0 ≡ Some (Part f s o sh (suc i)) → ⊥
 
-unbroken-behind : (at : ℕ) (c : Cell) (cells : List Cell) → Steady (c ∷ cells) → broken_from at (Some c) cells ≡ None
-unbroken-behind at c [] steady = refl
-unbroken-behind at c (d ∷ cells) steady = by_cell d steady (unbroken-behind (at + 1) d cells (λ k f s o sh i is. steady (suc k) f s o sh i is))
+unbroken-following : (at : ℕ) (c : Cell) (cells : List Cell) → Steady (c ∷ cells) → broken_from at (Some c) cells ≡ None
+unbroken-following at c [] steady = refl
+unbroken-following at c (d ∷ cells) steady = by_cell d steady (unbroken-following (at + 1) d cells (λ k f s o sh i is. steady (suc k) f s o sh i is))
   where
     by_cell : (e : Cell) → Steady (c ∷ e ∷ cells) → broken_from (at + 1) (Some e) cells ≡ None → broken_from at (Some c) (e ∷ cells) ≡ None
     by_cell (Byte b) st rest = rest
@@ -76,8 +76,8 @@ unbroken-behind at c (d ∷ cells) steady = by_cell d steady (unbroken-behind (a
 unbroken : (cells : List Cell) → Leads cells → Steady cells → first_broken cells ≡ None
 unfolding first_broken
 unbroken [] leads steady = refl
-unbroken (Byte b ∷ cells) leads steady = unbroken-behind (0 + 1) (Byte b) cells steady
-unbroken (Part f s o sh zero ∷ cells) leads steady = unbroken-behind (0 + 1) (Part f s o sh zero) cells steady
+unbroken (Byte b ∷ cells) leads steady = unbroken-following (0 + 1) (Byte b) cells steady
+unbroken (Part f s o sh zero ∷ cells) leads steady = unbroken-following (0 + 1) (Part f s o sh zero) cells steady
 unbroken (Part f s o sh (suc i) ∷ cells) leads steady = absurd (leads f s o sh i refl)
 
 -- ---- the cells that patches give

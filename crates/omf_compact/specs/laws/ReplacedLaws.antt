@@ -136,7 +136,7 @@ module _ (path file other : List ℕ) (held now : FileMap) (same : HoldSame file
   file_is q f e has = same_Some f file (sym has.0 ∙ ap (get held) e ∙ replaces.before)
 
   other_there : (q : List ℕ) → q ≡ path → HoldsFile now q other
-  other_there q e = (ap (get now) e ∙ replaces.behind, same.short')
+  other_there q e = (ap (get now) e ∙ replaces.following, same.short')
 
   kept : (q f : List ℕ) → q ≢ path → HoldsFile held q f → HoldsFile now q f
   kept q f apart has = (replaces.rest q apart ∙ has.0, has.1)
@@ -222,7 +222,7 @@ swapped file other same = record {
 }
 
 pub put_back : (path file other : List ℕ) (held now : FileMap) → Replaces path file other held now → Replaces path other file now held
-put_back path file other held now replaces = record { before = replaces.behind; behind = replaces.before; rest = λ q apart. sym (replaces.rest q apart) }
+put_back path file other held now replaces = record { before = replaces.following; following = replaces.before; rest = λ q apart. sym (replaces.rest q apart) }
 
 -- ---- the canonical file in the place of a load file
 

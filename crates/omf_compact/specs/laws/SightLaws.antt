@@ -24,11 +24,11 @@ use Rattle.loader_machine.specs.declared.faults.LoaderFault.TheVariants.{CannotR
 use Rattle.loader_machine.specs.State.{User, Machine, UserSeen, Pokes, first_id, handles_of, held_at, outlines, is_attached, ids_from}
 use Rattle.loader_machine.specs.Presences.{presence_at}
 use Rattle.loader_machine.specs.Stands.{AddressSetting, entries_bytes, read_bytes, with_pokes, stands}
-use Rattle.loader_machine.specs.Found.{FileFound, Unread, Bad, Good, IsFound, IsRowFound, Joined, Stops, Joins, JoinsFound, AreJoined, joined_behind, reads_of}
+use Rattle.loader_machine.specs.Found.{FileFound, Unread, Bad, Good, IsFound, IsRowFound, Joined, Stops, Joins, JoinsFound, AreJoined, joined_after, reads_of}
 use Rattle.loader_machine.specs.Commands.{Command, Banks, Load, LoadSegment, UnloadSegment, Jsl, ShutDown, Restart, Purge, Poke, Bytes, Where, Info, Alloc, Free, Lock, Unlock, Level, StateOf, Room, Compact, Reply, Entered, SegmentIs, Refused}
 use Rattle.loader_machine.specs.Refusals.{Refuse, load_refusal, rows_refusal, load_segment_refusal, restart_refusal}
 use Rattle.loader_machine.specs.Steps.{Sees, IsSeen, Decides, Does, Either, Begins, IsPut, Lands, joined_user, joined_users, lost_from, lost_in, lost_refusal, begun_users, LoadsJoined, LoadsFound, StepsLoad, Activates, MakesActive, setting_in, StandsIn, IsAt, AddressPlace, Nowhere, In, IsLocated, EntersEntry, EntersSegment, Enters, target_at_code, address_of, no_jsl, StepsJsl, are_there, RestartsInPlace, again_users, StepsRestart, Steps}
-use Rattle.loader_machine.specs.Needs.{is_read, path_if, NeedsOf, Reaches, restart_reads, Needs, rows_if, rows_of, NeedsBehind, IsReadFor}
+use Rattle.loader_machine.specs.Needs.{is_read, path_if, NeedsOf, Reaches, restart_reads, Needs, rows_if, rows_of, NeedsAfter, IsReadFor}
 use Rattle.loader_machine.specs.Transcript.{IsAnswered}
 use Rattle.omf_compact.specs.Replaced.{IsLikeReply, SameReply, AnswersAlike}
 use Rattle.omf_compact.specs.laws.Sights.{Sight, sight_of, AreAlike, Shows}
@@ -184,9 +184,9 @@ pub data IsLikeJoined (joined joined' : Joined) : Type 0 where
   Stopped : (reads : ℕ) (why why' : LoaderFault) → joined ≡ Stops reads why → joined' ≡ Stops reads why' → IsLikeReply (Refused why) (Refused why') → IsLikeJoined joined joined'
   AllJoin : (all others : List (List Segment)) → joined ≡ Joins all → joined' ≡ Joins others → map (map head_of) all ≡ map (map head_of) others → IsLikeJoined joined joined'
 
-behind_alike : (segments others : List Segment) → AreAlike segments others → (rest rest' : Joined) → IsLikeJoined rest rest' → IsLikeJoined (joined_behind segments rest) (joined_behind others rest')
-behind_alike segments others alike rest rest' (Stopped reads why why' is is' like) = Stopped (reads + 1) why why' (ap (joined_behind segments) is) (ap (joined_behind others) is') like
-behind_alike segments others alike rest rest' (AllJoin all all' is is' heads) = AllJoin (segments ∷ all) (others ∷ all') (ap (joined_behind segments) is) (ap (joined_behind others) is')
+after_alike : (segments others : List Segment) → AreAlike segments others → (rest rest' : Joined) → IsLikeJoined rest rest' → IsLikeJoined (joined_after segments rest) (joined_after others rest')
+after_alike segments others alike rest rest' (Stopped reads why why' is is' like) = Stopped (reads + 1) why why' (ap (joined_after segments) is) (ap (joined_after others) is') like
+after_alike segments others alike rest rest' (AllJoin all all' is is' heads) = AllJoin (segments ∷ all) (others ∷ all') (ap (joined_after segments) is) (ap (joined_after others) is')
     (ap (λ (hs : List SegmentHead). hs ∷ map (map head_of) all) (heads_alike segments others alike) ∙ ap (λ (l : List (List SegmentHead)). map head_of others ∷ l) heads)
 
 -- where headers are the same, so are the users of rows
@@ -255,8 +255,8 @@ module _ (held other : FileMap) (there : Shows held other) (back : Shows other h
       (Stops 1 (BadFile one.0), (Bad one.0, one.1, refl), Stopped 1 (BadFile fault) (BadFile one.0) joins refl one.2)
   found_alike path paths joined (Good segments) is joins rest =
       let one = there.runtime path segments is in
-      let behind = rest joins.0 joins.1 in
-      (joined_behind one.0 behind.0, (Good one.0, one.1, (behind.0, behind.1, refl)), subst (λ (j : Joined). IsLikeJoined j (joined_behind one.0 behind.0)) (sym joins.2) (behind_alike segments one.0 one.2 joins.0 behind.0 behind.2))
+      let following = rest joins.0 joins.1 in
+      (joined_after one.0 following.0, (Good one.0, one.1, (following.0, following.1, refl)), subst (λ (j : Joined). IsLikeJoined j (joined_after one.0 following.0)) (sym joins.2) (after_alike segments one.0 one.2 joins.0 following.0 following.2))
 
   joined_alike : (paths : List (List ℕ)) (joined : Joined) → AreJoined held paths joined → JoinedAlike paths joined
   joined_alike [] joined is = (Joins [], refl, AllJoin [] [] is refl refl)
@@ -366,10 +366,10 @@ module _ (Makes : MakesRoom) (held other : FileMap) (there : Shows held other) (
       (λ reply'. (found : FileFound) × IsFound other path found × LoadsFound Makes other state path found reply' next)
       (λ done. let one = finds state path done.0 reply next done.1 done.2 in (one.2.0, (one.0, one.1, one.2.1), one.2.2)) is
 
-  tells : (state : Machine) (id number : ℕ) (user : User) (reply : Reply) (next : Machine)
+  reports : (state : Machine) (id number : ℕ) (user : User) (reply : Reply) (next : Machine)
       → (sees : Sees held state id) × (s : Segment) × (segment_at sees.segments number ≡ Some s) × (reply ≡ SegmentIs (presence_at state.slots (handles_of user) number) s.fields.length s.fields.kind) × (next ≡ state)
       → (sees : Sees other state id) × (s : Segment) × (segment_at sees.segments number ≡ Some s) × (reply ≡ SegmentIs (presence_at state.slots (handles_of user) number) s.fields.length s.fields.kind) × (next ≡ state)
-  tells state id number user reply next is =
+  reports state id number user reply next is =
       let t = at_alike is.0.segments (too held other there back is.0).segments number is.1 (too_alike held other there back state id is.0) is.2 in (
         too held other there back is.0,
         t.0,
@@ -395,7 +395,7 @@ module _ (Makes : MakesRoom) (held other : FileMap) (there : Shows held other) (
   steps state (Bytes id number at count) reply next is =
       (reply, does held other there back state id _ reply next _ _ (λ user x. (x.0, stands_in held other there back state id number x.0 x.1, x.2, x.3)) is, SameReply refl)
   steps state (Where address) reply next is = (reply, (is.0, located state address is.0 is.1, is.2, is.3), SameReply refl)
-  steps state (Info id number) reply next is = (reply, does held other there back state id _ reply next _ _ (λ user. tells state id number user reply next) is, SameReply refl)
+  steps state (Info id number) reply next is = (reply, does held other there back state id _ reply next _ _ (λ user. reports state id number user reply next) is, SameReply refl)
   steps state (Alloc size attributes address) reply next is = (reply, is, SameReply refl)
   steps state (Free h) reply next is = (reply, is, SameReply refl)
   steps state (Lock h) reply next is = (reply, is, SameReply refl)
@@ -488,38 +488,38 @@ module _ (held other : FileMap) (there : Shows held other) (back : Shows other h
   reads_alike joined joined' (Stopped reads why why' is is' like) = rw (is, is') refl
   reads_alike joined joined' (AllJoin all others is is' heads) = rw (is, is') (sym (length-map all (map head_of)) ∙ ap length heads ∙ length-map others (map head_of))
 
-  behind : (state : Machine) (command : Command) (rows : List (List ℕ)) (reads : ℕ) → NeedsBehind held state command rows reads → NeedsBehind other state command rows reads
-  behind state (Load path) rows reads (inl is) =
+  following : (state : Machine) (command : Command) (rows : List (List ℕ)) (reads : ℕ) → NeedsAfter held state command rows reads → NeedsAfter other state command rows reads
+  following state (Load path) rows reads (inl is) =
       let found = rows_found state path is.1 is.2 in
       let joined = joined_alike held other there back rows is.4 is.5 in
       inl (is.0, found.0, found.1, is.3 ∙ found.2, joined.0, joined.1, is.6 ∙ reads_alike is.4 joined.0 joined.2)
-  behind state (Load path) rows reads (inr is) = inr is
-  behind state (Banks banks) rows reads is = is
-  behind state (LoadSegment id number) rows reads is = is
-  behind state (UnloadSegment id number) rows reads is = is
-  behind state (Jsl id number at) rows reads is = is
-  behind state (ShutDown id keep) rows reads is = is
-  behind state (Restart id) rows reads is = is
-  behind state (Purge id) rows reads is = is
-  behind state (Poke id number at byte) rows reads is = is
-  behind state (Bytes id number at count) rows reads is = is
-  behind state (Where address) rows reads is = is
-  behind state (Info id number) rows reads is = is
-  behind state (Alloc size attributes address) rows reads is = is
-  behind state (Free h) rows reads is = is
-  behind state (Lock h) rows reads is = is
-  behind state (Unlock h) rows reads is = is
-  behind state (Level h level) rows reads is = is
-  behind state (StateOf h) rows reads is = is
-  behind state Room rows reads is = is
-  behind state Compact rows reads is = is
+  following state (Load path) rows reads (inr is) = inr is
+  following state (Banks banks) rows reads is = is
+  following state (LoadSegment id number) rows reads is = is
+  following state (UnloadSegment id number) rows reads is = is
+  following state (Jsl id number at) rows reads is = is
+  following state (ShutDown id keep) rows reads is = is
+  following state (Restart id) rows reads is = is
+  following state (Purge id) rows reads is = is
+  following state (Poke id number at byte) rows reads is = is
+  following state (Bytes id number at count) rows reads is = is
+  following state (Where address) rows reads is = is
+  following state (Info id number) rows reads is = is
+  following state (Alloc size attributes address) rows reads is = is
+  following state (Free h) rows reads is = is
+  following state (Lock h) rows reads is = is
+  following state (Unlock h) rows reads is = is
+  following state (Level h level) rows reads is = is
+  following state (StateOf h) rows reads is = is
+  following state Room rows reads is = is
+  following state Compact rows reads is = is
 
   reads_for : (state : Machine) (command : Command) (others reads : ℕ) → IsReadFor held state command others reads → IsReadFor other state command others reads
   reads_for state command others reads is = (
     is.0,
     needs state command is.0 is.1,
     elim is.2 [
-      | inl all ↦ inl (all.0, all.1, all.2, behind state command all.1 all.2 all.3, all.4)
+      | inl all ↦ inl (all.0, all.1, all.2, following state command all.1 all.2 all.3, all.4)
       | inr some ↦ inr some
     ],
   )

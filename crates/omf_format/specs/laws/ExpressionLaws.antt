@@ -6,7 +6,7 @@ use Rattle.omf_format.specs.declared.expression.ExprFault.{ExprFault}
 use Rattle.omf_format.specs.declared.expression.ExprFault.TheVariants.{Truncated}
 use Rattle.omf_format.specs.Number.{IsBytes}
 use Rattle.omf_format.specs.laws.FieldLaws.{ok_is, Takes, IsBytes-drop}
-use Rattle.omf_format.specs.Expression.{Term, AreTerms, term_text, terms_text, Tree, IsTree, terms_of, depth, Spells, IsExpression, pending_behind, Lead, term_step, IsFirstFault, BeginsWith, placed_terms, first_terms, terms_in, read_from, read_all, flaw_of, split_of, expression_field}
+use Rattle.omf_format.specs.Expression.{Term, AreTerms, term_text, terms_text, Tree, IsTree, terms_of, depth, Spells, IsExpression, pending_after, Lead, term_step, IsFirstFault, BeginsWith, placed_terms, first_terms, terms_in, read_from, read_all, flaw_of, split_of, expression_field}
 use Rattle.omf_format.specs.laws.TermLaws.{term_takes_some, term-takes, term-again, end-again, terms_take_some, terms-same, StepIs, step-found, step-end, step-term}
 use Rattle.omf_format.specs.laws.TreeLaws.{tree_has_terms, tree_leads, tree_of, tree-same}
 
@@ -31,9 +31,9 @@ none-begins l a b x y p q e =
 
 -- ---- reading terms
 
-pub read-term : (l n at pending behind : ℕ) (bytes rest : List ℕ) → term_step l at pending bytes ≡ Ok (Some behind, rest) → read_from (suc n) l at pending bytes ≡ read_from n l (at + (length bytes - length rest)) behind rest
+pub read-term : (l n at pending following : ℕ) (bytes rest : List ℕ) → term_step l at pending bytes ≡ Ok (Some following, rest) → read_from (suc n) l at pending bytes ≡ read_from n l (at + (length bytes - length rest)) following rest
 unfolding read_from
-read-term l n at pending behind bytes rest e = rw e refl
+read-term l n at pending following bytes rest e = rw e refl
 
 pub read-end : (l n at pending : ℕ) (bytes rest : List ℕ) → term_step l at pending bytes ≡ Ok (None, rest) → read_from (suc n) l at pending bytes ≡ Ok rest
 unfolding read_from
@@ -60,10 +60,10 @@ read-through l n at pending last (term ∷ terms) rest are leads =
     let fuel : suc (length terms) + n ≡ suc (length terms + n) = omega arith in
     let place : at + (length (text ++ more) - length more) ≡ at + length text = omega (arith, length-append text more) in
     let sum : at + length text + length (terms_text l terms) ≡ at + length (text ++ terms_text l terms) = omega (arith, length-append text (terms_text l terms)) in
-    let first = read-term l (length terms + n) at pending (pending_behind pending term) (text ++ more) more (step-term l at pending term more are.0 leads.0 leads.1) in
-    let others = read-through l n (at + length text) (pending_behind pending term) last terms rest are.1 leads.2 in
+    let first = read-term l (length terms + n) at pending (pending_after pending term) (text ++ more) more (step-term l at pending term more are.0 leads.0 leads.1) in
+    let others = read-through l n (at + length text) (pending_after pending term) last terms rest are.1 leads.2 in
     let whole : read_from (suc (length terms + n)) l at pending (text ++ more) ≡ read_from n l (at + length (text ++ terms_text l terms)) last rest =
-    first ∙ ap (λ (k : ℕ). read_from (length terms + n) l k (pending_behind pending term) more) place ∙ others ∙ ap (λ (k : ℕ). read_from n l k last rest) sum in
+    first ∙ ap (λ (k : ℕ). read_from (length terms + n) l k (pending_after pending term) more) place ∙ others ∙ ap (λ (k : ℕ). read_from n l k last rest) sum in
     rw (fuel, append_assoc text (terms_text l terms) rest) whole
 
 -- the terms, and what stands behind them
@@ -80,15 +80,15 @@ runs_shorter : (l pending : ℕ) (bytes : List ℕ) (last : ℕ) (rest : List �
 runs_shorter l pending bytes last rest runs = omega (arith, ap length runs.parts, length-append (terms_text l runs.terms) rest)
 
 -- one more term before them
-runs_more : (l pending behind last : ℕ) (bytes more rest : List ℕ) → IsBytes bytes → StepIs l pending bytes (Some behind) more → (IsBytes more → Runs l behind more last rest) → Runs l pending bytes last rest
-runs_more l pending behind last bytes more rest fits step next =
+runs_more : (l pending following last : ℕ) (bytes more rest : List ℕ) → IsBytes bytes → StepIs l pending bytes (Some following) more → (IsBytes more → Runs l following more last rest) → Runs l pending bytes last rest
+runs_more l pending following last bytes more rest fits step next =
     let took = term-takes l bytes (Some step.0, more) fits step.1 in
     let runs = next took.taken.rest_fits in
     record {
       terms = step.0 ∷ runs.terms;
       parts = took.taken.parts ∙ ap (λ (b : List ℕ). term_text l step.0 ++ b) runs.parts ∙ sym (append_assoc (term_text l step.0) (terms_text l runs.terms) rest);
       formed = (took.term', runs.formed);
-      leads = (step.2, let room : pending_behind pending step.0 ≤ 64 = omega (arith, step.3, step.4) in room, subst (λ (p : ℕ). Lead p runs.terms last) step.3 runs.leads);
+      leads = (step.2, let room : pending_after pending step.0 ≤ 64 = omega (arith, step.3, step.4) in room, subst (λ (p : ℕ). Lead p runs.terms last) step.3 runs.leads);
     }
 
 -- what is read to its end
@@ -111,13 +111,13 @@ read_runs l (suc n) at pending bytes rest fits e = by_step (term_step l at pendi
         let here : Runs l 1 bytes 1 bytes = runs_none l 1 bytes in
         let at_one : Runs l pending bytes 1 bytes = subst (λ (p : ℕ). Runs l p bytes 1 bytes) (sym found.1) here in
         subst (λ (b : List ℕ). Runs l pending bytes 1 b) (took.taken.parts ∙ ap (λ (b : List ℕ). 0x00 ∷ b) same) at_one
-    by_step (Ok (Some behind, more)) is next =
-        let on = read-term l n at pending behind bytes more is in
-        let found = step-found l at pending bytes (Some behind, more) is in
-        runs_more l pending behind 1 bytes more (0x00 ∷ rest) fits found (λ fits'. next (at + (length bytes - length more)) behind more fits' (sym on ∙ e))
+    by_step (Ok (Some following, more)) is next =
+        let on = read-term l n at pending following bytes more is in
+        let found = step-found l at pending bytes (Some following, more) is in
+        runs_more l pending following 1 bytes more (0x00 ∷ rest) fits found (λ fits'. next (at + (length bytes - length more)) following more fits' (sym on ∙ e))
 
-shorter_behind : (text bytes more : List ℕ) → bytes ≡ text ++ more → 1 ≤ length text → length more < length bytes
-shorter_behind text bytes more parts some = omega (arith, ap length parts, length-append text more)
+shorter_after : (text bytes more : List ℕ) → bytes ≡ text ++ more → 1 ≤ length text → length more < length bytes
+shorter_after text bytes more parts some = omega (arith, ap length parts, length-append text more)
 
 -- the terms before the first fault
 pub record Stops (l at pending : ℕ) (bytes : List ℕ) (fault : ExprFault) : Type 0 where
@@ -140,18 +140,18 @@ read_stops l (suc n) at pending bytes fault fits enough e = by_step (term_step l
     by_step (Ok (None, more)) is next =
         let ends = read-end l n at pending bytes more is in
         absurd cc
-    by_step (Ok (Some behind, more)) is next =
-        let on = read-term l n at pending behind bytes more is in
-        let found = step-found l at pending bytes (Some behind, more) is in
+    by_step (Ok (Some following, more)) is next =
+        let on = read-term l n at pending following bytes more is in
+        let found = step-found l at pending bytes (Some following, more) is in
         let took = term-takes l bytes (Some found.0, more) fits found.1 in
-        let fewer : length more < length bytes = shorter_behind (term_text l found.0) bytes more took.taken.parts (term_takes_some l found.0) in
-        let stops = next (at + (length bytes - length more)) behind more took.taken.rest_fits (omega arith) (sym on ∙ e) in
-        let shorter : length stops.rest ≤ length more = runs_shorter l behind more stops.last stops.rest stops.runs in
+        let fewer : length more < length bytes = shorter_after (term_text l found.0) bytes more took.taken.parts (term_takes_some l found.0) in
+        let stops = next (at + (length bytes - length more)) following more took.taken.rest_fits (omega arith) (sym on ∙ e) in
+        let shorter : length stops.rest ≤ length more = runs_shorter l following more stops.last stops.rest stops.runs in
         let place : at + (length bytes - length more) + (length more - length stops.rest) ≡ at + (length bytes - length stops.rest) = omega arith in
         record {
           last = stops.last;
           rest = stops.rest;
-          runs = runs_more l pending behind stops.last bytes more stops.rest fits found (λ fits'. stops.runs);
+          runs = runs_more l pending following stops.last bytes more stops.rest fits found (λ fits'. stops.runs);
           wrong = rw (← place) stops.wrong;
         }
 

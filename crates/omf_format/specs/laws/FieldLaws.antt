@@ -109,11 +109,11 @@ bytes_back zero (b ∷ bytes) len fits = absurd (omega arith)
 bytes_back (suc w) [] len fits = absurd (omega arith)
 bytes_back (suc w) (b ∷ bytes) len fits =
     let byte : b < 256 = fits 0 in
-    let behind : little_from 1 w (b ∷ bytes) ≡ little_number w bytes = little_from-cons 0 w b bytes in
+    let following : little_from 1 w (b ∷ bytes) ≡ little_number w bytes = little_from-cons 0 w b bytes in
     let rest = little_number w bytes in
     let low : (b + 256 * rest) % 256 ≡ b = omega (arith, byte) in
     let high : (b + 256 * rest) / 256 ≡ rest = omega (arith, byte) in
-    rw (behind, bytes-next w 0 (b + 256 * rest), low, high, bytes_back w bytes (omega arith) (IsBytes-rest b bytes fits)) refl
+    rw (following, bytes-next w 0 (b + 256 * rest), low, high, bytes_back w bytes (omega arith) (IsBytes-rest b bytes fits)) refl
 
 pub number_takes : (w : ℕ) (bytes : List ℕ) (n : ℕ) (rest : List ℕ) → IsBytes bytes → number_field w bytes ≡ Ok (n, rest) → Takes bytes (little_bytes w n) rest × (n < 256 ^ w)
 unfolding number_field number_at
@@ -241,8 +241,8 @@ counted_field n rest =
       | inl lt ↦ lt-ltb _ _ (omega arith) ∙ sym (lt-ltb _ _ lt)
       | inr le ↦ le-ltb _ _ (omega arith) ∙ sym (le-ltb _ _ le)
     ] in
-    let behind : drop (1 + n) (n ∷ rest) ≡ drop n rest = ap (λ (k : ℕ). drop k (n ∷ rest)) (let k : 1 + n ≡ suc n = omega arith in k) in
-    rw (is, size, behind) refl
+    let following : drop (1 + n) (n ∷ rest) ≡ drop n rest = ap (λ (k : ℕ). drop k (n ∷ rest)) (let k : 1 + n ≡ suc n = omega arith in k) in
+    rw (is, size, following) refl
 
 counted_takes : (bytes : List ℕ) (found : List ℕ × List ℕ) → IsBytes bytes → name_field 0 bytes ≡ Ok found → TakesName 0 bytes found
 unfolding name_text
@@ -286,8 +286,8 @@ name_again zero name rest is =
     let long : ltb (length (name ++ rest)) (length name) ≡ false = le-ltb _ _ (omega (arith, length-append name rest)) in
     let some : eqb (length name) 0 ≡ false = ne_eqb _ _ (λ e. absurd (omega arith)) in
     let front : take (length name) (name ++ rest) ≡ name = take_at name rest (length name) refl in
-    let behind : drop (length name) (name ++ rest) ≡ rest = drop_at name rest (length name) refl in
-    counted_field (length name) (name ++ rest) ∙ rw (long, front, some, behind) refl
+    let following : drop (length name) (name ++ rest) ≡ rest = drop_at name rest (length name) refl in
+    counted_field (length name) (name ++ rest) ∙ rw (long, front, some, following) refl
 name_again (suc l) name rest is =
     let pad : List ℕ = replicate (suc l - length name) 32 in
     let len : length (name ++ pad) ≡ suc l = omega (arith, length-append name pad, length-replicate {A = ℕ} (suc l - length name) 32) in
@@ -295,8 +295,8 @@ name_again (suc l) name rest is =
     let front : take (suc l) (name ++ pad ++ rest) ≡ name ++ pad = take_at (name ++ pad) rest (suc l) len in
     let trimmed : without_trailing 32 (name ++ pad) ≡ name = trim-padded 32 (suc l - length name) name ∙ is.2 in
     let some : eqb (length name) 0 ≡ false = ne_eqb _ _ (λ e. absurd (omega arith)) in
-    let behind : drop (suc l) (name ++ pad ++ rest) ≡ rest = drop_at (name ++ pad) rest (suc l) len in
-    padded_field (suc l) (name ++ pad ++ rest) (omega arith) ∙ rw (long, front, trimmed, some, behind) refl
+    let following : drop (suc l) (name ++ pad ++ rest) ≡ rest = drop_at (name ++ pad) rest (suc l) len in
+    padded_field (suc l) (name ++ pad ++ rest) (omega arith) ∙ rw (long, front, trimmed, some, following) refl
 
 -- ---- fields in general
 

@@ -39,13 +39,13 @@ pub ended_at_none : (r : Reader) → next_answer r ≡ Ok None → r.ended ≡ t
 unfolding next_answer
 ended_at_none r e = cases r.ended refl e
   where
-    told_some : (answer : Result (Record × List ℕ) Flaw) → answer_of_reader r answer ≡ Ok None → ⊥
-    told_some (Ok found) e = cc
-    told_some (Err flaw) e = cc
+    reported_some : (answer : Result (Record × List ℕ) Flaw) → answer_of_reader r answer ≡ Ok None → ⊥
+    reported_some (Ok found) e = cc
+    reported_some (Err flaw) e = cc
 
     cases : (b : Bool) → b ≡ r.ended → cond b nothing (answer_of_reader r (first_record r.layout r.left)) ≡ Ok None → r.ended ≡ true
     cases true is e = sym is
-    cases false is e = absurd (told_some (first_record r.layout r.left) e)
+    cases false is e = absurd (reported_some (first_record r.layout r.left) e)
 
 -- a reader that hands out a record has not ended
 pub open_at_some : (r : Reader) (found : ℕ × Record) → next_answer r ≡ Ok (Some found) → r.ended ≡ true → ⊥
@@ -184,16 +184,16 @@ stops_same r (found ∷ xs) [] x y a b p q e f = let clash : gave found ≡ fail
 stops_same r (found ∷ xs) (other ∷ ys) x y a b p q e f = stops_same (after_next r) xs ys x y a b p.1 q.1 e f
 
 -- a segment has one first fault
-told_same : (at : ℕ) (file : List ℕ) (a b : FaultAt) → HasFault at file a → HasFault at file b → a ≡ b
-told_same at file a b (InHeader x is says) (InHeader y is' says') =
+reported_same : (at : ℕ) (file : List ℕ) (a b : FaultAt) → HasFault at file a → HasFault at file b → a ≡ b
+reported_same at file a b (InHeader x is says) (InHeader y is' says') =
     says ∙ ap (to_file_header_fault at (version_of (drop at file))) (some_same x y (sym is ∙ is')) ∙ sym says'
-told_same at file a b (InHeader x is says) (InRecord f before reader of header run is' says') =
+reported_same at file a b (InHeader x is says) (InRecord f before reader of header run is' says') =
     let clash : some x ≡ None = sym is ∙ header.passes in
     cc
-told_same at file a b (InRecord f before reader of header run is says) (InHeader y is' says') =
+reported_same at file a b (InRecord f before reader of header run is says) (InHeader y is' says') =
     let clash : some y ≡ None = sym is' ∙ header.passes in
     cc
-told_same at file a b (InRecord f xs x of header run is says) (InRecord g ys y of' header' run' is' says') =
+reported_same at file a b (InRecord f xs x of header run is says) (InRecord g ys y of' header' run' is' says') =
     let fields : g ≡ f = header'.fields ∙ sym header.fields in
     let same = stops_same (body_reader at f file) xs ys x y of of' run (subst (λ (h : Fields). HandsOut (body_reader at h file) ys y) fields run') is is' in
     says ∙ ap to_file_record_fault same ∙ sym says'
@@ -201,7 +201,7 @@ told_same at file a b (InRecord f xs x of header run is says) (InRecord g ys y o
 -- two segments at fault, behind sound segments of one file, are one
 faults_same : (xs ys : List Segment) (at x y : ℕ) (file : List ℕ) (a b : FaultAt) → AreSegments xs at file x → AreSegments ys at file y
     → HasFault x file a → HasFault y file b → (a ≡ b) × (length xs ≡ length ys)
-faults_same [] [] at x y file a b p q h k = (told_same y file a b (subst (λ (n : ℕ). HasFault n file a) (sym p ∙ q) h) k, refl)
+faults_same [] [] at x y file a b p q h k = (reported_same y file a b (subst (λ (n : ℕ). HasFault n file a) (sym p ∙ q) h) k, refl)
 faults_same [] (s ∷ ys) at x y file a b p q h k = absurd (no_segment x file a s h (q.0 ∙ p) q.2)
 faults_same (s ∷ xs) [] at x y file a b p q h k = absurd (no_segment y file b s k (p.0 ∙ q) p.2)
 faults_same (s ∷ xs) (t ∷ ys) at x y file a b p q h k =

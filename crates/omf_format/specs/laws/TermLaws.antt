@@ -10,7 +10,7 @@ use Rattle.omf_format.specs.declared.expression.ExprFault.TheVariants.{Shape, To
 use Rattle.omf_format.specs.Number.{IsBytes}
 use Rattle.omf_format.specs.Field.{◌>>=◌, number_field, name_field, name_text, IsName}
 use Rattle.omf_format.specs.laws.FieldLaws.{IsBytes-rest, bind_ok, done, ok_is, chosen, Takes, Takes-code, number_takes, number_again, name_takes, name_again}
-use Rattle.omf_format.specs.Expression.{Term, Operator, Location, Constant, Named, Offset, is_operator, is_named, IsTerm, term_text, AreTerms, terms_text, term_field, operands_of, pending_behind, pending_after_term, step_of, term_step}
+use Rattle.omf_format.specs.Expression.{Term, Operator, Location, Constant, Named, Offset, is_operator, is_named, IsTerm, term_text, AreTerms, terms_text, term_field, operands_of, pending_after, pending_after_term, step_of, term_step}
 
 -- ---- one term
 
@@ -187,23 +187,23 @@ terms-same l (t ∷ a) (u ∷ b) x y p q e =
 -- what a step that did not fail has found
 abbrev pub StepIs : ℕ → ℕ → List ℕ → Option ℕ → List ℕ → Type 0
 StepIs l pending bytes None rest = (term_field l bytes ≡ Ok (None, rest)) × (pending ≡ 1)
-StepIs l pending bytes (Some behind) rest =
-    (term : Term) × (term_field l bytes ≡ Ok (Some term, rest)) × (operands_of term ≤ pending) × (behind ≡ pending_behind pending term) × (behind ≤ 64)
+StepIs l pending bytes (Some following) rest =
+    (term : Term) × (term_field l bytes ≡ Ok (Some term, rest)) × (operands_of term ≤ pending) × (following ≡ pending_after pending term) × (following ≤ 64)
 
-judged_end : (at pending : ℕ) (behind : Option ℕ) → pending_after_term at pending None ≡ Ok behind → (behind ≡ None) × (pending ≡ 1)
-judged_end at pending behind e = by_cases (eqb pending 1) refl e
+judged_end : (at pending : ℕ) (following : Option ℕ) → pending_after_term at pending None ≡ Ok following → (following ≡ None) × (pending ≡ 1)
+judged_end at pending following e = by_cases (eqb pending 1) refl e
   where
-    by_cases : (b : Bool) → eqb pending 1 ≡ b → cond b (Ok None) (Err (Shape at)) ≡ Ok behind → (behind ≡ None) × (pending ≡ 1)
+    by_cases : (b : Bool) → eqb pending 1 ≡ b → cond b (Ok None) (Err (Shape at)) ≡ Ok following → (following ≡ None) × (pending ≡ 1)
     by_cases true is e = (cc, eqb-true _ _ is)
     by_cases false is e = absurd cc
 
-judged_term : (at pending : ℕ) (term : Term) (behind : Option ℕ) → pending_after_term at pending (Some term) ≡ Ok behind
-    → (behind ≡ Some (pending_behind pending term)) × (operands_of term ≤ pending) × (pending_behind pending term ≤ 64)
-judged_term at pending term behind e = by_cases (ltb pending (operands_of term)) (ltb 64 (pending_behind pending term)) refl refl e
+judged_term : (at pending : ℕ) (term : Term) (following : Option ℕ) → pending_after_term at pending (Some term) ≡ Ok following
+    → (following ≡ Some (pending_after pending term)) × (operands_of term ≤ pending) × (pending_after pending term ≤ 64)
+judged_term at pending term following e = by_cases (ltb pending (operands_of term)) (ltb 64 (pending_after pending term)) refl refl e
   where
-    by_cases : (b c : Bool) → ltb pending (operands_of term) ≡ b → ltb 64 (pending_behind pending term) ≡ c
-        → cond b (Err (Shape at)) (cond c (Err (TooDeep at)) (Ok (Some (pending_behind pending term)))) ≡ Ok behind
-        → (behind ≡ Some (pending_behind pending term)) × (operands_of term ≤ pending) × (pending_behind pending term ≤ 64)
+    by_cases : (b c : Bool) → ltb pending (operands_of term) ≡ b → ltb 64 (pending_after pending term) ≡ c
+        → cond b (Err (Shape at)) (cond c (Err (TooDeep at)) (Ok (Some (pending_after pending term)))) ≡ Ok following
+        → (following ≡ Some (pending_after pending term)) × (operands_of term ≤ pending) × (pending_after pending term ≤ 64)
     by_cases true c p q e = absurd cc
     by_cases false true p q e = absurd cc
     by_cases false false p q e = (cc, ltb-false _ _ p, ltb-false _ _ q)
@@ -219,15 +219,15 @@ step_found l at pending bytes (Err Cut) found is e = absurd cc
 step_found l at pending bytes (Err Unread) found is e = absurd cc
 step_found l at pending bytes (Err Broken) found is e = absurd cc
 step_found l at pending bytes (Ok (None, rest)) found is e =
-    let b = bind_ok (pending_after_term at pending None) (λ behind. Ok (behind, rest)) found e in
+    let b = bind_ok (pending_after_term at pending None) (λ following. Ok (following, rest)) found e in
     let j = judged_end at pending b.0 b.1 in
     let made : StepIs l pending bytes None rest = (is, j.1) in
     let same : (b.0, rest) ≡ found = right_is (b.0, rest) found b.2 in
     subst (λ (f : Option ℕ × List ℕ). StepIs l pending bytes f.0 f.1) same (subst (λ (o : Option ℕ). StepIs l pending bytes o rest) (sym j.0) made)
 step_found l at pending bytes (Ok (Some term, rest)) found is e =
-    let b = bind_ok (pending_after_term at pending (Some term)) (λ behind. Ok (behind, rest)) found e in
+    let b = bind_ok (pending_after_term at pending (Some term)) (λ following. Ok (following, rest)) found e in
     let j = judged_term at pending term b.0 b.1 in
-    let made : StepIs l pending bytes (Some (pending_behind pending term)) rest = (term, is, j.1, refl, j.2) in
+    let made : StepIs l pending bytes (Some (pending_after pending term)) rest = (term, is, j.1, refl, j.2) in
     let same : (b.0, rest) ≡ found = right_is (b.0, rest) found b.2 in
     subst (λ (f : Option ℕ × List ℕ). StepIs l pending bytes f.0 f.1) same (subst (λ (o : Option ℕ). StepIs l pending bytes o rest) (sym j.0) made)
 
@@ -239,10 +239,10 @@ pub step-end : (l at : ℕ) (rest : List ℕ) → term_step l at 1 (0x00 ∷ res
 unfolding term_step
 step-end l at rest = rw (end-again l rest) refl
 
-pub step-term : (l at pending : ℕ) (term : Term) (rest : List ℕ) → IsTerm l term → operands_of term ≤ pending → pending_behind pending term ≤ 64
-    → term_step l at pending (term_text l term ++ rest) ≡ Ok (Some (pending_behind pending term), rest)
+pub step-term : (l at pending : ℕ) (term : Term) (rest : List ℕ) → IsTerm l term → operands_of term ≤ pending → pending_after pending term ≤ 64
+    → term_step l at pending (term_text l term ++ rest) ≡ Ok (Some (pending_after pending term), rest)
 unfolding term_step
 step-term l at pending term rest is some fits =
     let enough = le-ltb pending (operands_of term) some in
-    let room = le-ltb 64 (pending_behind pending term) fits in
+    let room = le-ltb 64 (pending_after pending term) fits in
     rw (term-again l term rest is, enough, room) refl

@@ -4,7 +4,7 @@ use Rattle.std.proofs.Common.{◌≡◌, ℕ, ◌+◌, ◌≤◌, max, Bool, tru
 use Rattle.std.specs.Prelude.{◌||◌}
 use Rattle.std.proofs.lemmas.Bool.{eq-eqb, ne_eqb, cases_eq}
 use Rattle.std.proofs.lemmas.List.{append-nil}
-use Rattle.omf_format.specs.Expression.{Term, Operator, Location, Constant, Named, Offset, operand_count, IsTerm, AreTerms, Tree, Leaf, Unary, Binary, IsOperand, IsTree, terms_of, depth, operands_of, pending_behind, Lead}
+use Rattle.omf_format.specs.Expression.{Term, Operator, Location, Constant, Named, Offset, operand_count, IsTerm, AreTerms, Tree, Leaf, Unary, Binary, IsOperand, IsTree, terms_of, depth, operands_of, pending_after, Lead}
 use Rattle.omf_format.specs.laws.TermLaws.{AreTerms-append}
 
 -- ---- from a tree to its terms
@@ -31,8 +31,8 @@ tree_has_terms l (Binary code t u) is =
     (AreTerms-append l (terms_of u) (Operator code ∷ []) (tree_has_terms l u is.3) (is.0, tt))
 
 -- a term with its operands there and room for its value
-pub lead_on : (pending behind last : ℕ) (term : Term) (more : List Term) → operands_of term ≤ pending → pending_behind pending term ≡ behind → behind ≤ 64 → Lead behind more last → Lead pending (term ∷ more) last
-lead_on pending behind last term more some is room on =
+pub lead_on : (pending following last : ℕ) (term : Term) (more : List Term) → operands_of term ≤ pending → pending_after pending term ≡ following → following ≤ 64 → Lead following more last → Lead pending (term ∷ more) last
+lead_on pending following last term more some is room on =
     (some, omega (arith, is), subst (λ (p : ℕ). Lead p more last) (sym is) on)
 
 pub tree_leads : (l : ℕ) (t : Tree) (pending last : ℕ) (more : List Term) → IsTree l t → pending + depth t ≤ 64 → Lead (pending + 1) more last → Lead pending (terms_of t ++ more) last
@@ -70,10 +70,10 @@ forest_terms (t ∷ trees) = forest_terms trees ++ terms_of t
 pub record Grown (l : ℕ) (trees : List Tree) (term : Term) : Type 0 where
   pub grown : List Tree
   pub forest : IsForest l grown
-  pub count : length grown ≡ pending_behind (length trees) term
+  pub count : length grown ≡ pending_after (length trees) term
   pub same : forest_terms grown ≡ forest_terms trees ++ term ∷ []
 
-grow_operand : (l : ℕ) (trees : List Tree) (term : Term) → IsForest l trees → IsOperand l term → pending_behind (length trees) term ≤ 64 → Grown l trees term
+grow_operand : (l : ℕ) (trees : List Tree) (term : Term) → IsForest l trees → IsOperand l term → pending_after (length trees) term ≤ 64 → Grown l trees term
 grow_operand l trees term forest is room =
     let none = operand_takes_none l term is in
     record { grown = Leaf term ∷ trees; forest = (is, omega (arith, none), forest); count = omega (arith, none); same = refl }
@@ -114,7 +114,7 @@ grow_operator l trees code forest term some =
       | inr other ↦ let two = operand_counts code other in grow_binary l trees code two forest term (omega (arith, two))
     ]
 
-pub grow : (l : ℕ) (trees : List Tree) (term : Term) → IsForest l trees → IsTerm l term → operands_of term ≤ length trees → pending_behind (length trees) term ≤ 64 → Grown l trees term
+pub grow : (l : ℕ) (trees : List Tree) (term : Term) → IsForest l trees → IsTerm l term → operands_of term ≤ length trees → pending_after (length trees) term ≤ 64 → Grown l trees term
 grow l trees (Operator code) forest is some room = grow_operator l trees code forest is some
 grow l trees Location forest is some room = grow_operand l trees Location forest is room
 grow l trees (Constant n) forest is some room = grow_operand l trees (Constant n) forest is room

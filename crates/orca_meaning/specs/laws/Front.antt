@@ -5,7 +5,7 @@ use Rattle.std.specs.Option.{option_or}
 use Rattle.omf_format.specs.Expression.{Term, terms_of}
 use Rattle.orca_meaning.specs.declared.operators.Operator as operators
 use Rattle.orca_meaning.specs.declared.operators.Operands.{Operands}
-use Rattle.orca_meaning.specs.Token.{Token, Value, Before, Between, Opens, Closes, Found, seen_as, byte_at, operator_at, operator_token_at, token_at, expects_behind, Stand}
+use Rattle.orca_meaning.specs.Token.{Token, Value, Before, Between, Opens, Closes, Found, seen_as, byte_at, operator_at, operator_token_at, token_at, expects_following, Stand}
 use Rattle.orca_meaning.specs.Formula.{Formula, tokens_of, tree_of, StandsAt}
 use Rattle.orca_meaning.specs.laws.Machine.{Wait, Bracket, Pending, State, state, reduced, closed, step, and_then, run, ended, finish, start, postfix}
 use Rattle.orca_meaning.specs.laws.Complete.{complete}
@@ -15,13 +15,13 @@ use Rattle.orca_meaning.specs.laws.Complete.{complete}
 -- what is expected behind tokens
 abbrev pub expects_after : Bool → List Token → Bool
 expects_after expects [] = expects
-expects_after expects (token ∷ tokens) = expects_after (expects_behind token) tokens
+expects_after expects (token ∷ tokens) = expects_after (expects_following token) tokens
 
 -- one more token
-pub stand_push : (o : Operands) (e : Bool) (text : List ℕ) (done : List Token) (left behind : List ℕ) (t : Token) → Stand o e text done left
-    → token_at o (expects_after e done) left ≡ Some (t, behind) → Stand o e text (done ++ t ∷ []) behind
-stand_push o e text [] left behind t stand is = (behind, subst (λ (x : List ℕ). token_at o e x ≡ Some (t, behind)) stand is, refl)
-stand_push o e text (x ∷ done) left behind t stand is = (stand.0, stand.1, stand_push o (expects_behind x) stand.0 done left behind t stand.2 is)
+pub stand_push : (o : Operands) (e : Bool) (text : List ℕ) (done : List Token) (left following : List ℕ) (t : Token) → Stand o e text done left
+    → token_at o (expects_after e done) left ≡ Some (t, following) → Stand o e text (done ++ t ∷ []) following
+stand_push o e text [] left following t stand is = (following, subst (λ (x : List ℕ). token_at o e x ≡ Some (t, following)) stand is, refl)
+stand_push o e text (x ∷ done) left following t stand is = (stand.0, stand.1, stand_push o (expects_following x) stand.0 done left following t stand.2 is)
 
 -- of tokens that stand at one front, one list begins the other
 pub data Compared (o : Operands) (e : Bool) (a b : List Token) (r s : List ℕ) : Type 0 where
@@ -37,15 +37,15 @@ compared o e text (x ∷ a) [] r s p q = Shorter x a refl (subst (λ (y : List �
 compared o e text (x ∷ a) (y ∷ b) r s p q =
     let same : (x, p.0) ≡ (y, q.0) = same_token (x, p.0) (y, q.0) (token_at o e text) p.1 q.1 in
     let head : x ≡ y = ap (λ (z : Token × List ℕ). z.0) same in
-    let behind : p.0 ≡ q.0 = ap (λ (z : Token × List ℕ). z.1) same in
-    let rest : Stand o (expects_behind x) p.0 b s = subst (λ (z : Token). Stand o (expects_behind z) p.0 b s) (sym head) (subst (λ (z : List ℕ). Stand o (expects_behind y) z b s) (sym behind) q.2) in
-    onto x y head (compared o (expects_behind x) p.0 a b r s p.2 rest)
+    let following : p.0 ≡ q.0 = ap (λ (z : Token × List ℕ). z.1) same in
+    let rest : Stand o (expects_following x) p.0 b s = subst (λ (z : Token). Stand o (expects_following z) p.0 b s) (sym head) (subst (λ (z : List ℕ). Stand o (expects_following y) z b s) (sym following) q.2) in
+    onto x y head (compared o (expects_following x) p.0 a b r s p.2 rest)
   where
-    onto : (x y : Token) → x ≡ y → Compared o (expects_behind x) a b r s → Compared o e (x ∷ a) (y ∷ b) r s
+    onto : (x y : Token) → x ≡ y → Compared o (expects_following x) a b r s → Compared o e (x ∷ a) (y ∷ b) r s
     onto x y head (Longer more is stand) = Longer more (ap (λ (l : List Token). y ∷ l) is ∙ ap (λ (z : Token). z ∷ (a ++ more)) (sym head)) stand
     onto x y head (Shorter t more is stand) =
         Shorter t more (ap (λ (l : List Token). x ∷ l) is ∙ ap (λ (z : Token). z ∷ (b ++ t ∷ more)) head)
-        (subst (λ (z : Token). Stand o (expects_after (expects_behind z) b) s (t ∷ more) r) head stand)
+        (subst (λ (z : Token). Stand o (expects_after (expects_following z) b) s (t ∷ more) r) head stand)
 
 -- ---- running
 
@@ -87,7 +87,7 @@ closed-expects (out, Bracket ∷ ws) m is = ap (λ (s : State). s.expects) (sym 
 closed-expects (out, Pending level code ∷ ws) m is = absurd cc
 
 -- what is expected in a state is what is expected behind its tokens
-pub step-expects : (s m : State) (t : Token) → step s t ≡ Some m → m.expects ≡ expects_behind t
+pub step-expects : (s m : State) (t : Token) → step s t ≡ Some m → m.expects ≡ expects_following t
 unfolding step
 step-expects s m (Value operand) is = ap (λ (x : State). x.expects) (sym (some_first s.expects _ m is))
 step-expects s m (Before sign) is = ap (λ (x : State). x.expects) (sym (some_first s.expects _ m is))
@@ -105,7 +105,7 @@ runs_expect s m [] same is = ap (λ (x : State). x.expects) (sym (some_first tru
 runs_expect s m (t ∷ tokens) same is = by_step (step s t) refl is (λ x. runs_expect x m tokens refl)
   where
     by_step : (r : Option State) → step s t ≡ r → and_then r (λ x. run x tokens) ≡ Some m
-        → ((x : State) → run x tokens ≡ Some m → m.expects ≡ expects_after x.expects tokens) → m.expects ≡ expects_after (expects_behind t) tokens
+        → ((x : State) → run x tokens ≡ Some m → m.expects ≡ expects_after x.expects tokens) → m.expects ≡ expects_after (expects_following t) tokens
     by_step None at is others = absurd cc
     by_step (Some x) at is others = others x is ∙ ap (λ (e : Bool). expects_after e tokens) (step-expects s x t at)
 
@@ -139,34 +139,34 @@ ended-not_closed (out, w ∷ ws) terms is = absurd cc
 pub byte-found : (wanted : ℕ) (t : Token) (text : List ℕ) (x : Token × List ℕ) → byte_at wanted t text ≡ Some x → text ≡ wanted ∷ x.1
 unfolding byte_at
 byte-found wanted t [] x is = absurd cc
-byte-found wanted t (byte ∷ behind) x is = by_test (eqb byte wanted) refl is
+byte-found wanted t (byte ∷ following) x is = by_test (eqb byte wanted) refl is
   where
-    by_test : (b : Bool) → eqb byte wanted ≡ b → cond b (Some (t, behind)) None ≡ Some x → byte ∷ behind ≡ wanted ∷ x.1
+    by_test : (b : Bool) → eqb byte wanted ≡ b → cond b (Some (t, following)) None ≡ Some x → byte ∷ following ≡ wanted ∷ x.1
     by_test true test is =
         let same : byte ≡ wanted = eqb-true byte wanted test in
-        let pair : (t, behind) ≡ x = cc in
-        let rest : behind ≡ x.1 = ap (λ (z : Token × List ℕ). z.1) pair in
+        let pair : (t, following) ≡ x = cc in
+        let rest : following ≡ x.1 = ap (λ (z : Token × List ℕ). z.1) pair in
         cc
     by_test false test is = absurd cc
 
 byte-token : (wanted : ℕ) (t : Token) (text : List ℕ) (x : Token × List ℕ) → byte_at wanted t text ≡ Some x → x.0 ≡ t
 unfolding byte_at
 byte-token wanted t [] x is = absurd cc
-byte-token wanted t (byte ∷ behind) x is = by_test (eqb byte wanted) is
+byte-token wanted t (byte ∷ following) x is = by_test (eqb byte wanted) is
   where
-    by_test : (b : Bool) → cond b (Some (t, behind)) None ≡ Some x → x.0 ≡ t
-    by_test true is = let pair : (t, behind) ≡ x = cc in ap (λ (z : Token × List ℕ). z.0) (sym pair)
+    by_test : (b : Bool) → cond b (Some (t, following)) None ≡ Some x → x.0 ≡ t
+    by_test true is = let pair : (t, following) ≡ x = cc in ap (λ (z : Token × List ℕ). z.0) (sym pair)
     by_test false is = absurd cc
 
 -- where no operator stands, only a closing parenthesis can
-pub only_closes : (o : Operands) (text : List ℕ) (t : Token) (behind : List ℕ) → operator_at text ≡ None → token_at o false text ≡ Some (t, behind) → t ≡ Closes
+pub only_closes : (o : Operands) (text : List ℕ) (t : Token) (following : List ℕ) → operator_at text ≡ None → token_at o false text ≡ Some (t, following) → t ≡ Closes
 unfolding operator_token_at
-only_closes o text t behind none is = by_byte (byte_at 0x29 Closes text) refl is
+only_closes o text t following none is = by_byte (byte_at 0x29 Closes text) refl is
   where
-    by_byte : (f : Found Token) → byte_at 0x29 Closes text ≡ f → option_or f (seen_as Between (operator_at text)) ≡ Some (t, behind) → t ≡ Closes
-    by_byte (Some x) found is = let pair : x ≡ (t, behind) = cc in ap (λ (z : Token × List ℕ). z.0) (sym pair) ∙ byte-token 0x29 Closes text x found
+    by_byte : (f : Found Token) → byte_at 0x29 Closes text ≡ f → option_or f (seen_as Between (operator_at text)) ≡ Some (t, following) → t ≡ Closes
+    by_byte (Some x) found is = let pair : x ≡ (t, following) = cc in ap (λ (z : Token × List ℕ). z.0) (sym pair) ∙ byte-token 0x29 Closes text x found
     by_byte None found is =
-        let clash : seen_as Between None ≡ Some (t, behind) = subst (λ (f : Found operators.Operator). seen_as Between f ≡ Some (t, behind)) none is in
+        let clash : seen_as Between None ≡ Some (t, following) = subst (λ (f : Found operators.Operator). seen_as Between f ≡ Some (t, following)) none is in
         absurd cc
 
 -- behind the tokens of a formula, where no operator stands, no token can be taken

@@ -8,7 +8,7 @@ use Rattle.orca_meaning.specs.declared.forms.OperandUse.{OperandUse}
 use Rattle.orca_meaning.specs.declared.forms.OperandUse.TheVariants.{Never, Accumulator, Signature, Always}
 use Rattle.orca_meaning.specs.declared.lines.Span.{Span}
 use Rattle.orca_meaning.specs.Characters.{is_blank}
-use Rattle.orca_meaning.specs.Quotes.{outside_from, is_closed, quote_behind, quote_after}
+use Rattle.orca_meaning.specs.Quotes.{outside_from, is_closed, quote_following, quote_after}
 use Rattle.orca_meaning.specs.Line.{is_ink, is_comment, next_blank, next_ink, next_outside, three_fields, operand_span, statement_fields, no_fields, fields_of, part, LiesIn, HaveFields, AreParted}
 
 -- ---- the fields lie in the line
@@ -16,10 +16,10 @@ use Rattle.orca_meaning.specs.Line.{is_ink, is_comment, next_blank, next_ink, ne
 pub outside_from-le : (test : ℕ → Bool) (quote : Option ℕ) (text : List ℕ) → outside_from test quote text ≤ length text
 unfolding outside_from
 outside_from-le test quote [] = omega arith
-outside_from-le test quote (byte ∷ behind) = by_test (is_closed quote && test byte) (outside_from-le test (quote_behind quote byte) behind)
+outside_from-le test quote (byte ∷ following) = by_test (is_closed quote && test byte) (outside_from-le test (quote_following quote byte) following)
   where
-    by_test : (b : Bool) → outside_from test (quote_behind quote byte) behind ≤ length behind
-        → cond b 0 (outside_from test (quote_behind quote byte) behind + 1) ≤ length (byte ∷ behind)
+    by_test : (b : Bool) → outside_from test (quote_following quote byte) following ≤ length following
+        → cond b 0 (outside_from test (quote_following quote byte) following + 1) ≤ length (byte ∷ following)
     by_test true le = omega arith
     by_test false le = omega arith
 
@@ -70,10 +70,10 @@ AllPassing p text = AllByRecursion (λ byte. p byte ≡ true) text
 
 front_passes : (p : ℕ → Bool) (text : List ℕ) → AllPassing p (take (prefix_len p text) text)
 front_passes p [] = tt
-front_passes p (byte ∷ behind) = by_test (p byte) refl (front_passes p behind)
+front_passes p (byte ∷ following) = by_test (p byte) refl (front_passes p following)
   where
-    by_test : (b : Bool) → p byte ≡ b → AllPassing p (take (prefix_len p behind) behind) → AllPassing p (take (cond b (1 + prefix_len p behind) 0) (byte ∷ behind))
-    by_test true is others = let next : 1 + prefix_len p behind ≡ suc (prefix_len p behind) = omega arith in rw next (is, others)
+    by_test : (b : Bool) → p byte ≡ b → AllPassing p (take (prefix_len p following) following) → AllPassing p (take (cond b (1 + prefix_len p following) 0) (byte ∷ following))
+    by_test true is others = let next : 1 + prefix_len p following ≡ suc (prefix_len p following) = omega arith in rw next (is, others)
     by_test false is others = tt
 
 not_not : (b : Bool) → not (not b) ≡ true → b ≡ true
@@ -86,11 +86,11 @@ is_false false e = refl
 
 all_blank : (text : List ℕ) → AllPassing (λ byte. not (is_ink byte)) text → AllByRecursion (λ byte. is_blank byte ≡ true) text
 all_blank [] all = tt
-all_blank (byte ∷ behind) all = (not_not (is_blank byte) all.0, all_blank behind all.1)
+all_blank (byte ∷ following) all = (not_not (is_blank byte) all.0, all_blank following all.1)
 
 all_ink : (text : List ℕ) → AllPassing (λ byte. not (is_blank byte)) text → AllByRecursion (λ byte. is_blank byte ≡ false) text
 all_ink [] all = tt
-all_ink (byte ∷ behind) all = (is_false (is_blank byte) all.0, all_ink behind all.1)
+all_ink (byte ∷ following) all = (is_false (is_blank byte) all.0, all_ink following all.1)
 
 -- the bytes from a place on are those up to another and those from there on
 from_on : (text : List ℕ) (at n : ℕ) → drop at text ≡ take n (drop at text) ++ drop (at + n) text
@@ -114,7 +114,7 @@ are_parted text =
     record {
       before = take b (drop label_end text);
       between = take d (drop operation_end text);
-      behind = drop (operand + e) text;
+      following = drop (operand + e) text;
       whole = from_on text 0 a ∙ ap (λ (l : List ℕ). take a (drop 0 text) ++ l) (from_on text label_end b
           ∙ ap (λ (l : List ℕ). take b (drop label_end text) ++ l) (from_on text operation c
           ∙ ap (λ (l : List ℕ). take c (drop operation text) ++ l) (from_on text operation_end d
@@ -133,13 +133,13 @@ pub outside_is_first : (test : ℕ → Bool) (quote : Option ℕ) (text : List �
     × (k ≡ outside_from test quote text → (is_closed (quote_after quote (take k text)) && test (slice_index text k)) ≡ true)
 unfolding outside_from
 outside_is_first test quote [] k less = absurd (omega arith)
-outside_is_first test quote (byte ∷ behind) k less = by_test (is_closed quote && test byte) refl k less (λ i less. outside_is_first test (quote_behind quote byte) behind i less)
+outside_is_first test quote (byte ∷ following) k less = by_test (is_closed quote && test byte) refl k less (λ i less. outside_is_first test (quote_following quote byte) following i less)
   where
-    by_test : (b : Bool) → (is_closed quote && test byte) ≡ b → (k : ℕ) → k < length (byte ∷ behind)
-        → ((i : ℕ) → i < length behind → (i < outside_from test (quote_behind quote byte) behind → (is_closed (quote_after (quote_behind quote byte) (take i behind)) && test (slice_index behind i)) ≡ false)
-        × (i ≡ outside_from test (quote_behind quote byte) behind → (is_closed (quote_after (quote_behind quote byte) (take i behind)) && test (slice_index behind i)) ≡ true))
-        → (k < cond b 0 (outside_from test (quote_behind quote byte) behind + 1) → (is_closed (quote_after quote (take k (byte ∷ behind))) && test (slice_index (byte ∷ behind) k)) ≡ false)
-        × (k ≡ cond b 0 (outside_from test (quote_behind quote byte) behind + 1) → (is_closed (quote_after quote (take k (byte ∷ behind))) && test (slice_index (byte ∷ behind) k)) ≡ true)
+    by_test : (b : Bool) → (is_closed quote && test byte) ≡ b → (k : ℕ) → k < length (byte ∷ following)
+        → ((i : ℕ) → i < length following → (i < outside_from test (quote_following quote byte) following → (is_closed (quote_after (quote_following quote byte) (take i following)) && test (slice_index following i)) ≡ false)
+        × (i ≡ outside_from test (quote_following quote byte) following → (is_closed (quote_after (quote_following quote byte) (take i following)) && test (slice_index following i)) ≡ true))
+        → (k < cond b 0 (outside_from test (quote_following quote byte) following + 1) → (is_closed (quote_after quote (take k (byte ∷ following))) && test (slice_index (byte ∷ following) k)) ≡ false)
+        × (k ≡ cond b 0 (outside_from test (quote_following quote byte) following + 1) → (is_closed (quote_after quote (take k (byte ∷ following))) && test (slice_index (byte ∷ following) k)) ≡ true)
     by_test true is zero less others = (λ none. absurd (omega arith), λ same. is)
     by_test true is (suc i) less others = (λ none. absurd (omega arith), λ same. absurd (omega arith))
     by_test false is zero less others = (λ some. is, λ same. absurd (omega arith))

@@ -15,7 +15,7 @@ use Rattle.orca_meaning.specs.Token.{Token, Value, Before, Between, Opens, Close
 use Rattle.orca_meaning.specs.Formula.{Formula, Single, Group, Signed, Joined, tokens_of, MeansAt}
 use Rattle.orca_meaning.specs.laws.FormulaLaws.{one_tree}
 use Rattle.orca_meaning.specs.laws.TokenLaws.{token-shorter}
-use Rattle.orca_meaning.specs.Operand.{Meaning, is_accumulator, opening, prefix, body, form_behind, plain_form, whole_index, IsOperand, IsMissing, IsInAccumulator, IsOne, IsTwo}
+use Rattle.orca_meaning.specs.Operand.{Meaning, is_accumulator, opening, prefix, body, form_after, plain_form, whole_index, IsOperand, IsMissing, IsInAccumulator, IsOne, IsTwo}
 
 -- a formula has a token at least
 pub record HasToken (tokens : List Token) : Type 0 where
@@ -64,12 +64,12 @@ abbrev meaning : Form → Prefix → List Tree → Meaning
 meaning form prefix trees = record { form = form; prefix = prefix; trees = trees }
 
 -- one formula or two
-one_or_two : (o : Opening) (first second : Tree) (rest r s behind : List ℕ) (form : Form) (text : List ℕ) → o ≡ Open → MeansAt Labels text first rest → form_behind o rest ≡ Some form
-    → MeansAt Labels text second (0x2C ∷ behind) → whole_index (0x2C ∷ behind) ≡ None → ⊥
-one_or_two o first second rest r s behind form text bare is one is' none =
-    let same : rest ≡ 0x2C ∷ behind = (one_tree Labels text first second rest (0x2C ∷ behind) is is').1 in
-    let here : option_map plain_form (whole_index (0x2C ∷ behind)) ≡ Some form =
-    subst (λ (t : List ℕ). option_map plain_form (whole_index t) ≡ Some form) same (subst (λ (x : Opening). form_behind x rest ≡ Some form) bare one) in
+one_or_two : (o : Opening) (first second : Tree) (rest r s following : List ℕ) (form : Form) (text : List ℕ) → o ≡ Open → MeansAt Labels text first rest → form_after o rest ≡ Some form
+    → MeansAt Labels text second (0x2C ∷ following) → whole_index (0x2C ∷ following) ≡ None → ⊥
+one_or_two o first second rest r s following form text bare is one is' none =
+    let same : rest ≡ 0x2C ∷ following = (one_tree Labels text first second rest (0x2C ∷ following) is is').1 in
+    let here : option_map plain_form (whole_index (0x2C ∷ following)) ≡ Some form =
+    subst (λ (t : List ℕ). option_map plain_form (whole_index t) ≡ Some form) same (subst (λ (x : Opening). form_after x rest ≡ Some form) bare one) in
     let wrong : option_map plain_form None ≡ Some form = subst (λ (x : Option Index). option_map plain_form x ≡ Some form) none here in
     absurd cc
 
@@ -77,28 +77,28 @@ one_or_two o first second rest r s behind form text bare is one is' none =
 pub one_operand : (mnemonic : Option Mnemonic) (text : List ℕ) (a b : Meaning) → IsOperand mnemonic text a → IsOperand mnemonic text b → a ≡ b
 one_operand m text a b (IsMissing none is) (IsMissing none' is') = is ∙ sym is'
 one_operand m text a b (IsMissing none is) (IsInAccumulator acc is') = absurd (nothing_is_no_accumulator m text none acc)
-one_operand m text a b (IsMissing none is) (IsOne not_a tree rest form means behind is') = absurd (nothing_has_no_formula m text tree rest none means)
-one_operand m text a b (IsMissing none is) (IsTwo not_a bare first second behind means index means' is') = absurd (nothing_has_no_formula m text first (0x2C ∷ behind) none means)
+one_operand m text a b (IsMissing none is) (IsOne not_a tree rest form means following is') = absurd (nothing_has_no_formula m text tree rest none means)
+one_operand m text a b (IsMissing none is) (IsTwo not_a bare first second following means index means' is') = absurd (nothing_has_no_formula m text first (0x2C ∷ following) none means)
 one_operand m text a b (IsInAccumulator acc is) (IsMissing none is') = absurd (nothing_is_no_accumulator m text none acc)
 one_operand m text a b (IsInAccumulator acc is) (IsInAccumulator acc' is') = is ∙ sym is'
-one_operand m text a b (IsInAccumulator acc is) (IsOne not_a tree rest form means behind is') = absurd (clash _ acc not_a)
-one_operand m text a b (IsInAccumulator acc is) (IsTwo not_a bare first second behind means index means' is') = absurd (clash _ acc not_a)
-one_operand m text a b (IsOne not_a tree rest form means behind is) (IsMissing none is') = absurd (nothing_has_no_formula m text tree rest none means)
-one_operand m text a b (IsOne not_a tree rest form means behind is) (IsInAccumulator acc is') = absurd (clash _ acc not_a)
-one_operand m text a b (IsOne not_a tree rest form means behind is) (IsOne not_a' tree' rest' form' means' behind' is') =
+one_operand m text a b (IsInAccumulator acc is) (IsOne not_a tree rest form means following is') = absurd (clash _ acc not_a)
+one_operand m text a b (IsInAccumulator acc is) (IsTwo not_a bare first second following means index means' is') = absurd (clash _ acc not_a)
+one_operand m text a b (IsOne not_a tree rest form means following is) (IsMissing none is') = absurd (nothing_has_no_formula m text tree rest none means)
+one_operand m text a b (IsOne not_a tree rest form means following is) (IsInAccumulator acc is') = absurd (clash _ acc not_a)
+one_operand m text a b (IsOne not_a tree rest form means following is) (IsOne not_a' tree' rest' form' means' following' is') =
     let same = one_tree Labels (body m text) tree tree' rest rest' means means' in
-    let forms : form ≡ form' = same_form form form' (form_behind (opening m text) rest) behind (subst (λ (r : List ℕ). form_behind (opening m text) r ≡ Some form') (sym same.1) behind') in
+    let forms : form ≡ form' = same_form form form' (form_after (opening m text) rest) following (subst (λ (r : List ℕ). form_after (opening m text) r ≡ Some form') (sym same.1) following') in
     let trees : tree ≡ tree' = same.0 in
     is ∙ ap (λ (t : Tree). meaning form (prefix m text) (t ∷ [])) trees ∙ ap (λ (x : Form). meaning x (prefix m text) (tree' ∷ [])) forms ∙ sym is'
-one_operand m text a b (IsOne not_a tree rest form means behind is) (IsTwo not_a' bare first second behind' means' index means'' is') =
-    absurd (one_or_two (opening m text) tree first rest [] [] behind' form (body m text) bare means behind means' index)
-one_operand m text a b (IsTwo not_a bare first second behind means index means' is) (IsMissing none is') = absurd (nothing_has_no_formula m text first (0x2C ∷ behind) none means)
-one_operand m text a b (IsTwo not_a bare first second behind means index means' is) (IsInAccumulator acc is') = absurd (clash _ acc not_a)
-one_operand m text a b (IsTwo not_a bare first second behind means index means' is) (IsOne not_a' tree rest form means'' behind' is') =
-    absurd (one_or_two (opening m text) tree first rest [] [] behind form (body m text) bare means'' behind' means index)
-one_operand m text a b (IsTwo not_a bare first second behind means index means' is) (IsTwo not_a' bare' first' second' behind' means'' index' means''' is') =
-    let front = one_tree Labels (body m text) first first' (0x2C ∷ behind) (0x2C ∷ behind') means means'' in
-    let lists : 0x2C ∷ behind ≡ 0x2C ∷ behind' = front.1 in
-    let rest : behind ≡ behind' = cc in
-    let back = one_tree Labels behind second second' [] [] means' (subst (λ (t : List ℕ). MeansAt Labels t second' []) (sym rest) means''') in
+one_operand m text a b (IsOne not_a tree rest form means following is) (IsTwo not_a' bare first second following' means' index means'' is') =
+    absurd (one_or_two (opening m text) tree first rest [] [] following' form (body m text) bare means following means' index)
+one_operand m text a b (IsTwo not_a bare first second following means index means' is) (IsMissing none is') = absurd (nothing_has_no_formula m text first (0x2C ∷ following) none means)
+one_operand m text a b (IsTwo not_a bare first second following means index means' is) (IsInAccumulator acc is') = absurd (clash _ acc not_a)
+one_operand m text a b (IsTwo not_a bare first second following means index means' is) (IsOne not_a' tree rest form means'' following' is') =
+    absurd (one_or_two (opening m text) tree first rest [] [] following form (body m text) bare means'' following' means index)
+one_operand m text a b (IsTwo not_a bare first second following means index means' is) (IsTwo not_a' bare' first' second' following' means'' index' means''' is') =
+    let front = one_tree Labels (body m text) first first' (0x2C ∷ following) (0x2C ∷ following') means means'' in
+    let lists : 0x2C ∷ following ≡ 0x2C ∷ following' = front.1 in
+    let rest : following ≡ following' = cc in
+    let back = one_tree Labels following second second' [] [] means' (subst (λ (t : List ℕ). MeansAt Labels t second' []) (sym rest) means''') in
     is ∙ ap (λ (t : Tree). meaning Pair (prefix m text) (t ∷ second ∷ [])) front.0 ∙ ap (λ (t : Tree). meaning Pair (prefix m text) (first' ∷ t ∷ [])) back.0 ∙ sym is'

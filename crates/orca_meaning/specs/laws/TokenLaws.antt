@@ -14,7 +14,7 @@ use Rattle.orca_meaning.specs.declared.operators.Operands.TheVariants.{Labels, S
 use Rattle.orca_meaning.specs.declared.operators.Operator as operators
 use Rattle.orca_meaning.specs.declared.operators.Sign as signs_type
 use Rattle.orca_meaning.specs.Characters.{is_name_start, is_name_byte, folded}
-use Rattle.orca_meaning.specs.Token.{Operand, Here, Number, Label, LengthOf, CountOf, Token, Value, Before, Between, Opens, Closes, Found, seen_as, digits_at, text_at, number_at, name_at, symbol_at, asked_by, attribute_at, location_at, other_operand_at, operand_at, spelled_at, signs, operators, sign_at, operator_at, byte_at, operand_token_at, operator_token_at, token_at, expects_behind, Stand}
+use Rattle.orca_meaning.specs.Token.{Operand, Here, Number, Label, LengthOf, CountOf, Token, Value, Before, Between, Opens, Closes, Found, seen_as, digits_at, text_at, number_at, name_at, symbol_at, asked_by, attribute_at, location_at, other_operand_at, operand_at, spelled_at, signs, operators, sign_at, operator_at, byte_at, operand_token_at, operator_token_at, token_at, expects_following, Stand}
 
 -- ---- what is found
 
@@ -23,9 +23,9 @@ abbrev pub IsShorter : {A : Type 0} → List ℕ → Found A → Type 0
 IsShorter text None = Unit {0}
 IsShorter text (Some x) = length x.1 < length text
 
-shorter_more : {A : Type 0} (byte : ℕ) (behind : List ℕ) (found : Found A) → IsShorter behind found → IsShorter (byte ∷ behind) found
-shorter_more byte behind None is = tt
-shorter_more byte behind (Some x) is = omega (arith, is)
+shorter_more : {A : Type 0} (byte : ℕ) (following : List ℕ) (found : Found A) → IsShorter following found → IsShorter (byte ∷ following) found
+shorter_more byte following None is = tt
+shorter_more byte following (Some x) is = omega (arith, is)
 
 shorter_cond : {A : Type 0} (b : Bool) (text : List ℕ) (x y : Found A) → IsShorter text x → IsShorter text y → IsShorter text (cond b x y)
 shorter_cond true text x y p q = p
@@ -44,28 +44,28 @@ digits-shorter base text = by_test (eqb n 0) refl
         let some : n ≡ 0 → ⊥ = eqb-false n 0 test in
         omega (arith, length-drop n text, prefix_len-le-length (λ byte. is_digit byte base) text)
 
-text-shorter : (quote : ℕ) (behind : List ℕ) → IsShorter behind (text_at quote behind)
+text-shorter : (quote : ℕ) (following : List ℕ) → IsShorter following (text_at quote following)
 unfolding text_at
-text-shorter quote behind = by_test (leb 1 n && leb n 4 && ltb n (length behind)) refl
+text-shorter quote following = by_test (leb 1 n && leb n 4 && ltb n (length following)) refl
   where
     n : ℕ
-    n = position_or_len (λ byte. eqb byte quote) behind
+    n = position_or_len (λ byte. eqb byte quote) following
 
-    by_test : (b : Bool) → (leb 1 n && leb n 4 && ltb n (length behind)) ≡ b → IsShorter behind (cond b (Some (little_number n behind, drop (n + 1) behind)) None)
+    by_test : (b : Bool) → (leb 1 n && leb n 4 && ltb n (length following)) ≡ b → IsShorter following (cond b (Some (little_number n following, drop (n + 1) following)) None)
     by_test true test =
-        let inside : n < length behind = ltb-true n (length behind) (and_parts (leb 1 n && leb n 4) (ltb n (length behind)) test).1 in
-        omega (arith, length-drop (n + 1) behind)
+        let inside : n < length following = ltb-true n (length following) (and_parts (leb 1 n && leb n 4) (ltb n (length following)) test).1 in
+        omega (arith, length-drop (n + 1) following)
     by_test false test = tt
 
 number-shorter : (text : List ℕ) → IsShorter text (number_at text)
 unfolding number_at
 number-shorter [] = tt
-number-shorter (byte ∷ behind) =
-    let text = byte ∷ behind in
-    shorter_cond (eqb byte 0x24) text _ _ (shorter_more byte behind _ (digits-shorter 16 behind))
-    (shorter_cond (eqb byte 0x25) text _ _ (shorter_more byte behind _ (digits-shorter 2 behind))
-    (shorter_cond (eqb byte 0x40) text _ _ (shorter_more byte behind _ (digits-shorter 8 behind))
-    (shorter_cond (eqb byte 0x27 || eqb byte 0x22) text _ _ (shorter_more byte behind _ (text-shorter byte behind)) (digits-shorter 10 text))))
+number-shorter (byte ∷ following) =
+    let text = byte ∷ following in
+    shorter_cond (eqb byte 0x24) text _ _ (shorter_more byte following _ (digits-shorter 16 following))
+    (shorter_cond (eqb byte 0x25) text _ _ (shorter_more byte following _ (digits-shorter 2 following))
+    (shorter_cond (eqb byte 0x40) text _ _ (shorter_more byte following _ (digits-shorter 8 following))
+    (shorter_cond (eqb byte 0x27 || eqb byte 0x22) text _ _ (shorter_more byte following _ (text-shorter byte following)) (digits-shorter 10 text))))
 
 -- ---- names
 
@@ -77,27 +77,27 @@ IsNameOf text (Some x) = (1 ≤ length x.0) × (length x.0 + length x.1 ≤ leng
 name-is : (text : List ℕ) → IsNameOf text (name_at text)
 unfolding name_at
 name-is [] = tt
-name-is (byte ∷ behind) = by_test (is_name_start byte)
+name-is (byte ∷ following) = by_test (is_name_start byte)
   where
     n : ℕ
-    n = prefix_len is_name_byte behind
+    n = prefix_len is_name_byte following
 
-    by_test : (b : Bool) → IsNameOf (byte ∷ behind) (cond b (Some (folded (byte ∷ take n behind), drop n behind)) None)
+    by_test : (b : Bool) → IsNameOf (byte ∷ following) (cond b (Some (folded (byte ∷ take n following), drop n following)) None)
     by_test true =
-        let size : length (folded (byte ∷ take n behind)) ≡ length (byte ∷ take n behind) = length-map (byte ∷ take n behind) to_ascii_uppercase in
-        (omega (arith, size), omega (arith, size, length-take n behind, length-drop n behind, prefix_len-le-length is_name_byte behind))
+        let size : length (folded (byte ∷ take n following)) ≡ length (byte ∷ take n following) = length-map (byte ∷ take n following) to_ascii_uppercase in
+        (omega (arith, size), omega (arith, size, length-take n following, length-drop n following, prefix_len-le-length is_name_byte following))
     by_test false = tt
 
-name_more : (byte : ℕ) (behind : List ℕ) (found : Found (List ℕ)) → IsNameOf behind found → IsNameOf (byte ∷ behind) found
-name_more byte behind None is = tt
-name_more byte behind (Some x) is = (is.0, omega (arith, is.1))
+name_more : (byte : ℕ) (following : List ℕ) (found : Found (List ℕ)) → IsNameOf following found → IsNameOf (byte ∷ following) found
+name_more byte following None is = tt
+name_more byte following (Some x) is = (is.0, omega (arith, is.1))
 
 symbol-is : (text : List ℕ) → IsNameOf text (symbol_at text)
 unfolding symbol_at
 symbol-is [] = tt
-symbol-is (byte ∷ behind) = by_test (eqb byte 0x26) (name_more byte behind (name_at behind) (name-is behind))
+symbol-is (byte ∷ following) = by_test (eqb byte 0x26) (name_more byte following (name_at following) (name-is following))
   where
-    by_test : (b : Bool) → IsNameOf (byte ∷ behind) (name_at behind) → IsNameOf (byte ∷ behind) (cond b (name_at behind) None)
+    by_test : (b : Bool) → IsNameOf (byte ∷ following) (name_at following) → IsNameOf (byte ∷ following) (cond b (name_at following) None)
     by_test true is = is
     by_test false is = tt
 
@@ -130,17 +130,17 @@ fine_label text (Some x) is = (omega (arith, is.0, is.1), (is.0, omega (arith, i
 fine_location : (text : List ℕ) → IsFineOperand text (location_at text)
 unfolding location_at
 fine_location [] = tt
-fine_location (byte ∷ behind) = by_test (eqb byte 0x2A)
+fine_location (byte ∷ following) = by_test (eqb byte 0x2A)
   where
-    by_test : (b : Bool) → IsFineOperand (byte ∷ behind) (cond b (Some (Here, behind)) None)
+    by_test : (b : Bool) → IsFineOperand (byte ∷ following) (cond b (Some (Here, following)) None)
     by_test true = (omega arith, tt)
     by_test false = tt
 
-fine_asked : (letter colon : ℕ) (behind : List ℕ) (found : Found (List ℕ)) → IsNameOf behind found → IsFineOperand (letter ∷ colon ∷ behind) (asked_by letter found)
-fine_asked letter colon behind found is = by_tests (eqb (to_ascii_uppercase letter) 0x4C) (eqb (to_ascii_uppercase letter) 0x43) found is
+fine_asked : (letter colon : ℕ) (following : List ℕ) (found : Found (List ℕ)) → IsNameOf following found → IsFineOperand (letter ∷ colon ∷ following) (asked_by letter found)
+fine_asked letter colon following found is = by_tests (eqb (to_ascii_uppercase letter) 0x4C) (eqb (to_ascii_uppercase letter) 0x43) found is
   where
-    by_tests : (a b : Bool) (found : Found (List ℕ)) → IsNameOf behind found
-        → IsFineOperand (letter ∷ colon ∷ behind) (cond a (seen_as LengthOf found) (cond b (seen_as CountOf found) None))
+    by_tests : (a b : Bool) (found : Found (List ℕ)) → IsNameOf following found
+        → IsFineOperand (letter ∷ colon ∷ following) (cond a (seen_as LengthOf found) (cond b (seen_as CountOf found) None))
     by_tests true b None is = tt
     by_tests true b (Some x) is = (omega (arith, is.0, is.1), (is.0, omega (arith, is.1)))
     by_tests false true None is = tt
@@ -151,10 +151,10 @@ fine_attribute : (name : List ℕ → Found (List ℕ)) → ((t : List ℕ) → 
 unfolding attribute_at
 fine_attribute name are [] = tt
 fine_attribute name are (letter ∷ []) = tt
-fine_attribute name are (letter ∷ colon ∷ behind) = by_test (eqb colon 0x3A)
+fine_attribute name are (letter ∷ colon ∷ following) = by_test (eqb colon 0x3A)
   where
-    by_test : (b : Bool) → IsFineOperand (letter ∷ colon ∷ behind) (cond b (asked_by letter (name behind)) None)
-    by_test true = fine_asked letter colon behind (name behind) (are behind)
+    by_test : (b : Bool) → IsFineOperand (letter ∷ colon ∷ following) (cond b (asked_by letter (name following)) None)
+    by_test true = fine_asked letter colon following (name following) (are following)
     by_test false = tt
 
 fine_other : (o : Operands) (text : List ℕ) → IsFineOperand text (other_operand_at o text)
@@ -187,7 +187,7 @@ spelled-shorter (row ∷ rows) text some = by_test (bytes_eq row.0 (folded (take
         by_row : (r : List ℕ) → 1 ≤ length r → bytes_eq r (folded (take (length r) [])) ≡ true → ⊥
         by_row [] one is = absurd (omega arith)
         by_row (c ∷ r) one is = absurd cc
-    by_text (byte ∷ behind) test = omega (arith, length-drop (length row.0) (byte ∷ behind), one)
+    by_text (byte ∷ following) test = omega (arith, length-drop (length row.0) (byte ∷ following), one)
 
     by_test : (b : Bool) → bytes_eq row.0 (folded (take (length row.0) text)) ≡ b → IsShorter text (spelled_at rows text)
         → IsShorter text (cond b (Some (row.1, drop (length row.0) text)) (spelled_at rows text))
@@ -205,11 +205,11 @@ operator-shorter text = spelled-shorter operators text refl
 -- ---- tokens
 
 abbrev pub IsFineToken : List ℕ → Token → List ℕ → Type 0
-IsFineToken text (Value operand) behind = (length behind < length text) × HasFineName (length text) operand
-IsFineToken text (Before sign) behind = length behind < length text
-IsFineToken text (Between operator) behind = length behind < length text
-IsFineToken text Opens behind = length behind < length text
-IsFineToken text Closes behind = length behind < length text
+IsFineToken text (Value operand) following = (length following < length text) × HasFineName (length text) operand
+IsFineToken text (Before sign) following = length following < length text
+IsFineToken text (Between operator) following = length following < length text
+IsFineToken text Opens following = length following < length text
+IsFineToken text Closes following = length following < length text
 
 abbrev IsFine : List ℕ → Found Token → Type 0
 IsFine text None = Unit {0}
@@ -219,13 +219,13 @@ fine_token_or : (text : List ℕ) (a b : Found Token) → IsFine text a → IsFi
 fine_token_or text None b p q = q
 fine_token_or text (Some x) b p q = p
 
-fine_byte : (wanted : ℕ) (t : Token) (text : List ℕ) → ((behind : List ℕ) → length behind < length text → IsFineToken text t behind) → IsFine text (byte_at wanted t text)
+fine_byte : (wanted : ℕ) (t : Token) (text : List ℕ) → ((following : List ℕ) → length following < length text → IsFineToken text t following) → IsFine text (byte_at wanted t text)
 unfolding byte_at
 fine_byte wanted t [] is = tt
-fine_byte wanted t (byte ∷ behind) is = by_test (eqb byte wanted)
+fine_byte wanted t (byte ∷ following) is = by_test (eqb byte wanted)
   where
-    by_test : (b : Bool) → IsFine (byte ∷ behind) (cond b (Some (t, behind)) None)
-    by_test true = is behind (omega arith)
+    by_test : (b : Bool) → IsFine (byte ∷ following) (cond b (Some (t, following)) None)
+    by_test true = is following (omega arith)
     by_test false = tt
 
 fine_before : (text : List ℕ) (found : Found signs_type.Sign) → IsShorter text found → IsFine text (seen_as Before found)
@@ -243,19 +243,19 @@ fine_value text (Some x) is = is
 fine_found : (o : Operands) (e : Bool) (text : List ℕ) → IsFine text (token_at o e text)
 unfolding operand_token_at operator_token_at
 fine_found o true text =
-    fine_token_or text (byte_at 0x28 Opens text) _ (fine_byte 0x28 Opens text (λ behind less. less))
+    fine_token_or text (byte_at 0x28 Opens text) _ (fine_byte 0x28 Opens text (λ following less. less))
     (fine_token_or text (seen_as Before (sign_at text)) _ (fine_before text (sign_at text) (sign-shorter text)) (fine_value text (operand_at o text) (fine_operand o text)))
 fine_found o false text =
-    fine_token_or text (byte_at 0x29 Closes text) _ (fine_byte 0x29 Closes text (λ behind less. less)) (fine_between text (operator_at text) (operator-shorter text))
+    fine_token_or text (byte_at 0x29 Closes text) _ (fine_byte 0x29 Closes text (λ following less. less)) (fine_between text (operator_at text) (operator-shorter text))
 
 -- each token takes a byte at least, and its name is fine
-pub fine_token : (o : Operands) (e : Bool) (text : List ℕ) (t : Token) (behind : List ℕ) → token_at o e text ≡ Some (t, behind) → IsFineToken text t behind
-fine_token o e text t behind is = subst (IsFine text) is (fine_found o e text)
+pub fine_token : (o : Operands) (e : Bool) (text : List ℕ) (t : Token) (following : List ℕ) → token_at o e text ≡ Some (t, following) → IsFineToken text t following
+fine_token o e text t following is = subst (IsFine text) is (fine_found o e text)
 
-pub token-shorter : (o : Operands) (e : Bool) (text : List ℕ) (t : Token) (behind : List ℕ) → token_at o e text ≡ Some (t, behind) → length behind < length text
-token-shorter o e text t behind is = by_token t (fine_token o e text t behind is)
+pub token-shorter : (o : Operands) (e : Bool) (text : List ℕ) (t : Token) (following : List ℕ) → token_at o e text ≡ Some (t, following) → length following < length text
+token-shorter o e text t following is = by_token t (fine_token o e text t following is)
   where
-    by_token : (t : Token) → IsFineToken text t behind → length behind < length text
+    by_token : (t : Token) → IsFineToken text t following → length following < length text
     by_token (Value operand) fine = fine.0
     by_token (Before sign) fine = fine
     by_token (Between operator) fine = fine
@@ -283,7 +283,7 @@ fine_names o e most text [] rest le stand = tt
 fine_names o e most text (t ∷ tokens) rest le stand =
     let fine = fine_token o e text t stand.0 stand.1 in
     let less = token-shorter o e text t stand.0 stand.1 in
-    by_token t fine (fine_names o (expects_behind t) most stand.0 tokens rest (omega arith) stand.2)
+    by_token t fine (fine_names o (expects_following t) most stand.0 tokens rest (omega arith) stand.2)
   where
     by_token : (t : Token) → IsFineToken text t stand.0 → HaveFineNames most tokens → HaveFineNames most (t ∷ tokens)
     by_token (Value operand) fine others = (fine_more (length text) most operand le fine.1, others)

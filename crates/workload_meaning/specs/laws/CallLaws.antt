@@ -28,8 +28,8 @@ use Rattle.link_meaning.specs.Layout.{load_length, load_names, number_in, load_o
 use Rattle.object_meaning.specs.laws.TreeInLaws.{tree_in-again}
 use Rattle.object_meaning.specs.Terms.{tree_in}
 use Rattle.link_meaning.specs.laws.PlaceFits.{name_there, offset-le, in_parts}
-use Rattle.link_meaning.specs.LinkValues.{Told, place_value, outside_value, label_value, member_environment, value_or_equate_fault, tree_value, value_in}
-use Rattle.link_meaning.specs.Fitting.{PatchPlace, Fit, Place, place_fit, is_dynamic_load, length_of, ends_in_jsl, is_call, target_of, has_room_for, may_call, call_fit, or_does_not_fit, fit_value, fit_cells, targets_behind}
+use Rattle.link_meaning.specs.LinkValues.{EquateAnswer, place_value, outside_value, label_value, member_environment, value_or_equate_fault, tree_value, value_in}
+use Rattle.link_meaning.specs.Fitting.{PatchPlace, Fit, Place, place_fit, is_dynamic_load, length_of, ends_in_jsl, is_call, target_of, has_room_for, may_call, call_fit, or_does_not_fit, fit_value, fit_cells, targets_after}
 use Rattle.link_meaning.specs.Fitting as fitting
 use Rattle.link_meaning.specs.LinkedCells.{Item, LinkState, Made, items_from, items, frame_of, table_number, cells_before, made_by, made, state_after_item}
 use Rattle.link_meaning.specs.LinkWritten.{AreMade, start}
@@ -100,7 +100,7 @@ with_target-le targets t = elim (cases_Bool (list_any (is_same t) targets)) [
 record HasFit (targets : List Target) (answer : Result Fit LinkCause) : Type 0 where
   fit : Fit
   is : answer ≡ Ok fit
-  few : length (targets_behind targets fit) ≤ length targets + 1
+  few : length (targets_after targets fit) ≤ length targets + 1
 
 -- what a call of a place in the file itself comes to, once it may call
 abbrev room_fit : List Fields → List Target → ℕ → ℕ → Result Fit LinkCause
@@ -136,16 +136,16 @@ abbrev okay : Made → Result Made LinkCause
 okay x = Ok x
 
 -- behind a record that gave these cells
-step : (list : List Member) (table : List Told) (state : LinkState) (i : Item) (more : List Item) (x : Made) → made list table state i ≡ okay x → AreMade list table (state_after_item state i (okay x)) more → AreMade list table state (i ∷ more)
+step : (list : List Member) (table : List EquateAnswer) (state : LinkState) (i : Item) (more : List Item) (x : Made) → made list table state i ≡ okay x → AreMade list table (state_after_item state i (okay x)) more → AreMade list table state (i ∷ more)
 step list table state i more x e rest = (x, e, subst (λ (g : Result Made LinkCause). AreMade list table (state_after_item state i g) more) (sym e) rest)
 
-made_as : (list : List Member) (table : List Told) (state : LinkState) (i : Item) (r : Record) (x : Made) → i.here.content ≡ r → made_by list table state i r ≡ okay x → made list table state i ≡ okay x
+made_as : (list : List Member) (table : List EquateAnswer) (state : LinkState) (i : Item) (r : Record) (x : Made) → i.here.content ≡ r → made_by list table state i r ≡ okay x → made list table state i ≡ okay x
 unfolding made
 made_as list table state i r x is e = ap (made_by list table state i) is ∙ e
 
-formula_made : (list : List Member) (table : List Told) (state : LinkState) (i : Item) (code : ℕ) (expr : List ℕ) (v : Value) (fit : Fit) → value_in list table i.place i.member i.here.location expr ≡ Ok v
+formula_made : (list : List Member) (table : List EquateAnswer) (state : LinkState) (i : Item) (code : ℕ) (expr : List ℕ) (v : Value) (fit : Fit) → value_in list table i.place i.member i.here.location expr ≡ Ok v
     → fit_value (load_headers list) (frame_of list i) state.targets (cells_before state i) code 3 0 v ≡ Ok fit
-    → made_by list table state i (Formula code 3 0 expr) ≡ okay (fit_cells (table_number list) 3 (targets_behind state.targets fit) fit, targets_behind state.targets fit)
+    → made_by list table state i (Formula code 3 0 expr) ≡ okay (fit_cells (table_number list) 3 (targets_after state.targets fit) fit, targets_after state.targets fit)
 formula_made list table state i code expr v fit is fits = rw (is, fits) refl
 
 head_is : {A : Type 0} (x y : A) (xs ys : List A) → x ∷ xs ≡ y ∷ ys → x ≡ y
@@ -156,7 +156,7 @@ tail_is x y xs ys e = cc
 
 -- ---- the members
 
-module _ (n : ℕ) (list : List Member) (table : List Told) (few : n ≤ 64) (is : IsList n list) where
+module _ (n : ℕ) (list : List Member) (table : List EquateAnswer) (few : n ≤ 64) (is : IsList n list) where
   there : (i : ℕ) → 1 ≤ i → i ≤ n → IsNamedAt i 1 list
   there i some less = has_named n i list is few some less
 
@@ -200,7 +200,7 @@ module _ (n : ℕ) (list : List Member) (table : List Told) (few : n ≤ 64) (is
       let cells = (all_in (λ (o : Member). IsOwn n o.segment) list m is.all (in_parts list at.front m at.back at.parts)).cells in
       let within = inside list at.front m at.back at.parts cells in
       let fits = jsl_fits (load_headers list) (frame_of list it) state.targets (cells_before state it) (load_of list m) (offset_of list (1 + length at.front) m + 0) (is_alone n list is) jsl within small in
-      let x : Made = (fit_cells (table_number list) 3 (targets_behind state.targets fits.fit) fits.fit, targets_behind state.targets fits.fit) in
+      let x : Made = (fit_cells (table_number list) 3 (targets_after state.targets fits.fit) fits.fit, targets_after state.targets fits.fit) in
       record {
         x = x;
         is' = made_as list table state it (Formula 0xF3 3 0 (value_of (name_of i))) x content (formula_made list table state it 0xF3 (value_of (name_of i)) (start_of i at) fits.fit (value_is i it.place it.here.location it.member own some less at) fits.is);
@@ -217,21 +217,21 @@ module _ (n : ℕ) (list : List Member) (table : List Told) (few : n ≤ 64) (is
       let same : load_of list m ≡ load_of list it.member = ap (number_in (load_names list)) (at.load_name ∙ sym load_name) in
       let place : Fit = Place (load_of list m) (offset_of list (1 + length at.front) m + 0) (pos 0) in
       let fits = own_fits (load_headers list) (frame_of list it) state.targets (cells_before state it) (load_of list m) (offset_of list (1 + length at.front) m + 0) same in
-      let x : Made = (fit_cells (table_number list) 3 (targets_behind state.targets place) place, targets_behind state.targets place) in
+      let x : Made = (fit_cells (table_number list) 3 (targets_after state.targets place) place, targets_after state.targets place) in
       (x, made_as list table state it (Formula 0xEB 3 0 (value_of (name_of i))) x content (formula_made list table state it 0xEB (value_of (name_of i)) (start_of i at) place (value_is i it.place it.here.location it.member own some less at) fits))
 
   -- ---- the segment MAIN
 
   calls_made : (main : Member) (more i loc : ℕ) (founds : List (ℕ × Record)) (state : LinkState) (rest : List Item) → IsOwn n main.segment → map (λ found. found.1) founds ≡ calls more i → 1 ≤ i → i + more ≤ n + 1
       → length state.targets + more ≤ 64 → ((s : LinkState) → AreMade list table s rest) → AreMade list table state (map (item 1 main) (located_from loc founds) ++ rest)
-  calls_made main zero i loc [] state rest own are some less small behind = absurd (omega (arith, ap length are))
-  calls_made main zero i loc (a ∷ []) state rest own are some less small behind =
+  calls_made main zero i loc [] state rest own are some less small following = absurd (omega (arith, ap length are))
+  calls_made main zero i loc (a ∷ []) state rest own are some less small following =
       let r : Located = record { at = a.0; location = loc; content = a.1 } in
-      step list table state (item 1 main r) rest ([], state.targets) (made_as list table state (item 1 main r) End ([], state.targets) (head_is a.1 End [] [] are) refl) (behind _)
-  calls_made main zero i loc (a ∷ b ∷ founds) state rest own are some less small behind = absurd (omega (arith, ap length are))
-  calls_made main (suc more) i loc [] state rest own are some less small behind = absurd (omega (arith, ap length are))
-  calls_made main (suc more) i loc (a ∷ []) state rest own are some less small behind = absurd (omega (arith, ap length are))
-  calls_made main (suc more) i loc (a ∷ b ∷ founds) state rest own are some less small behind =
+      step list table state (item 1 main r) rest ([], state.targets) (made_as list table state (item 1 main r) End ([], state.targets) (head_is a.1 End [] [] are) refl) (following _)
+  calls_made main zero i loc (a ∷ b ∷ founds) state rest own are some less small following = absurd (omega (arith, ap length are))
+  calls_made main (suc more) i loc [] state rest own are some less small following = absurd (omega (arith, ap length are))
+  calls_made main (suc more) i loc (a ∷ []) state rest own are some less small following = absurd (omega (arith, ap length are))
+  calls_made main (suc more) i loc (a ∷ b ∷ founds) state rest own are some less small following =
       let const : Record = Const (0x22 ∷ []) in
       let formula : Record = Formula 0xF3 3 0 (value_of (name_of i)) in
       let first = item 1 main (record { at = a.0; location = loc; content = a.1 }) in
@@ -247,16 +247,16 @@ module _ (n : ℕ) (list : List Member) (table : List Told) (few : n ≤ 64) (is
       let call = jsl_made i next second own some (omega (arith, less)) b_is (ends (cells_before state first)) (omega (arith, small)) in
       step list table state first (second ∷ later) x (made_as list table state first const x (head_is a.1 const (b.1 ∷ map (λ found. found.1) founds) (formula ∷ calls more (i + 1)) are) refl)
       (step list table next second later call.x call.is'
-      (calls_made main more (i + 1) loc3 founds (state_after_item next second (okay call.x)) rest own rest_are (omega (arith, some)) (omega (arith, less)) (omega (arith, small, call.small)) behind))
+      (calls_made main more (i + 1) loc3 founds (state_after_item next second (okay call.x)) rest own rest_are (omega (arith, some)) (omega (arith, less)) (omega (arith, small, call.small)) following))
 
   -- ---- the dynamic segments
 
   bytes_made : (m : Member) (place loc size i : ℕ) (founds : List (ℕ × Record)) (state : LinkState) (rest : List Item) → map (λ found. found.1) founds ≡ LongConst (replicate size i) ∷ End ∷ []
       → ((s : LinkState) → AreMade list table s rest) → AreMade list table state (map (item place m) (located_from loc founds) ++ rest)
-  bytes_made m place loc size i [] state rest are behind = absurd (omega (arith, ap length are))
-  bytes_made m place loc size i (a ∷ []) state rest are behind = absurd (omega (arith, ap length are))
-  bytes_made m place loc size i (a ∷ b ∷ c ∷ founds) state rest are behind = absurd (omega (arith, ap length are))
-  bytes_made m place loc size i (a ∷ b ∷ []) state rest are behind =
+  bytes_made m place loc size i [] state rest are following = absurd (omega (arith, ap length are))
+  bytes_made m place loc size i (a ∷ []) state rest are following = absurd (omega (arith, ap length are))
+  bytes_made m place loc size i (a ∷ b ∷ c ∷ founds) state rest are following = absurd (omega (arith, ap length are))
+  bytes_made m place loc size i (a ∷ b ∷ []) state rest are following =
       let const : Record = LongConst (replicate size i) in
       let first = item place m (record { at = a.0; location = loc; content = a.1 }) in
       let loc2 = loc + size_at loc a.1 in
@@ -265,18 +265,18 @@ module _ (n : ℕ) (list : List Member) (table : List Told) (few : n ≤ 64) (is
       let next : LinkState = state_after_item state first (okay x) in
       let y : Made = ([], next.targets) in
       step list table state first (second ∷ rest) x (made_as list table state first const x (head_is a.1 const (b.1 ∷ []) (End ∷ []) are) refl)
-      (step list table next second rest y (made_as list table next second End y (head_is b.1 End [] [] (tail_is a.1 const (b.1 ∷ []) (End ∷ []) are)) refl) (behind _))
+      (step list table next second rest y (made_as list table next second End y (head_is b.1 End [] [] (tail_is a.1 const (b.1 ∷ []) (End ∷ []) are)) refl) (following _))
 
   body_made : (m : Member) (place i size : ℕ) (founds : List (ℕ × Record)) (state : LinkState) (rest : List Item) → IsOwn n m.segment → m.segment.fields.load_name ≡ padded (name_of i) → 1 ≤ i → i ≤ n
       → map (λ found. found.1) founds ≡ (dynamic_segment i size).body → ((s : LinkState) → AreMade list table s rest) → AreMade list table state (map (item place m) (located_from 0 founds) ++ rest)
-  body_made m place i size [] state rest own load_name some less are behind = absurd (omega (arith, ap length are))
-  body_made m place i size (a ∷ founds) state rest own load_name some less are behind =
+  body_made m place i size [] state rest own load_name some less are following = absurd (omega (arith, ap length are))
+  body_made m place i size (a ∷ founds) state rest own load_name some less are following =
       let formula : Record = Formula 0xEB 3 0 (value_of (name_of i)) in
       let more : List Record = LongConst (replicate size i) ∷ End ∷ [] in
       let first = item place m (record { at = a.0; location = 0; content = a.1 }) in
       let x = own_made i state first own some less (head_is a.1 formula (map (λ found. found.1) founds) more are) load_name in
       step list table state first (map (item place m) (located_from (0 + size_at 0 a.1) founds) ++ rest) x.0 x.1
-      (bytes_made m place (0 + size_at 0 a.1) size i founds (state_after_item state first (okay x.0)) rest (tail_is a.1 formula (map (λ found. found.1) founds) more are) behind)
+      (bytes_made m place (0 + size_at 0 a.1) size i founds (state_after_item state first (okay x.0)) rest (tail_is a.1 formula (map (λ found. found.1) founds) more are) following)
 
   dynamics_made : (i place number : ℕ) (all : List ℕ) (segments : List Segment) (state : LinkState) → 1 ≤ i → i + length all ≤ n + 1 → AreDynamic n i all segments → AreMade list table state (items_from place (members_from without_runtimes 1 number segments))
   unfolding records_with_offsets
@@ -289,7 +289,7 @@ module _ (n : ℕ) (list : List Member) (table : List Told) (few : n ≤ 64) (is
       (λ later. dynamics_made (i + 1) (place + 1) (number + 1) all segments later (omega (arith, some)) (omega (arith, less)) are.2)
 
 -- each record gives its cells, whatever values equates are told
-pub all_made : (n : ℕ) (sizes : List ℕ) (segments : List Segment) (table : List Told) → n ≤ 64 → length sizes ≡ n → IsWorkload n sizes segments → AreMade (members_from without_runtimes 1 1 segments) table start (items (members_from without_runtimes 1 1 segments))
+pub all_made : (n : ℕ) (sizes : List ℕ) (segments : List Segment) (table : List EquateAnswer) → n ≤ 64 → length sizes ≡ n → IsWorkload n sizes segments → AreMade (members_from without_runtimes 1 1 segments) table start (items (members_from without_runtimes 1 1 segments))
 unfolding items records_with_offsets
 all_made n sizes segments table few size w =
     let list = members_from without_runtimes 1 1 segments in

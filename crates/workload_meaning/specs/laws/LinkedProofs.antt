@@ -8,18 +8,18 @@ use Rattle.link_meaning.specs.declared.fault.LinkFault.{LinkFault}
 use Rattle.link_meaning.specs.First.{IsIn}
 use Rattle.link_meaning.specs.Member.{Member, without_runtimes, members_from}
 use Rattle.link_meaning.specs.Search.{FoundDefinition}
-use Rattle.link_meaning.specs.Rings.{is_equate, equates}
+use Rattle.link_meaning.specs.Cycles.{is_equate, equates}
 use Rattle.link_meaning.specs.Layout.{in_load, load_names, load_members}
 use Rattle.link_meaning.specs.LinkFaults.{LinkInput, HasBytes, plain, IsResolved}
-use Rattle.link_meaning.specs.LinkValues.{Told, IsTable, AreTold}
-use Rattle.link_meaning.specs.LinkedCells.{table_number, items, targets, state_behind}
+use Rattle.link_meaning.specs.LinkValues.{EquateAnswer, IsTable, AreReported}
+use Rattle.link_meaning.specs.LinkedCells.{table_number, items, targets, state_after}
 use Rattle.link_meaning.specs.LinkWritten.{AreMade, start, written_file}
 use Rattle.link_meaning.specs.laws.LinkedRuns.{AreSized, MembersHave, members_have, few_on}
 use Rattle.link_meaning.specs.laws.LinkWrittenLaws.{some_members, in_at}
 use Rattle.link_meaning.specs.laws.ReadMembers.{members_read, read_size, read_some, read_header}
 use Rattle.link_meaning.specs.laws.ValueFits.{all_sound}
 use Rattle.link_meaning.specs.laws.MemberLists.{in_filter}
-use Rattle.link_meaning.specs.EmitFaults.{HasRingFault, EmitPhase, Rings, Values, Size, emit_phases, HasEmitFault, IsFirstLinkFault, IsLinkable, IsLinkAnswer}
+use Rattle.link_meaning.specs.EmitFaults.{HasCycleFault, EmitPhase, Cycles, Values, Size, emit_phases, HasEmitFault, IsFirstLinkFault, IsLinkable, IsLinkAnswer}
 use Rattle.link_meaning.specs.laws.EmitFaultLaws.{made_sound, one_link_answer}
 use Rattle.asm_meaning.specs.Object.{object_text}
 use Rattle.asm_meaning.specs.laws.ObjectFileLaws.{ended_are_file}
@@ -45,7 +45,7 @@ no_equates n list own = ap (filter is_equate) (entries_are n list own) ∙ no_ti
 empty_table : (n : ℕ) (list : List Member) → AreOwn n list → IsTable list []
 empty_table n list own = record {
   straight = λ e among circle. absurd (subst (λ (l : List FoundDefinition). IsIn l e) (no_equates n list own) among);
-  rows = subst (λ (l : List FoundDefinition). AreTold list [] l []) (sym (no_equates n list own)) tt;
+  rows = subst (λ (l : List FoundDefinition). AreReported list [] l []) (sym (no_equates n list own)) tt;
 }
 
 -- what passes a filter has the load name
@@ -82,7 +82,7 @@ module _ (n : ℕ) (sizes object' : List ℕ) (segments : List Segment) (few : n
   listed : IsList n list
   listed = members_listed n sizes object' segments few size is_file w
 
-  made : (table : List Told) → AreMade list table start (items list)
+  made : (table : List EquateAnswer) → AreMade list table start (items list)
   made table = all_made n sizes segments table few size w
 
   loads_few : length (load_names list) ≤ 65
@@ -95,8 +95,8 @@ module _ (n : ℕ) (sizes object' : List ℕ) (segments : List Segment) (few : n
       let there : IsIn list m.0 = in_filter (in_load x) list m.0 m.1 in
       ap length (sym ((bytes_eq-Decides m.0.segment.fields.load_name x).0 (passed x list m.0 m.1))) ∙ (read_header m.0.segment (members_read given list m.0 all_bytes resolved.program there)).load_name
 
-  short : (table : List Told) → IsTable list table → length (written_file list table) ≤ 0x1000000
-  unfolding targets state_behind
+  short : (table : List EquateAnswer) → IsTable list table → length (written_file list table) ≤ 0x1000000
+  unfolding targets state_after
   short table is_table =
       let sound = all_sound given list table all_bytes resolved is_table in
       let small : table_number list < 2 ^ 16 = omega (arith, loads_few) in
@@ -106,8 +106,8 @@ module _ (n : ℕ) (sizes object' : List ℕ) (segments : List Segment) (few : n
       file_short list table have (λ x. short_load n x list few listed) (is_alone n list listed) loads_few entries of_ten
 
   no_emit_fault : (before : List EmitPhase) (phase : EmitPhase) (fault : LinkFault) → HasEmitFault list before phase fault → ⊥
-  no_emit_fault before Rings fault has =
-      never_in (HasRingFault list) (equates list) (λ front e told among ring. subst (λ (l : List FoundDefinition). IsIn l e) (no_equates n list listed.all) among) fault has
+  no_emit_fault before Cycles fault has =
+      never_in (HasCycleFault list) (equates list) (λ front e reported among cycle. subst (λ (l : List FoundDefinition). IsIn l e) (no_equates n list listed.all) among) fault has
   no_emit_fault before Values fault (table, is_table, first) =
       made_sound list table (made table) first.before first.item first.after fault first.parts first.here
   no_emit_fault before Size fault (table, is_table, has) = omega (arith, short table is_table, has.long)

@@ -8,7 +8,7 @@ use Rattle.omf_format.specs.Record.{Record, End, Const, LongConst, Align, Org, S
 use Rattle.omf_format.specs.File.{Segment}
 use Rattle.object_meaning.specs.Sizes.{body_size}
 use Rattle.asm_meaning.specs.State.{Ended}
-use Rattle.asm_meaning.specs.Pieces.{place_behind}
+use Rattle.asm_meaning.specs.Pieces.{place_after}
 use Rattle.asm_meaning.specs.laws.PieceLaws.{IsPlain, ArePlain}
 use Rattle.asm_meaning.specs.laws.Sound.{IsSoundHeader, IsSoundEnded}
 use Rattle.asm_meaning.specs.ObjectFile.{IsReadAs, AreReadAs}
@@ -42,8 +42,8 @@ unfolding calls_inner
 calls_plain zero i few = tt
 calls_plain (suc more) i few = (const_plain, (call_plain i (omega (arith, few)), calls_plain more (i + 1) (omega (arith, few))))
 
-calls_size : (more i at : ℕ) → place_behind at (calls more i) ≡ at + 4 * more
-unfolding place_behind
+calls_size : (more i at : ℕ) → place_after at (calls more i) ≡ at + 4 * more
+unfolding place_after
 calls_size zero i at = omega arith
 calls_size (suc more) i at = calls_size more (i + 1) (at + 1 + 3) ∙ omega arith
 
@@ -73,7 +73,7 @@ main_sound n few = record {
 }
 
 dynamic_sound : (i size : ℕ) → i ≤ 64 → size < 4112 → IsSoundEnded (dynamic_segment i size)
-unfolding place_behind
+unfolding place_after
 dynamic_sound i size few small = record {
   header = header_sound 0x8000 (3 + size) (i + 1) (name_of i) (omega arith) refl (omega (arith, few)) (omega arith) (name_short i (omega (arith, few)));
   inner = Formula 0xEB 3 0 (value_of (name_of i)) ∷ LongConst (replicate size i) ∷ [];

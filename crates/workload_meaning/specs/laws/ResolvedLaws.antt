@@ -29,7 +29,7 @@ use Rattle.link_meaning.specs.LinkFaults.{plain, Part, OfInput, AreRuntimes, IsS
 use Rattle.workload_meaning.specs.Object.{name_of, padded}
 use Rattle.workload_meaning.specs.laws.NameLaws.{padded_differs, padded_not_main}
 use Rattle.workload_meaning.specs.laws.ObjectLaws.{IsOwnRecord, IsOwn, AreDynamic, IsWorkload}
-use Rattle.workload_meaning.specs.laws.SearchLaws.{AreOwn, members_own, AreNamed, IsOwnUse, uses_are, title_at, IsNamedAt, named_behind, finds_one}
+use Rattle.workload_meaning.specs.laws.SearchLaws.{AreOwn, members_own, AreNamed, IsOwnUse, uses_are, title_at, IsNamedAt, named_after, finds_one}
 
 -- ---- reading
 
@@ -172,7 +172,7 @@ is_alone n list is = ap setting_in is.parts ∙ is.setting'
 -- each dynamic segment's name has its one member
 pub has_named : (n i : ℕ) (list : List Member) → IsList n list → n ≤ 64 → 1 ≤ i → i ≤ n → IsNamedAt i 1 list
 has_named n i list is few some less =
-    subst (IsNamedAt i 1) (sym is.parts) (named_behind i is.main is.others is.title is.named' some (omega (arith, less, is.count)) (omega (arith, is.count, few)))
+    subst (IsNamedAt i 1) (sym is.parts) (named_after i is.main is.others is.title is.named' some (omega (arith, less, is.count)) (omega (arith, is.count, few)))
 
 -- ---- names
 
@@ -246,11 +246,11 @@ none_at i j end (m ∷ ms) are less few =
     ap (λ (l : List ℕ). bytes_eq l (padded (name_of i))) are.1 ∙ padded_differs j i (omega (arith, few)) (omega (arith, less, few)) (λ e. omega (arith, e, less)) in
     rw other (none_at i (j + 1) end ms are.2 (omega (arith, less)) (omega (arith, few)))
 
-none_behind : (j end : ℕ) (ms : List Member) → AreNamed j ms → end_from end (padded (codes "MAIN")) ms ≡ end
-none_behind j end [] are = refl
-none_behind j end (m ∷ ms) are =
+none_after : (j end : ℕ) (ms : List Member) → AreNamed j ms → end_from end (padded (codes "MAIN")) ms ≡ end
+none_after j end [] are = refl
+none_after j end (m ∷ ms) are =
     let other : bytes_eq m.segment.fields.load_name (padded (codes "MAIN")) ≡ false = ap (λ (l : List ℕ). bytes_eq l (padded (codes "MAIN"))) are.1 ∙ padded_not_main j in
-    rw other (none_behind (j + 1) end ms are.2)
+    rw other (none_after (j + 1) end ms are.2)
 
 first_end : (n : ℕ) (m : Member) → IsOwn n m.segment → aligned_from (alignment_of m.segment.fields.align) 0 + m.segment.fields.length ≤ 4114
 first_end n m own =
@@ -275,7 +275,7 @@ main_first n x main ms own all is are few = elim (cases_Bool (in_load x main)) [
   | inl here ↦
       let name : padded (codes "MAIN") ≡ x = sym is ∙ (bytes_eq-Decides main.segment.fields.load_name x).0 here in
       let end = aligned_from (alignment_of main.segment.fields.align) 0 + main.segment.fields.length in
-      let rest : end_from end x ms ≡ end = subst (λ (y : List ℕ). end_from end y ms ≡ end) name (none_behind 1 end ms are) in
+      let rest : end_from end x ms ≡ end = subst (λ (y : List ℕ). end_from end y ms ≡ end) name (none_after 1 end ms are) in
       rw here (omega (arith, rest, first_end n main own))
   | inr other ↦ rw other (one_at n 1 x ms all are (omega (arith, few)))
 ]
@@ -322,14 +322,14 @@ true_false e = cc
 no_layout_fault : (n : ℕ) (list : List Member) → n ≤ 64 → IsList n list → (before : List LayoutCheck) (check : LayoutCheck) (fault : LinkFault) → HasLayoutFault list before check fault → ⊥
 unfolding load_headers
 no_layout_fault n list few is before Orgs fault has =
-    never_in HasOrgFault list (λ front m told among all_uses. all_uses.asks (all_in (λ (o : Member). IsOwn n o.segment) list m is.all among).org) fault has
+    never_in HasOrgFault list (λ front m reported among all_uses. all_uses.asks (all_in (λ (o : Member). IsOwn n o.segment) list m is.all among).org) fault has
 no_layout_fault n list few is before Count fault has =
     omega (arith, in_range (load_names list) 254 has.load_name has.there, few_names n list is, few)
 no_layout_fault n list few is before Lengths fault has =
-    never_in (HasLengthFault list) (headers_from list 1 (load_names list)) (λ front f told among long. let of = in_headers list 1 (load_names list) f among in
+    never_in (HasLengthFault list) (headers_from list 1 (load_names list)) (λ front f reported among long. let of = in_headers list 1 (load_names list) f among in
     true_false (sym long.long ∙ ap is_too_long of.2 ∙ not_too_long n of.0 of.1 list few is)) fault has
 no_layout_fault n list few is before Kinds fault has =
-    never_in (HasKindFault list) (headers_from list 1 (load_names list)) (λ front f told among other.
+    never_in (HasKindFault list) (headers_from list 1 (load_names list)) (λ front f reported among other.
     true_false (sym other.other ∙ ap (λ (s : LinkSetting). may_not_stand s.form f) (is_alone n list is))) fault has
 
 -- ---- all of it
@@ -360,12 +360,12 @@ module _ (n : ℕ) (sizes object : List ℕ) (segments : List Segment) (few : n 
   no_rows = rw no_library refl
 
   no_file_fault : (number : ℕ) (fault : LinkFault) → HasFileFault number object fault → ⊥
-  no_file_fault number fault (OfFile found first told) = no_file object found segments first is_file
-  no_file_fault number fault (OfSegment others found is faulty told) =
+  no_file_fault number fault (OfFile found first reported) = no_file object found segments first is_file
+  no_file_fault number fault (OfSegment others found is faulty reported) =
       let none : segments_fault 1 others ≡ None = ap (segments_fault 1) (file_same others segments object is is_file) ∙ no_faults n 1 segments all_own in
       let clash : no_found ≡ some_found found = sym none ∙ faulty in
       cc
-  no_file_fault number fault (OfDictionary others at is sound rows told) =
+  no_file_fault number fault (OfDictionary others at is sound rows reported) =
       let none : rows_in_file others ≡ Ok [] = ap rows_in_file (file_same others segments object is is_file) ∙ no_rows in
       let clash : fine_rows [] ≡ Err at = sym none ∙ rows in
       cc

@@ -219,9 +219,9 @@ named_at i j place (m ∷ ms) are le less few = elim (cases_lt j i) [
 ]
 
 -- behind the segment MAIN too
-pub named_behind : (i : ℕ) (main : Member) (ms : List Member) → main.segment.fields.name ≡ codes "MAIN" → AreNamed 1 ms → 1 ≤ i → i ≤ length ms → length ms ≤ 64 → IsNamedAt i 1 (main ∷ ms)
+pub named_after : (i : ℕ) (main : Member) (ms : List Member) → main.segment.fields.name ≡ codes "MAIN" → AreNamed 1 ms → 1 ≤ i → i ≤ length ms → length ms ≤ 64 → IsNamedAt i 1 (main ∷ ms)
 unfolding with_this_name
-named_behind i main ms title_is are some less few =
+named_after i main ms title_is are some less few =
     let other : bytes_eq (name_of i) main.segment.fields.name ≡ false = ap (bytes_eq (name_of i)) title_is ∙ name_not_main i in
     let rest = named_at i 1 2 ms are some (omega (arith, less)) (omega (arith, few)) in
     let later : 2 + length rest.front ≡ 1 + length (main ∷ rest.front) = omega arith in

@@ -27,7 +27,7 @@ use Rattle.load_meaning.specs.WrittenFile.{Image, image_records, image_body, ima
 use Rattle.link_meaning.specs.First.{IsIn}
 use Rattle.link_meaning.specs.Member.{LinkSetting, without_runtimes, Member, setting_in, form_in}
 use Rattle.link_meaning.specs.Layout.{load_length, load_names, load_fields}
-use Rattle.link_meaning.specs.LinkValues.{Told}
+use Rattle.link_meaning.specs.LinkValues.{EquateAnswer}
 use Rattle.link_meaning.specs.LinkedCells.{table_number, targets, linked}
 use Rattle.link_meaning.specs.LinkWritten.{byte_under, image_of, exports, exports_for, load_images, table_images, path_images, images, written_file}
 use Rattle.link_meaning.specs.laws.RunCells.{runs_written}
@@ -217,7 +217,7 @@ file_both : (xs ys : List Image) → length (file_text (xs ++ ys)) ≡ length (f
 unfolding file_text
 file_both xs ys = ap length (flat_map-append image_text xs ys) ∙ length-append (flat_map image_text xs) (flat_map image_text ys)
 
-module _ (list : List Member) (table : List Told) (have : MembersHave list table) (short : (x : List ℕ) → load_length x list ≤ 4114) (own : setting_in list ≡ without_runtimes) where
+module _ (list : List Member) (table : List EquateAnswer) (have : MembersHave list table) (short : (x : List ℕ) → load_length x list ≤ 4114) (own : setting_in list ≡ without_runtimes) where
   -- a program exports nothing
   none_exported : (number : ℕ) → exports_for (form_in list) number (exports list table) ≡ []
   none_exported number = ap (λ (s : LinkSetting). exports_for s.form number (exports list table)) own

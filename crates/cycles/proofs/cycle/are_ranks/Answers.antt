@@ -2,7 +2,7 @@ use Rattle.std.proofs.Common.{◌⊎◌, inl, inr, ◌<◌, ◌≤◌, ℕ, [], 
 use Rattle.std.proofs.lemmas.Bool.{cases_lt}
 use Rattle.cycles.specs.Ranks.{Falls}
 use Rattle.cycles.proofs.Lists.{at_none}
-use Rattle.cycles.proofs.RingLaws.{none_outside}
+use Rattle.cycles.proofs.CycleLaws.{none_outside}
 use Rattle.cycles.proofs.cycle.are_ranks.Goals as goal
 
 pub returns : goal.returns

@@ -4,7 +4,7 @@ use Rattle.std.proofs.lemmas.List.{drop_more, drop_all}
 use Rattle.std.proofs.lemmas.Option.{slice_get_read}
 use Rattle.cycles.specs.Graphs.{IsIn}
 use Rattle.cycles.specs.Ranks.{IsSeen, Visiting}
-use Rattle.cycles.proofs.RingLaws.{visiting_all, visiting_seen, visiting_new, visited}
+use Rattle.cycles.proofs.CycleLaws.{visiting_all, visiting_seen, visiting_new, visited}
 use Rattle.cycles.proofs.cycle.visit.Goals as goal
 use Rattle.cycles.proofs.cycle.visit.Goals.{then-not-index+in_ok-push, else-not-index}
 

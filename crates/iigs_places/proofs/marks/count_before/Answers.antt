@@ -11,5 +11,5 @@ returns c =
     record {
       within = c.partition_point.ensures.bound;
       before = λ k d lt. ltb-true (get_or c.args.marks.now k d).at c.args.address (point.0 k d (omega (arith, lt, c.partition_point.ensures.bound)) lt);
-      behind = λ k d le lt. ltb-false (get_or c.args.marks.now k d).at c.args.address (point.1 k d le lt);
+      following = λ k d le lt. ltb-false (get_or c.args.marks.now k d).at c.args.address (point.1 k d le lt);
     }

@@ -5,7 +5,7 @@ use Rattle.omf_format.specs.Record.{Record}
 use Rattle.omf_format.specs.Reading.{records_of}
 use Rattle.omf_records.specs.Segments.{segment_of_view}
 use Rattle.lib_dict.specs.Parts.{Texts, seen_parts, HasParts}
-use Rattle.lib_dict.proofs.ReadLaws.{none_first, other_first, false_first, told_rows, false_rows, parts_fit}
+use Rattle.lib_dict.proofs.ReadLaws.{none_first, other_first, false_first, row_views, false_rows, parts_fit}
 use Rattle.lib_dict.proofs.RowCounts.{few_rows}
 use Rattle.lib_dict.proofs.reading.dictionary_of_list.Goals as goal
 
@@ -39,7 +39,7 @@ returns-clause-rows c = λ file is.
     let form : form_of s.fields.kind ≡ 0x08 = sym c.form.ensures ∙ c.if-form-ne-DICTIONARY.false in
     let body : records_of c.records.result ≡ s.records = ap records_of c.records.ensures in
     let has : HasParts parts s.records = subst (HasParts parts) body c.in-Some-parts_of.ensures in
-    told_rows c.args.list.now file s parts c.in_ok-rows.rows.items is.is_file c.in-Some.ensures.value form has c.in_ok-rows.ensures.ok
+    row_views c.args.list.now file s parts c.in_ok-rows.rows.items is.is_file c.in-Some.ensures.value form has c.in_ok-rows.ensures.ok
 
 pub returns-in_err-rows-clause-refused : goal.returns-in_err-rows-clause-refused
 returns-in_err-rows-clause-refused c =

@@ -6,12 +6,12 @@ dictionary_of_list-requires c = (c.args.file.now, record { is_file = c.in-Ok.ens
 
 pub returns-clause-rows : goal.returns-clause-rows
 returns-clause-rows c =
-    IfOk-weaker c.dictionary_of_list.result _ _ (λ d told. told c.args.file.now (record { is_file = c.in-Ok.ensures.found; bytes = λ i. (c.type_inv.file i).fits; short = c.requires })) c.dictionary_of_list.ensures.rows
+    IfOk-weaker c.dictionary_of_list.result _ _ (λ d reported. reported c.args.file.now (record { is_file = c.in-Ok.ensures.found; bytes = λ i. (c.type_inv.file i).fits; short = c.requires })) c.dictionary_of_list.ensures.rows
 
 pub returns-clause-few : goal.returns-clause-few
 returns-clause-few c =
-    IfOk-weaker c.dictionary_of_list.result _ _ (λ d told. told c.args.file.now (record { is_file = c.in-Ok.ensures.found; bytes = λ i. (c.type_inv.file i).fits; short = c.requires })) c.dictionary_of_list.ensures.few
+    IfOk-weaker c.dictionary_of_list.result _ _ (λ d reported. reported c.args.file.now (record { is_file = c.in-Ok.ensures.found; bytes = λ i. (c.type_inv.file i).fits; short = c.requires })) c.dictionary_of_list.ensures.few
 
 pub returns-clause-refused : goal.returns-clause-refused
 returns-clause-refused c =
-    IfErr-weaker c.dictionary_of_list.result _ _ (λ fault told. told c.args.file.now (record { is_file = c.in-Ok.ensures.found; bytes = λ i. (c.type_inv.file i).fits; short = c.requires })) c.dictionary_of_list.ensures.refused
+    IfErr-weaker c.dictionary_of_list.result _ _ (λ fault reported. reported c.args.file.now (record { is_file = c.in-Ok.ensures.found; bytes = λ i. (c.type_inv.file i).fits; short = c.requires })) c.dictionary_of_list.ensures.refused

@@ -5,7 +5,7 @@ use Rattle.omf_format.specs.Number.{number_at}
 use Rattle.lib_dict.specs.Library.{LibraryRow}
 use Rattle.lib_dict.specs.View.{outer_row}
 use Rattle.lib_dict.specs.Tables.{same_row}
-use Rattle.lib_dict.proofs.RowLaws.{made, private_of, text_at, row_unnamed, row_unnumbered, row_name_at, row_unknown, row_known, rows_equal, told_so}
+use Rattle.lib_dict.proofs.RowLaws.{made, private_of, text_at, row_unnamed, row_unnumbered, row_name_at, row_unknown, row_known, rows_equal, reported_so}
 use Rattle.lib_dict.proofs.rows.row_of.Goals as goal
 
 pub returns-then-not-contains : goal.returns-then-not-contains
@@ -43,5 +43,5 @@ returns c =
     let at : number_at 4 8 bytes ≡ c.from.result = omega (arith, c.number-at.ensures.value) in
     let row = rows_equal (text_at t bytes) c.name_at-name.result.now 0 0 (private_of bytes) (not (nat_eq c.number-private.result 0)) (number_at 4 8 bytes) c.from.result name refl private at in
     let answer = row_known t bytes c.requires.fits any number (ap (λ (r : LibraryRow). list_any (same_row r) (map outer_row t.known.keys)) row ∙ sym c.is_known.ensures ∙ c.if-not-is_known.false) in
-    let told = rows_equal c.name_at-name.result.now (text_at t bytes) c.number.result (number_at 2 4 bytes) (not (nat_eq c.number-private.result 0)) (private_of bytes) c.number-at.result (number_at 4 8 bytes) (sym name) c.number.ensures.value (sym private) c.number-at.ensures.value in
-    told_so t bytes (made (text_at t bytes) (number_at 2 4 bytes) (private_of bytes) (number_at 4 8 bytes)) (made c.name_at-name.result.now c.number.result (not (nat_eq c.number-private.result 0)) c.number-at.result) answer told
+    let reported = rows_equal c.name_at-name.result.now (text_at t bytes) c.number.result (number_at 2 4 bytes) (not (nat_eq c.number-private.result 0)) (private_of bytes) c.number-at.result (number_at 4 8 bytes) (sym name) c.number.ensures.value (sym private) c.number-at.ensures.value in
+    reported_so t bytes (made (text_at t bytes) (number_at 2 4 bytes) (private_of bytes) (number_at 4 8 bytes)) (made c.name_at-name.result.now c.number.result (not (nat_eq c.number-private.result 0)) c.number-at.result) answer reported

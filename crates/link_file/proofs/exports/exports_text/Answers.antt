@@ -9,8 +9,8 @@ use Rattle.link_file.proofs.exports.exports_text.Goals as goal
 pub members-init : goal.members-init
 members-init c =
     let list = c.args.whole.now.program.now in
-    let told = rows_of (all_found list) c.args.whole.now.slots.now in
-    subst (ExportsTo list told 0 0) (sym c.new-out.ensures.items) (exports_none list told)
+    let reported = rows_of (all_found list) c.args.whole.now.slots.now in
+    subst (ExportsTo list reported 0 0) (sym c.new-out.ensures.items) (exports_none list reported)
 
 pub put_segment-requires-clause-stands : goal.put_segment-requires-clause-stands
 put_segment-requires-clause-stands c =

@@ -48,16 +48,16 @@ overflow_add-number c =
 pub walk-preserved-in-Some-seen_in : goal.walk-preserved-in-Some-seen_in
 walk-preserved-in-Some-seen_in c =
     let list = c.args.whole.now.program.now in
-    let told = rows_of (all_found list) c.args.whole.now.slots.now in
+    let reported = rows_of (all_found list) c.args.whole.now.slots.now in
     let s = segment_of_view c.args.segment.now in
     let e = c.walk.invariant.exporting in
     let found : ℕ × Record = (c.in-Some.field-0-0, view c.in-Some.rec) in
     let seen = seen_name c.in-Some-seen_in.seen in
     let some = λ (loc : ℕ). c.in-Some-seen_in.ensures c.in-Some.field-0-0 loc in
     let w = found_next c.walk.records c.next_record.new.records e.back c.next_record.result (c.in-Some.field-0-0, c.in-Some.rec) e.coming c.next_record.ensures.walk c.in-Some.is in
-    let f = exporting_there list told s c.args.first c.walk.number c.walk.records found w.0 seen c.walk.out.items e c.requires.stands w.1 some in
+    let f = exporting_there list reported s c.args.first c.walk.number c.walk.records found w.0 seen c.walk.out.items e c.requires.stands w.1 some in
     record {
-      exporting = exporting_named list told s c.args.first c.walk.number c.walk.records c.next_record.new.records found w.0 seen c.walk.out.items c.put_seen.new.out.items e w.1 w.2 some (c.in_ok-put_seen-in-Some-seen_in.ensures f.0 f.1 f.2 e.exported);
+      exporting = exporting_named list reported s c.args.first c.walk.number c.walk.records c.next_record.new.records found w.0 seen c.walk.out.items c.put_seen.new.out.items e w.1 w.2 some (c.in_ok-put_seen-in-Some-seen_in.ensures f.0 f.1 f.2 e.exported);
       layout = ap (λ (l : Layout). l.lab_len) c.next_record.ensures.layout ∙ c.walk.invariant.layout;
     }
 

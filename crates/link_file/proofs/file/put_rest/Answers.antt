@@ -12,9 +12,9 @@ returns-in_err-put_table-clause-too_long c =
 pub returns-clause-ok : goal.returns-clause-ok
 returns-clause-ok c =
     on_ok c.put_pathnames.result _ _
-    (λ more. rest_text c.args.number c.number_behind.result c.args.table.now (setting_in c.args.program.now).runtimes c.args.out.now.items c.put_table.new.out.items c.put_pathnames.new.out.items c.in_ok-put_table.ensures.ok c.number_behind.ensures more)
+    (λ more. rest_text c.args.number c.number_after.result c.args.table.now (setting_in c.args.program.now).runtimes c.args.out.now.items c.put_table.new.out.items c.put_pathnames.new.out.items c.in_ok-put_table.ensures.ok c.number_after.ensures more)
     c.put_pathnames.ensures.ok
 
 pub returns-clause-too_long : goal.returns-clause-too_long
 returns-clause-too_long c = λ e.
-    rest_long 0x1000000 c.args.number c.number_behind.result c.args.table.now (setting_in c.args.program.now).runtimes c.args.out.now.items c.put_table.new.out.items c.in_ok-put_table.ensures.ok c.number_behind.ensures (c.put_pathnames.ensures.too_long e)
+    rest_long 0x1000000 c.args.number c.number_after.result c.args.table.now (setting_in c.args.program.now).runtimes c.args.out.now.items c.put_table.new.out.items c.in_ok-put_table.ensures.ok c.number_after.ensures (c.put_pathnames.ensures.too_long e)

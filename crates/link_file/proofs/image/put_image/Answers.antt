@@ -5,14 +5,14 @@ use Rattle.omf_format.specs.laws.WrittenHeaderLaws.{length-header}
 use Rattle.omf_header.specs.View.{fields}
 use Rattle.load_writer.specs.WrittenParts.{seen}
 use Rattle.load_meaning.specs.WrittenFile.{image_text}
-use Rattle.load_meaning.specs.WrittenBody.{zeros_behind, written_cells, body_text}
+use Rattle.load_meaning.specs.WrittenBody.{zeros_after, written_cells, body_text}
 use Rattle.link_file.specs.Images.{with_space, image_in}
 use Rattle.link_tables.proofs.OnOks.{on_ok}
-use Rattle.link_file.proofs.ImageLaws.{zeros_fit, space_writable, text_is, text_size, err_moved, behind_size, closed}
+use Rattle.link_file.proofs.ImageLaws.{zeros_fit, space_writable, text_is, text_size, err_moved, after_size, closed}
 use Rattle.link_file.proofs.image.put_image.Goals as goal
 
-pub put_behind-requires-clause-room : goal.put_behind-requires-clause-room
-put_behind-requires-clause-room c = omega (arith, ap length c.as_slice-start.ensures.value, c.if-start-gt-MOST_BYTES.false, c.header_size-room.ensures.few)
+pub put_after-requires-clause-room : goal.put_after-requires-clause-room
+put_after-requires-clause-room c = omega (arith, ap length c.as_slice-start.ensures.value, c.if-start-gt-MOST_BYTES.false, c.header_size-room.ensures.few)
 
 pub front_of-requires : goal.front_of-requires
 front_of-requires c =
@@ -29,17 +29,17 @@ returns-in_err-front-clause-too_long c =
     let text = body_text f.seg_num content.bytes patches in
     let body = text ++ c.args.exports.now in
     let size : length (image_text (image_in f content records)) ≡ 0x37 + length f.name + (length body + 1) = text_size f content.bytes patches records body c.recall_header_size.ensures (ap (λ (l : List ℕ). text ++ l) same) in
-    let behind = behind_size c.args.out.now.items body c.put_behind.new.out.items c.as_slice-start.result.now c.as_slice.result.now c.header_size-room.result c.as_slice-start.ensures.value c.as_slice.ensures.value c.in_ok-zeros.ensures.bytes in
-    omega (arith, size, behind, c.in_err-front.ensures.too_long (err_moved _ _ e)))
+    let following = after_size c.args.out.now.items body c.put_after.new.out.items c.as_slice-start.result.now c.as_slice.result.now c.header_size-room.result c.as_slice-start.ensures.value c.as_slice.ensures.value c.in_ok-zeros.ensures.bytes in
+    omega (arith, size, following, c.in_err-front.ensures.too_long (err_moved _ _ e)))
 
 pub close-requires : goal.close-requires
 close-requires c =
     let content = c.args.content.now in
     let f = fields c.args.header.now in
     let body = body_text f.seg_num content.bytes (map seen content.patches) ++ c.args.exports.now in
-    let behind = behind_size c.args.out.now.items body c.put_behind.new.out.items c.as_slice-start.result.now c.put_behind.new.out.items c.header_size-room.result c.as_slice-start.ensures.value refl c.in_ok-zeros.ensures.bytes in
+    let following = after_size c.args.out.now.items body c.put_after.new.out.items c.as_slice-start.result.now c.put_after.new.out.items c.header_size-room.result c.as_slice-start.ensures.value refl c.in_ok-zeros.ensures.bytes in
     let front = ap length (c.as_slice-2.ensures.value ∙ c.in_ok-front.ensures.ok) ∙ length-header (with_space f c.in_ok-zeros.zeros) _ c.recall_header_size.ensures in
-    omega (arith, behind, front, c.header_size-room.ensures.value)
+    omega (arith, following, front, c.header_size-room.ensures.value)
 
 pub returns-clause-ok : goal.returns-clause-ok
 returns-clause-ok c =
@@ -48,18 +48,18 @@ returns-clause-ok c =
     let f = fields c.args.header.now in
     let text = body_text f.seg_num content.bytes patches in
     let body = text ++ c.args.exports.now in
-    let zeros = zeros_behind (written_cells content.bytes patches) in
-    let behind = behind_size c.args.out.now.items body c.put_behind.new.out.items c.as_slice-start.result.now c.as_slice.result.now c.header_size-room.result c.as_slice-start.ensures.value c.as_slice.ensures.value c.in_ok-zeros.ensures.bytes in
-    let told = c.as_slice-2.ensures.value ∙ c.in_ok-front.ensures.ok in
-    let size = ap length told ∙ length-header (with_space f c.in_ok-zeros.zeros) _ c.recall_header_size.ensures in
+    let zeros = zeros_after (written_cells content.bytes patches) in
+    let following = after_size c.args.out.now.items body c.put_after.new.out.items c.as_slice-start.result.now c.as_slice.result.now c.header_size-room.result c.as_slice-start.ensures.value c.as_slice.ensures.value c.in_ok-zeros.ensures.bytes in
+    let reported = c.as_slice-2.ensures.value ∙ c.in_ok-front.ensures.ok in
+    let size = ap length reported ∙ length-header (with_space f c.in_ok-zeros.zeros) _ c.recall_header_size.ensures in
     let room : length c.as_slice-2.result.now ≡ c.header_size-room.result = omega (arith, size, c.header_size-room.ensures.value) in
-    let same : length c.as_slice.result.now - length c.as_slice-start.result.now - c.header_size-room.result ≡ length body = omega (arith, behind) in
+    let same : length c.as_slice.result.now - length c.as_slice-start.result.now - c.header_size-room.result ≡ length body = omega (arith, following) in
     let front : c.as_slice-2.result.now ≡ header_bytes (with_space f zeros) (length body + 1) =
-    told ∙ ap (λ (z : ℕ). header_bytes (with_space f z) (length c.as_slice.result.now - length c.as_slice-start.result.now - c.header_size-room.result + 1)) c.in_ok-zeros.ensures.zeros
+    reported ∙ ap (λ (z : ℕ). header_bytes (with_space f z) (length c.as_slice.result.now - length c.as_slice-start.result.now - c.header_size-room.result + 1)) c.in_ok-zeros.ensures.zeros
     ∙ ap (λ (k : ℕ). header_bytes (with_space f zeros) (k + 1)) same in
     on_ok c.close.result _ _
     (λ closes records spells.
-    closed c.args.out.now.items c.as_slice-2.result.now body c.put_behind.new.out.items c.as_slice-start.result.now c.close.new.out.items c.header_size-room.result c.as_slice-start.ensures.value c.in_ok-zeros.ensures.bytes room closes
+    closed c.args.out.now.items c.as_slice-2.result.now body c.put_after.new.out.items c.as_slice-start.result.now c.close.new.out.items c.header_size-room.result c.as_slice-start.ensures.value c.in_ok-zeros.ensures.bytes room closes
     ∙ ap (λ (l : List ℕ). c.args.out.now.items ++ l) (text_is f content.bytes patches records c.as_slice-2.result.now body (ap (λ (l : List ℕ). text ++ l) spells) front))
     c.close.ensures.ok
 
@@ -71,5 +71,5 @@ returns-clause-too_long c = λ e records same.
     let text = body_text f.seg_num content.bytes patches in
     let body = text ++ c.args.exports.now in
     let size : length (image_text (image_in f content records)) ≡ 0x37 + length f.name + (length body + 1) = text_size f content.bytes patches records body c.recall_header_size.ensures (ap (λ (l : List ℕ). text ++ l) same) in
-    let behind = behind_size c.args.out.now.items body c.put_behind.new.out.items c.as_slice-start.result.now c.put_behind.new.out.items c.header_size-room.result c.as_slice-start.ensures.value refl c.in_ok-zeros.ensures.bytes in
-    omega (arith, size, behind, ap length c.as_slice-start.ensures.value, c.header_size-room.ensures.value, c.close.ensures.too_long e)
+    let following = after_size c.args.out.now.items body c.put_after.new.out.items c.as_slice-start.result.now c.put_after.new.out.items c.header_size-room.result c.as_slice-start.ensures.value refl c.in_ok-zeros.ensures.bytes in
+    omega (arith, size, following, ap length c.as_slice-start.ensures.value, c.header_size-room.ensures.value, c.close.ensures.too_long e)

@@ -4,7 +4,7 @@ use Rattle.omf_format.specs.Record.{Record}
 use Rattle.std.proofs.lemmas.List.{length-append}
 use Rattle.load_meaning.specs.WrittenFile.{file_text}
 use Rattle.link_file.specs.Images.{spelled_records, images_in, left_from}
-use Rattle.link_file.proofs.ImageLaws.{one_image, long_image, more_ready, none_left, none_behind, drop_next, ready_size}
+use Rattle.link_file.proofs.ImageLaws.{one_image, long_image, more_ready, none_left, none_after, drop_next, ready_size}
 use Rattle.link_file.proofs.image.put_images.Goals as goal
 
 pub unreachable-requires-in_default-content_at : goal.unreachable-requires-in_default-content_at
@@ -48,10 +48,10 @@ loads-preserved c =
     let hs = drop_next headers k c.in-Some.header.now c.in-Some.ensures in
     let cs = drop_next contents k c.in-Some-content_at.content.now c.in-Some-content_at.ensures in
     record {
-      own = λ records same. ap spelled_records (sym (none_behind k records));
+      own = λ records same. ap spelled_records (sym (none_after k records));
       whole = λ records same.
           let left = left_from k records in
-          ap (λ (l : List Record). c.put_image.new.out.items ++ file_text (images_in l (drop (k + 1) headers) (drop (k + 1) contents))) (none_behind k records)
+          ap (λ (l : List Record). c.put_image.new.out.items ++ file_text (images_in l (drop (k + 1) headers) (drop (k + 1) contents))) (none_after k records)
           ∙ one_image left c.loads.out.items c.put_image.new.out.items (c.args.out.now.items ++ file_text (images_in records headers contents)) (drop k headers) (drop (k + 1) headers)
           (drop k contents) (drop (k + 1) contents) c.in-Some.header.now c.in-Some-content_at.content.now hs cs (c.in_ok-put_image.ensures.ok left (c.loads.invariant.own records same)) (c.loads.invariant.whole records same);
       short = λ _. c.in_ok-put_image.ensures.short;

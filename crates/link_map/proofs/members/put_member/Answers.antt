@@ -4,7 +4,7 @@ use Rattle.omf_records.specs.Segments.{segment_of_view}
 use Rattle.link_meaning.specs.Member.{Member}
 use Rattle.link_program.specs.Linked.{member_at}
 use Rattle.link_program.specs.Programs.{linked_at}
-use Rattle.link_map.proofs.ListLaws.{untold_member, told_segment, untold_segment}
+use Rattle.link_map.proofs.ListLaws.{untold_member, reported_segment, untold_segment}
 use Rattle.link_map.proofs.members.put_member.Goals as goal
 
 pub unreachable-requires : goal.unreachable-requires
@@ -19,6 +19,6 @@ pub put_symbols-requires-clause-there : goal.put_symbols-requires-clause-there
 put_symbols-requires-clause-there c = record {
   member = c.requires.0;
   there = c.requires.1;
-  segment = told_segment c.args.values.now.list c.args.place c.requires.0 (segment_of_view c.in-Some-view.segment.now) c.requires.1
+  segment = reported_segment c.args.values.now.list c.args.place c.requires.0 (segment_of_view c.in-Some-view.segment.now) c.requires.1
       (c.in-Some-view.ensures.value ∙ ap (λ (l : List Member). option_map (λ (o : Member). o.segment) (member_at l c.args.place)) c.program-program.ensures);
 }

@@ -3,11 +3,11 @@ use Rattle.omf_format.specs.File.{Segment}
 use Rattle.omf_format.specs.Record.{Record}
 use Rattle.omf_records.specs.Segments.{segment_of_view}
 use Rattle.omf_records.specs.View.{view}
-use Rattle.object_meaning.specs.Sizes.{size_at, place_behind, body_size}
+use Rattle.object_meaning.specs.Sizes.{size_at, place_after, body_size}
 use Rattle.link_program.specs.OfFiles.{IsOfFiles}
 use Rattle.link_values.proofs.Coming.{coming_view, body_lab_len, found_next, found_end}
-use Rattle.link_values.proofs.LocatedLaws.{behind-append}
-use Rattle.link_map.proofs.ListLaws.{near_there, behind_within}
+use Rattle.link_values.proofs.LocatedLaws.{following-append}
+use Rattle.link_map.proofs.ListLaws.{near_there, after_within}
 use Rattle.link_map.proofs.SymbolLaws.{telling_none, telling_more, telling_all}
 use Rattle.link_map.proofs.symbols.put_symbols.Goals as goal
 
@@ -40,7 +40,7 @@ put_defined-requires c =
     let h = c.requires.there in
     let s = segment_of_view c.args.segment.now in
     let t = c.walk.invariant.telling in
-    let within : c.walk.location ≤ body_size h.member.segment = omega (arith, t.location', behind_within s t.done t.back t.parts, ap body_size h.segment) in
+    let within : c.walk.location ≤ body_size h.member.segment = omega (arith, t.location', after_within s t.done t.back t.parts, ap body_size h.segment) in
     record {
       here = record { member = h.member; there = h.there; near = near_there list of c.args.place h.member c.walk.location h.there within };
       spelled = (c.walk.records.layout, c.walk.invariant.layout ∙ ap (λ (x : Segment). x.fields.lab_len) (sym h.segment), c.in-Some.ensures.formed);
@@ -56,10 +56,10 @@ overflow_add-location c =
     let found : ℕ × Record = (c.in-Some.found.0, view c.in-Some.found.1) in
     let w = found_next c.walk.records c.next_record.new.records t.back c.next_record.result c.in-Some.found t.coming c.next_record.ensures.walk c.in-Some.is in
     let parts : s.records ≡ (t.done ++ found ∷ []) ++ w.0 = t.parts ∙ ap (λ (l : List (ℕ × Record)). t.done ++ l) w.1 ∙ sym (append_assoc t.done (found ∷ []) w.0) in
-    let within : place_behind 0 (t.done ++ found ∷ []) ≤ body_size h.member.segment = omega (arith, behind_within s (t.done ++ found ∷ []) w.0 parts, ap body_size h.segment) in
-    let near = near_there list of c.args.place h.member (place_behind 0 (t.done ++ found ∷ [])) h.there within in
-    let size : size_at c.walk.location found.1 ≡ size_at (place_behind 0 t.done) found.1 = ap (λ (n : ℕ). size_at n found.1) t.location' in
-    omega (arith, near, t.location', size, c.from.ensures, c.size_at.ensures.value, behind-append 0 t.done (found ∷ []))
+    let within : place_after 0 (t.done ++ found ∷ []) ≤ body_size h.member.segment = omega (arith, after_within s (t.done ++ found ∷ []) w.0 parts, ap body_size h.segment) in
+    let near = near_there list of c.args.place h.member (place_after 0 (t.done ++ found ∷ [])) h.there within in
+    let size : size_at c.walk.location found.1 ≡ size_at (place_after 0 t.done) found.1 = ap (λ (n : ℕ). size_at n found.1) t.location' in
+    omega (arith, near, t.location', size, c.from.ensures, c.size_at.ensures.value, following-append 0 t.done (found ∷ []))
 
 pub overflow_cast-location : goal.overflow_cast-location
 overflow_cast-location c =
@@ -71,10 +71,10 @@ overflow_cast-location c =
     let found : ℕ × Record = (c.in-Some.found.0, view c.in-Some.found.1) in
     let w = found_next c.walk.records c.next_record.new.records t.back c.next_record.result c.in-Some.found t.coming c.next_record.ensures.walk c.in-Some.is in
     let parts : s.records ≡ (t.done ++ found ∷ []) ++ w.0 = t.parts ∙ ap (λ (l : List (ℕ × Record)). t.done ++ l) w.1 ∙ sym (append_assoc t.done (found ∷ []) w.0) in
-    let within : place_behind 0 (t.done ++ found ∷ []) ≤ body_size h.member.segment = omega (arith, behind_within s (t.done ++ found ∷ []) w.0 parts, ap body_size h.segment) in
-    let near = near_there list of c.args.place h.member (place_behind 0 (t.done ++ found ∷ [])) h.there within in
-    let size : size_at c.walk.location found.1 ≡ size_at (place_behind 0 t.done) found.1 = ap (λ (n : ℕ). size_at n found.1) t.location' in
-    omega (arith, near, t.location', size, c.from.ensures, c.size_at.ensures.value, behind-append 0 t.done (found ∷ []))
+    let within : place_after 0 (t.done ++ found ∷ []) ≤ body_size h.member.segment = omega (arith, after_within s (t.done ++ found ∷ []) w.0 parts, ap body_size h.segment) in
+    let near = near_there list of c.args.place h.member (place_after 0 (t.done ++ found ∷ [])) h.there within in
+    let size : size_at c.walk.location found.1 ≡ size_at (place_after 0 t.done) found.1 = ap (λ (n : ℕ). size_at n found.1) t.location' in
+    omega (arith, near, t.location', size, c.from.ensures, c.size_at.ensures.value, following-append 0 t.done (found ∷ []))
 
 pub walk-preserved : goal.walk-preserved
 walk-preserved c =

@@ -4,7 +4,7 @@ use Rattle.std.proofs.lemmas.List.{length-map}
 use Rattle.omf_records.specs.Segments.{segment_of_view}
 use Rattle.link_meaning.specs.Member.{objects, library_offers}
 use Rattle.link_meaning.specs.Search.{outside}
-use Rattle.link_tables.specs.Offers.{told_origin}
+use Rattle.link_tables.specs.Offers.{origin_view}
 use Rattle.link_program.specs.Opening.{OpensNothing}
 use Rattle.link_tables.proofs.Lists.{in_at, within_length}
 use Rattle.link_program.proofs.GrowLaws.{unset, set_less, flag_free, cursor_goes, origin_of, origin_among, no_segment, short_body, outside_is, growing_start, growing_end, growing_more}
@@ -33,7 +33,7 @@ origin-origin-requires c =
     let may = c.requires.2 in
     let g = c.members.invariant setting inputs may in
     let w = c.in-Some.ensures (objects setting inputs ++ g.added) (library_offers setting inputs) g.holds (outside_is setting inputs c.args.files.now c.args.outside.now c.args.offers.now c.args.linked.now g.added may) may.offers' g.nothing in
-    omega (arith, within_length (library_offers setting inputs) c.in-Some.found.1 w.0 w.1, ap length may.offers'.origins, length-map (library_offers setting inputs) told_origin)
+    omega (arith, within_length (library_offers setting inputs) c.in-Some.found.1 w.0 w.1, ap length may.offers'.origins, length-map (library_offers setting inputs) origin_view)
 
 pub unreachable-requires : goal.unreachable-requires
 unreachable-requires c =

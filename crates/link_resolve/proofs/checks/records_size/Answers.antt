@@ -16,7 +16,7 @@ walk-init c =
       first = record { back = all; coming = coming_view c.args.segment.now c.records-records.result c.requires c.records-records.ensures; whole = refl };
       cells = 0;
       whole = refl;
-      told = refl;
+      reported = refl;
     }
 
 pub next_record-requires : goal.next_record-requires
@@ -51,4 +51,4 @@ walk-preserved c =
     let s = c.walk.invariant in
     let found : ℕ × Record = (c.in-Some.at, view c.in-Some.rec) in
     let w = found_next c.walk.records c.next_record.new.records s.first.back c.next_record.result (c.in-Some.at, c.in-Some.rec) s.first.coming c.next_record.ensures.walk c.in-Some.is in
-    sized_more c.alignment-align.result (segment_of_view c.args.segment.now).records c.walk.records c.next_record.new.records c.walk.size c.size_behind-size.result found s w (sym c.record_fault.ensures ∙ c.in-None-record_fault.is) (c.size_behind-size.ensures s.cells s.told)
+    sized_more c.alignment-align.result (segment_of_view c.args.segment.now).records c.walk.records c.next_record.new.records c.walk.size c.size_after-size.result found s w (sym c.record_fault.ensures ∙ c.in-None-record_fault.is) (c.size_after-size.ensures s.cells s.reported)

@@ -1,11 +1,11 @@
-use Rattle.link_resolve.proofs.GatherLaws.{told_so, false_library, no_file_fault}
+use Rattle.link_resolve.proofs.GatherLaws.{reported_so, false_library, no_file_fault}
 use Rattle.link_resolve.proofs.gather.dictionary_of.Goals as goal
 
 pub returns-in-Ok-clause-rows : goal.returns-in-Ok-clause-rows
 returns-in-Ok-clause-rows c =
     let bytes = c.requires.read.0 in
     let read = c.requires.read.1 in
-    told_so c.args.list.now bytes c.in-Ok.dictionary c.rows_are_laid_out.ensures.laid_out read.is_file (c.in-Ok.ensures.rows bytes read)
+    reported_so c.args.list.now bytes c.in-Ok.dictionary c.rows_are_laid_out.ensures.laid_out read.is_file (c.in-Ok.ensures.rows bytes read)
 
 pub returns-in-Err-BadLibrary-clause-refused : goal.returns-in-Err-BadLibrary-clause-refused
 returns-in-Err-BadLibrary-clause-refused c = λ bytes read.

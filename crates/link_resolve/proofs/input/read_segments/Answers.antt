@@ -3,7 +3,7 @@ use Rattle.link_resolve.proofs.FileRefusals.{of_segment}
 use Rattle.link_resolve.proofs.input.read_segments.Goals as goal
 
 pub returns-in-Err-clause-refused : goal.returns-in-Err-clause-refused
-returns-in-Err-clause-refused c = c.file_fault.ensures.told c.args.bytes.now c.in-Err.ensures.refused
+returns-in-Err-clause-refused c = c.file_fault.ensures.reported c.args.bytes.now c.in-Err.ensures.refused
 
 pub returns-clause-refused : goal.returns-clause-refused
 returns-clause-refused c =

@@ -7,8 +7,8 @@ use Rattle.link_resolve.proofs.library.add_row.Goals as goal
 
 pub returns : goal.returns
 returns c = on_ok c.add.result _ _
-    (λ more setting os r o told stands offer are.
-    let p = row_place c.args.segments.now r (seen_row c.args.row) told stands in
+    (λ more setting os r o reported stands offer are.
+    let p = row_place c.args.segments.now r (seen_row c.args.row) reported stands in
     let number = sym c.in-Some.is ∙ c.number_of.ensures p.k p.segment p.here p.start in
-    more os o are (offered_row setting c.args.file c.args.segments.now r (seen_row c.args.row) o c.in-Some.number c.in-Some-get.segment.now c.is_titled-titled.result stands told offer number c.in-Some-get.ensures.value c.is_titled-titled.ensures))
+    more os o are (offered_row setting c.args.file c.args.segments.now r (seen_row c.args.row) o c.in-Some.number c.in-Some-get.segment.now c.is_titled-titled.result stands reported offer number c.in-Some-get.ensures.value c.is_titled-titled.ensures))
     c.add.ensures

@@ -29,7 +29,7 @@ returns-in-Some-clause-refused c = λ given of.
     let g = of.grown in
     let among = subst (λ (l : List (List Segment)). AllAmong l g.list) (sym c.as_slice.ensures.value) g.among in
     let laid = c.in-Ok.ensures g.list g.holds among in
-    refused_layout given kept c.in-Some.fault of (c.in_ok-check_names.ensures.fine g.list g.holds (list_outside given kept of)) (c.in-Some.ensures.told g.list (ap (λ (s : LinkSetting). s.form) (list_setting given kept of)) laid)
+    refused_layout given kept c.in-Some.fault of (c.in_ok-check_names.ensures.fine g.list g.holds (list_outside given kept of)) (c.in-Some.ensures.reported g.list (ap (λ (s : LinkSetting). s.form) (list_setting given kept of)) laid)
 
 pub returns-clause-laid : goal.returns-clause-laid
 returns-clause-laid c = λ given of.
@@ -37,5 +37,5 @@ returns-clause-laid c = λ given of.
     let g = of.grown in
     let among = subst (λ (l : List (List Segment)). AllAmong l g.list) (sym c.as_slice.ensures.value) g.among in
     let laid = c.in-Ok.ensures g.list g.holds among in
-    laid_out given kept c.in-Ok.layout of (c.in_ok-check_names.ensures.fine g.list g.holds (list_outside given kept of)) (c.in-None.ensures.told g.list (ap (λ (s : LinkSetting). s.form) (list_setting given kept of)) laid) laid
+    laid_out given kept c.in-Ok.layout of (c.in_ok-check_names.ensures.fine g.list g.holds (list_outside given kept of)) (c.in-None.ensures.reported g.list (ap (λ (s : LinkSetting). s.form) (list_setting given kept of)) laid) laid
     (c.in-None.ensures.fine refl)

@@ -25,7 +25,7 @@ returns-in-Err-clause-refused c =
     let m = c.index-given-place.result in
     let at = slice_get_read given (length given) c.files.place m refl c.files-test.true c.index-given-place.is in
     let held = c.as_slice.ensures.value ∙ ap (λ (x : Member). x.bytes.items) (sym c.index-given-place.is) in
-    let here = c.file_fault.ensures.told c.as_slice.result.now c.in-Err.ensures.refused in
+    let here = c.file_fault.ensures.reported c.as_slice.result.now c.in-Err.ensures.refused in
     first_refused given c.args.inputs c.files.place c.files.loads.items c.files.outside m c.file_fault.result c.files.invariant at
     (subst (λ (bytes : List ℕ). IsFileRefused (c.args.inputs + c.files.place + 1) bytes c.file_fault.result) held here)
 

@@ -3,7 +3,7 @@ use Rattle.omf_format.specs.Field.{Layout}
 use Rattle.omf_format.specs.Record.{Record}
 use Rattle.omf_records.specs.Segments.{segment_of_view}
 use Rattle.omf_records.specs.View.{view}
-use Rattle.object_meaning.specs.Sizes.{records_with_offsets, body_size, place_behind}
+use Rattle.object_meaning.specs.Sizes.{records_with_offsets, body_size, place_after}
 use Rattle.link_meaning.specs.Uses.{used_by, uses_of}
 use Rattle.link_tables.proofs.ComingLaws.{coming_view, found_next, found_end}
 use Rattle.link_tables.proofs.DefinitionLaws.{defining_all, defining_end, defining_within, defining_more}
@@ -47,7 +47,7 @@ overflow_add-location c =
     let found : ℕ × Record = (c.in-Some.at, view c.in-Some.rec) in
     let w = found_next c.walk.records c.next_record.new.records i.back c.next_record.result (c.in-Some.at, c.in-Some.rec) i.coming c.next_record.ensures.walk c.in-Some.is in
     let within = defining_within (segment_of_view c.args.segment.now).records c.walk.records c.next_record.new.records c.walk.location c.args.definitions.now c.walk.definitions c.args.origin c.args.place found i w in
-    let small : place_behind 0 (segment_of_view c.args.segment.now).records < 2 ^ 32 = c.requires.small in
+    let small : place_after 0 (segment_of_view c.args.segment.now).records < 2 ^ 32 = c.requires.small in
     omega (arith, within, small, c.from.ensures, c.size_at.ensures.value)
 
 pub overflow_cast-location : goal.overflow_cast-location
@@ -57,7 +57,7 @@ overflow_cast-location c =
     let found : ℕ × Record = (c.in-Some.at, view c.in-Some.rec) in
     let w = found_next c.walk.records c.next_record.new.records i.back c.next_record.result (c.in-Some.at, c.in-Some.rec) i.coming c.next_record.ensures.walk c.in-Some.is in
     let within = defining_within (segment_of_view c.args.segment.now).records c.walk.records c.next_record.new.records c.walk.location c.args.definitions.now c.walk.definitions c.args.origin c.args.place found i w in
-    let small : place_behind 0 (segment_of_view c.args.segment.now).records < 2 ^ 32 = c.requires.small in
+    let small : place_after 0 (segment_of_view c.args.segment.now).records < 2 ^ 32 = c.requires.small in
     omega (arith, within, small, c.from.ensures, c.size_at.ensures.value)
 
 pub walk-preserved : goal.walk-preserved

@@ -2,7 +2,7 @@ use Rattle.std.proofs.Common.{◌≡◌, ◌++◌, ◌∷◌, [], ℕ, List, inl
 use Rattle.omf_expr.specs.View.{view}
 use Rattle.omf_expr.specs.declared.term.Term as declared
 use Rattle.link_meaning.specs.First.{IsIn}
-use Rattle.link_meaning.specs.Rings.{is_equate}
+use Rattle.link_meaning.specs.Cycles.{is_equate}
 use Rattle.link_meaning.specs.Search.{FoundDefinition}
 use Rattle.object_meaning.specs.Terms.{asks_value}
 use Rattle.link_values.specs.Equates.{NameRow}

@@ -1,5 +1,5 @@
 use Rattle.std.proofs.Common.{◌≡◌, length}
-use Rattle.link_values.specs.Told.{operand_in}
+use Rattle.link_values.specs.Operands.{operand_in}
 use Rattle.link_values.proofs.value.operand_at.Given as goal
 
 -- the operand isn't among the terms so far

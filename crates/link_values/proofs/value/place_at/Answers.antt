@@ -7,5 +7,5 @@ use Rattle.link_values.proofs.value.place_at.Goals as goal
 pub returns : goal.returns
 unfolding place_value
 returns c = λ list m is.
-    ap (λ (n : ℕ). At 1 n (c.args.seat.offset + c.args.at) (pos 0)) is.load
+    ap (λ (n : ℕ). At 1 n (c.args.member_place.offset + c.args.at) (pos 0)) is.load
     ∙ ap (λ (n : ℕ). At 1 (load_of list m) (n + c.args.at) (pos 0)) is.offset'

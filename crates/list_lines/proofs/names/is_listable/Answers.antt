@@ -7,10 +7,10 @@ use Rattle.list_lines.proofs.names.is_listable.Goals as goal
 
 pub returns-then-is_upper_start : goal.returns-then-is_upper_start
 returns-then-is_upper_start c =
-    let behind = c.in-Some.behind.now in
-    c.are_upper.ensures ∙ sym (listable_split c.args.name.now behind c.in-Some.first.now c.in-Some.ensures.cases.0 ∙ ap (λ (b : Bool). b && list_all is_upper behind) (sym c.is_upper_start.ensures ∙ c.if-is_upper_start.true))
+    let following = c.in-Some.following.now in
+    c.are_upper.ensures ∙ sym (listable_split c.args.name.now following c.in-Some.first.now c.in-Some.ensures.cases.0 ∙ ap (λ (b : Bool). b && list_all is_upper following) (sym c.is_upper_start.ensures ∙ c.if-is_upper_start.true))
 
 pub returns-else-is_upper_start : goal.returns-else-is_upper_start
 returns-else-is_upper_start c =
-    let behind = c.in-Some.behind.now in
-    c.if-is_upper_start.false ∙ sym (listable_split c.args.name.now behind c.in-Some.first.now c.in-Some.ensures.cases.0 ∙ ap (λ (b : Bool). b && list_all is_upper behind) (sym c.is_upper_start.ensures ∙ c.if-is_upper_start.false))
+    let following = c.in-Some.following.now in
+    c.if-is_upper_start.false ∙ sym (listable_split c.args.name.now following c.in-Some.first.now c.in-Some.ensures.cases.0 ∙ ap (λ (b : Bool). b && list_all is_upper following) (sym c.is_upper_start.ensures ∙ c.if-is_upper_start.false))

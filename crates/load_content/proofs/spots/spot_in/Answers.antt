@@ -17,7 +17,7 @@ no_spot = record { at = 0; offset = 0; segment = 0; shift = pos 0; first = 0; en
 pub returns-then-count-eq0 : goal.returns-then-count-eq0
 returns-then-count-eq0 c =
     sym (none_over c.args.spots.now c.args.at (each_place (λ s. Covers c.args.at s → ⊥) c.args.spots.now
-    (λ i s is over. let behind = c.count_up_to-count.ensures.split.behind i s (omega (arith, c.if-count-eq0.true)) is in omega (arith, behind, over.0))))
+    (λ i s is over. let following = c.count_up_to-count.ensures.split.following i s (omega (arith, c.if-count-eq0.true)) is in omega (arith, following, over.0))))
 
 some_spot : (s t : PatchSpot) → Some s ≡ Some t → s ≡ t
 some_spot s t e = cc
@@ -33,21 +33,21 @@ module _ (spots : List PatchSpot) (at count : ℕ) (split : IsSplit offset_of sp
   low : last.at ≤ at
   low = split.before (count - 1) last (omega (arith, some)) there
 
-  none_behind : (j : ℕ) (t : PatchSpot) → count - 1 < j → slice_get spots j ≡ Some t → Covers at t → ⊥
-  none_behind j t lt is over = let behind = split.behind j t (omega (arith, lt)) is in omega (arith, behind, over.0)
+  none_after : (j : ℕ) (t : PatchSpot) → count - 1 < j → slice_get spots j ≡ Some t → Covers at t → ⊥
+  none_after j t lt is over = let following = split.following j t (omega (arith, lt)) is in omega (arith, following, over.0)
 
   -- where it reaches the offset, it gives the cell there
   pub found_there : at - last.at < last.end - last.first → last_at (shown_spots spots) at ≡ Some (cell_in last at)
-  found_there lt = last_over_it spots at (count - 1) last there (low, omega (arith, lt, low)) none_behind
+  found_there lt = last_over_it spots at (count - 1) last there (low, omega (arith, lt, low)) none_after
 
   -- and else none does
   pub none_there : last.end - last.first ≤ at - last.at → AreRising spots → last_at (shown_spots spots) at ≡ None
   none_there le rising = none_over spots at (each_place (λ s. Covers at s → ⊥) spots (λ i s is over. elim (cases_lt i (count - 1)) [
     | inl before ↦ let ends = rising.ends i (count - 1) s last before is there in omega (arith, ends, over.1, le, low)
-    | inr behind ↦ elim (cases_lt (count - 1) i) [
-      | inl after ↦ none_behind i s after is over
+    | inr following ↦ elim (cases_lt (count - 1) i) [
+      | inl after ↦ none_after i s after is over
       | inr same ↦
-          let here : i ≡ count - 1 = omega (arith, behind, same) in
+          let here : i ≡ count - 1 = omega (arith, following, same) in
           let eq : s ≡ last = some_spot s last (sym is ∙ ap (slice_get spots) here ∙ there) in
           let over' : Covers at last = subst (Covers at) eq over in
           omega (arith, over'.1, le, low)

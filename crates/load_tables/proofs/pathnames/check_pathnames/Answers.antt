@@ -15,7 +15,7 @@ use Rattle.load_content.proofs.LoadViews.{passed_none, passed_more, passed_some,
 use Rattle.load_content.proofs.Contents.{none_here}
 use Rattle.load_content.proofs.NamedFaults.{unless_then}
 use Rattle.load_tables.proofs.TableRuns.{any_more}
-use Rattle.load_tables.proofs.PathSegments.{phase_behind, first_passed, paths_none, paths_more, paths_all}
+use Rattle.load_tables.proofs.PathSegments.{phase_after, first_passed, paths_none, paths_more, paths_all}
 use Rattle.load_tables.proofs.pathnames.check_pathnames.Goals.{then-second, else-second}
 use Rattle.load_tables.proofs.pathnames.check_pathnames.Goals as goal
 
@@ -42,7 +42,7 @@ views-preserved c =
     let sized = none_here shape_fault views i number v inv.shapes c.requires.sized lt item in
     let place : i ≡ number - 1 = omega (arith, inv.passed.place) in
     let second : c.views.second ≡ is_second segments number = inv.second ∙ ap (λ n. list_any has_pathnames (take n segments)) place in
-    let sound = sym (phase_behind segments number (segment_of_view v) c.views.second second) ∙ c.in_ok-take_paths.ensures.sound in
+    let sound = sym (phase_after segments number (segment_of_view v) c.views.second second) ∙ c.in_ok-take_paths.ensures.sound in
     record {
       passed = passed_more (pathnames_fault segments) views i number v (option_map (in_segment number) (pathnames_fault segments number (segment_of_view v))) inv.passed lt item refl sound;
       shapes = passed_more shape_fault views i number v (option_map (in_segment number) (shape_fault number (segment_of_view v))) inv.shapes lt item refl (ap (λ o. option_map (in_segment number) o) sized);
@@ -82,7 +82,7 @@ returns-in_err-take_paths-clause-refused c =
     rw (p.1, p.2)
     (unless_then fault.cause fault _ _
     (λ first. sym (passed_some (pathnames_fault segments) views i number v (option_map (in_segment number) (pathnames_fault segments number (segment_of_view v))) fault inv.passed lt item refl
-    (sym (phase_behind segments number (segment_of_view v) c.views.second second) ∙ first)))
+    (sym (phase_after segments number (segment_of_view v) c.views.second second) ∙ first)))
     c.in_err-take_paths.ensures.refused)
 
 pub returns-clause-sound : goal.returns-clause-sound

@@ -41,7 +41,7 @@ pages-preserved c =
     let left = c.pages.left.now in
     let n = run (at / 256) left in
     let done = page_done c.pages.page at c.in-Some.field-0-1.now left c.in-Some.ensures.cases.0 (record { climb = c.pages.invariant.climb; sized = c.pages.invariant.sized }) in
-    let behind : c.items_after-left.result.now ≡ drop n left = c.items_after-left.ensures ∙ ap (λ (k : ℕ). drop k left) c.count_in-count.ensures in
+    let following : c.items_after-left.result.now ≡ drop n left = c.items_after-left.ensures ∙ ap (λ (k : ℕ). drop k left) c.count_in-count.ensures in
     let rest = flat_map page_text (pages_from (at / 256 + 1) (by_page (drop n left))) in
     let skips = flat_map page_text (passing (at / 256 - c.pages.page)) in
     let again = whole_again c.pages.out.items skips rest (n - 1) (lows (take n left)) c.put_skips.new.out.items c.push.new.self.items c.put_lows.new.out.items
@@ -49,8 +49,8 @@ pages-preserved c =
     (c.in_ok-push.ensures.items ∙ ap (λ (k : ℕ). c.put_skips.new.out.items ++ (k - 1) ∷ []) c.count_in-count.ensures)
     (c.in_ok-put_lows.ensures ∙ ap (λ (l : List ℕ). c.push.new.self.items ++ lows l) (c.first_items.ensures ∙ ap (λ (k : ℕ). take k left) c.count_in-count.ensures)) in
     record {
-      whole = ap (λ (l : List ℕ). c.put_lows.new.out.items ++ flat_map page_text (pages_from (at / 256 + 1) (by_page l))) behind
+      whole = ap (λ (l : List ℕ). c.put_lows.new.out.items ++ flat_map page_text (pages_from (at / 256 + 1) (by_page l))) following
           ∙ again ∙ ap (λ (l : List ℕ). c.pages.out.items ++ l) (sym done.text) ∙ c.pages.invariant.whole;
-      climb = subst (λ (l : List ℕ). Climb (at / 256 + 1) (by_page l)) (sym behind) done.next.climb;
-      sized = subst (λ (l : List ℕ). AllByRecursion IsGroup (by_page l)) (sym behind) done.next.sized;
+      climb = subst (λ (l : List ℕ). Climb (at / 256 + 1) (by_page l)) (sym following) done.next.climb;
+      sized = subst (λ (l : List ℕ). AllByRecursion IsGroup (by_page l)) (sym following) done.next.sized;
     }

@@ -8,7 +8,7 @@ use Rattle.load_writer.specs.declared.written.Patch.{Patch}
 use Rattle.load_writer.specs.WrittenParts.{seen}
 use Rattle.load_meaning.specs.WrittenBody.{AreWritten}
 use Rattle.load_meaning.specs.laws.FormLaws.{lone_fits}
-use Rattle.load_writer.proofs.Fronts.{front_whole, front_behind}
+use Rattle.load_writer.proofs.Fronts.{front_whole, front_after}
 use Rattle.load_writer.proofs.written.put_lone.Goals as goal
 
 abbrev no_patch : Patch
@@ -25,4 +25,4 @@ returns-in_err-put_record-clause-err c =
     let p = err_from_is_err_and c.from_residual.result c.from_residual.ensures.1 in
     let old = c.patches.out.items in
     let new = c.put_record.new.out.items in
-    rw p.1 (front_behind c.args.out.now.items old new c.patches.invariant.front (front_whole old new c.in_err-put_record.ensures.err))
+    rw p.1 (front_after c.args.out.now.items old new c.patches.invariant.front (front_whole old new c.in_err-put_record.ensures.err))

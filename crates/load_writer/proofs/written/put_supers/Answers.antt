@@ -6,7 +6,7 @@ use Rattle.omf_format.specs.Record.{spelling}
 use Rattle.load_meaning.specs.Cells as format
 use Rattle.load_writer.specs.WrittenParts.{seen}
 use Rattle.load_meaning.specs.WrittenBody.{of_form, super_records, supers_from}
-use Rattle.load_writer.proofs.Fronts.{front_behind}
+use Rattle.load_writer.proofs.Fronts.{front_after}
 use Rattle.load_writer.proofs.FormLists.{there_is, lists_size}
 use Rattle.load_writer.proofs.written.put_supers.Goals as goal
 
@@ -30,7 +30,7 @@ forms-preserved c =
           ∙ append_assoc old here rest
           ∙ ap (λ (l : List ℕ). old ++ l) (sym (step c.args.own patches form (38 - form) (38 - (form + 1)) (omega (arith, c.forms-test.true))))
           ∙ c.forms.invariant.whole;
-      front = front_behind c.args.out.now.items old c.put_super.new.out.items c.forms.invariant.front (here, c.in_ok-put_super.ensures.ok);
+      front = front_after c.args.out.now.items old c.put_super.new.out.items c.forms.invariant.front (here, c.in_ok-put_super.ensures.ok);
     }
 
 pub index-locations-requires : goal.index-locations-requires

@@ -1,5 +1,5 @@
 use Rattle.std.proofs.Common.{◌≡◌, ℕ, length, map, drop}
-use Rattle.load_writer.specs.WrittenParts.{seen, end_behind}
+use Rattle.load_writer.specs.WrittenParts.{seen, end_after}
 use Rattle.load_meaning.specs.WrittenBody.{AreWritten, with_stored}
 use Rattle.load_writer.proofs.written_data.put_patches.Given as goal
 
@@ -8,6 +8,6 @@ abbrev pub invariant-patches : goal.invariant-patches
 invariant-patches l = record {
   whole : with_stored l.own l.content (map seen (drop l.patch-index l.patches)) ≡ with_stored l.own l.initial.content (map seen l.patches);
   size : length l.content ≡ length l.initial.content;
-  end' : end_behind l.end (map seen (drop l.patch-index l.patches)) ≡ end_behind 0 (map seen l.patches);
+  end' : end_after l.end (map seen (drop l.patch-index l.patches)) ≡ end_after 0 (map seen l.patches);
   left : (low : ℕ) × AreWritten (length l.initial.content) low (map seen (drop l.patch-index l.patches));
 }

@@ -6,4 +6,4 @@ pub returns : goal.returns
 returns c =
     let name : List ℕ = c.args.name.now in
     let copied : c.copy_from_slice.new.self ≡ name = c.copy_from_slice.ensures.after in
-    ap (λ (front : List ℕ). front ++ drop (length name) (replicate 256 0)) copied ∙ ap (λ (behind : List ℕ). name ++ behind) (drop-replicate (length name) 256 0)
+    ap (λ (front : List ℕ). front ++ drop (length name) (replicate 256 0)) copied ∙ ap (λ (following : List ℕ). name ++ following) (drop-replicate (length name) 256 0)

@@ -2,7 +2,7 @@ use Rattle.std.proofs.Common.{List, ℕ, sym, subst}
 use Rattle.omf_c.specs.Making.{Assembles, contents}
 use Rattle.asm_meaning.specs.Object.{IsAsmFault}
 use Rattle.omf_c.proofs.Faults.{asm_first}
-use Rattle.omf_c.proofs.Files.{told_makes}
+use Rattle.omf_c.proofs.Files.{reported_makes}
 use Rattle.omf_c.proofs.making.assemble_to_answer.Goals as goal
 
 pub returns : goal.returns
@@ -11,4 +11,4 @@ returns c =
     let macros = contents c.args.macros.now in
     let refused : IsAsmFault source macros c.in-Err.fault = subst (λ (m : List (List ℕ)). IsAsmFault source m c.in-Err.fault) c.in-Ok.ensures c.in-Err.ensures.answer_of_fault in
     subst (Assembles source macros) (sym c.answer_of_fault.ensures)
-    (told_makes _ _ _ _ c.in-Err.fault c.asm_fault.result _ _ tt (λ other. asm_first source macros c.in-Err.fault other refused) c.asm_fault.ensures)
+    (reported_makes _ _ _ _ c.in-Err.fault c.asm_fault.result _ _ tt (λ other. asm_first source macros c.in-Err.fault other refused) c.asm_fault.ensures)

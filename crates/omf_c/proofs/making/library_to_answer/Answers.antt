@@ -1,7 +1,7 @@
 use Rattle.std.proofs.Common.{sym, subst, arith}
 use Rattle.lib_dict.specs.Made.{IsLibRefused}
 use Rattle.omf_c.specs.Making.{MakesLibrary, library_given, CanStand}
-use Rattle.omf_c.proofs.Files.{told_makes, short_members, count_given}
+use Rattle.omf_c.proofs.Files.{reported_makes, short_members, count_given}
 use Rattle.omf_c.proofs.making.library_to_answer.Goals as goal
 
 pub make_library-requires-clause-short : goal.make_library-requires-clause-short
@@ -13,4 +13,4 @@ returns c =
     let can : CanStand given = record { few = omega (arith, c.if-files-gt65535.false, count_given c.args.files.now); names = c.have_names.ensures.0 c.if-not-have_names.false; short = c.are_short.ensures.0 c.if-not-are_short.false } in
     let refused : IsLibRefused c.in-Err.fault given = subst (IsLibRefused c.in-Err.fault) c.in-Ok.ensures c.in-Err.ensures.answer_of_fault in
     subst (MakesLibrary given) (sym c.answer_of_fault.ensures)
-    (told_makes _ _ _ _ c.in-Err.fault c.lib_fault.result _ _ can (λ other. (refused, other)) c.lib_fault.ensures)
+    (reported_makes _ _ _ _ c.in-Err.fault c.lib_fault.result _ _ can (λ other. (refused, other)) c.lib_fault.ensures)

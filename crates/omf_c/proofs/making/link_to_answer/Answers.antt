@@ -6,7 +6,7 @@ use Rattle.link_resolve.specs.Resolved.{FewGiven, HavePaths}
 use Rattle.link_file.specs.Answers.{IsLinkRefused}
 use Rattle.omf_c.specs.Making.{Links, contents, link_given}
 use Rattle.omf_c.proofs.Faults.{link_first}
-use Rattle.omf_c.proofs.Files.{told_makes, given_same, named_paths}
+use Rattle.omf_c.proofs.Files.{reported_makes, given_same, named_paths}
 use Rattle.omf_c.proofs.making.link_to_answer.Goals as goal
 
 pub returns-then-not-have_names : goal.returns-then-not-have_names
@@ -32,5 +32,5 @@ returns c =
     let same = given_same c.args.form c.in-Ok.inputs.items c.in-Ok-members.runtimes.items (contents c.args.inputs.now) c.args.runtimes.now c.in-Ok.ensures c.in-Ok-members.ensures in
     let refused : IsLinkRefused given c.in-Err.fault = subst (λ (g : LinkInput). IsLinkRefused g c.in-Err.fault) same c.in-Err.ensures.answer_of_fault in
     subst (Links given) (sym c.answer_of_fault.ensures)
-    (told_makes _ _ _ _ c.in-Err.fault c.link_fault.result _ _ (subst FewGiven same c.if-not-may_resolve.ensures.few, subst HavePaths same c.if-not-may_resolve.ensures.paths)
+    (reported_makes _ _ _ _ c.in-Err.fault c.link_fault.result _ _ (subst FewGiven same c.if-not-may_resolve.ensures.few, subst HavePaths same c.if-not-may_resolve.ensures.paths)
     (λ other. link_first given c.in-Err.fault other refused) c.link_fault.ensures)

@@ -8,4 +8,4 @@ returns c =
     let worked = c.in_ok-worked.worked in
     subst (λ (k : ℕ). RunsTo c.args.n c.args.seed worked.loader k worked.entered worked.refused worked.sum) (sym c.from.ensures)
     (runs_to c.args.n c.args.seed c.in_ok-files.count worked.entered worked.refused worked.sum c.object.new.draws.last worked.loader c.in_ok-object.object.items c.in_ok-files.files.files
-    c.in_ok-object.ensures.made c.in_ok-files.ensures.store c.in_ok-object.ensures.behind c.in_ok-worked.ensures)
+    c.in_ok-object.ensures.made c.in_ok-files.ensures.store c.in_ok-object.ensures.following c.in_ok-worked.ensures)

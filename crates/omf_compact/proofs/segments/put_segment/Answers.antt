@@ -7,7 +7,7 @@ use Rattle.omf_compact.specs.Canonical.{plain_of, canon_fields, canon_segment}
 use Rattle.omf_compact.specs.laws.CanonLaws.{is_writable}
 use Rattle.omf_compact.specs.laws.Writing.{AtExports, fields_with, first_text, entries_text}
 use Rattle.omf_compact.proofs.KnownLaws.{known_held}
-use Rattle.omf_compact.proofs.SegmentLaws.{its_fields, own_number, at_own, body_there, behind_size, fields_are, err_moved, long_by, long_all, segment_done}
+use Rattle.omf_compact.proofs.SegmentLaws.{its_fields, own_number, at_own, body_there, after_size, fields_are, err_moved, long_by, long_all, segment_done}
 use Rattle.omf_compact.proofs.segments.put_segment.Goals as goal
 
 pub put_content-requires-clause-whole : goal.put_content-requires-clause-whole
@@ -62,7 +62,7 @@ overflow_sub-size c =
     let room = c.header_size-room.result in
     let there = at_own load number f.seg_num s (sym own) at in
     let mid = body_there out c.put_room.new.out.items c.put_content.new.out.items r3 room f.seg_num number s own c.in_ok-put_room.ensures.ok (c.in_ok-zeros.ensures.ok s there) (c.in_ok-next.ensures.ok s there) in
-    let sizes = behind_size out body r3 room mid in
+    let sizes = after_size out body r3 room mid in
     let start = ap length c.as_slice-start.ensures.value in
     let whole = ap length c.as_slice.ensures.value in
     omega (arith, sizes, start, whole)
@@ -81,7 +81,7 @@ overflow_sub-size-2 c =
     let room = c.header_size-room.result in
     let there = at_own load number f.seg_num s (sym own) at in
     let mid = body_there out c.put_room.new.out.items c.put_content.new.out.items r3 room f.seg_num number s own c.in_ok-put_room.ensures.ok (c.in_ok-zeros.ensures.ok s there) (c.in_ok-next.ensures.ok s there) in
-    let sizes = behind_size out body r3 room mid in
+    let sizes = after_size out body r3 room mid in
     let start = ap length c.as_slice-start.ensures.value in
     let whole = ap length c.as_slice.ensures.value in
     omega (arith, sizes, start, whole)
@@ -113,7 +113,7 @@ returns-in_err-front-clause-too_long c =
     let room = c.header_size-room.result in
     let there = at_own load number f.seg_num s (sym own) at in
     let mid = body_there out c.put_room.new.out.items c.put_content.new.out.items r3 room f.seg_num number s own c.in_ok-put_room.ensures.ok (c.in_ok-zeros.ensures.ok s there) (c.in_ok-next.ensures.ok s there) in
-    let sizes = behind_size out body r3 room mid in
+    let sizes = after_size out body r3 room mid in
     let start = ap length c.as_slice-start.ensures.value in
     let whole = ap length c.as_slice.ensures.value in
     let is = its_fields load number f s c.in-Some.ensures at in
@@ -135,7 +135,7 @@ close-requires c =
     let room = c.header_size-room.result in
     let there = at_own load number f.seg_num s (sym own) at in
     let mid = body_there out c.put_room.new.out.items c.put_content.new.out.items r3 room f.seg_num number s own c.in_ok-put_room.ensures.ok (c.in_ok-zeros.ensures.ok s there) (c.in_ok-next.ensures.ok s there) in
-    let sizes = behind_size out body r3 room mid in
+    let sizes = after_size out body r3 room mid in
     let start = ap length c.as_slice-start.ensures.value in
     let whole = ap length c.as_slice.ensures.value in
     let front = ap length (c.as_slice-2.ensures.value ∙ c.in_ok-front.ensures.ok) ∙ length-header (fields_with f c.in_ok-zeros.zeros) _ c.recall_header_size.ensures in
@@ -153,7 +153,7 @@ returns-clause-ok c = λ s at.
     let room = c.header_size-room.result in
     let there = at_own load number f.seg_num s (sym own) at in
     let mid = body_there out c.put_room.new.out.items c.put_content.new.out.items r3 room f.seg_num number s own c.in_ok-put_room.ensures.ok (c.in_ok-zeros.ensures.ok s there) (c.in_ok-next.ensures.ok s there) in
-    let sizes = behind_size out body r3 room mid in
+    let sizes = after_size out body r3 room mid in
     let start = ap length c.as_slice-start.ensures.value in
     let whole = ap length c.as_slice.ensures.value in
     let is = its_fields load number f s c.in-Some.ensures at in
@@ -185,7 +185,7 @@ returns-in_err-close-clause-too_long c =
     let room = c.header_size-room.result in
     let there = at_own load number f.seg_num s (sym own) at in
     let mid = body_there out c.put_room.new.out.items c.put_content.new.out.items r3 room f.seg_num number s own c.in_ok-put_room.ensures.ok (c.in_ok-zeros.ensures.ok s there) (c.in_ok-next.ensures.ok s there) in
-    let sizes = behind_size out body r3 room mid in
+    let sizes = after_size out body r3 room mid in
     let start = ap length c.as_slice-start.ensures.value in
     let whole = ap length c.as_slice.ensures.value in
     let is = its_fields load number f s c.in-Some.ensures at in

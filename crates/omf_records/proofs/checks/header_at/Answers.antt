@@ -7,5 +7,5 @@ to_file_header_fault-requires c =
 
 pub returns-in-Err-clause-err : goal.returns-in-Err-clause-err
 returns-in-Err-clause-err c =
-    let told = rw c.to_file_header_fault.ensures at c.in_segment.ensures in
-    segment_fault c.in-Err.fault c.args.number c.args.start c.bytes_from-bytes.result.now c.args.file.now c.in_segment.result c.bytes_from-bytes.ensures.value c.in-Err.ensures.refused told
+    let reported = rw c.to_file_header_fault.ensures at c.in_segment.ensures in
+    segment_fault c.in-Err.fault c.args.number c.args.start c.bytes_from-bytes.result.now c.args.file.now c.in_segment.result c.bytes_from-bytes.ensures.value c.in-Err.ensures.refused reported

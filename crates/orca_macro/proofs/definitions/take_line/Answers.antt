@@ -21,7 +21,7 @@ returns-then-not-operation_is-clause-ok c = λ old is.
 pub returns-in_ok-push-in-Ok-clause-ok : goal.returns-in_ok-push-in-Ok-clause-ok
 returns-in_ok-push-in-Ok-clause-ok c = λ old is.
     end_line c.args.in_source c.args.lines.now c.args.at (line c.in-Some.line.now) c.args.scan.now.plain old (map definition c.args.definitions.now.items) c.args.scan.now.begun c.in-Some-begun.begins
-    c.counts_behind.result (line c.in-Some-get.first.now) c.in-Ok.d (map definition c.push.new.self.items) c.in-Some-begun.is c.counts_behind.ensures is c.in-Some.ensures.line c.in-Some-get.ensures.line
+    c.counts_after.result (line c.in-Some-get.first.now) c.in-Ok.d (map definition c.push.new.self.items) c.in-Some-begun.is c.counts_after.ensures is c.in-Some.ensures.line c.in-Some-get.ensures.line
     (sym c.operation_is.ensures ∙ c.if-not-operation_is.false)
     (rw c.in-Ok.is at (c.in_ok-d.ensures (line c.in-Some-get.first.now) (line c.in-Some.line.now) c.in-Some-get.ensures.line c.in-Some.ensures.line))
     (ap (map definition) c.in_ok-push-in-Ok.ensures.items ∙ map-append definition c.args.definitions.now.items (c.in-Ok.d ∷ []))
@@ -29,6 +29,6 @@ returns-in_ok-push-in-Ok-clause-ok c = λ old is.
 pub returns-in-Err-clause-ok : goal.returns-in-Err-clause-ok
 returns-in-Err-clause-ok c = λ old is.
     bad_line c.args.in_source c.args.lines.now c.args.at (line c.in-Some.line.now) c.args.scan.now.plain old (map definition c.args.definitions.now.items) c.args.scan.now.begun c.in-Some-begun.begins
-    c.counts_behind.result (line c.in-Some-get.first.now) c.in-Err.fault c.in-Some-begun.is is c.in-Some.ensures.line c.in-Some-get.ensures.line
+    c.counts_after.result (line c.in-Some-get.first.now) c.in-Err.fault c.in-Some-begun.is is c.in-Some.ensures.line c.in-Some-get.ensures.line
     (sym c.operation_is.ensures ∙ c.if-not-operation_is.false)
     (rw c.in-Err.is at (c.in_ok-d.ensures (line c.in-Some-get.first.now) (line c.in-Some.line.now) c.in-Some-get.ensures.line c.in-Some.ensures.line))

@@ -1,6 +1,6 @@
 use Rattle.macro_meaning.specs.Visit.{given_by, move_of}
 use Rattle.orca_text.specs.View.{line}
-use Rattle.orca_macro.specs.DeedView.{effect_view}
+use Rattle.orca_macro.specs.EffectView.{effect_view}
 use Rattle.orca_macro.proofs.Runs.{visit_is}
 use Rattle.orca_macro.proofs.expansion.carry_out.Goals as goal
 

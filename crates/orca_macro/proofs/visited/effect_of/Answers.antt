@@ -1,6 +1,6 @@
 use Rattle.std.proofs.Common.{sym, ◌∙◌}
 use Rattle.orca_text.specs.View.{line}
-use Rattle.orca_macro.specs.DeedView.{where_}
+use Rattle.orca_macro.specs.EffectView.{where_}
 use Rattle.orca_macro.proofs.Both.{plain_ok}
 use Rattle.orca_macro.proofs.visited.effect_of.Goals as goal
 

@@ -1,5 +1,5 @@
 use Rattle.orca_text.specs.View.{line}
-use Rattle.orca_macro.specs.DeedView.{where_}
+use Rattle.orca_macro.specs.EffectView.{where_}
 use Rattle.orca_macro.proofs.Plans.{plain_does}
 use Rattle.orca_macro.proofs.visited.effect_of_known.Goals as goal
 

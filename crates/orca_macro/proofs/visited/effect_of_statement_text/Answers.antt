@@ -1,6 +1,6 @@
 use Rattle.std.proofs.Common.{sym, ◌∙◌}
 use Rattle.orca_text.specs.View.{fields}
-use Rattle.orca_macro.specs.DeedView.{where_}
+use Rattle.orca_macro.specs.EffectView.{where_}
 use Rattle.orca_macro.proofs.Both.{statement_ok}
 use Rattle.orca_macro.proofs.visited.effect_of_statement_text.Goals as goal
 

@@ -24,7 +24,7 @@ returns-in-Divided c = λ tree is.
 
 pub returns-in-Open : goal.returns-in-Open
 returns-in-Open c = λ tree is.
-    open_is (constants c.args.known) c.args.back (map term c.args.terms.now) c.put_terms.new.out.items c.value_behind.new.out.items tree
+    open_is (constants c.args.known) c.args.back (map term c.args.terms.now) c.put_terms.new.out.items c.value_after.new.out.items tree
     (from_empty c.new-out.result.items c.put_terms.new.out.items _ c.new-out.ensures.items c.in_ok-all.ensures.text) c.in_ok-worth.ensures.text is (sym (ap worth_view c.in-Open.is)
     ∙ worth_there (constants c.args.known) c.args.back (map term c.args.terms.now) c.put_terms.new.out.items _ tree (from_empty c.new-out.result.items c.put_terms.new.out.items _ c.new-out.ensures.items c.in_ok-all.ensures.text)
     (sym c.in_ok-all.ensures.numbers ∙ c.if-not-all.false) c.in_ok-all.ensures.fine c.in_ok-worth.ensures.value is)

@@ -1,6 +1,6 @@
 use Rattle.std.proofs.Common.{refl, sym, ◌∙◌}
 use Rattle.std.proofs.lemmas.Bool.{false≢true}
-use Rattle.orca_object.proofs.Formulated.{no_formula, more_behind, too_deep, too_large, good_formula}
+use Rattle.orca_object.proofs.Formulated.{no_formula, more_after, too_deep, too_large, good_formula}
 use Rattle.orca_object.proofs.amount.formula_in.Goals as goal
 
 pub returns-in_default : goal.returns-in_default
@@ -8,7 +8,7 @@ returns-in_default c = no_formula c.args.text.bytes.now (rw c.in_default.is at c
 
 pub returns-then-not-is_empty : goal.returns-then-not-is_empty
 returns-then-not-is_empty c =
-    more_behind c.args.text.bytes.now c.in-Some.found.rest.now c.in-Some.found.formula c.in-Some.found.large (rw c.in-Some.is at c.in_ok-found.ensures.found) (sym c.is_empty.ensures ∙ c.if-not-is_empty.true)
+    more_after c.args.text.bytes.now c.in-Some.found.rest.now c.in-Some.found.formula c.in-Some.found.large (rw c.in-Some.is at c.in_ok-found.ensures.found) (sym c.is_empty.ensures ∙ c.if-not-is_empty.true)
 
 pub returns-then-is_too_deep : goal.returns-then-is_too_deep
 returns-then-is_too_deep c =

@@ -3,12 +3,12 @@ use Rattle.orca_object.proofs.Judging.{fine_terms}
 use Rattle.orca_object.proofs.count.computed_count.Goals as goal
 
 pub returns-in_default-clause-none : goal.returns-in_default-clause-none
-returns-in_default-clause-none c = no_computed c.args.behind.bytes.now (rw c.in_default.is at c.in_ok-found.ensures.none)
+returns-in_default-clause-none c = no_computed c.args.following.bytes.now (rw c.in_default.is at c.in_ok-found.ensures.none)
 
-pub returns-in_default-behind_byte-clause-none : goal.returns-in_default-behind_byte-clause-none
-returns-in_default-behind_byte-clause-none c =
-    not_closed c.args.behind.bytes.now c.in-Some.found.formula c.in-Some.found.large c.in-Some.found.rest.now (rw c.in-Some.is at c.in_ok-found.ensures.found) c.in_default-behind_byte.ensures
+pub returns-in_default-after_byte-clause-none : goal.returns-in_default-after_byte-clause-none
+returns-in_default-after_byte-clause-none c =
+    not_closed c.args.following.bytes.now c.in-Some.found.formula c.in-Some.found.large c.in-Some.found.rest.now (rw c.in-Some.is at c.in_ok-found.ensures.found) c.in_default-after_byte.ensures
 
 pub number_of-requires : goal.number_of-requires
 number_of-requires c =
-    fine_terms c.args.behind.bytes.now c.in-Some.found.formula c.in-Some.found.large c.in-Some.found.rest.now c.args.behind.short (rw c.in-Some.is at c.in_ok-found.ensures.found)
+    fine_terms c.args.following.bytes.now c.in-Some.found.formula c.in-Some.found.large c.in-Some.found.rest.now c.args.following.short (rw c.in-Some.is at c.in_ok-found.ensures.found)

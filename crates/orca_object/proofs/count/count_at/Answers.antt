@@ -4,10 +4,10 @@ use Rattle.orca_object.proofs.count.count_at.Goals as goal
 
 pub returns-in-Some-clause-found : goal.returns-in-Some-clause-found
 returns-in-Some-clause-found c =
-    if_some _ _ c.in_ok-found.found c.in_ok-found.ensures.found (λ x is. computed_is (constants c.args.known) c.args.text.bytes.now c.in-Some.behind.now x.0 x.1.now c.in-Some.ensures is)
+    if_some _ _ c.in_ok-found.found c.in_ok-found.ensures.found (λ x is. computed_is (constants c.args.known) c.args.text.bytes.now c.in-Some.following.now x.0 x.1.now c.in-Some.ensures is)
 
 pub returns-in-Some-clause-none : goal.returns-in-Some-clause-none
-returns-in-Some-clause-none c = if_none _ _ c.in_ok-found.found c.in_ok-found.ensures.none (computed_none c.args.text.bytes.now c.in-Some.behind.now c.in-Some.ensures)
+returns-in-Some-clause-none c = if_none _ _ c.in_ok-found.found c.in_ok-found.ensures.none (computed_none c.args.text.bytes.now c.in-Some.following.now c.in-Some.ensures)
 
 pub returns-in-Some-digits_count-clause-found : goal.returns-in-Some-digits_count-clause-found
 returns-in-Some-digits_count-clause-found c =

@@ -4,7 +4,7 @@ use Rattle.orca_object.proofs.digits.group.Goals as goal
 
 pub digits-preserved-in-Some : goal.digits-preserved-in-Some
 digits-preserved-in-Some c =
-    group_more c.args.base c.args.each c.args.digits.now c.digits.left.now c.in-Some.behind.now c.in-Some.byte.now c.digits.value c.digits.count (c.digits.count - 1) c.digit_of-more.result (omega arith) c.in-Some.ensures.cases.0
+    group_more c.args.base c.args.each c.args.digits.now c.digits.left.now c.in-Some.following.now c.in-Some.byte.now c.digits.value c.digits.count (c.digits.count - 1) c.digit_of-more.result (omega arith) c.in-Some.ensures.cases.0
     c.digit_of-more.ensures.value c.digits.invariant
 
 pub overflow_mul-value-in-None : goal.overflow_mul-value-in-None

@@ -7,18 +7,18 @@ use Rattle.orca_object.proofs.lists.names_in.Goals as goal
 pub returns-in_default-clause-none : goal.returns-in_default-clause-none
 returns-in_default-clause-none c = reads_none c.args.text.bytes.now c.names.out.items c.names.left.now c.names.invariant (rw c.in_default.is at c.in_ok-name.ensures)
 
-pub returns-in_default-behind_byte-clause-none : goal.returns-in_default-behind_byte-clause-none
-returns-in_default-behind_byte-clause-none c =
+pub returns-in_default-after_byte-clause-none : goal.returns-in_default-after_byte-clause-none
+returns-in_default-after_byte-clause-none c =
     reads_wrong c.args.text.bytes.now c.names.out.items c.names.left.now c.in-Some.rest.now c.in-Some.name c.names.invariant (rw c.in-Some.is at c.in_ok-name.ensures)
-    (some_list c.in-Some.rest.now (sym c.is_empty.ensures ∙ c.if-is_empty.false)) c.in_default-behind_byte.ensures
+    (some_list c.in-Some.rest.now (sym c.is_empty.ensures ∙ c.if-is_empty.false)) c.in_default-after_byte.ensures
 
 pub names-preserved : goal.names-preserved
 names-preserved c =
-    reads_more c.args.text.bytes.now c.names.out.items c.push.new.self.items c.names.left.now c.in-Some.rest.now c.in-Some-behind_byte.behind.now c.in-Some.name c.names.invariant (rw c.in-Some.is at c.in_ok-name.ensures)
-    c.in_ok-push.ensures.items c.in-Some-behind_byte.ensures
+    reads_more c.args.text.bytes.now c.names.out.items c.push.new.self.items c.names.left.now c.in-Some.rest.now c.in-Some-after_byte.following.now c.in-Some.name c.names.invariant (rw c.in-Some.is at c.in_ok-name.ensures)
+    c.in_ok-push.ensures.items c.in-Some-after_byte.ensures
 
 pub names-smaller : goal.names-smaller
 names-smaller c =
     let here : name_at c.names.left.now ≡ Some (c.in-Some.name, c.in-Some.rest.now) = rw c.in-Some.is at c.in_ok-name.ensures in
-    let comma : c.in-Some.rest.now ≡ 0x2C ∷ c.in-Some-behind_byte.behind.now = c.in-Some-behind_byte.ensures in
+    let comma : c.in-Some.rest.now ≡ 0x2C ∷ c.in-Some-after_byte.following.now = c.in-Some-after_byte.ensures in
     omega (arith, name_shorter c.names.left.now c.in-Some.name c.in-Some.rest.now here, ap length comma)

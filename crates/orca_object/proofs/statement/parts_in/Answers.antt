@@ -29,22 +29,22 @@ returns-then-is_empty-clause-found c =
     has_elements (constants c.args.known) c.args.msb c.args.text.bytes.now _
     (subst (GathersAll IsElementAt (element_pieces (constants c.args.known) c.args.msb) c.args.text.bytes.now) (sym (all_parts c.gather_answer.new.fault c.gather_answer.new.out c.answer_or_fault.result c.answer_or_fault.ensures)) all)
 
-pub returns-in_default-behind_byte-clause-none : goal.returns-in_default-behind_byte-clause-none
-returns-in_default-behind_byte-clause-none c =
+pub returns-in_default-after_byte-clause-none : goal.returns-in_default-after_byte-clause-none
+returns-in_default-after_byte-clause-none c =
     let f = rw c.in-Some.is at c.in_ok-found.ensures.found in
     no_elements c.args.text.bytes.now (gathers_wrong IsElementAt (element_pieces (constants c.args.known) c.args.msb) stands_once c.args.text.bytes.now c.elements.fault (map part_pieces c.elements.out.items) c.elements.left.now c.in-Some.rest.now
-    f.element c.elements.invariant f.is (some_list c.in-Some.rest.now (sym c.is_empty.ensures ∙ c.if-is_empty.false)) c.in_default-behind_byte.ensures)
+    f.element c.elements.invariant f.is (some_list c.in-Some.rest.now (sym c.is_empty.ensures ∙ c.if-is_empty.false)) c.in_default-after_byte.ensures)
 
 pub elements-preserved : goal.elements-preserved
 elements-preserved c =
     let f = rw c.in-Some.is at c.in_ok-found.ensures.found in
-    let comma : c.in-Some.rest.now ≡ 0x2C ∷ c.in-Some-behind_byte.behind.now = c.in-Some-behind_byte.ensures in
+    let comma : c.in-Some.rest.now ≡ 0x2C ∷ c.in-Some-after_byte.following.now = c.in-Some-after_byte.ensures in
     gathers_more IsElementAt (element_pieces (constants c.args.known) c.args.msb) part_pieces stands_once c.args.text.bytes.now c.elements.fault c.gather_answer.new.fault c.elements.out.items c.gather_answer.new.out.items c.in-Some.answer
-    c.elements.left.now c.in-Some.rest.now c.in-Some-behind_byte.behind.now f.element c.elements.invariant f.is f.gives c.in_ok-gather_answer.ensures.fault c.in_ok-gather_answer.ensures.all comma
+    c.elements.left.now c.in-Some.rest.now c.in-Some-after_byte.following.now f.element c.elements.invariant f.is f.gives c.in_ok-gather_answer.ensures.fault c.in_ok-gather_answer.ensures.all comma
     (omega (arith, ap length comma, element-le c.elements.left.now f.element c.in-Some.rest.now f.is))
 
 pub elements-smaller : goal.elements-smaller
 elements-smaller c =
     let f = rw c.in-Some.is at c.in_ok-found.ensures.found in
-    let comma : c.in-Some.rest.now ≡ 0x2C ∷ c.in-Some-behind_byte.behind.now = c.in-Some-behind_byte.ensures in
+    let comma : c.in-Some.rest.now ≡ 0x2C ∷ c.in-Some-after_byte.following.now = c.in-Some-after_byte.ensures in
     omega (arith, ap length comma, element-le c.elements.left.now f.element c.in-Some.rest.now f.is)

@@ -16,21 +16,21 @@ returns-then-not-branch-clause-all c =
     all_twice c.args.parameters.now (pieces 0x2C c.operands.left.now) (more_pieces 0x2C (option_copied c.first_piece.result.1)) c.operands.place c.first_piece.result.0.bytes.now (bind c.in-Some.found) (symbols_of c.operands.symbols) _
     c.first_piece.ensures.pieces c.in-Some.ensures.found (rw c.if-not-branch.true at c.in_ok-bind_once.ensures) c.operands.invariant.all
 
-pub returns-in_default-behind-clause-all : goal.returns-in_default-behind-clause-all
-returns-in_default-behind-clause-all c =
+pub returns-in_default-following-clause-all : goal.returns-in_default-following-clause-all
+returns-in_default-following-clause-all c =
     all_end c.args.parameters.now (pieces 0x2C c.operands.left.now) c.operands.place c.first_piece.result.0.bytes.now (bind c.in-Some.found) (symbols_of c.operands.symbols) (symbols_of c.bind_once.new.symbols) _
-    (rw c.in_default-behind.is at c.first_piece.ensures.pieces) c.in-Some.ensures.found (rw c.if-not-branch.false at c.in_ok-bind_once.ensures) c.operands.invariant.all
+    (rw c.in_default-following.is at c.first_piece.ensures.pieces) c.in-Some.ensures.found (rw c.if-not-branch.false at c.in_ok-bind_once.ensures) c.operands.invariant.all
 
-pub returns-in_default-behind-clause-reached : goal.returns-in_default-behind-clause-reached
-returns-in_default-behind-clause-reached c =
+pub returns-in_default-following-clause-reached : goal.returns-in_default-following-clause-reached
+returns-in_default-following-clause-reached c =
     next_reached c.args.parameters.now c.operands.place c.first_piece.result.0.bytes.now (bind c.in-Some.found) (symbols_of c.operands.symbols) (symbols_of c.bind_once.new.symbols)
     c.in-Some.ensures.found (rw c.if-not-branch.false at c.in_ok-bind_once.ensures) c.operands.invariant.reached
 
 pub operands-preserved : goal.operands-preserved
 operands-preserved c = record {
-  all = all_next c.args.parameters.now (pieces 0x2C c.operands.left.now) (pieces 0x2C c.in-Some-behind.others.now) c.operands.place c.first_piece.result.0.bytes.now (bind c.in-Some.found) (symbols_of c.operands.symbols) (symbols_of c.bind_once.new.symbols) _
-      (rw c.in-Some-behind.is at c.first_piece.ensures.pieces) c.in-Some.ensures.found (rw c.if-not-branch.false at c.in_ok-bind_once.ensures) c.operands.invariant.all;
+  all = all_next c.args.parameters.now (pieces 0x2C c.operands.left.now) (pieces 0x2C c.in-Some-following.others.now) c.operands.place c.first_piece.result.0.bytes.now (bind c.in-Some.found) (symbols_of c.operands.symbols) (symbols_of c.bind_once.new.symbols) _
+      (rw c.in-Some-following.is at c.first_piece.ensures.pieces) c.in-Some.ensures.found (rw c.if-not-branch.false at c.in_ok-bind_once.ensures) c.operands.invariant.all;
   reached = next_reached c.args.parameters.now c.operands.place c.first_piece.result.0.bytes.now (bind c.in-Some.found) (symbols_of c.operands.symbols) (symbols_of c.bind_once.new.symbols)
       c.in-Some.ensures.found (rw c.if-not-branch.false at c.in_ok-bind_once.ensures) c.operands.invariant.reached;
-  short = let less : length c.in-Some-behind.others.now < length c.operands.left.now = rw c.in-Some-behind.is at c.first_piece.ensures.behind in omega (arith, less, c.operands.invariant.short);
+  short = let less : length c.in-Some-following.others.now < length c.operands.left.now = rw c.in-Some-following.is at c.first_piece.ensures.following in omega (arith, less, c.operands.invariant.short);
 }

@@ -2,7 +2,7 @@ use Rattle.std.proofs.Common.{ap, sym, ◌∙◌}
 use Rattle.std.specs.List.{list_all}
 use Rattle.macro_meaning.specs.Condition.{is_declared}
 use Rattle.orca_symbols.specs.View.{values}
-use Rattle.orca_symbols.proofs.Numbers.{no_formula, more_behind, undeclared, too_large, too_deep, fine_terms, all_values, empty_rest, some_rest, not_deep}
+use Rattle.orca_symbols.proofs.Numbers.{no_formula, more_after, undeclared, too_large, too_deep, fine_terms, all_values, empty_rest, some_rest, not_deep}
 use Rattle.orca_symbols.proofs.conditions.long_number.Goals as goal
 
 pub returns-in_default : goal.returns-in_default
@@ -10,7 +10,7 @@ returns-in_default c = no_formula _ _ (rw c.in_default.is at c.in_ok-found.ensur
 
 pub returns-then-not-is_empty : goal.returns-then-not-is_empty
 returns-then-not-is_empty c =
-    more_behind _ _ c.in-Some.found.formula c.in-Some.found.large c.in-Some.found.rest.now (rw c.in-Some.is at c.in_ok-found.ensures.found)
+    more_after _ _ c.in-Some.found.formula c.in-Some.found.large c.in-Some.found.rest.now (rw c.in-Some.is at c.in_ok-found.ensures.found)
     (some_rest c.in-Some.found.rest.now (sym c.is_empty.ensures ∙ c.if-not-is_empty.true))
 
 pub returns-then-not-are_declared : goal.returns-then-not-are_declared

@@ -18,12 +18,12 @@ returns-in_default c = record {
 pub runs-preserved : goal.runs-preserved
 runs-preserved c =
     let text = c.args.of.now.text in
-    let few : c.in_ok-more.more ≤ length c.in-Some.behind.now = omega (arith, c.in_ok-more.ensures.more, c.in_ok-place.ensures.bound) in
+    let few : c.in_ok-more.more ≤ length c.in-Some.following.now = omega (arith, c.in_ok-more.ensures.more, c.in_ok-place.ensures.bound) in
     record {
-      so = parts_more (naming_at text (line c.args.of.now).fields) text c.runs.left.now c.in_ok-rest.rest.now c.runs.run.items c.copy_plain.new.out.items c.add.new.run.items c.in-Some.behind.now c.split_at.result.1.now
+      so = parts_more (naming_at text (line c.args.of.now).fields) text c.runs.left.now c.in_ok-rest.rest.now c.runs.run.items c.copy_plain.new.out.items c.add.new.run.items c.in-Some.following.now c.split_at.result.1.now
           c.runs.parts.items c.add.new.parts.items c.in-Some.field-0-0.now c.in_ok-place.place c.in_ok-more.more (omega (arith, c.runs.invariant.within, ap length c.bytes-text.ensures.value)) c.runs.invariant.so
           c.in_ok-rest.ensures.rest c.in_ok-rest.ensures.copied c.in-Some.ensures.cases.0
-          (λ text_of. subst (λ (n : Naming). in_place text_of n c.in-Some.behind.now ≡ with_more (more_of c.in_ok-place.place) (replacement_text text_of c.in_ok-place.place))
+          (λ text_of. subst (λ (n : Naming). in_place text_of n c.in-Some.following.now ≡ with_more (more_of c.in_ok-place.place) (replacement_text text_of c.in_ok-place.place))
           (c.naming_at-named.ensures ∙ ap (λ (t : List ℕ). naming_at text (line c.args.of.now).fields (length t - length c.in_ok-rest.rest.now)) c.bytes-text.ensures.value) (c.in_ok-place.ensures.place text_of))
           c.in_ok-more.ensures.more few c.split_at.ensures.back c.in_ok-more.ensures.parts;
       within = omega (
@@ -33,7 +33,7 @@ runs-preserved c =
         length-drop (plain_len c.runs.left.now) c.runs.left.now,
         ap length c.in-Some.ensures.cases.0,
         ap length c.split_at.ensures.back,
-        length-drop c.in_ok-more.more c.in-Some.behind.now,
+        length-drop c.in_ok-more.more c.in-Some.following.now,
         ap length c.in_ok-rest.ensures.copied,
         length-append c.runs.run.items (take (plain_len c.runs.left.now) c.runs.left.now),
         length-take (plain_len c.runs.left.now) c.runs.left.now,

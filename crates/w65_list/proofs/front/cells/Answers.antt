@@ -16,19 +16,19 @@ returns-then-is_lost c =
     let next = sym (rw c.in-Ok-Some.field-0-is at c.in-Ok-Some.ensures.answer) in
     counted_lost c.args.records c.records.records c.args.most c.records.place found c.requires c.records.invariant next (sym c.is_lost.ensures ∙ c.if-is_lost.true)
 
-pub returns-then-behind-from : goal.returns-then-behind-from
-returns-then-behind-from c =
+pub returns-then-following-from : goal.returns-then-following-from
+returns-then-following-from c =
     let found : ℕ × Record = (c.in-Ok-Some.field-0-0-0, view c.in-Ok-Some.rec) in
     let next = sym (rw c.in-Ok-Some.field-0-is at c.in-Ok-Some.ensures.answer) in
     counted_over c.args.records c.records.records c.args.most c.records.place (c.from.result + c.size_at.result) found c.requires c.records.invariant next
-    (ap (λ (n : ℕ). n + c.size_at.result) c.from.ensures ∙ ap (λ (n : ℕ). c.records.place + n) c.size_at.ensures.value) (omega (arith, c.if-behind-from.true, c.from-in-Ok-Some.ensures))
+    (ap (λ (n : ℕ). n + c.size_at.result) c.from.ensures ∙ ap (λ (n : ℕ). c.records.place + n) c.size_at.ensures.value) (omega (arith, c.if-following-from.true, c.from-in-Ok-Some.ensures))
 
 pub records-preserved : goal.records-preserved
 records-preserved c =
     let found : ℕ × Record = (c.in-Ok-Some.field-0-0-0, view c.in-Ok-Some.rec) in
     let next = sym (rw c.in-Ok-Some.field-0-is at c.in-Ok-Some.ensures.answer) in
     counted_on c.args.records c.records.records c.next.new.self c.args.most c.records.place (c.from.result + c.size_at.result) found c.records.invariant next c.in-Ok-Some.ensures.after (sym c.is_lost.ensures ∙ c.if-is_lost.false)
-    (ap (λ (n : ℕ). n + c.size_at.result) c.from.ensures ∙ ap (λ (n : ℕ). c.records.place + n) c.size_at.ensures.value) (omega (arith, c.if-behind-from.false, c.from-in-Ok-Some.ensures))
+    (ap (λ (n : ℕ). n + c.size_at.result) c.from.ensures ∙ ap (λ (n : ℕ). c.records.place + n) c.size_at.ensures.value) (omega (arith, c.if-following-from.false, c.from-in-Ok-Some.ensures))
 
 pub unreachable-requires : goal.unreachable-requires
 unreachable-requires c = walk_fails c.args.records c.records.records c.records.invariant.before c.in-Err.field-0 c.requires c.records.invariant.run (sym c.in-Err.ensures.answer)

@@ -6,8 +6,8 @@ pub returns-clause-made : goal.returns-clause-made
 returns-clause-made c =
     (segments_end c.args.n c.args.draws.now.last c.segments.i c.segments.draws.last c.segments.object.items c.segments.invariant (omega (arith, c.segments-test.false))).0
 
-pub returns-clause-behind : goal.returns-clause-behind
-returns-clause-behind c =
+pub returns-clause-following : goal.returns-clause-following
+returns-clause-following c =
     (segments_end c.args.n c.args.draws.now.last c.segments.i c.segments.draws.last c.segments.object.items c.segments.invariant (omega (arith, c.segments-test.false))).1
 
 pub returns-clause-short : goal.returns-clause-short

@@ -3,7 +3,7 @@ use Rattle.std.specs.Prelude.{slice_get}
 use Rattle.std.proofs.lemmas.Option.{slice_get_read}
 use Rattle.link_meaning.specs.LinkedList.{PlacedUse}
 use Rattle.link_meaning.specs.Uses.{Use}
-use Rattle.link_tables.specs.Uses.{use_of, told_use}
+use Rattle.link_tables.specs.Uses.{use_of, use_view}
 use Rattle.link_program.proofs.LinkedLaws.{member_is}
 use Rattle.link_program.proofs.ResolvingLaws.{use_is, place_within, stands}
 use Rattle.link_tables.proofs.ShortNames.{short_at}
@@ -34,20 +34,20 @@ returns-clause-short c =
     let there = c.get-found.ensures in
     short_at kept.uses c.args.number (use_of u) c.requires.held.1.short there
 
-pub returns-clause-told : goal.returns-clause-told
-returns-clause-told c = λ list a holds at.
+pub returns-clause-reported : goal.returns-clause-reported
+returns-clause-reported c = λ list a holds at.
     let kept = c.args.self.now in
     let u = c.get-found.result in
     let items = kept.members.items in
     let there = c.get-found.ensures in
     let is = use_is list kept c.args.number u holds there in
     let same : is.use' ≡ a = asked_same is.use' a (sym is.at ∙ at) in
-    let told : told_use a ≡ use_of u = subst (λ (x : PlacedUse). told_use x ≡ use_of u) same is.told in
+    let reported : use_view a ≡ use_of u = subst (λ (x : PlacedUse). use_view x ≡ use_of u) same is.reported in
     let s = stands list c.args.number a at in
-    let place : a.place ≡ u.place = ap (λ (p : ℕ × Use). p.0) told in
+    let place : a.place ≡ u.place = ap (λ (p : ℕ × Use). p.0) reported in
     let within = place_within list kept c.args.number u holds is in
     let member : slice_get list (u.place - 1) ≡ Some a.member = ap (λ (n : ℕ). slice_get list (n - 1)) (sym place) ∙ s.at in
     let less : u.place - 1 < length items = omega (arith, within.0, within.1) in
     let x = c.index-origin.result.now in
     let kept_there = slice_get_read items (length items) (u.place - 1) x refl less c.index-origin.ensures in
-    (member_is list kept (u.place - 1) a.member x holds member kept_there, sym (ap (λ (p : ℕ × Use). p.1.name) told), sym (ap (λ (p : ℕ × Use). p.1.at) told))
+    (member_is list kept (u.place - 1) a.member x holds member kept_there, sym (ap (λ (p : ℕ × Use). p.1.name) reported), sym (ap (λ (p : ℕ × Use). p.1.at) reported))

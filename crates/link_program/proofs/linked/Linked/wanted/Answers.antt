@@ -1,6 +1,6 @@
 use Rattle.std.proofs.Common.{◌≤◌, length, Some, None, ap, arith}
 use Rattle.std.proofs.lemmas.List.{length-map}
-use Rattle.link_tables.specs.Offers.{told_origin}
+use Rattle.link_tables.specs.Offers.{origin_view}
 use Rattle.link_program.proofs.ResolvingLaws.{use_is, place_within}
 use Rattle.link_program.proofs.WantedLaws.{wants_so, wants_next, wanted_here, wanted_none, wanted_without_rows}
 use Rattle.link_program.proofs.linked.Linked.wanted.Goals as goal
@@ -39,4 +39,4 @@ returns c = λ list os holds far are none.
 
 pub returns-then-count-eq0 : goal.returns-then-count-eq0
 returns-then-count-eq0 c = λ list os holds far are none.
-    wanted_without_rows os list (omega (arith, length-map os told_origin, ap length are.origins, c.if-count-eq0.true, c.count.ensures))
+    wanted_without_rows os list (omega (arith, length-map os origin_view, ap length are.origins, c.if-count-eq0.true, c.count.ensures))

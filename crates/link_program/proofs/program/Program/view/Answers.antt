@@ -6,18 +6,18 @@ use Rattle.link_meaning.specs.Member.{Member}
 use Rattle.link_program.specs.Files.{segment_in}
 use Rattle.link_program.specs.Programs.{list_of}
 use Rattle.link_program.proofs.MemberLaws.{shown_in_input}
-use Rattle.link_program.proofs.ProgramLaws.{told_at, segment_told, member_told}
+use Rattle.link_program.proofs.ProgramLaws.{reported_at, segment_reported, member_reported}
 use Rattle.link_program.proofs.program.Program.view.Goals as goal
 
 abbrev value_is : goal.returns-in-Some-clause-value
 value_is c =
     let kept = c.self.inside.kept in
     let list = list_of kept in
-    let told = told_at list c.args.place c.origin.result c.in-Some.origin (c.origin.ensures list c.self.invariant.holds) c.in-Some.is in
+    let reported = reported_at list c.args.place c.origin.result c.in-Some.origin (c.origin.ensures list c.self.invariant.holds) c.in-Some.is in
     rw (← c.self.view_is)
     (c.segment_in.ensures.value ∙ ap (λ (files : List (List Segment)). segment_in files c.in-Some.origin.file c.in-Some.origin.segment) c.as_slice.ensures.value
-    ∙ segment_told kept.files.items list c.args.place c.in-Some.origin told c.self.invariant.among
-    ∙ sym (ap (option_map (λ (m : Member). m.segment)) (member_told list c.args.place c.in-Some.origin told)))
+    ∙ segment_reported kept.files.items list c.args.place c.in-Some.origin reported c.self.invariant.among
+    ∙ sym (ap (option_map (λ (m : Member). m.segment)) (member_reported list c.args.place c.in-Some.origin reported)))
 
 pub returns-in-Some-clause-value : goal.returns-in-Some-clause-value
 returns-in-Some-clause-value c = value_is c

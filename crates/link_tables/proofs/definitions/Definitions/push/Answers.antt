@@ -8,5 +8,5 @@ pub returns : goal.returns
 returns c =
     let new : Definitions = record { names = c.add.new.self; locals = c.add_local.new.locals; items = c.push.new.self } in
     on_ok c.push.result _ _
-    (λ items fs f are key told. pushed fs f c.args.self.now new (key_of c.args.key) c.count-number.result c.args.definition are key told c.count-number.ensures.value c.in_ok-add.ensures items c.in_ok-add_local.ensures)
+    (λ items fs f are key reported. pushed fs f c.args.self.now new (key_of c.args.key) c.count-number.result c.args.definition are key reported c.count-number.ensures.value c.in_ok-add.ensures items c.in_ok-add_local.ensures)
     c.push.ensures

@@ -1,12 +1,12 @@
 use Rattle.loader_machine.specs.Rule.{RoomRule}
 use Rattle.sys_loader.proofs.Script.{if_ok, if_err}
-use Rattle.loader_agrees.specs.laws.Reads.{lent_met, lent_refused}
+use Rattle.loader_agrees.specs.laws.Reads.{borrowed_met, borrowed_refused}
 use Rattle.sys_loader.proofs.loader.Loader.bytes.Goals as goal
 
 pub returns-clause-shows : goal.returns-clause-shows
 returns-clause-shows c = if_ok c.borrow_bytes.result _ _ c.borrow_bytes.ensures.borrow_bytes
-    (λ bytes lent held state agrees. lent_met held c.args.self.now state agrees RoomRule c.args.user c.args.segment c.args.at c.args.length bytes.now lent)
+    (λ bytes loaned held state agrees. borrowed_met held c.args.self.now state agrees RoomRule c.args.user c.args.segment c.args.at c.args.length bytes.now loaned)
 
 pub returns-clause-refuses : goal.returns-clause-refuses
 returns-clause-refuses c = if_err c.borrow_bytes.result _ _ c.borrow_bytes.ensures.refused
-    (λ fault refused held state agrees. lent_refused held c.args.self.now state agrees RoomRule c.args.user c.args.segment c.args.at c.args.length fault refused)
+    (λ fault refused held state agrees. borrowed_refused held c.args.self.now state agrees RoomRule c.args.user c.args.segment c.args.at c.args.length fault refused)

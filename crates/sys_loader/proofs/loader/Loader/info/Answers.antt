@@ -9,17 +9,17 @@ use Rattle.loader_machine.specs.declared.faults.LoaderFault.{LoaderFault}
 use Rattle.loader_machine.specs.State.{Machine}
 use Rattle.loader_machine.specs.Commands as commands
 use Rattle.loader_agrees.specs.Agrees.{Met}
-use Rattle.loader_agrees.specs.Acts.{HasTold}
-use Rattle.loader_agrees.specs.laws.Reads.{told_met, told_refused}
+use Rattle.loader_agrees.specs.Acts.{HasReported}
+use Rattle.loader_agrees.specs.laws.Reads.{reported_met, reported_refused}
 use Rattle.sys_loader.specs.declared.answers.Info.{Info}
 use Rattle.sys_loader.specs.Replies.{info_reply}
 use Rattle.sys_loader.proofs.loader.Loader.info.Goals as goal
 
-meets : (loader : Loaded) (id number : ℕ) (result : Result Info LoaderFault) → IfOk result (λ info. HasTold loader id number info.presence info.length info.kind)
+meets : (loader : Loaded) (id number : ℕ) (result : Result Info LoaderFault) → IfOk result (λ info. HasReported loader id number info.presence info.length info.kind)
     → IfErr result (λ fault. info_refusal (seen_by loader id) number ≡ Some fault) → (held : FileMap) (state : Machine) → Agrees held loader state
     → Met RoomRule held state (commands.Info id number) (info_reply result) loader
-meets loader id number (Ok info) told refused held state agrees = told_met held loader state agrees RoomRule id number info.presence info.length info.kind told
-meets loader id number (Err fault) told refused held state agrees = told_refused held loader state agrees RoomRule id number fault refused
+meets loader id number (Ok info) reported refused held state agrees = reported_met held loader state agrees RoomRule id number info.presence info.length info.kind reported
+meets loader id number (Err fault) reported refused held state agrees = reported_refused held loader state agrees RoomRule id number fault refused
 
 pub returns-clause-meets : goal.returns-clause-meets
-returns-clause-meets c = meets c.args.self.now c.args.user c.args.segment c.told.result c.told.ensures.told c.told.ensures.refused
+returns-clause-meets c = meets c.args.self.now c.args.user c.args.segment c.reported.result c.reported.ensures.reported c.reported.ensures.refused

@@ -1,11 +1,11 @@
 use Rattle.std.proofs.Common.{refl}
 use Rattle.std.proofs.lemmas.Result.{err_from_is_err_and}
 use Rattle.sys_loader.specs.Following.{NoJsl, NoPlace}
-use Rattle.sys_loader.proofs.Reaching.{lent_size}
+use Rattle.sys_loader.proofs.Reaching.{loaned_size}
 use Rattle.sys_loader.proofs.loader.Loader.jsl_place.Goals as goal
 
 pub called-requires : goal.called-requires
-called-requires c = lent_size c.args.self.now c.recall_invariant.ensures c.args.user c.args.segment c.args.at 4 c.in_ok-four.four.now c.in_ok-four.ensures.borrow_bytes
+called-requires c = loaned_size c.args.self.now c.recall_invariant.ensures c.args.user c.args.segment c.args.at 4 c.in_ok-four.four.now c.in_ok-four.ensures.borrow_bytes
 
 pub returns-in_err-address-clause-refused : goal.returns-in_err-address-clause-refused
 returns-in_err-address-clause-refused c =
@@ -15,4 +15,4 @@ returns-in_err-address-clause-refused c =
 pub returns-in-None-clause-refused : goal.returns-in-None-clause-refused
 returns-in-None-clause-refused c =
     let jsl = c.in_ok-address.ensures.ok in
-    NoPlace c.in_ok-address.address (record { bytes = c.in_ok-four.four.now; lent = c.in_ok-four.ensures.borrow_bytes; jsl = jsl.0; address_is = jsl.1 }) c.in-None.ensures refl
+    NoPlace c.in_ok-address.address (record { bytes = c.in_ok-four.four.now; loaned = c.in_ok-four.ensures.borrow_bytes; jsl = jsl.0; address_is = jsl.1 }) c.in-None.ensures refl

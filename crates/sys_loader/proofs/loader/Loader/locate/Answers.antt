@@ -22,14 +22,14 @@ meets loader address (Some entered) sound some held state agrees = lies_met held
 pub returns-clause-meets : goal.returns-clause-meets
 returns-clause-meets c = meets c.args.self.now c.args.address c.located.result c.recall_invariant.ensures c.located.ensures
 
-told : (result : Option Entered) → (loader : Loaded) → (address : ℕ) → MatchOption result ((id number offset : ℕ) → ¬ LiesIn loader address id number offset)
+reported : (result : Option Entered) → (loader : Loaded) → (address : ℕ) → MatchOption result ((id number offset : ℕ) → ¬ LiesIn loader address id number offset)
     (λ (entered : Entered). LiesIn loader address entered.user entered.segment entered.offset × (entered.address ≡ address))
     → MatchOption result (Unit {0}) (λ (entered : Entered). entered.address ≡ address)
-told None loader address none = tt
-told (Some entered) loader address some = some.1
+reported None loader address none = tt
+reported (Some entered) loader address some = some.1
 
 pub returns-clause-names : goal.returns-clause-names
 returns-clause-names c = λ held state agrees id number at target offset has read.
     names_place held c.args.self.now state agrees c.recall_invariant.ensures c.recall_blocks_apart.ensures.below id number at target offset has c.recall_blocks_apart.ensures.apart c.args.address c.located.result
-    (told c.located.result c.args.self.now c.args.address c.located.ensures)
+    (reported c.located.result c.args.self.now c.args.address c.located.ensures)
     (meets c.args.self.now c.args.address c.located.result c.recall_invariant.ensures c.located.ensures held state agrees) read

@@ -5,7 +5,7 @@ use Rattle.loader_machine.specs.declared.seen.SegmentHead.{SegmentHead}
 use Rattle.loader_machine.specs.State.{user_of}
 use Rattle.loader_agrees.specs.Agrees.{Loaded}
 use Rattle.loader_users.specs.View.{kept}
-use Rattle.sys_loader.proofs.Reaching.{head_same, handle_same, entry_in, lent_here, enters_place, no_entry, names_one, calls_entry}
+use Rattle.sys_loader.proofs.Reaching.{head_same, handle_same, entry_in, borrowed_here, enters_place, no_entry, names_one, calls_entry}
 use Rattle.sys_loader.proofs.loader.Loader.reached.Goals as goal
 
 pub returns-then-not-is_table-clause-reached : goal.returns-then-not-is_table-clause-reached
@@ -26,7 +26,7 @@ target_at-target-requires c =
     let made : user_of c.args.self.now.users p.user ≡ Some (kept c.user_in.result.now) = ap (λ (l : Loaded). user_of l.users p.user) (sym c.self.view_is) ∙ c.user_in.ensures in
     let head = head_same c.args.self.now p.address p.user p.segment p.offset c.requires.lies (kept c.user_in.result.now) made c.segment_in-found.result.head c.segment_in-found.ensures.head in
     let handle = handle_same c.args.self.now p.address p.user p.segment p.offset c.requires.lies (kept c.user_in.result.now) made c.segment_in-found.result.handle c.segment_in-found.ensures.handle in
-    let bytes = lent_here c.args.self.now p.address p.user p.segment p.offset c.requires.lies c.segment_in-found.result.handle c.block_of.result.now handle
+    let bytes = borrowed_here c.args.self.now p.address p.user p.segment p.offset c.requires.lies c.segment_in-found.result.handle c.block_of.result.now handle
     (subst (λ (l : Loaded). IsSomeAnd c.segment_in-found.result.handle (λ h. c.block_of.result.now ≡ bytes_at l.memory h.slot)) c.self.view_is c.block_of.ensures) in
     omega (arith, ap length bytes, entry_in c.args.self.now p.address p.user p.segment p.offset c.requires.lies c.recall_invariant.ensures c.in-Some.k c.segment_in-found.result.head.length (ap (λ (h : SegmentHead). h.length) head) c.in-Some.ensures.0)
 
