@@ -32,7 +32,7 @@ impl Model for Edges {
 }
 
 /// The numbers from one place up to another.
-fn between(ends: &[usize], from: usize, to: usize) -> &[usize]
+fn ends_between(ends: &[usize], from: usize, to: usize) -> &[usize]
     requires ordered { from ≤ to }
     requires within { to ≤ length ends.now }
     ensures { result.now ≡ take (to - from) (drop from ends.now) }
@@ -68,7 +68,7 @@ impl Edges {
         ensures { result.now ≡ row_at self.now vertex }
     {
         match self.spans.as_slice().get(vertex) {
-            Some(span) => between(self.ends.as_slice(), span.from, span.to),
+            Some(span) => ends_between(self.ends.as_slice(), span.from, span.to),
             None => &[],
         }
     }

@@ -10,7 +10,7 @@ ghost use Rattle.load_writer.specs.Joined.{joined};
 ghost use Rattle.load_writer.specs.WrittenParts.{IsKept, IsFront};
 
 use crate::written::BodyFault;
-use crate::written_data::{kept, put_over};
+use crate::written_data::{put_over, stored_length};
 
 /// How many bytes stand before the data of an LCONST: its code and its count.
 const FRONT: usize = 5;
@@ -50,7 +50,7 @@ fn kept_from(out: &[u8], start: usize) -> usize
     requires { start ≤ length out.now }
     ensures { IsKept (drop start out.now) 0 result }
 {
-    kept(&out[start..], 0)
+    stored_length(&out[start..], 0)
 }
 
 /// Ends an LCONST that begins at a place, and tells how many bytes it has: zeros at its end are cut off, and without others all
@@ -58,7 +58,7 @@ fn kept_from(out: &[u8], start: usize) -> usize
 fn close(out: &mut Vec<u8>, start: usize) -> usize
     requires room { start + 5 ≤ length out.old.items }
     requires small { length out.old.items ≤ start + 5 + 0xFFFFFF }
-    ensures kept { IsKept (drop (start + 5) out.old.items) 0 result }
+    ensures stored_length { IsKept (drop (start + 5) out.old.items) 0 result }
     ensures text { (front content : List ℕ) → out.old.items ≡ front ++ (0xF2 ∷ little_bytes 4 0) ++ content → length front ≡ start
         → out.new.items ≡ front ++ flat_map (spelling written_layout) (data_records (take result content)) }
 {

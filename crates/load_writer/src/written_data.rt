@@ -50,7 +50,7 @@ fn put_patches(content: &mut [u8], own: u16, patches: &[Patch]) -> usize
 }
 
 /// How many bytes there are up to a place, or up to the last one behind it that isn't 0.
-pub fn kept(content: &[u8], end: usize) -> usize
+pub fn stored_length(content: &[u8], end: usize) -> usize
     requires { end ≤ length content.now }
     ensures { IsKept content.now end result }
 {
@@ -81,7 +81,7 @@ fn data_size(content: &[u8], patches: &[Patch]) -> usize
     requires { AreWritten (length content.now) 0 (map seen patches.now) }
     ensures { IsKept content.now (end_after 0 (map seen patches.now)) result }
 {
-    kept(content, end_of(patches))
+    stored_length(content, end_of(patches))
 }
 
 /// Writes what stands in the data at each patch over the bytes from a place on.

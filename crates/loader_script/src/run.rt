@@ -68,7 +68,7 @@ pub fn run_script<F: Files, S: Sink>(
 {
     let script = match read_script(alloc, text) {
         Ok(script) => script,
-        Err(fault) => return refused(fault),
+        Err(fault) => return end_of_refused_script(fault),
     };
     match run_commands(alloc, &script, files, out) {
         Ok(loader) => ScriptEnd::Done(loader),
@@ -78,7 +78,7 @@ pub fn run_script<F: Files, S: Sink>(
 }
 
 /// How a script ends that wasn't read.
-fn refused(fault: ScriptFault) -> ScriptEnd
+fn end_of_refused_script(fault: ScriptFault) -> ScriptEnd
     ensures reported { (text : List ℕ) → IsRefused fault text → IsNotRun result text }
     ensures memory { result ≡ ScriptEnd.Memory → fault.cause ≡ ScriptCause.Memory }
 {

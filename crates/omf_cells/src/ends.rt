@@ -6,7 +6,7 @@ ghost use Rattle.load_writer.specs.WrittenParts.{IsKept};
 ghost use Rattle.omf_cells.specs.Ends.{IsEnd, HasReach};
 
 use load_content::{BytePiece, PatchSpot, size_of};
-use load_writer::kept;
+use load_writer::stored_length;
 
 /// Where a spot ends; 0 where it has no bytes.
 fn end_of(spot: &PatchSpot) -> usize
@@ -39,7 +39,7 @@ fn end_of_nonzero(piece: &BytePiece, low: usize) -> usize
     if piece.bytes.len() <= from {
         return 0;
     }
-    let size = kept(piece.bytes, from);
+    let size = stored_length(piece.bytes, from);
     if size == from {
         return 0;
     }

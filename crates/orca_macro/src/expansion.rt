@@ -120,7 +120,7 @@ fn scan_all(
 }
 
 /// The program of these lines and macros.
-fn built(
+fn build_expansion(
     alloc: Global,
     plain: Lines,
     definitions: Vec<MacroDefinition>,
@@ -149,7 +149,7 @@ fn program_of(
     }
     match scan_source(alloc, source, &mut definitions)? {
         Ok(plain) => {
-            let program = built(alloc, plain, definitions)?;
+            let program = build_expansion(alloc, plain, definitions)?;
             Ok(Ok(program))
         }
         Err(fault) => Ok(Err(fault)),

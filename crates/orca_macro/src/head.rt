@@ -6,7 +6,7 @@ ghost use Rattle.orca_macro.specs.Head.{IsHead};
 use macro_meaning::Statement;
 use omf_base::Name;
 use orca_symbols::{skip_sequence_symbol, statement_of};
-use orca_text::{LinePart, folded, is_comment, part, three_fields};
+use orca_text::{LinePart, is_comment, part, three_fields, to_upper_case};
 use std::alloc::{AllocError, Global};
 
 /// The front of a line, with a blank behind its operation.
@@ -64,7 +64,7 @@ pub(crate) fn head_of(alloc: Global, front: LinePart<'_>) -> Result<Option<LineH
         sequence: front.bytes.len() - text.bytes.len(),
         label: fields.label.to as usize,
         end: fields.operation.to as usize,
-        operation: folded(alloc, operation)?,
+        operation: to_upper_case(alloc, operation)?,
         statement: statement_of(operation.bytes),
     }))
 }

@@ -103,7 +103,7 @@ impl Program {
 
     /// The first macro of a name, with its place.
     #[tactic(auto, using(crate::proofs::Firsts::within))]
-    pub(crate) fn named(&self, name: &[u8]) -> Option<(usize, &MacroDefinition)>
+    pub(crate) fn macro_by_name(&self, name: &[u8]) -> Option<(usize, &MacroDefinition)>
         ensures { MatchOption result (first_named name.now self.now.definitions ≡ None)
             (λ x. (first_named name.now self.now.definitions ≡ Some x.0) × (slice_get self.now.definitions x.0 ≡ Some (definition x.1.now))) }
     {
@@ -143,7 +143,7 @@ impl Program {
 
     /// A line of the macro at a place, or of the source, and what is known of it.
     #[tactic(auto, using(crate::proofs::Plans::fits_here))]
-    pub(crate) fn visited(
+    pub(crate) fn effect_at(
         &self,
         place: Option<usize>,
         at: u32,

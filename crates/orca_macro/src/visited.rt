@@ -26,7 +26,9 @@ use orca_symbols::{
     Symbols, TemplatePart, Values, Word, bind_arguments, instantiate, is_folded, is_operation,
     is_plain, names_count, skip_sequence_symbol, statement_of, substitute,
 };
-use orca_text::{LinePart, SourceLine, folded, is_comment, operand_after, part, three_fields};
+use orca_text::{
+    LinePart, SourceLine, is_comment, operand_after, part, three_fields, to_upper_case,
+};
 use std::alloc::{AllocError, Global};
 
 /// Where a line stands.
@@ -52,7 +54,7 @@ fn macro_of_operation<'a>(
     if is_folded(operation.bytes) {
         return Ok(program.named(operation.bytes));
     }
-    let asked = folded(alloc, operation)?;
+    let asked = to_upper_case(alloc, operation)?;
     Ok(program.named(asked.bytes()))
 }
 

@@ -7,7 +7,7 @@ ghost use Rattle.orca_object.specs.OperandView.{name_answer};
 
 use asm_meaning::AsmCause;
 use omf_base::Name;
-use orca_text::{LinePart, folded, is_name_start, name_len};
+use orca_text::{LinePart, is_name_start, name_len, to_upper_case};
 use std::alloc::{AllocError, Global};
 
 /// Whether a text is a name.
@@ -45,7 +45,7 @@ pub(crate) fn name_of(
     ensures { IfOk result (λ answer. name_answer answer ≡ name_of text.entry.bytes.now) }
 {
     if is_name(text.bytes) {
-        let name = folded(alloc, text)?;
+        let name = to_upper_case(alloc, text)?;
         return Ok(Ok(name));
     }
     Ok(Err(AsmCause::BadOperand))

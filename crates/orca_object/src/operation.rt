@@ -16,7 +16,7 @@ use crate::operand::{following_here, is_name};
 use crate::state::AsmState;
 use asm_meaning::{AsmCause, Class, Directive, Operation, Switch};
 use omf_base::Name;
-use orca_text::{LinePart, folded, is_spelled, mnemonic_of};
+use orca_text::{LinePart, is_spelled, mnemonic_of, to_upper_case};
 use std::alloc::{AllocError, Global};
 
 /// Whether an operation has this spelling.
@@ -28,7 +28,7 @@ fn is_operation(operation: &[u8], spelling: &[u8]) -> bool
 
 /// A directive without effect.
 #[tactic(auto, unfolding(asm_meaning::specs::Operations::ignored, orca_meaning::specs::Operation::beside))]
-fn ignored(operation: &[u8]) -> Option<Directive>
+fn ignored_directive(operation: &[u8]) -> Option<Directive>
     ensures { result ≡ value_of_spelling (folded operation.now) (Rattle.std.specs.Prelude.map as_ignored ignored_directives) }
 {
     if is_operation(operation, b"KEEP") {
@@ -99,7 +99,7 @@ fn later_directive(operation: &[u8]) -> Option<Directive>
     if is_operation(operation, b"ANOP") {
         return Some(Directive::Nothing);
     }
-    ignored(operation)
+    ignored_directive(operation)
 }
 
 /// The directive that an operation is, in upper or lower case.
@@ -255,7 +255,7 @@ pub(crate) fn label_of(
     if !is_name(text.bytes) {
         return Ok(Err(AsmCause::BadLabel));
     }
-    let name = folded(alloc, text)?;
+    let name = to_upper_case(alloc, text)?;
     if kept.is_taken(begins_segment(operation), name.bytes()) {
         return Ok(Err(AsmCause::Duplicate));
     }

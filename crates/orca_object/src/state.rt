@@ -277,7 +277,7 @@ impl AsmState {
     }
 
     /// The constants that are known.
-    pub(crate) fn known(&self) -> KnownConstants<'_>
+    pub(crate) fn known_constants(&self) -> KnownConstants<'_>
         ensures { (state : State) → ShowsState state self.now → constants result ≡ constants_of state }
     {
         let names = match &self.segment {

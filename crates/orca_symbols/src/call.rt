@@ -44,7 +44,7 @@ fn spelled_among<'a>(names: &'a [Name], text: &[u8]) -> Option<&'a [u8]>
 
 /// The name as it is written, and the text behind it, in `NAME=text`.
 #[tactic(auto, using(crate::proofs::Binds::no_bytes))]
-fn named(piece: &[u8]) -> Option<(&[u8], &[u8])>
+fn split_keyword(piece: &[u8]) -> Option<(&[u8], &[u8])>
     ensures short { IfSome result (λ x. length x.1.now ≤ length piece.now) }
     ensures found { MatchOption result ((parameters : List (List ℕ)) (place : ℕ) → keyword_from parameters place (name_at piece.now) ≡ None)
         (λ x. name_at piece.now ≡ Some (folded x.0.now, 0x3D ∷ x.1.now)) }
@@ -68,7 +68,7 @@ fn keyword<'a>(parameters: &'a [Name], place: usize, piece: LinePart<'a>) -> Opt
     ensures found { MatchOption result (keyword_from parameters.now place (name_at piece.entry.bytes.now) ≡ None)
         (λ b. keyword_from parameters.now place (name_at piece.entry.bytes.now) ≡ Some (bind b)) }
 {
-    let Some((name, text)) = named(piece.bytes) else {
+    let Some((name, text)) = split_keyword(piece.bytes) else {
         return None;
     };
     match spelled_among(parameters, name) {

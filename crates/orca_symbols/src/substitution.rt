@@ -16,7 +16,7 @@ use crate::names::statement_of;
 use crate::symbols::{Values, text_of};
 use macro_meaning::{Kind, Statement};
 use orca_text::{
-    LinePart, SourceLine, Span, folded, is_name_start, name_len, part, quote_following,
+    LinePart, SourceLine, Span, is_name_start, name_len, part, quote_following, to_upper_case,
 };
 use std::alloc::{AllocError, Global};
 
@@ -207,7 +207,7 @@ fn named_text<'a>(
     if is_folded(bytes) {
         return Ok(text_of(of, bytes));
     }
-    let name = folded(alloc, LinePart { bytes })?;
+    let name = to_upper_case(alloc, LinePart { bytes })?;
     Ok(text_of(of, name.bytes()))
 }
 

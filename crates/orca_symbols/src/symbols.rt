@@ -159,7 +159,7 @@ impl Symbols {
     }
 
     /// None, in the memory of these.
-    pub fn emptied(self) -> Symbols
+    pub fn into_empty(self) -> Symbols
         ensures { symbols_of result ≡ no_symbols }
     {
         let mut symbols = self;

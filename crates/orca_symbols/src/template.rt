@@ -16,7 +16,7 @@ use crate::substitution::{
 use crate::symbols::{Values, text_of};
 use crate::text::name;
 use omf_base::Name;
-use orca_text::{LinePart, SourceLine, folded, name_len};
+use orca_text::{LinePart, SourceLine, name_len, to_upper_case};
 use std::alloc::{AllocError, Global};
 
 /// A part of a line.
@@ -46,7 +46,7 @@ fn front_name(alloc: Global, following: LinePart<'_>) -> Result<Name, AllocError
     ensures { IfOk result (λ name. name ≡ characters.folded (take (name_length following.entry.bytes.now) following.entry.bytes.now)) }
 {
     let (bytes, _) = following.bytes.split_at(name_len(following.bytes));
-    folded(alloc, LinePart { bytes })
+    to_upper_case(alloc, LinePart { bytes })
 }
 
 /// What comes in place of an `&` before these bytes.

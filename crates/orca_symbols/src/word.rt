@@ -8,7 +8,7 @@ ghost use Rattle.orca_meaning.specs.Token.{name_at};
 use crate::names::is_name;
 use crate::substitution::is_folded;
 use omf_base::Name;
-use orca_text::{LinePart, after_byte, folded};
+use orca_text::{LinePart, after_byte, to_upper_case};
 use std::alloc::{AllocError, Global};
 use std::marker::Model;
 
@@ -69,7 +69,7 @@ fn folded_word<'a>(alloc: Global, text: LinePart<'a>) -> Result<Word<'a>, AllocE
     if is_folded(text.bytes) {
         return Ok(Word::borrowed(text));
     }
-    let name = folded(alloc, text)?;
+    let name = to_upper_case(alloc, text)?;
     Ok(Word::owned(name))
 }
 

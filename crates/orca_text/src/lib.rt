@@ -25,7 +25,7 @@ pub use line::SourceLine;
 pub use line_part::LinePart;
 pub use lines::{Lines, read_lines};
 pub use operand::{Operand, is_too_deep, read_operand};
-pub use operand_tokens::{after_byte, folded, is_name_start, name_at, name_len, symbol_at};
+pub use operand_tokens::{after_byte, is_name_start, name_at, name_len, symbol_at, to_upper_case};
 pub use operation::{is_spelled, mnemonic_of};
 pub use orca_meaning::{Form, Mnemonic, OperandUse, Operands, Prefix, Span, TextCause, TextFault};
 pub use short::{ShortFormula, short_formula};

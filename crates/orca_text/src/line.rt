@@ -55,7 +55,7 @@ impl SourceLine {
     }
 
     /// The same line once more.
-    pub(crate) fn copied(&self, alloc: Global) -> Result<SourceLine, AllocError>
+    pub(crate) fn try_copy(&self, alloc: Global) -> Result<SourceLine, AllocError>
         ensures { IfOk result (λ l. line l ≡ line self.now) }
     {
         match Name::of(alloc, self.text.bytes()) {

@@ -75,7 +75,7 @@ impl Lines {
         ensures ok { OnOk result (self.new ≡ self.old ++ line of.now ∷ []) }
         ensures err { OnErr result (self.new ≡ self.old) }
     {
-        let line = of.copied(alloc)?;
+        let line = of.try_copy(alloc)?;
         self.lines.push(line)?;
         Ok(())
     }
@@ -128,7 +128,7 @@ fn line_fault(number: u32, text: &[u8]) -> Option<TextCause>
 }
 
 /// The fault of a line of this number, where it has one.
-fn checked(file: u32, number: u32, text: &[u8]) -> Result<(), TextFault>
+fn check_text(file: u32, number: u32, text: &[u8]) -> Result<(), TextFault>
     ensures good { OnOk result (line_fault number text.now ≡ None) }
     ensures bad { IfErr result (λ fault. line_fault number text.now ≡ Some fault.cause) }
     ensures place { IfErr result (λ fault. fault ≡ record { cause = fault.cause; file = file; line = number }) }
@@ -154,7 +154,7 @@ pub fn read_lines(alloc: Global, file: u32, source: &[u8]) -> Result<Lines, Text
     let mut number = 1;
     'lines: while !rest.is_empty() {
         let (text, following) = split_line(rest);
-        checked(file, number, text)?;
+        check_text(file, number, text)?;
         match lines.push(alloc, file, number, LinePart { bytes: text }) {
             Ok(()) => {}
             Err(_) => return Err(TextFault {

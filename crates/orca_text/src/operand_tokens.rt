@@ -86,7 +86,7 @@ pub fn name_len(following: &[u8]) -> usize
 }
 
 /// Bytes in upper case, as a name.
-pub fn folded(alloc: Global, text: LinePart<'_>) -> Result<Name, AllocError>
+pub fn to_upper_case(alloc: Global, text: LinePart<'_>) -> Result<Name, AllocError>
     ensures { IfOk result (λ name. name ≡ folded text.entry.bytes.now) }
 {
     let mut name = Vec::with_capacity(alloc, text.bytes.len())?;
@@ -108,7 +108,7 @@ pub fn name_at(alloc: Global, text: LinePart<'_>) -> Result<Option<(Name, &[u8])
         return Ok(None);
     }
     let (bytes, rest) = text.bytes.split_at(1 + name_len(following));
-    let name = folded(alloc, LinePart { bytes })?;
+    let name = to_upper_case(alloc, LinePart { bytes })?;
     Ok(Some((name, rest)))
 }
 

@@ -61,9 +61,9 @@ impl Waiting {
     }
 
     /// What was put there last.
-    pub(crate) fn last(&self) -> Option<Wait>
+    pub(crate) fn last_waiting(&self) -> Option<Wait>
         ensures { MatchOption result (self.now ≡ []) (λ last. (rest : _) × (self.now ≡ wait last ∷ rest)) }
     {
-        self.items.last().copied()
+        self.items.last_waiting().try_copy()
     }
 }

@@ -551,7 +551,7 @@ fn is_name(word: &[u8], name: &str) -> bool
 
 /// The command that a word names.
 #[tactic(auto, unfolding(loader_machine::specs::Script::named))]
-fn named(word: &[u8]) -> Option<CommandName>
+fn command_by_name(word: &[u8]) -> Option<CommandName>
     ensures { result ≡ command_named word.now }
 {
     if is_name(word, "banks") {
@@ -637,7 +637,7 @@ fn command_of(alloc: Global, line: &[u8], is_first: bool) -> Result<Command, Scr
     let Some(word) = words.next() else {
         return Err(ScriptCause::UnknownCommand);
     };
-    let Some(name) = named(word) else {
+    let Some(name) = command_by_name(word) else {
         return Err(ScriptCause::UnknownCommand);
     };
     if !is_in_turn(name, is_first) {

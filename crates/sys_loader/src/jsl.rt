@@ -45,7 +45,7 @@ pub enum Reached {
 }
 
 /// The address in a JSL's four bytes.
-fn called(four: &[u8]) -> Result<u32, LoaderFault>
+fn called_address(four: &[u8]) -> Result<u32, LoaderFault>
     requires { length four.now ≡ 4 }
     ensures ok { IfOk result (λ address. (no_jsl four.now ≡ None) × (address ≡ address_of four.now)) }
     ensures err { IfErr result (λ why. no_jsl four.now ≡ Some why) }
@@ -101,7 +101,7 @@ impl Loader {
     {
         self.recall_invariant();
         let four = self.borrow_bytes(user, segment, at, 4)?;
-        let address = called(four)?;
+        let address = called_address(four)?;
         match self.located(address) {
             Some(place) => Ok(place),
             None => Err(LoaderFault::NoTarget),
@@ -109,7 +109,7 @@ impl Loader {
     }
 
     // Where a place leads: to itself, or in a table to the entry whose code is there.
-    fn reached(&self, place: Entered) -> Result<Reached, LoaderFault>
+    fn reach_segment(&self, place: Entered) -> Result<Reached, LoaderFault>
         requires lies { LiesIn self.now place.address place.user place.segment place.offset }
         ensures reached { (user segment at : ℕ) → LeadsTo self.now user segment at place → IfOk result (HasReached self.now user segment at) }
         ensures refused { (user segment at : ℕ) → LeadsTo self.now user segment at place → IfErr result (IsJslRefusal self.now user segment at) }
@@ -149,7 +149,7 @@ impl Loader {
     {
         let place = self.jsl_place(user, segment, at)?;
         self.note(place);
-        self.reached(place)
+        self.reach_segment(place)
     }
 
     // The segment of an entry is made active, and entered.

@@ -96,7 +96,7 @@ pub fn count_of(load: &LoadFile<'_>) -> u16
 }
 
 /// A user that is attached to another: none of its segments is there.
-fn joined(alloc: Global, load: &LoadFile<'_>, path: &str) -> Result<User, AllocError>
+fn join_user(alloc: Global, load: &LoadFile<'_>, path: &str) -> Result<User, AllocError>
     ensures { IfOk result (λ user. kept user ≡ joined_kept path.now (map head_of load.now)) }
 {
     let path = String::from_str(alloc, path)?;
@@ -136,7 +136,7 @@ fn join<F: Files>(alloc: Global, files: &mut F, path: &str) -> Result<User, Load
     let bytes = read_file(alloc, files, path)?;
     let load = runtime_load(alloc, &bytes)?;
     let _count = count_of(&load);
-    match joined(alloc, &load, path) {
+    match join_user(alloc, &load, path) {
         Ok(user) => Ok(user),
         Err(AllocError) => Err(LoaderFault::Memory),
     }
@@ -180,8 +180,8 @@ fn ids_from(alloc: Global, id: u16, count: usize) -> Result<Vec<u16>, AllocError
 
 /// Users that are put behind others, for which there is room.
 fn push_all(users: &mut Vec<Option<User>>, joined: Vec<User>)
-    requires { length users.old.items + length joined.items ≤ vec_capacity users.old }
-    ensures pushed { map (option_map kept) users.new.items ≡ map (option_map kept) users.old.items ++ map (λ k. Some k) (map kept joined.items) }
+    requires { length users.old.items + length join_user.items ≤ vec_capacity users.old }
+    ensures pushed { map (option_map kept) users.new.items ≡ map (option_map kept) users.old.items ++ map (λ k. Some k) (map kept join_user.items) }
     ensures room { vec_capacity users.new ≡ vec_capacity users.old }
 {
     'joined: for user in joined {
@@ -199,13 +199,13 @@ impl Loader {
         joined: Vec<User>,
         attached: Vec<u16>,
     ) -> Result<Started, LoaderFault>
-        requires few { length self.old.users + 1 + length joined.items ≤ max_users }
+        requires few { length self.old.users + 1 + length join_user.items ≤ max_users }
         requires loadable { (file : List ℕ) × IsLoadable file load.now }
         requires short { length load.now < 2 ^ 16 }
         requires plan { IsPlan load.now plan }
-        requires users { (all : List (List omf.Segment)) × AreJoinedUsers (paths_of load.now) all (map kept joined.items) × (lost_refusal (map (map head_of) all) load.now ≡ None) }
+        requires users { (all : List (List omf.Segment)) × AreJoinedUsers (paths_of load.now) all (map kept join_user.items) × (lost_refusal (map (map head_of) all) load.now ≡ None) }
         requires attached { attached.items ≡ state.ids_from (first_id + length self.old.users + 1) (length (paths_of load.now)) }
-        ensures begun { (all : List (List omf.Segment)) → AreJoinedUsers (paths_of load.now) all (map kept joined.items)
+        ensures begun { (all : List (List omf.Segment)) → AreJoinedUsers (paths_of load.now) all (map kept join_user.items)
             → IfOk result (λ started. HasBegun self.old (string_bytes path) load.now all started.user started.entry self.new) }
         ensures refused { IfErr result (IsBeginRefusal self.old.memory (first_id + length self.old.users) (map head_of load.now)) }
         ensures err { OnErr result (self.new ≡ self.old) }
@@ -250,10 +250,10 @@ impl Loader {
         path: &str,
         joined: Vec<User>,
     ) -> Result<Started, LoaderFault>
-        requires few { length self.old.users + 1 + length joined.items ≤ max_users }
+        requires few { length self.old.users + 1 + length join_user.items ≤ max_users }
         requires loadable { (file : List ℕ) × IsLoadable file load.now }
-        requires users { (all : List (List omf.Segment)) × AreJoinedUsers (paths_of load.now) all (map kept joined.items) × (lost_refusal (map (map head_of) all) load.now ≡ None) }
-        ensures begun { (all : List (List omf.Segment)) → AreJoinedUsers (paths_of load.now) all (map kept joined.items)
+        requires users { (all : List (List omf.Segment)) × AreJoinedUsers (paths_of load.now) all (map kept join_user.items) × (lost_refusal (map (map head_of) all) load.now ≡ None) }
+        ensures begun { (all : List (List omf.Segment)) → AreJoinedUsers (paths_of load.now) all (map kept join_user.items)
             → IfOk result (λ started. HasBegun self.old path.now load.now all started.user started.entry self.new) }
         ensures refused { IfErr result (λ why. (why ≡ LoaderFault.Memory) ⊎ IsBeginRefusal self.old.memory (first_id + length self.old.users) (map head_of load.now) why) }
         ensures err { OnErr result (self.new ≡ self.old) }

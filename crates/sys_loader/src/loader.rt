@@ -196,7 +196,7 @@ impl Loader {
     }
 
     // What is known of a segment.
-    fn reported(&self, user: u16, segment: u16) -> Result<Info, LoaderFault>
+    fn report_segment(&self, user: u16, segment: u16) -> Result<Info, LoaderFault>
         ensures reported { IfOk result (λ info. HasReported self.now user segment info.presence info.length info.kind) }
         ensures refused { IfErr result (λ fault. info_refusal (seen_by self.now user) segment ≡ Some fault) }
     {
@@ -220,11 +220,11 @@ impl Loader {
         ensures reported { IfOk result (λ info. HasReported self.now user segment info.presence info.length info.kind) }
         ensures refused { IfErr result (λ fault. info_refusal (seen_by self.now user) segment ≡ Some fault) }
     {
-        self.reported(user, segment)
+        self.report_segment(user, segment)
     }
 
     // The place of an address among the users' active segments.
-    pub(crate) fn located(&self, address: u32) -> Option<Entered>
+    pub(crate) fn find_address(&self, address: u32) -> Option<Entered>
         ensures { MatchOption result ((id number offset : ℕ) → ¬ LiesIn self.now address id number offset)
             (λ entered. LiesIn self.now address entered.user entered.segment entered.offset × (entered.address ≡ address)) }
     {
@@ -265,6 +265,6 @@ impl Loader {
     {
         self.recall_invariant();
         self.recall_blocks_apart();
-        self.located(address)
+        self.find_address(address)
     }
 }

@@ -20,7 +20,7 @@ use loader_machine::LoaderFault;
 use loader_users::{active, is_table};
 
 /// Writes a byte of a block that is there.
-fn put(banks: &mut CompactBanks, h: Handle, at: u32, byte: u8)
+fn poke_byte(banks: &mut CompactBanks, h: Handle, at: u32, byte: u8)
     requires there { IsSomeAnd (get banks.old.slots h) (λ block. IsSome block.at) }
     requires within { at < length (bytes_at banks.old h.slot) }
     ensures { banks.new ≡ with_bytes banks.old h.slot (slice_set (bytes_at banks.old h.slot) at byte) }
@@ -52,7 +52,7 @@ impl Loader {
         ensures did { DidPoke self.old user segment at byte result self.new }
     {
         let h = self.pokable(user, segment, at)?;
-        put(&mut self.banks, h, at, byte);
+        poke_byte(&mut self.banks, h, at, byte);
         Ok(())
     }
 

@@ -82,7 +82,7 @@ fn drop_attached(banks: &mut CompactBanks, users: &mut Vec<Option<User>>, id: u1
 
 impl Loader {
     // A user that is attached to none.
-    pub(crate) fn unattached(&self, user: u16) -> Result<(), LoaderFault>
+    pub(crate) fn check_unattached(&self, user: u16) -> Result<(), LoaderFault>
         ensures ok { IfOk result (λ _. is_attached (kept_outlines self.now.users) user ≡ false) }
         ensures err { IfErr result (λ fault. (fault ≡ LoaderFault.NoUser) × (is_attached (kept_outlines self.now.users) user ≡ true)) }
     {
@@ -99,7 +99,7 @@ impl Loader {
             × (shut_down_refusal (is_attached (kept_outlines self.now.users) user) (seen_by self.now user) false ≡ None)) }
         ensures err { IfErr result (λ fault. shut_down_refusal (is_attached (kept_outlines self.now.users) user) (seen_by self.now user) false ≡ Some fault) }
     {
-        self.unattached(user)?;
+        self.check_unattached(user)?;
         match self.user(user) {
             Some(_) => Ok(()),
             None => Err(LoaderFault::NoUser),
@@ -112,7 +112,7 @@ impl Loader {
             × (shut_down_refusal (is_attached (kept_outlines self.now.users) user) (seen_by self.now user) true ≡ None)) }
         ensures err { IfErr result (λ fault. shut_down_refusal (is_attached (kept_outlines self.now.users) user) (seen_by self.now user) true ≡ Some fault) }
     {
-        self.unattached(user)?;
+        self.check_unattached(user)?;
         self.running(user)?;
         Ok(())
     }

@@ -35,7 +35,7 @@ fn name_size(text: &[u8]) -> usize
 }
 
 /// LOADNAME without the spaces behind it.
-fn unpadded(load_name: &[u8]) -> &[u8]
+fn trim_padding(load_name: &[u8]) -> &[u8]
     ensures { result.now ≡ without_padding load_name.now }
 {
     first_bytes(load_name, name_size(load_name))
@@ -69,7 +69,7 @@ fn is_none_or_listable(name: &[u8]) -> bool
 fn is_listable_load_name(load_name: &[u8]) -> bool
     ensures { result ≡ is_listable_load_name load_name.now }
 {
-    are_spaces(padding_of(load_name)) && is_none_or_listable(unpadded(load_name))
+    are_spaces(padding_of(load_name)) && is_none_or_listable(trim_padding(load_name))
 }
 
 /// Whether an ALIGN of the header can be listed.
@@ -228,7 +228,7 @@ fn put_begin(out: &mut Output, header: &Header) -> Result<(), LineStop>
         out,
         header.bank_size == 0,
         header.name.bytes(),
-        unpadded(&header.load_name),
+        trim_padding(&header.load_name),
     )?;
     put_kind(out, header.kind.bits)
 }

@@ -372,7 +372,7 @@ impl<'a> PendingRun<'a> {
     }
 
     /// The opcode that is held back for this record, if its byte is the last of the run.
-    fn held(&self, formula: ListedFormula) -> Option<u8>
+    fn held_byte(&self, formula: ListedFormula) -> Option<u8>
         ensures { (b : listing.PendingRun) → IsBefore self.now b → result ≡ held_by b formula.code formula.count formula.n (split_last b.run) }
     {
         let (rest, opcode) = split_last(self.run.as_slice())?;
@@ -391,7 +391,7 @@ impl<'a> PendingRun<'a> {
         ensures size { IfSome result (λ found. HasSize (operand_view found.1)) }
     {
         let operand = front.simple()?;
-        let opcode = self.held(formula)?;
+        let opcode = self.held_byte(formula)?;
         Some((opcode, operand))
     }
 

@@ -137,7 +137,7 @@ fn banks(bytes: &[u8]) -> Wanted<'static>
 
 /// The operand of an instruction by its bytes; None for a branch.
 #[tactic(auto, unfolding(asm_meaning::specs::Instruction::kind_of))]
-fn wanted(mode: Mode, bytes: &[u8]) -> Option<Wanted<'static>>
+fn wanted_operand(mode: Mode, bytes: &[u8]) -> Option<Wanted<'static>>
     requires { length put_dc_bytes.now ≤ 3 }
     ensures value { option_map operand_view result ≡ operand_by (kind_of mode) put_dc_bytes.now }
     ensures size { IfSome result (λ w. HasSize (operand_view w)) }
@@ -160,7 +160,7 @@ fn put_whole(out: &mut Output, found: (Mnemonic, Mode), instruction: &[u8]) -> R
     ensures long { IsErrOf result LineStop.NotListable
         → list_all is_short (written_or found.0 found.1 instruction.now (operand_by (kind_of found.1) (drop 1 instruction.now))) ≡ false }
 {
-    match wanted(found.1, &instruction[1..]) {
+    match wanted_operand(found.1, &instruction[1..]) {
         Some(operand) => put_instruction(out, found.0, found.1, operand),
         None => put_dc_bytes(out, instruction),
     }

@@ -26,7 +26,7 @@ use omf_records::{FileCause, FileFault, Rec, Records, SegmentList, SegmentView, 
 use std::alloc::{AllocError, Global};
 
 /// The names of the equates among records.
-fn equated<'a>(alloc: Global, records: Records<'a>) -> Result<Names<'a>, AllocError>
+fn equate_names<'a>(alloc: Global, records: Records<'a>) -> Result<Names<'a>, AllocError>
     requires { IsBody records }
     ensures { IfOk result (λ names. AreNames names (equates_in (records_of records.entry))) }
 {
@@ -87,7 +87,7 @@ impl From<AllocError> for Refusal {
 }
 
 /// What stops at a place.
-fn stopped(place: u32, stop: LineStop) -> Refusal
+fn refusal_at(place: u32, stop: LineStop) -> Refusal
     ensures { IsStop place stop result }
 {
     match stop {
@@ -121,7 +121,7 @@ fn put_records<'a>(
             Ok(None) => return Ok(()),
             Ok(Some((place, rec))) => match before.put_record(alloc, out, header, names, &rec) {
                 Ok(()) => {}
-                Err(stop) => return Err(stopped(place, stop)),
+                Err(stop) => return Err(refusal_at(place, stop)),
             },
             Err(_) => unreachable!(),
         }
@@ -136,9 +136,9 @@ fn put_segment(alloc: Global, out: &mut Output, view: &SegmentView) -> Result<()
     ensures refused { IfErr result (λ refusal. IsRefusal refusal (λ at. listing_of (segment_of_view view.now) ≡ Err at)) }
 {
     if let Err(stop) = put_front(out, view) {
-        return Err(stopped(view.start, stop));
+        return Err(refusal_at(view.start, stop));
     }
-    let names = equated(alloc, view.records())?;
+    let names = equate_names(alloc, view.records())?;
     let before = PendingRun::new(alloc, view.header.name.bytes())?;
     put_records(alloc, out, &view.header, &names, before, view.records())
 }

@@ -32,7 +32,7 @@ fn name_of(alloc: Global, i: u32) -> Result<Line, AllocError>
 }
 
 /// A load name.
-fn padded(name: &[u8]) -> [u8; 10]
+fn pad_name(name: &[u8]) -> [u8; 10]
     requires { length name.now ≤ 10 }
     ensures { result ≡ padded name.now }
 {
@@ -55,7 +55,7 @@ fn value_of(alloc: Global, name: &[u8]) -> Result<Vec<u8>, AllocError>
 }
 
 /// Appends a record.
-fn put(body: &mut Vec<u8>, rec: &Rec) -> Result<(), AllocError>
+fn append_record(body: &mut Vec<u8>, rec: &Rec) -> Result<(), AllocError>
     requires { IsRecord written_layout (view rec.now) }
     ensures { OnOk result (body.new.items ≡ body.old.items ++ spelling written_layout (view rec.now)) }
 {
@@ -70,7 +70,7 @@ fn put_value(alloc: Global, body: &mut Vec<u8>, code: u8, name: &[u8]) -> Result
     ensures { OnOk result (body.new.items ≡ body.old.items ++ spelling written_layout (Formula code 3 0 (value_of name.now))) }
 {
     let expr = value_of(alloc, name)?;
-    put(
+    append_record(
         body,
         &Rec::Formula {
             code,
@@ -86,7 +86,7 @@ fn put_bytes(alloc: Global, body: &mut Vec<u8>, byte: u8, size: u32) -> Result<(
     ensures { OnOk result (body.new.items ≡ body.old.items ++ spelling written_layout (LongConst (replicate size byte))) }
 {
     let bytes = vec![in alloc; byte; size as usize]?;
-    put(body, &Rec::LongConst { bytes: &bytes })
+    append_record(body, &Rec::LongConst { bytes: &bytes })
 }
 
 /// Appends a JSL to a dynamic segment.
@@ -96,7 +96,7 @@ fn put_call(alloc: Global, body: &mut Vec<u8>, i: u32) -> Result<(), AllocError>
         ++ spelling written_layout (Formula 0xF3 3 0 (value_of (name_of i))))) }
 {
     let name = name_of(alloc, i)?;
-    put(body, &Rec::Const { bytes: &[0x22] })?;
+    append_record(body, &Rec::Const { bytes: &[0x22] })?;
     put_value(alloc, body, 0xF3, name.bytes())
 }
 
@@ -111,7 +111,7 @@ fn calls(alloc: Global, n: u32) -> Result<Vec<u8>, AllocError>
     'calls: for i in 1..n + 1 {
         put_call(alloc, &mut body, i)?;
     }
-    put(&mut body, &Rec::End)?;
+    append_record(&mut body, &Rec::End)?;
     Ok(body)
 }
 
@@ -127,7 +127,7 @@ fn content(alloc: Global, i: u32, name: &[u8], size: u32) -> Result<Vec<u8>, All
     let mut body = Vec::new(alloc);
     put_value(alloc, &mut body, 0xEB, name)?;
     put_bytes(alloc, &mut body, i as u8, size)?;
-    put(&mut body, &Rec::End)?;
+    append_record(&mut body, &Rec::End)?;
     Ok(body)
 }
 
@@ -160,7 +160,7 @@ fn put_segment(
         entry: 0,
         disp_name: 0,
         disp_data: 0,
-        load_name: padded(name),
+        load_name: pad_name(name),
         name: name_in(alloc, name)?,
     };
     let written = match write_header(alloc, &header, body.len() as u32) {

@@ -49,8 +49,8 @@ impl Counts {
 }
 
 /// What a refusal comes to, unless memory ran out.
-fn refused(fault: LoaderFault) -> Result<RoundOutcome, AllocError>
-    ensures refused { IfOk result (λ outcome. outcome ≡ RoundOutcome.Refused) }
+fn refused_round(fault: LoaderFault) -> Result<RoundOutcome, AllocError>
+    ensures refused_round { IfOk result (λ outcome. outcome ≡ RoundOutcome.Refused) }
     ensures other { OnOk result (fault ≢ LoaderFault.Memory) }
     ensures memory { OnErr result (fault ≡ LoaderFault.Memory) }
 {
@@ -67,7 +67,7 @@ pub fn load(loader: &mut Loader, files: &mut ReliableFiles) -> Result<RoundOutco
 {
     match loader.load(files, "prog") {
         Ok(_) => Ok(RoundOutcome::Done),
-        Err(fault) => refused(fault),
+        Err(fault) => refused_round(fault),
     }
 }
 
@@ -80,7 +80,7 @@ fn jsl(loader: &mut Loader, files: &mut ReliableFiles, i: u32) -> Result<RoundOu
 {
     match loader.jsl(files, USER, 1, 4 * (i - 1)) {
         Ok(_) => Ok(RoundOutcome::Entered),
-        Err(fault) => refused(fault),
+        Err(fault) => refused_round(fault),
     }
 }
 
@@ -91,7 +91,7 @@ fn unload(loader: &mut Loader, i: u32) -> Result<RoundOutcome, AllocError>
 {
     match loader.unload_segment(USER, i as u16 + 1) {
         Ok(()) => Ok(RoundOutcome::Done),
-        Err(fault) => refused(fault),
+        Err(fault) => refused_round(fault),
     }
 }
 
@@ -101,7 +101,7 @@ fn purge(loader: &mut Loader) -> Result<RoundOutcome, AllocError>
 {
     match loader.purge(USER) {
         Ok(_) => Ok(RoundOutcome::Done),
-        Err(fault) => refused(fault),
+        Err(fault) => refused_round(fault),
     }
 }
 

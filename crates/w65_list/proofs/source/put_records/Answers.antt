@@ -34,7 +34,7 @@ returns-in-Err-put_record-clause-refused c =
     let f = fields c.args.header.now in
     let found : ℕ × Record = (c.in-Ok-Some.place, view c.in-Ok-Some.rec) in
     let next = sym (rw c.in-Ok-Some.field-0-is at c.in-Ok-Some.ensures.answer) in
-    λ b all is are. refusal_of c.in-Err-put_record.stop c.stopped.result c.in-Ok-Some.place (λ at. said_from f all b (records_of c.args.records) ≡ Err at) c.stopped.ensures
+    λ b all is are. refusal_of c.in-Err-put_record.stop c.refusal_at.result c.in-Ok-Some.place (λ at. said_from f all b (records_of c.args.records) ≡ Err at) c.refusal_at.ensures
     (λ stops. records_stop f c.args.names.now c.args.records c.records.records c.args.before c.records.before c.args.out.now c.records.out found c.requires.body c.records.invariant next (c.in-Err-put_record.ensures.refused (ap failed stops)) b all is are)
 
 pub unreachable-requires : goal.unreachable-requires

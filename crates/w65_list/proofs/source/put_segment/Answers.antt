@@ -10,7 +10,7 @@ use Rattle.w65_list.proofs.source.put_segment.Goals as goal
 pub returns-in-Err-clause-refused : goal.returns-in-Err-clause-refused
 returns-in-Err-clause-refused c =
     let s = segment_of_view c.args.view.now in
-    refusal_of c.in-Err.stop c.stopped.result s.start (λ at. listing_of s ≡ Err at) c.stopped.ensures (λ stops. segment_front s (c.in-Err.ensures.refused (ap failed stops)))
+    refusal_of c.in-Err.stop c.refusal_at.result s.start (λ at. listing_of s ≡ Err at) c.refusal_at.ensures (λ stops. segment_front s (c.in-Err.ensures.refused (ap failed stops)))
 
 pub put_records-requires-clause-layout : goal.put_records-requires-clause-layout
 unfolding body_reader

@@ -7,15 +7,15 @@ use Rattle.cycles.specs.declared.graph.Span.{Span}
 use Rattle.cycles.proofs.Lists.{fits_at, row_there, row_gone}
 use Rattle.cycles.proofs.graph.Edges.row.Goals as goal
 
-pub between-requires-clause-ordered : goal.between-requires-clause-ordered
-between-requires-clause-ordered c =
+pub ends_between-requires-clause-ordered : goal.ends_between-requires-clause-ordered
+ends_between-requires-clause-ordered c =
     let spans = c.self.inside.spans.items in
     let span = c.in-Some.span.now in
     let there : slice_get c.as_slice.result.now c.args.vertex ≡ Some span = slice_get-get_or c.as_slice.result.now c.args.vertex span c.in-Some.ensures.lookup.3.0 ∙ ap (λ (s : Span). Some s) (sym c.in-Some.ensures.lookup.1) in
     (fits_at c.self.inside.ends.items spans c.args.vertex span c.self.invariant (subst (λ (l : List Span). slice_get l c.args.vertex ≡ Some span) c.as_slice.ensures.value there)).ordered
 
-pub between-requires-clause-within : goal.between-requires-clause-within
-between-requires-clause-within c =
+pub ends_between-requires-clause-within : goal.ends_between-requires-clause-within
+ends_between-requires-clause-within c =
     let spans = c.self.inside.spans.items in
     let span = c.in-Some.span.now in
     let there : slice_get c.as_slice.result.now c.args.vertex ≡ Some span = slice_get-get_or c.as_slice.result.now c.args.vertex span c.in-Some.ensures.lookup.3.0 ∙ ap (λ (s : Span). Some s) (sym c.in-Some.ensures.lookup.1) in
@@ -29,7 +29,7 @@ returns-in-Some c =
     let span = c.in-Some.span.now in
     let there : slice_get c.as_slice.result.now c.args.vertex ≡ Some span = slice_get-get_or c.as_slice.result.now c.args.vertex span c.in-Some.ensures.lookup.3.0 ∙ ap (λ (s : Span). Some s) (sym c.in-Some.ensures.lookup.1) in
     let row = row_there ends spans c.args.vertex span (subst (λ (l : List Span). slice_get l c.args.vertex ≡ Some span) c.as_slice.ensures.value there) in
-    c.between.ensures ∙ ap (λ (l : List ℕ). take (span.to - span.from) (drop span.from l)) c.as_slice-in-Some.ensures.value ∙ sym row ∙ ap (λ (l : List (List ℕ)). row_at l c.args.vertex) c.self.view_is
+    c.ends_between.ensures ∙ ap (λ (l : List ℕ). take (span.to - span.from) (drop span.from l)) c.as_slice-in-Some.ensures.value ∙ sym row ∙ ap (λ (l : List (List ℕ)). row_at l c.args.vertex) c.self.view_is
 
 pub returns-in-None : goal.returns-in-None
 returns-in-None c =

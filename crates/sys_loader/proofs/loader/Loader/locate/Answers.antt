@@ -20,7 +20,7 @@ meets loader address None sound none held state agrees = nowhere_met held loader
 meets loader address (Some entered) sound some held state agrees = lies_met held loader state agrees RoomRule address entered.user entered.segment entered.offset some.0
 
 pub returns-clause-meets : goal.returns-clause-meets
-returns-clause-meets c = meets c.args.self.now c.args.address c.located.result c.recall_invariant.ensures c.located.ensures
+returns-clause-meets c = meets c.args.self.now c.args.address c.find_address.result c.recall_invariant.ensures c.find_address.ensures
 
 reported : (result : Option Entered) → (loader : Loaded) → (address : ℕ) → MatchOption result ((id number offset : ℕ) → ¬ LiesIn loader address id number offset)
     (λ (entered : Entered). LiesIn loader address entered.user entered.segment entered.offset × (entered.address ≡ address))
@@ -30,6 +30,6 @@ reported (Some entered) loader address some = some.1
 
 pub returns-clause-names : goal.returns-clause-names
 returns-clause-names c = λ held state agrees id number at target offset has read.
-    names_place held c.args.self.now state agrees c.recall_invariant.ensures c.recall_blocks_apart.ensures.below id number at target offset has c.recall_blocks_apart.ensures.apart c.args.address c.located.result
-    (reported c.located.result c.args.self.now c.args.address c.located.ensures)
-    (meets c.args.self.now c.args.address c.located.result c.recall_invariant.ensures c.located.ensures held state agrees) read
+    names_place held c.args.self.now state agrees c.recall_invariant.ensures c.recall_blocks_apart.ensures.below id number at target offset has c.recall_blocks_apart.ensures.apart c.args.address c.find_address.result
+    (reported c.find_address.result c.args.self.now c.args.address c.find_address.ensures)
+    (meets c.args.self.now c.args.address c.find_address.result c.recall_invariant.ensures c.find_address.ensures held state agrees) read

@@ -1,6 +1,6 @@
 use Rattle.std.proofs.Common.{length}
 use Rattle.w65_list.specs.SourceView.{EquatesOn}
-use Rattle.w65_list.proofs.source.equated.Given as goal
+use Rattle.w65_list.proofs.source.equate_names.Given as goal
 
 -- the names of the equates so far
 abbrev pub invariant-records : goal.invariant-records

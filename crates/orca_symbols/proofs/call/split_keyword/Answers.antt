@@ -1,6 +1,6 @@
 use Rattle.std.proofs.Common.{sym, ◌∙◌}
 use Rattle.orca_symbols.proofs.Binds.{has_name, no_start, no_equals}
-use Rattle.orca_symbols.proofs.call.named.Goals as goal
+use Rattle.orca_symbols.proofs.call.split_keyword.Goals as goal
 
 pub returns-then-not-is_name_start-clause-found : goal.returns-then-not-is_name_start-clause-found
 returns-then-not-is_name_start-clause-found c = λ parameters place.

@@ -3,7 +3,7 @@ use Rattle.omf_format.specs.Record.{Record}
 use Rattle.omf_records.specs.View.{view}
 use Rattle.omf_records.specs.WalkLaws.{walk_fails}
 use Rattle.w65_list.proofs.SourceLaws.{equates_on, equates_end}
-use Rattle.w65_list.proofs.source.equated.Goals as goal
+use Rattle.w65_list.proofs.source.equate_names.Goals as goal
 
 pub returns-in-Ok-None : goal.returns-in-Ok-None
 returns-in-Ok-None c =

@@ -6,7 +6,7 @@ use Rattle.loader_machine.specs.Presences.{presence}
 use Rattle.loader_agrees.specs.Agrees.{LoadedUser, Loaded, seen_in}
 use Rattle.loader_users.specs.View.{kept}
 use Rattle.loader_agrees.specs.laws.Checking.{info_no_user, info_stops, info_passes}
-use Rattle.sys_loader.proofs.loader.Loader.reported.Goals as goal
+use Rattle.sys_loader.proofs.loader.Loader.report_segment.Goals as goal
 
 pub returns-in_default-clause-refused : goal.returns-in_default-clause-refused
 returns-in_default-clause-refused c = ap (λ (o : Option LoadedUser). info_refusal (option_map seen_in o) c.args.segment) (sym c.in_default.ensures) ∙ info_no_user c.args.segment
@@ -17,8 +17,8 @@ returns-in_err-found-clause-refused c =
     rw (p.1, p.2) (ap (λ (o : Option LoadedUser). info_refusal (option_map seen_in o) c.args.segment) (sym c.in-Some.ensures)
     ∙ info_stops (seen_in (kept c.in-Some.kept.now)) c.args.segment c.in_err-found.field-0.0 c.in_err-found.ensures.err)
 
-pub returns-clause-reported : goal.returns-clause-reported
-returns-clause-reported c = record {
+pub returns-clause-report_segment : goal.returns-clause-report_segment
+returns-clause-report_segment c = record {
   passes = ap (λ (o : Option LoadedUser). info_refusal (option_map seen_in o) c.args.segment) (sym c.in-Some.ensures)
       ∙ info_passes (seen_in (kept c.in-Some.kept.now)) c.args.segment c.in_ok-found.found.head c.in_ok-found.ensures.ok.2;
   kept = kept c.in-Some.kept.now;
