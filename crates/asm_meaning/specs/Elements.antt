@@ -25,7 +25,7 @@ pub data Repeat : Type 0 where
   Digits : (n : ℕ) → Repeat
   Computed : (tree : Tree) → Repeat
 
--- the value of an element: numbers of so many bytes, constant bytes, a text, names that are asked for, or names that may be missing
+-- the value of an element: numbers of a given number of bytes, constant bytes, a text, names that are asked for, or names that may be missing
 pub data Value : Type 0 where
   Numbers : (width : ℕ) (trees : List Tree) → Value
   Fixed : (bytes : List ℕ) → Value
@@ -62,7 +62,7 @@ bytes_of_digits base each text = packed_digits base each (without_spaces text)
 
 -- ---- values
 
--- the text up to the next `'`, and what stands behind that
+-- the text up to the next `'`, and what stands after that
 unfoldable pub closed_at : List ℕ → Found (List ℕ)
 closed_at text =
     let n = position_or_len (λ byte. byte == ascii.apostrophe) text in
@@ -100,7 +100,7 @@ abbrev pub width_at : List ℕ → Kind × List ℕ
 width_at [] = (Number 2, [])
 width_at (digit ∷ following) = if nat_le ascii.digit_1 digit && nat_le digit ascii.digit_4 then (Number (digit - ascii.digit_0), following) else (Number 2, digit ∷ following)
 
--- the type at the front, in upper or lower case
+-- the type at the start, in upper or lower case
 unfoldable pub kind_at : List ℕ → Found Kind
 kind_at [] = None
 kind_at (letter ∷ following) =
@@ -113,7 +113,7 @@ kind_at (letter ∷ following) =
     else if capital == ascii.capital_s then Some (WeakReferences, following)
     else None
 
--- the value of a type stands at the front, behind its opening quote and with its closing one
+-- the value of a type stands at the start, behind its opening quote and with its closing one
 abbrev pub IsValueAt : Kind → List ℕ → Value → List ℕ → Type 0
 IsValueAt (Number width) text value rest =
     (inner : List ℕ) × (trees : List Tree) × (closed_at text ≡ Some (inner, rest)) × AreFormulas inner trees × (value ≡ Numbers width trees)
@@ -127,12 +127,12 @@ IsValueAt References text value rest =
 IsValueAt WeakReferences text value rest =
     (inner : List ℕ) × (names : List (List ℕ)) × (closed_at text ≡ Some (inner, rest)) × AreNames inner names × (value ≡ Weak names)
 
--- what stands behind a parenthesis that opens at the front
+-- what stands after a parenthesis that opens at the start
 abbrev pub after_parenthesis : List ℕ → Option (List ℕ)
 after_parenthesis [] = None
 after_parenthesis (byte ∷ following) = if byte == ascii.opening_round then Some following else None
 
--- how often an element stands, at the front: a formula in parentheses, decimal digits, or nothing
+-- how often an element stands, at the start: a formula in parentheses, decimal digits, or nothing
 abbrev pub IsRepeatBy : Option (List ℕ) → Found ℕ → List ℕ → Repeat → List ℕ → Type 0
 IsRepeatBy (Some following) digits text repeat rest = (tree : Tree) × MeansAt Labels following tree (ascii.closing_round ∷ rest) × (repeat ≡ Computed tree)
 IsRepeatBy None (Some found) text repeat rest = (repeat ≡ Digits found.0) × (rest ≡ found.1)
@@ -141,7 +141,7 @@ IsRepeatBy None None text repeat rest = (repeat ≡ Once) × (rest ≡ text)
 abbrev pub IsRepeatAt : List ℕ → Repeat → List ℕ → Type 0
 IsRepeatAt text repeat rest = IsRepeatBy (after_parenthesis text) (digits_at 10 text) text repeat rest
 
--- an element stands at the front: how often, its type, and its value in quotes
+-- an element stands at the start: how often, its type, and its value in quotes
 pub record IsElementAt (text : List ℕ) (element : Element) (rest : List ℕ) : Type 0 where
   pub after_repeat : List ℕ
   pub kind : Kind
@@ -168,7 +168,7 @@ count_of constants Once = Ok 1
 count_of constants (Digits n) = if nat_le (2 ^ 32) n then Err BadNumber else in_range n
 count_of constants (Computed tree) = number_of constants tree >>= in_range
 
--- a number of so many bytes, of which a constant is cut to them, and EXPR ($EB) stands for another
+-- a number of a given number of bytes, of which a constant is cut to them, and EXPR ($EB) stands for another
 abbrev pub number_piece : ℕ → Amount → Piece
 number_piece width (Known n) = Bytes (little_bytes width n)
 number_piece width (Written tree) = Whole (Formula 0xEB width 0 (expression_text tree))

@@ -53,8 +53,8 @@ modes_of forms.BracketY = DirectLongY ∷ []
 modes_of forms.Pair = Move ∷ []
 modes_of forms.Other = []
 
--- what an operand is in the instruction: nothing, a value, an address or a stack offset of so many bytes, a distance of so
--- many bytes, two banks, or a signature
+-- what an operand is in the instruction: nothing, a value, an address or a stack offset of a given number of bytes, a distance of a given number of
+-- bytes, two banks, or a signature
 pub data Kind : Type 0 where
   Missing : Kind
   Value : Kind
@@ -129,7 +129,7 @@ is_bare _ = false
 abbrev pub fits_value : Prefix → ℕ → ℕ → Bool
 fits_value prefix width n = if is_bare prefix then nat_lt n (256 ^ width) || nat_le (2 ^ 32 - 256 ^ width / 2) n else true
 
--- whether the operand can be this number in so many bytes: an address, a bank and a signature as an unsigned one; a branch
+-- whether the operand can be this number in a given number of bytes: an address, a bank and a signature as an unsigned one; a branch
 -- leaves that to the linker
 abbrev pub is_operand_of_width : Prefix → Kind → ℕ → ℕ → Bool
 is_operand_of_width prefix Missing width n = false
@@ -177,7 +177,7 @@ abbrev pub address_code : Mnemonic → ℕ → ℕ
 address_code mnemonic bytes =
     if bytes == 1 then 0xEC else if bytes == 2 then 0xED else if is_long_jump mnemonic then 0xF3 else 0xEB
 
--- The record of an operand of so many bytes: ZEXPR of an address of one byte, BEXPR of two, LEXPR of three behind JSL and
+-- The record of an operand of a given number of bytes: ZEXPR of an address of one byte, BEXPR of two, LEXPR of three behind JSL and
 -- JML; RELEXPR of a distance, which is counted from its own end; EXPR of all others.
 abbrev pub operand_record : Mnemonic → Kind → ℕ → Tree → Record
 operand_record mnemonic Missing width tree = Formula 0xEB width 0 (expression_text tree)
@@ -224,7 +224,7 @@ with_amount widths mnemonic prefix mode modes (Written tree) =
     let chosen = mode_of_tree mode modes in
     Ok (with_tree mnemonic chosen prefix (operand_bytes widths mnemonic chosen) tree)
 
--- without operand all that stands behind the opcode is 0
+-- without operand all that is after the opcode is 0
 unfoldable pub without_amount : Widths → Mnemonic → Mode → Answer (List Piece)
 without_amount widths mnemonic mode = Ok (with_number mnemonic mode Bare (operand_bytes widths mnemonic mode) 0)
 
@@ -235,7 +235,7 @@ abbrev pub bank : Amount → Answer Amount
 bank (Known n) = if nat_lt n 256 then Ok (Known n) else Err DoesNotFit
 bank (Written tree) = Ok (Written tree)
 
--- a bank that stands so many bytes behind the instruction's start
+-- a bank that stands so many bytes after the instruction's start
 abbrev pub bank_record : ℕ → Amount → Record
 bank_record back a = Formula 0xEB 1 0 (expression_text (with_location_less back (tree_of_amount a)))
 

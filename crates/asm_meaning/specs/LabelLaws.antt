@@ -53,7 +53,7 @@ pub record IsWithin (state : State) (s : Segment) (line : Line) (size : ℕ) (ne
   pub open' : next.segment ≡ Some t
   pub puts : HasPut operation label s t size
 
--- these lines are such statements one behind another, with these lengths
+-- these lines are such statements one after another, with these lengths
 abbrev pub AreWithin : State → Segment → List Line → List ℕ → State → Segment → Type 0
 AreWithin state s [] [] last t = (state ≡ last) × (s ≡ t)
 AreWithin state s (line ∷ lines) (size ∷ sizes) last t = (next : State) × (u : Segment) × IsWithin state s line size next u × AreWithin next u lines sizes last t

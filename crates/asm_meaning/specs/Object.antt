@@ -26,7 +26,7 @@ records_text contents = flat_map (spelling written_layout) contents
 unfoldable pub segment_text : Ended → List ℕ
 segment_text s = header_bytes s.header (length (records_text s.body)) ++ records_text s.body
 
--- the segments one behind another
+-- the segments one after another
 unfoldable pub object_text : List Ended → List ℕ
 object_text segments = flat_map segment_text segments
 
@@ -34,7 +34,7 @@ object_text segments = flat_map segment_text segments
 abbrev pub most_bytes : ℕ
 most_bytes = 16777216
 
--- ---- lines one behind another
+-- ---- lines one after another
 
 -- these lines have no fault, and leave this
 abbrev pub AreSteps : State → List Line → State → Type 0

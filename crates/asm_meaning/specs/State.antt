@@ -1,4 +1,4 @@
--- What lines leave for the lines behind them (ORCA/M reference manual, "Assembler directives"; GS/OS Reference, appendix F,
+-- What lines leave for the lines after them (ORCA/M reference manual, "Assembler directives"; GS/OS Reference, appendix F,
 -- segment header).
 use Rattle.std.specs.Prelude.{ℕ, ◌+◌, ◌%◌, Bool, true, false, nat_lt, min, List, [], ◌∷◌, ◌++◌, length, Option, Some, None, Ok, Err, if◌then◌else◌}
 use Rattle.std.specs.Option.{option_map}
@@ -146,7 +146,7 @@ abbrev pub local_of : List ℕ → ℕ → ℕ → List Record
 local_of [] form size = []
 local_of (byte ∷ label) form size = Label false (byte ∷ label) (min size 0xFFFF) form 0 ∷ []
 
--- a statement's records stand at the end of the segment, behind these for its label, which becomes one of its names
+-- a statement's records are at the end of the segment, behind these for its label, which becomes one of its names
 abbrev pub with_records : List ℕ → Option ℕ → List Record → List Record → Segment → Segment
 with_records label value front contents s = record s { names = with_label label value s.names; body = s.body ++ (front ++ contents) }
 

@@ -30,7 +30,7 @@ use Rattle.asm_meaning.specs.State.{Segment, State, state_after_start, state_aft
 
 -- ---- inside and outside of segments
 
--- `*+` at the front, with which ORG moves the location counter, and what stands behind it
+-- `*+` at the start, with which ORG moves the location counter, and what stands after it
 abbrev pub following_here : List ℕ → Option (List ℕ)
 following_here [] = None
 following_here (byte ∷ []) = None
@@ -217,7 +217,7 @@ kinding state label found =
     pair_or_earlier_fault label (number_in state found >>= listed_kind)
     >>= λ (name, n). Ok (in_segment (λ s. with_kind n (with_local_record name 0x4E [] s)) state)
 
--- the formula of ORG: in a segment it stands behind `*+`
+-- the formula of ORG: in a segment it is after `*+`
 abbrev pub IsMoveText : Option (List ℕ) → Option Tree → Type 0
 IsMoveText None found = found ≡ None
 IsMoveText (Some text) found = IsFormula text found

@@ -67,7 +67,7 @@ fn names() -> OneName<'static> {
     }
 }
 
-/// The value of the expression at the front of the bytes.
+/// The value of the expression at the start of the bytes.
 fn value_of(bytes: &[u8], lab_len: u8) -> Reported {
     let expr = Expr::of(bytes, lab_len)?;
     Ok(evaluate(&expr, &names()))
@@ -171,7 +171,7 @@ fn sum_of(alloc: Global, additions: u32, last: &[u8]) -> Result<Vec<u8>, Fail> {
     Ok(text)
 }
 
-/// Whether the expression at the front of the text is all of it.
+/// Whether the expression at the start of the text is all of it.
 fn is_all(text: &[u8]) -> bool {
     match Expr::of(text, 0) {
         Ok(expr) => expr.bytes() == text,

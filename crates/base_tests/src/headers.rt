@@ -69,7 +69,7 @@ type Reported = (bool, u32, bool);
 
 /// Bytes of that header that are changed, the name, and what is told.
 static CHANGED: [(&[(usize, u8)], &[u8], Reported); 8] = [
-    // With LABLEN 2 the name is the two bytes behind the load name, here `A` and a space.
+    // With LABLEN 2 the name is the two bytes after the load name, here `A` and a space.
     (
         &[(0x0D, 2), (0x36, 0x41), (0x37, 0x20)],
         b"A",
@@ -212,7 +212,7 @@ fn made(alloc: Global) -> Result<Header, NameFault>
     })
 }
 
-/// Whether the header that is written in front of a body of so many bytes is the one that was read.
+/// Whether the header that is written in front of a body of a given number of bytes is the one that was read.
 fn written(alloc: Global, body: u32) -> Result<Result<bool, WriteHeaderFault>, NameFault> {
     let header = made(alloc)?;
     match write_header(alloc, &header, body) {

@@ -2,7 +2,7 @@
 use std::fmt::Debug;
 use std::process::Abort;
 
-/// Ends the test where the two aren't equal, and tells at which row. It promises nothing, and an assertion of a test's own would be dearer to
+/// Ends the test where the two aren't equal, and tells at which row. It promises nothing, and an assertion of a test's own would be more expensive to
 /// prove.
 pub(crate) fn same<R: Debug, T: Debug + PartialEq + Drop>(
     rt: &impl Abort,

@@ -132,7 +132,7 @@ fn places_of(alloc: Global, first: u32, second: u32) -> Result<Places, PlacesFau
     Ok(places)
 }
 
-/// Whether these bytes stand in memory for a segment.
+/// Whether these bytes are in memory for a segment.
 fn stands(
     alloc: Global,
     load: &LoadFile,
@@ -149,7 +149,7 @@ fn stands(
     Ok(out.as_slice() == bytes)
 }
 
-/// Whether these bytes stand in memory for a segment of a file whose first two segments lie at these addresses.
+/// Whether these bytes are in memory for a segment of a file whose first two segments lie at these addresses.
 pub(crate) fn is_patched(
     alloc: Global,
     file: &[u8],

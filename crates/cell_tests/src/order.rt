@@ -180,7 +180,7 @@ fn bytes_that_fall(alloc: Global) -> Result<Vec<u8>, AllocError> {
     Ok(bytes)
 }
 
-/// Segment of that file, where its two segments lie, and the bytes that stand in memory.
+/// Segment of that file, where its two segments lie, and the bytes that are in memory.
 static SHIFTED: [(u32, (u32, u32), [u8; 8]); 3] = [
     // Places are added before the shift: $F034_5678, $2_0003 + $FFFF and $2_0003 + $E000_0001.
     (

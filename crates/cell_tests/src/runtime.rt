@@ -28,7 +28,7 @@ static BODY: [u8; 33] = [
     1, b'c', 0, 0, 0,
 ];
 
-/// Where the segment's bytes stand in the file.
+/// Where the segment's bytes are in the file.
 const DATA: usize = 0x37 + 5;
 
 /// Where the second segment begins.

@@ -6,7 +6,7 @@ use omf_cells::{LoadFault, LoadFile, Target};
 use std::alloc::{AllocError, Global};
 use std::test::Fail;
 
-/// A table with this many entries, which lead to the offsets of segment 2 in turn, and a dynamic segment of so many bytes.
+/// A table with this many entries, which lead to the offsets of segment 2 in turn, and a dynamic segment of a given number of bytes.
 fn file_of_entries(alloc: Global, count: u32) -> Result<Vec<u8>, AllocError> {
     let size = count.wrapping_mul(14).wrapping_add(12);
     let [first, second, third, fourth] = size.to_le_bytes();

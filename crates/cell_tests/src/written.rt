@@ -215,7 +215,7 @@ fn supers(alloc: Global) -> Result<Vec<u8>, AllocError> {
     Ok(out)
 }
 
-/// Whether one SUPER of each type stands behind the data of a body with these patches, and how many zeros are left out.
+/// Whether one SUPER of each type stands after the data of a body with these patches, and how many zeros are left out.
 fn records_of_types(alloc: Global) -> Result<(bool, u32), BodyFault> {
     let patches = patches_of_types(alloc)?;
     let body = written(alloc, 20, &[0; 56], &patches)?;
@@ -223,7 +223,7 @@ fn records_of_types(alloc: Global) -> Result<(bool, u32), BodyFault> {
     Ok((following(&body.bytes, 61) == wanted.as_slice(), body.zeros))
 }
 
-/// Whether this stands behind the type in the SUPER of two locations of own references, in the first page and behind a gap of
+/// Whether this stands after the type in the SUPER of two locations of own references, in the first page and behind a gap of
 /// pages.
 fn is_gap(alloc: Global, pages: u32, want: &[u8]) -> Result<bool, BodyFault> {
     let content = vec![in alloc; 0u8; 0x10000]?;

@@ -1,4 +1,4 @@
-//! Load files for tests, put together segment by segment, and what is told of them.
+//! Load files for tests, put together segment by segment, and what is reported for them.
 
 use omf_compact::{CompactCause, CompactFault, canonical};
 use std::alloc::{AllocError, Global};

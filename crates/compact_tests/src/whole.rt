@@ -89,7 +89,7 @@ static TWO: [u8; 16] = [
     0xF1, 0, 3, 0, 0, 0xF7, 5, 0, 0, 0, 0, 0x82, 1, 0xFD, 0xFE, 0,
 ];
 
-/// What stands behind its data.
+/// What stands after its data.
 static AFTER: [u8; 17] = [
     0xF5, 1, 0, 0xFD, 2, 0, 0, 0xF7, 4, 0, 0, 0, 0, 0x82, 0, 0xFE, 0,
 ];

@@ -44,7 +44,7 @@ segment_line number start f = line (codes "segment " ++ decimal number ++ labell
 
 -- ---- the fields of records, each with one space before it
 
--- a number in so many digits
+-- a number in a given number of digits
 abbrev pub hex_field : ℕ → ℕ → List ℕ
 hex_field digits n = codes " " ++ hexadecimal digits n
 
@@ -117,7 +117,7 @@ record_line width found = line (hexadecimal 8 found.0 ++ record_text width found
 unfoldable pub segment_text : ℕ → Segment → List ℕ
 segment_text number s = segment_line number s.start s.fields ++ flat_map (record_line (length_width_of s.fields.version)) s.records
 
--- segments one behind another, of which the first has this number
+-- segments one after another, of which the first has this number
 abbrev pub listing_from : ℕ → List Segment → List ℕ
 listing_from number [] = []
 listing_from number (s ∷ segments) = segment_text number s ++ listing_from (suc number) segments

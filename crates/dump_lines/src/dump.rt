@@ -120,7 +120,7 @@ fn put_segment_line(
     line.text("\n")
 }
 
-/// Appends a space and a number in so many digits, 1 to 8.
+/// Appends a space and a number in a given number of digits, 1 to 8.
 pub fn put_field(line: &mut Line, digits: u32, n: u32) -> Result<(), LineFault>
     requires some { 1 ≤ digits }
     requires most { digits ≤ 8 }
@@ -475,7 +475,7 @@ fn dump_text(alloc: Global, list: &SegmentList) -> Result<Line, LineFault>
 }
 
 /// The listing of a file, or its first fault: a line for each segment, in order, with its number from 1, where it starts and
-/// what its header says, and behind it a line for each of its records, with its displacement in the file, its name and its
+/// what its header says, and after it a line for each of its records, with its displacement in the file, its name and its
 /// fields.
 pub fn dump_file(alloc: Global, file: &[u8]) -> Result<Line, FileFault>
     requires { length file.now < 2 ^ 32 }

@@ -1,4 +1,4 @@
--- What memory ends as, where a block's bytes are lent to be written.
+-- What memory ends as, where a block's bytes are borrowed to be written.
 use Rattle.std.specs.Prelude.{List, ℕ}
 use Rattle.std.specs.Borrow.{Lends, Fml, MutBor, Array, u8}
 use Rattle.iigs_meaning.specs.declared.handles.Handle.{Handle}

@@ -1,6 +1,6 @@
 //! Memory of banks in which movable blocks slide down: at a command, and where a placement finds no room otherwise.
 //!
-//! `CompactBanks` takes all of its memory when it is made. No other call takes any, so none refuses for want of memory.
+//! `CompactBanks` takes all of its memory when it is made. No other call takes any, so none refuses when out of memory.
 #![tactic(auto)]
 
 mod alls;

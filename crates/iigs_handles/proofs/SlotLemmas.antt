@@ -139,7 +139,7 @@ module _ {T : Type 0} where
   pub live_taken : (slots : List (Slot T)) (h : Handle) → true ≡ is_some (get slots h) → is_free (slot_at slots h.slot) ≡ false
   live_taken slots h live = used_taken ((slot_at slots h.slot).generation == h.generation) (slot_at slots h.slot).content (sym live)
 
-  -- so it stands in the table
+  -- so it is in the table
   pub live_inside : (slots : List (Slot T)) (h : Handle) → true ≡ is_some (get slots h) → h.slot < length slots
   live_inside slots h live = elim (cases_lt h.slot (length slots)) [
     | inl lt ↦ lt

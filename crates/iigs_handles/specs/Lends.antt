@@ -1,4 +1,4 @@
--- What a table of handles ends as, where a value in it is lent to be written.
+-- What a table of handles ends as, where a value in it is borrowed to be written.
 use Rattle.std.specs.Prelude.{List, Result}
 use Rattle.std.specs.Borrow.{Lends, LendsIfOk, Fml, RattleType, MutBor}
 use Rattle.iigs_meaning.specs.declared.handles.Handle.{Handle}

@@ -7,7 +7,7 @@ use Rattle.iigs_meaning.specs.declared.faults.BanksFault.TheVariants.{NoBanks, B
 abbrev pub AreDistinctTo : ℕ → List ℕ → Type 0
 AreDistinctTo place banks = (i j : ℕ) → i < j → j < place → slice_index banks i ≢ slice_index banks j
 
--- the bank is the first that stands in the list again
+-- the bank is the first that is in the list again
 pub record IsFirstTwice (banks : List ℕ) (bank : ℕ) : Type 0 where
   pub place : ℕ
   pub inside : place < length banks

@@ -36,7 +36,7 @@ abbrev pub IsStale : Slots → Handle → BlockFault → Type 0
 IsStale slots h Stale = get slots h ≡ None
 IsStale slots h Empty = ⊥
 
--- what is told of a block
+-- what is reported for a block
 abbrev pub state_of : Block → BlockState
 state_of block = record { at = block.at; size = block.want.size; user = block.user; level = block.level; locked = block.locked }
 

@@ -75,7 +75,7 @@ pub record IsFreed (old : Memory) (h : Handle) (new : Memory) : Type 0 where
   pub slots : new.slots ≡ after_release old.slots h
   pub kept : KeepsBut old new []
 
--- the bytes that are lent are those of the handle's block, which is there
+-- the bytes that are borrowed are those of the handle's block, which is there
 pub record IsBorrowed (memory : Memory) (h : Handle) (bytes : List ℕ) : Type 0 where
   pub live : IsSomeAnd (get memory.slots h) (λ block. IsSome block.at)
   pub is : bytes ≡ bytes_at memory h.slot

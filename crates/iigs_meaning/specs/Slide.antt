@@ -41,7 +41,7 @@ moved_to address block = record block { at = Some address }
 -- ---- where they go
 
 -- In a slide from the old slots to the new a want fits at an address beside the blocks that stay, and beside those that move
--- and lay below this one, which stand at their new places.
+-- and lay below this one, which are at their new places.
 pub record FitsBeside (banks : List ℕ) (old new : Slots) (block : Block) (address : ℕ) : Type 0 where
   pub open_ : Fits banks [] block.want address
   pub stay : (place : ℕ) → movable_block (slot_at old place) ≡ None → IsApart address block.want.size (slot_at old place)

@@ -1,5 +1,5 @@
-//! What memory handles and memory of banks mean: slots and handles, wants, blocks and faults. The definitions that
-//! contracts cite stand in `specs/`.
+//! What memory handles and memory of banks mean: slots and handles, wants, blocks and faults. The definitions that contracts cite are
+//! in `specs/`.
 #![tactic(auto)]
 
 mod faults;

@@ -44,7 +44,7 @@ module _ (banks buffer : List ℕ) (slots : List (Slot Block)) (bounded : All Is
   has_banks : (place : ℕ) (e : ℕ × ℕ) → extent (slot_at slots place) ≡ Some e → (i : ℕ) → e.0 ≤ i → i < e.0 + e.1 → Contains banks (bank_of i)
   has_banks place e is i from to = (sound.inside place i (spans_hold place i e is (from, to))).configured
 
-  -- a block's bytes stand in the buffer
+  -- a block's bytes are in the buffer
   pub in_buffer : (place : ℕ) (e : ℕ × ℕ) → extent (slot_at slots place) ≡ Some e → offset_of banks e.0 + e.1 ≤ length buffer
   in_buffer place e is =
       let l = limits place e is in

@@ -126,7 +126,7 @@ module _ (banks : List ℕ) (user : ℕ) (slots : List (Slot Block)) (bounded : 
   cleared_zeros (w ∷ wants) (put ∷ puts) buffer room blocks (suc i) want h is at =
       cleared_zeros wants puts (clear_one (offset_of banks put.at) w.size buffer) (one_room buffer room w put blocks.0) blocks.1 i want h is at
 
-  -- their bytes stand in the buffer
+  -- their bytes are in the buffer
   pub all_fit : (wants : List Want) (puts : List PlacedBlock) (buffer : List ℕ) → bytes_below banks 256 ≤ length buffer → BlocksAre user slots wants puts
       → FitIn banks (length buffer) wants puts
   all_fit [] puts buffer room blocks k w p inside inside' = absurd (omega arith)

@@ -57,7 +57,7 @@ map-set f g xs place y in_list here same = same_lists (map f xs) (set (map g xs)
 
 module _ (banks buffer : List ℕ) (slots : List (Slot Block)) (bounded : All IsBoundedSlot slots) (sound : AreApart banks slots) (room : bytes_below banks 256 ≤ length buffer)
     (h : Handle) (e : ℕ × ℕ) (is : extent (slot_at slots h.slot) ≡ Some e) where
-  -- its bytes stand in the buffer
+  -- its bytes are in the buffer
   pub part_bytes : part (offset_of banks e.0) e.1 buffer ≡ bytes_at (memory_of banks slots buffer) h.slot
   part_bytes = sym (bytes_at_is banks buffer slots h.slot ∙ bytes_extent banks buffer (slot_at slots h.slot) ∙ rw is refl)
 

@@ -11,7 +11,7 @@ with_zeroed_blocks banks (want ∷ wants) [] buffer = buffer
 with_zeroed_blocks banks (want ∷ wants) (put ∷ puts) buffer = with_zeroed_blocks banks wants puts
     (take (offset_of banks put.at) buffer ++ (replicate want.size 0 ++ drop (offset_of banks put.at + want.size) buffer))
 
--- the block's bytes stand in a buffer of this length
+-- the block's bytes are in a buffer of this length
 abbrev pub FitsIn : List ℕ → ℕ → Want → PlacedBlock → Type 0
 FitsIn banks size want put = (put.at < 2 ^ 24) × (offset_of banks put.at + want.size ≤ size)
 

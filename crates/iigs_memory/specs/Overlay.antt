@@ -1,4 +1,4 @@
--- What memory ends as, where a block's bytes are lent to be written.
+-- What memory ends as, where a block's bytes are borrowed to be written.
 use Rattle.std.specs.Prelude.{ℕ, ◌+◌, ◌-◌, ◌&&◌, nat_le, nat_lt, List, map, length, slice_index, if◌then◌else◌, unwrap_or}
 use Rattle.std.specs.List.{range_with_len, zip}
 use Rattle.std.specs.Borrow.{Lends, Fml, MutBor, Array, u8}

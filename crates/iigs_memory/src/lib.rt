@@ -1,6 +1,6 @@
 //! Memory of banks: where blocks are placed under handles, which are purged for them, and their bytes.
 //!
-//! `Banks` takes all of its memory when it is made. No other call takes any, so none refuses for want of memory.
+//! `Banks` takes all of its memory when it is made. No other call takes any, so none refuses when out of memory.
 #![tactic(auto)]
 
 mod banks;

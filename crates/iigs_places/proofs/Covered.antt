@@ -121,7 +121,7 @@ cover_none = record {
   from = λ i r. absurd (omega (arith, r.1.1));
 }
 
--- the first so many marks are joined, and no run begins behind a later one
+-- the first so many marks are joined, and no run begins after a later one
 pub record Joined (marks : List BlockMark) (count : ℕ) (runs : List BlockSpot) : Type 0 where
   pub cover : Cover (take count marks) runs
   pub following : (k : ℕ) (d : BlockMark) → count ≤ k → k < length marks → All (λ (run : BlockSpot). run.at ≤ (get_or marks k d).at) runs

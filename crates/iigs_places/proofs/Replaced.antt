@@ -47,7 +47,7 @@ module _ (marks : List BlockMark) (place : ℕ) (m : BlockMark) (inside : place 
   pub replaced_moved : AreOnce marks → ((d : BlockMark) → (get_or marks place d).slot ≡ m.slot) → IsPermutation (m ∷ filter (λ o. not (o.slot == m.slot)) marks) (slice_set marks place m)
   replaced_moved once is = moved_there m marks place m inside (is m) (others marks m.slot place m once inside (is m))
 
-  -- and they stand in order
+  -- and they are in order
   pub replaced_order : IsNonDecreasingBy (λ (o : BlockMark). o.at) marks → ((d : BlockMark) → 0 < place → (get_or marks (place - 1) d).at ≤ m.at)
       → ((d : BlockMark) → place + 1 < length marks → m.at ≤ (get_or marks (place + 1) d).at) → IsNonDecreasingBy (λ (o : BlockMark). o.at) (slice_set marks place m)
   replaced_order up below above i j d le lt =

@@ -74,7 +74,7 @@ one_start banks slots arranged place other e f is is' same =
     let size' : (0 < f.1) × (f.0 + f.1 ≤ 2 ^ 24) = rw is' at (bounded_extent (slot_at slots other) (each_slot IsBoundedSlot slots tt arranged.bounded other)) in
     arranged.sound.apart place other e.0 (holds_from e.0 (slot_at slots place) (rw is (omega arith, omega (arith, size.0)))) (holds_from e.0 (slot_at slots other) (rw is' (omega (arith, same), omega (arith, same, size'.0))))
 
--- and of two others the upper one begins behind the lower one
+-- and of two others the upper one begins after the lower one
 pub starts_after : (banks : List ℕ) (slots : Slots) → IsArranged banks slots → (place other : ℕ) (e f : ℕ × ℕ) → extent (slot_at slots place) ≡ Some e → extent (slot_at slots other) ≡ Some f → place ≢ other → e.0 ≤ f.0 → e.0 + e.1 ≤ f.0
 starts_after banks slots arranged place other e f is is' ne le = elim (cases_lt f.0 (e.0 + e.1)) [
   | inr following ↦ following

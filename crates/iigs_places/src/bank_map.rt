@@ -1,4 +1,4 @@
-//! The configured banks, and where their bytes stand in the one buffer that holds them.
+//! The configured banks, and where their bytes are in the one buffer that holds them.
 
 ghost use Rattle.std.specs.Prelude.{◌≡◌, ◌+◌, ◌<◌, ◌≤◌, ◌*◌, ◌^◌, ◌≢◌, ℕ, [], All, Contains, IsTrue, IfOk, IfErr, OnOk, MatchOption, length, slice_index, false};
 ghost use Rattle.iigs_meaning.specs.Banks.{AreDistinctTo, IsFirstTwice, IsBanksRefusal};

@@ -1,7 +1,7 @@
 //! Where blocks lie among banks of memory, under handles, without their bytes: where a want goes, and which blocks are
 //! purged for it.
 //!
-//! `Places` takes all of its memory when it is made. No other call takes any, so none refuses for want of memory.
+//! `Places` takes all of its memory when it is made. No other call takes any, so none refuses when out of memory.
 #![tactic(auto)]
 
 mod bank_map;

@@ -105,7 +105,7 @@ fn stretch_from(marks: &[BlockMark], first: usize) -> Stretch
     }
 }
 
-/// Makes runs of the blocks with these marks, which stand in order.
+/// Makes runs of the blocks with these marks, which are in order.
 pub fn join_marks(marks: &[BlockMark], runs: &mut Vec<BlockSpot>)
     requires order { IsNonDecreasingBy (λ mark. mark.at) marks.now }
     requires sized { All IsSized marks.now }

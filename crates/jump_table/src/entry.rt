@@ -96,14 +96,14 @@ fn overwrite_bytes(bytes: &mut [u8], at: usize, piece: &[u8])
     bytes[at..at + piece.len()].copy_from_slice(piece);
 }
 
-/// How many entries a table of so many bytes has.
+/// How many entries a table of a given number of bytes has.
 pub fn entry_count(size: u32) -> u32
     ensures { result ≡ tables.entry_count size }
 {
     size.saturating_sub(12) / 14
 }
 
-/// The place, from 0, of the entry whose code is at an offset of a table of so many bytes. None where no entry's code is.
+/// The place, from 0, of the entry whose code is at an offset of a table of a given number of bytes. None where no entry's code is.
 pub fn entry_at(size: u32, offset: u32) -> Option<usize>
     ensures { MatchOption result ((k : ℕ) → k < tables.entry_count size → entry_place k ≢ offset)
         (λ k. (k < tables.entry_count size) × (entry_place k ≡ offset)) }

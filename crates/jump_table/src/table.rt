@@ -53,7 +53,7 @@ impl Model for Table {
     ghost invariant = { λ table. IsSound table.targets.keys };
 }
 
-// The entry of a target, as it stands in a file.
+// The entry of a target, as it is in a file.
 #[tactic(auto, unfolding(load_meaning::specs::Table::entry_bytes))]
 fn put_entry(out: &mut Vec<u8>, target: &Target) -> Result<(), AllocError>
     ensures { OnOk result (out.new.items ≡ out.old.items ++ entry_bytes (file_entry target.now)) }

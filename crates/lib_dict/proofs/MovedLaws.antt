@@ -1,4 +1,4 @@
--- The segments of a file stand in a longer one too, where other bytes stand before the file and behind it.
+-- The segments of a file stand in a longer one too, where other bytes are before the file and behind it.
 use Rattle.std.proofs.Common.{◌≡◌, ℕ, ◌+◌, ◌-◌, ◌<◌, ◌≤◌, Bool, true, false, cond, List, [], ◌∷◌, ◌++◌, length, take, drop, map, Some, None, Result, Ok, Err, refl, sym, ap, subst, ◌∙◌, append_assoc, arith}
 use Rattle.std.specs.Prelude.{◌==◌, if◌then◌else◌}
 use Rattle.std.specs.List.{flat_map, AllByRecursion}
@@ -22,7 +22,7 @@ use Rattle.omf_format.specs.laws.FileLaws.{Answer, gave, same_found, header_lies
 use Rattle.omf_format.specs.laws.BodyLaws.{found_by, body_fits}
 use Rattle.lib_dict.specs.Library.{LibraryFile}
 
--- ---- a header with more bytes behind it
+-- ---- a header with more bytes after it
 
 number_more : (w at : ℕ) (xs ys : List ℕ) → at + w ≤ length xs → number_at w at (xs ++ ys) ≡ number_at w at xs
 unfolding number_at
@@ -253,7 +253,7 @@ segments_up before file following (s ∷ segments) at next fits are =
       subst (λ (n : ℕ). AreSegments (map (moved_segment p) segments) n whole (p + next)) place rest,
     )
 
--- ---- files one behind another
+-- ---- files one after another
 
 -- the segments of these files, the first of which begins there
 abbrev pub members_of : ℕ → List LibraryFile → List Segment

@@ -73,7 +73,7 @@ cons_more : {A : Type 0} (o : Option A) (xs : List A) → cons_option o [] ++ xs
 cons_more None xs = refl
 cons_more (Some x) xs = refl
 
--- where the records stand in the segment doesn't matter for their names
+-- where the records are in the segment doesn't matter for their names
 names-located : (place : ℕ) (founds : List (ℕ × Record)) → names_in (flat_map defines (located_from place founds)) ≡ filter_map name_of founds
 names-located place [] = refl
 names-located place (found ∷ founds) =

@@ -11,18 +11,18 @@ use Rattle.link_meaning.specs.Member.{Row, is_library}
 use Rattle.object_meaning.specs.Defines.{Definition, outer_scope, defined_in}
 use Rattle.link_meaning.specs.Dictionary.{rows_of}
 
--- a name as it stands in a dictionary: its length, and its bytes
+-- a name as it is in a dictionary: its length, and its bytes
 abbrev pub counted_name : List ℕ → List ℕ
 counted_name name = length name ∷ name
 
--- the first record: file numbers of two bytes, none of them 0, each with a name behind it, and 0 at the end
+-- the first record: file numbers of two bytes, none of them 0, each with a name after it, and 0 at the end
 abbrev pub AreFileNumbers : List ℕ → List ℕ → Type 0
 AreFileNumbers [] bytes = (length bytes ≡ 2) × (number_at 2 0 bytes ≡ 0)
 AreFileNumbers (number ∷ numbers) bytes =
     (digits : List ℕ) × (name : List ℕ) × (rest : List ℕ) × (bytes ≡ digits ++ (counted_name name ++ rest)) × (length digits ≡ 2) × (number_at 2 0 digits ≡ number) × (number ≢ 0)
     × AreFileNumbers numbers rest
 
--- the third record: names one behind another
+-- the third record: names one after another
 abbrev pub AreNames : List (List ℕ) → List ℕ → Type 0
 AreNames names bytes = bytes ≡ flat_map counted_name names
 
@@ -40,8 +40,8 @@ pub record DefinesSo (s : Segment) (name : List ℕ) (private : Bool) : Type 0 w
   pub name' : by.name ≡ name
   pub scope : by.scope ≡ outer_scope private
 
--- the twelve bytes of a row: where its name starts, its file's number, the private flag, and where its segment starts, which stands
--- behind the dictionary and isn't one
+-- the twelve bytes of a row: where its name starts, its file's number, the private flag, and where its segment starts, which is
+-- after the dictionary and isn't one
 pub record IsRow (segments : List Segment) (numbers : List ℕ) (names : List (List ℕ)) (bytes : List ℕ) (row : Row) : Type 0 where
   pub name : StartsAt names row.name (number_at 4 0 bytes)
   pub from : row.from ≡ number_at 2 4 bytes
@@ -54,7 +54,7 @@ pub record IsRow (segments : List Segment) (numbers : List ℕ) (names : List (L
   pub other : form_of segment.fields.kind ≢ 0x08
   pub defines : DefinesSo segment row.name row.private
 
--- the second record: rows of twelve bytes one behind another
+-- the second record: rows of twelve bytes one after another
 abbrev pub AreRows : List Segment → List ℕ → List (List ℕ) → List Row → List ℕ → Type 0
 AreRows segments numbers names [] bytes = bytes ≡ []
 AreRows segments numbers names (row ∷ rows) bytes =

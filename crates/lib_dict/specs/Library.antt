@@ -78,14 +78,14 @@ pub record LibraryFile : Type 0 where
   pub bytes : List ℕ
   pub segments : List Segment
 
--- the rows of these files, one behind another, where the first has this number and begins at this displacement
+-- the rows of these files, one after another, where the first has this number and begins at this displacement
 abbrev pub rows_from : ℕ → ℕ → List LibraryFile → List LibraryRow
 rows_from number front [] = []
 rows_from number front (file ∷ files) = flat_map (segment_rows number front) file.segments ++ rows_from (number + 1) (front + length file.bytes) files
 
 -- ---- the dictionary that is made
 
--- the first record: the files' numbers, each with the file's name behind it, and 0
+-- the first record: the files' numbers, each with the file's name after it, and 0
 abbrev pub files_text : ℕ → List LibraryFile → List ℕ
 files_text number [] = little_bytes 2 0
 files_text number (file ∷ files) = little_bytes 2 number ++ length file.name ∷ file.name ++ files_text (number + 1) files
@@ -94,7 +94,7 @@ files_text number (file ∷ files) = little_bytes 2 number ++ length file.name �
 unfoldable pub names_text : List LibraryRow → List ℕ
 names_text rows = flat_map (λ row. length row.name ∷ row.name) rows
 
--- a row: where its name stands in the third record, its file's number, 1 where it is private, and where its segment starts
+-- a row: where its name is in the third record, its file's number, 1 where it is private, and where its segment starts
 unfoldable pub row_text : ℕ → LibraryRow → List ℕ
 row_text name row = little_bytes 4 name ++ (little_bytes 2 row.file ++ (little_bytes 2 (if row.private then 1 else 0) ++ little_bytes 4 row.at))
 
@@ -140,7 +140,7 @@ dictionary_size files =
     let rows = rows_from 1 0 files in
     0x37 + 10 + (5 + length (files_text 1 files)) + (5 + 12 * length rows) + (5 + length (names_text rows)) + 1
 
--- the rows of the library: the first file begins behind the dictionary
+-- the rows of the library: the first file begins after the dictionary
 unfoldable pub library_rows : List LibraryFile → List LibraryRow
 library_rows files = rows_from 1 (dictionary_size files) files
 

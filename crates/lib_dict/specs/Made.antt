@@ -65,7 +65,7 @@ ByCause Memory file long memory = memory
 abbrev pub IsLibRefused : LibFault → List LibraryInput → Type 0
 IsLibRefused fault given = ByCause fault.cause (IsFirstMemberFault given fault) (IsTooLong given × IsNowhere fault.spot) (IsNowhere fault.spot)
 
--- files of which a library is made are refused for want of memory alone
+-- files of which a library is made are refused only when out of memory
 abbrev pub MadeIsRefusedForMemoryAlone : Type 0
 MadeIsRefusedForMemoryAlone = (given : List LibraryInput) (bytes : List ℕ) (fault : LibFault)
     → IsLibraryOf given bytes → IsLibRefused fault given → fault.cause ≡ Memory

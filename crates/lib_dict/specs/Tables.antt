@@ -48,7 +48,7 @@ AreStarts (Some keys) bytes = (names : List (ℕ × List ℕ)) × (names_from (l
 abbrev pub other_rows : Segment → List LibraryRow
 other_rows s = if is_dictionary s then [] else segment_rows 0 0 s
 
--- the rows of the segments behind the first
+-- the rows of the segments after the first
 unfoldable pub following_rows : List Segment → List LibraryRow
 following_rows segments = flat_map other_rows (drop 1 segments)
 
@@ -64,7 +64,7 @@ pub record IsInFile (segments : List Segment) : Type 0 where
   pub is_file : IsFile segments file
   pub short : length file < 2 ^ 32
 
--- the tables are those of the first and the third record, and of the segments behind the dictionary
+-- the tables are those of the first and the third record, and of the segments after the dictionary
 pub record FitsTables (t : Tables) : Type 0 where
   pub numbers : SameNumbers t.numbers.keys (numbers_in t.first.now)
   pub starts : SameNumbers t.starts.keys (starts_of (names_in t.third.now))
@@ -72,12 +72,12 @@ pub record FitsTables (t : Tables) : Type 0 where
   pub known : HoldsRows (map outer_row t.known.keys) (following_rows t.list.now)
   pub file : IsInFile t.list.now
 
--- a name's length stands there, and the whole name behind it
+-- a name's length stands there, and the whole name after it
 pub record IsNameAt (third : List ℕ) (at : ℕ) : Type 0 where
   pub length' : at + 1 ≤ length third
   pub whole : at + 1 + number_at 1 at third ≤ length third
 
--- the row of these twelve bytes, which stand at this displacement
+-- the row of these twelve bytes, which are at this displacement
 abbrev pub row_in : Tables → ℕ → List ℕ → Result Row ℕ
 row_in t at bytes = row_at (numbers_in t.first.now) (names_in t.third.now) (numbered_from 2 (drop 1 t.list.now)) at bytes
 

@@ -18,7 +18,7 @@ pub fn made_is_read()
     ensures { MadeIsRead }
 {}
 
-/// Files of which a library is made are refused for want of memory alone.
+/// Files of which a library is made are refused only when out of memory.
 pub fn made_is_refused_for_memory_alone()
     ensures { MadeIsRefusedForMemoryAlone }
 {}

@@ -24,7 +24,7 @@ fn put_other<'a>(rows: &mut Vec<Outer<'a>>, view: &'a SegmentView<'a>) -> Result
     put_rows(rows, view, 0, 0)
 }
 
-/// What the segments behind the first one define for others, dictionaries apart.
+/// What the segments after the first one define for others, dictionaries apart.
 pub fn names_following<'a>(
     alloc: Global,
     list: &'a SegmentList<'a>,

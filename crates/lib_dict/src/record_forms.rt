@@ -7,7 +7,7 @@ use indexmap::IndexSet;
 use omf_base::{items_after, number};
 use std::alloc::{AllocError, Global};
 
-/// The file numbers of the first record, where it has its form: each with a name behind it, and 0 at the very end.
+/// The file numbers of the first record, where it has its form: each with a name after it, and 0 at the very end.
 pub fn file_numbers(alloc: Global, bytes: &[u8]) -> Result<Option<IndexSet<u16>>, AllocError>
     ensures { IfOk result (λ found. AreNumbers (option_map (λ set. set.keys) found) bytes.now) }
 {
@@ -37,7 +37,7 @@ pub fn file_numbers(alloc: Global, bytes: &[u8]) -> Result<Option<IndexSet<u16>>
     }
 }
 
-/// Where the names of the third record start, where it has its form: names one behind another, each behind its length.
+/// Where the names of the third record start, where it has its form: names one after another, each behind its length.
 pub fn name_starts(alloc: Global, bytes: &[u8]) -> Result<Option<IndexSet<u32>>, AllocError>
     requires { length bytes.now < 2 ^ 32 }
     ensures { IfOk result (λ found. AreStarts (option_map (λ set. set.keys) found) bytes.now) }

@@ -21,7 +21,7 @@ fn put_name(out: &mut Vec<u8>, name: &[u8]) -> Result<(), AllocError>
     out.extend_from_slice(name)
 }
 
-/// Appends a file's number, and its name behind it.
+/// Appends a file's number, and its name after it.
 fn put_file(out: &mut Vec<u8>, file: u16, name: &[u8]) -> Result<(), AllocError>
     requires { length name.now ≤ 255 }
     ensures { OnOk result (out.new.items ≡ out.old.items ++ (little_bytes 2 file ++ length name.now ∷ name.now)) }

@@ -1,4 +1,4 @@
--- Zeros behind a content: the body is the same without them, and they stand behind its data in memory.
+-- Zeros behind a content: the body is the same without them, and they are after its data in memory.
 use Rattle.std.proofs.Common.{◌≡◌, ℕ, zero, suc, ◌+◌, ◌-◌, ◌≤◌, Bool, true, false, List, [], ◌∷◌, ◌++◌, length, map, take, drop, replicate, Option, Some, Result, Ok, Err, refl, sym, ap, subst, ◌∙◌, append-nil, append_assoc, arith}
 use Rattle.std.specs.Prelude.{◌&&◌, OnOk, OnErr}
 use Rattle.std.specs.List.{list_all, flat_map}
@@ -96,7 +96,7 @@ zeros_more (c ∷ cells) n = go (list_all is_zero (c ∷ cells)) refl (zeros_mor
 
 -- ---- bodies
 
--- the patches of a content without the zeros behind it
+-- the patches of a content without the zeros after it
 pub without_zeros : (size less low : ℕ) (patches : List kept.Patch) → AreWritten size low (map seen patches) → AreInside less patches → AreWritten less low (map seen patches)
 without_zeros size less low [] are inside = tt
 without_zeros size less low (p ∷ patches) are inside =
@@ -133,9 +133,9 @@ module _ (own n : ℕ) (front : List ℕ) (patches : List Patch) (are : AreWritt
   unfolding body_text body_records
   body_same = ap (λ (bytes : List ℕ). flat_map (spelling written_layout) (data_records bytes ++ (map (lone_record own) (patches_stored_alone own patches) ++ supers_from own patches 0 38))) data_same
 
--- ---- a content and the zeros behind it
+-- ---- a content and the zeros after it
 
--- what the body of a content is, by its bytes without the zeros behind them
+-- what the body of a content is, by its bytes without the zeros after them
 pub record IsFollowing (own n : ℕ) (bytes : List ℕ) (content : Holding) (patches : List Patch) : Type 0 where
   pub are : AreWritten (length bytes) 0 patches
   pub body : body_text own content.bytes patches ≡ body_text own bytes patches
@@ -208,7 +208,7 @@ settled_patches {A = A} {E = E} own new loaned n count bytes r old after p is sa
     go (Ok x) added same = subst (AreInside (length new)) (sym added) (inside_snoc (length new) old p (inside_more (length own) (length new) old longer olds) (omega (arith, inside, size)))
     go (Err e) added same = subst (AreInside (length new)) (sym same) (inside_more (length own) (length new) old longer olds)
 
--- the last byte where zeros stand behind
+-- the last byte where zeros stand after
 last_zeros : (n : ℕ) → last_of (replicate (suc n) 0) ≡ Some 0
 last_zeros zero = refl
 last_zeros (suc n) = last_zeros n

@@ -11,7 +11,7 @@ pub record Holding : Type 0 where
 abbrev pub AreInside : ℕ → List Patch → Type 0
 AreInside size patches = AllByRecursion (λ p. p.at + p.count ≤ size) patches
 
--- bytes of one's own, or what is lent where there are none
+-- bytes of one's own, or what is borrowed where there are none
 abbrev pub or_borrowed : List ℕ → List ℕ → List ℕ
 or_borrowed [] loaned = loaned
 or_borrowed (byte ∷ own) loaned = byte ∷ own

@@ -46,7 +46,7 @@ pub record StandsAt (list : List Member) (reported : List EquateAnswer) (state :
   pub front' : length front ≡ site.offset
   pub holds : HoldsCells (front ++ cells_before state i) content
 
--- these cells stand behind the others, and these are the targets then
+-- these cells stand after the others, and these are the targets then
 pub record PutsMade (made : Result Made LinkCause) (before : List Cell) (targets : List Target) (content : Holding) : Type 0 where
   pub gives : Made
   pub is : made ≡ Ok gives

@@ -13,7 +13,7 @@ use load_writer::Patch;
 use std::alloc::{AllocError, Global};
 use std::marker::Model;
 
-/// The bytes of a load segment so far, and the patches over them. As long as they are constants of inputs, one behind another,
+/// The bytes of a load segment so far, and the patches over them. As long as they are constants of inputs, one after another,
 /// none is copied, and zeros at the end are only counted. Contracts see the bytes and the patches.
 #[derive(Drop)]
 pub struct LoadContent<'a> {
@@ -23,7 +23,7 @@ pub struct LoadContent<'a> {
     borrowed_size: usize,
     /// All bytes, if there are any here.
     own: Vec<u8>,
-    /// How many zeros stand behind these, and aren't held.
+    /// How many zeros stand after these, and aren't held.
     trailing_zeros: usize,
     patches: Vec<Patch>,
 }
@@ -57,7 +57,7 @@ fn append(out: &mut Vec<u8>, bytes: &[u8]) -> Result<(), AllocError>
     out.extend_from_slice(bytes)
 }
 
-/// Appends pieces, one behind another.
+/// Appends pieces, one after another.
 fn append_all(out: &mut Vec<u8>, pieces: &[&[u8]]) -> Result<(), AllocError>
     ensures { OnOk result (out.new.items ≡ out.old.items ++ joined pieces.now) }
 {
@@ -77,7 +77,7 @@ fn append_zeros(out: &mut Vec<u8>, count: usize) -> Result<(), AllocError>
     out.resize(end, 0)
 }
 
-/// Copies what is lent, unless there are bytes of one's own.
+/// Copies what is borrowed, unless there are bytes of one's own.
 fn take_in(own: &mut Vec<u8>, loaned: &[&[u8]]) -> Result<(), AllocError>
     ensures ok { OnOk result (own.new.items ≡ or_borrowed own.old.items (joined loaned.now)) }
     ensures err { OnErr result (own.old.items ≡ []) }
@@ -88,7 +88,7 @@ fn take_in(own: &mut Vec<u8>, loaned: &[&[u8]]) -> Result<(), AllocError>
     Ok(())
 }
 
-/// Copies what is lent, unless there are bytes of one's own, and appends so many zeros.
+/// Copies what is borrowed, unless there are bytes of one's own, and appends so many zeros.
 fn own_bytes(own: &mut Vec<u8>, loaned: &[&[u8]], zeros: usize) -> Result<(), AllocError>
     requires { zeros < 2 ^ 34 }
     ensures ok { OnOk result (own.new.items ≡ or_borrowed own.old.items (joined loaned.now) ++ replicate zeros 0) }
@@ -197,7 +197,7 @@ impl<'a> LoadContent<'a> {
         self.size()
     }
 
-    /// The bytes but for zeros at their end, and how many zeros these are; under a patch they don't count. Where the bytes stand in
+    /// The bytes but for zeros at their end, and how many zeros these are; under a patch they don't count. Where the bytes are in
     /// inputs, there is no patch.
     pub fn place(&self) -> (ByteStorage<'_, 'a>, usize)
         ensures { IsPlaced result.0 result.1 self.now }

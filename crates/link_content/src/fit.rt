@@ -98,7 +98,7 @@ fn number_fit(formula: FormulaRecord, n: u32) -> Option<Fit>
     None
 }
 
-/// A distance from one offset to another, in two's complement, where it fits signed in so many bytes.
+/// A distance from one offset to another, in two's complement, where it fits signed in a given number of bytes.
 fn distance_fit(count: u8, to: u32, from: u64) -> Option<Fit>
     requires counted { IsTrue (is_count count) }
     requires small { from < 2 ^ 33 }

@@ -12,7 +12,7 @@ use omf_base::padding;
 use omf_records::Rec;
 use std::alloc::AllocError;
 
-/// Puts what a record gives that stands at this place of its segment; an expression gives nothing here.
+/// Puts what a record gives that is at this place of its segment; an expression gives nothing here.
 pub fn put_plain<'a>(
     content: &mut LoadContent<'a>,
     rec: &Rec<'a>,

@@ -91,7 +91,7 @@ fn put_value(
     )
 }
 
-/// Puts what a record gives that stands at this place of its member. If it has an expression, this is what the expression stands
+/// Puts what a record gives that is at this place of its member. If it has an expression, this is what the expression stands
 /// for.
 pub fn put_record<'a>(
     content: &mut LoadContent<'a>,

@@ -71,7 +71,7 @@ pub ok_moved : {A E : Type 0} → (r : Result A E) (new out x y : List ℕ) → 
 ok_moved (Ok v) new out x y same more = more ∙ ap (λ (l : List ℕ). out ++ l) same
 ok_moved (Err e) new out x y same more = tt
 
--- ---- one behind another
+-- ---- one after another
 
 pub one_image : (exports : List Record) (out new all : List ℕ) (headers more_headers : List Header) (contents more_contents : List Holding) (h : Header) (content : Holding) → headers ≡ h ∷ more_headers → contents ≡ content ∷ more_contents
     → new ≡ out ++ image_text (image_in (fields h) content exports) → out ++ file_text (images_in exports headers contents) ≡ all → new ++ file_text (images_in [] more_headers more_contents) ≡ all

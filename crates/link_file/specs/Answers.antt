@@ -6,10 +6,10 @@ use Rattle.link_meaning.specs.LinkFaults.{LinkInput}
 use Rattle.link_meaning.specs.EmitFaults.{IsFirstEmitFault, IsFirstLinkFault}
 use Rattle.link_program.specs.Memory.{memory_fault}
 
--- it is the first fault of the list in the phases behind layout, unless memory ran out
+-- it is the first fault of the list in the phases behind layout, unless out of memory
 abbrev pub IsEmitRefused : List Member → LinkFault → Type 0
 IsEmitRefused list fault = (fault ≡ memory_fault) ⊎ IsFirstEmitFault list fault
 
--- it is the first fault of what is given, unless memory ran out
+-- it is the first fault of what is given, unless out of memory
 abbrev pub IsLinkRefused : LinkInput → LinkFault → Type 0
 IsLinkRefused given fault = (fault ≡ memory_fault) ⊎ IsFirstLinkFault given fault

@@ -18,11 +18,11 @@ use Rattle.load_writer.specs.WrittenParts.{seen}
 use Rattle.link_content.specs.Holding.{Holding}
 use Rattle.link_content.specs.Contents.{HoldsCells}
 
--- the fields with so many zeros behind the body
+-- the fields with so many zeros after the body
 abbrev pub with_space : Fields → ℕ → Fields
 with_space f zeros = record f { res_spc = zeros }
 
--- records, as they are spelled one behind another
+-- records, as they are spelled one after another
 abbrev pub spelled_records : List Record → List ℕ
 spelled_records records = flat_map (spelling written_layout) records
 
@@ -77,7 +77,7 @@ pub record AreLoads (list : List Member) (table : List EquateAnswer) (headers : 
 abbrev pub linked_exports : List Member → List EquateAnswer → List ℕ
 linked_exports list table = spelled_records (exports_for (form_in list) 1 (exports list table))
 
--- what stands behind the load segments: the table, where there is an entry, and the pathnames, where there are run-time library files
+-- what stands after the load segments: the table, where there is an entry, and the pathnames, where there are run-time library files
 abbrev pub images_after : ℕ → List Target → List RuntimeFile → List Image
 images_after number targets runtimes =
     let tables = table_images number targets in

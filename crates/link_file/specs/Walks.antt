@@ -124,13 +124,13 @@ pub record PutsMember (list : List Member) (reported : List EquateAnswer) (front
   pub holds : HoldsCells (cells ++ zeros (offset_of list (length front + 1) m - length cells) ++ member_cells list reported (length front + 1) m) content
   pub size : length (member_cells list reported (length front + 1) m) ≡ m.segment.fields.length
 
--- the fault is that of a record of the member, unless memory ran out
+-- the fault is that of a record of the member, unless out of memory
 abbrev pub IsReportedAt : Member → LinkCause → ℕ → LinkFault → Type 0
 IsReportedAt m cause at fault = (fault ≡ memory_fault) ⊎ ((cause ≡ causes.Memory → ⊥) × (fault ≡ record { cause = cause; name = None; spot = spot_in m at }))
 
 -- ---- the members
 
--- the content holds the cells of the load segment with this load name behind the first members
+-- the content holds the cells of the load segment with this load name after the first members
 pub record HoldsAfter (list : List Member) (reported : List EquateAnswer) (front : List Member) (load_name : List ℕ) (content : Holding) : Type 0 where
   pub cells' : HoldsCells (linked_after list reported load_name front) content
   pub size : length (linked_after list reported load_name front) ≡ end_from 0 load_name front
@@ -156,7 +156,7 @@ pub record IsWalkedTo (list : List Member) (reported : List EquateAnswer) (count
   pub count' : count ≡ length front
   pub walked : IsWalked list reported front targets contents
 
--- the first record that gives no cells has this fault, unless memory ran out
+-- the first record that gives no cells has this fault, unless out of memory
 abbrev pub IsValueRefused : List Member → List EquateAnswer → LinkFault → Type 0
 IsValueRefused list reported fault = (fault ≡ memory_fault) ⊎ IsFirst (HasValueFault list reported) (items list) fault
 

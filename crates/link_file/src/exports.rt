@@ -242,7 +242,7 @@ fn put_segment(
     }
 }
 
-/// The ENTRY records of a program, one behind another: of a run-time library file those of its public names that stand for places, in
+/// The ENTRY records of a program, one after another: of a run-time library file those of its public names that stand for places, in
 /// list and record order.
 pub fn exports_text(alloc: Global, whole: &LinkContext) -> Result<Vec<u8>, PutFault>
     requires { IsWhole whole.now.program.now whole.now.slots.now whole.now.loads.now whole.now.table }

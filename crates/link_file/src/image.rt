@@ -1,4 +1,4 @@
-//! Load segments, as they are written one behind another.
+//! Load segments, as they are written one after another.
 
 ghost use Rattle.std.specs.Prelude.{◌≡◌, ◌≤◌, ◌+◌, ◌<◌, ◌^◌, ◌++◌, ◌∷◌, [], IfOk, IfErr, OnOk, IsErrOf, MatchOption, Some, length, map, slice_get, take, drop, replicate, List};
 ghost use Rattle.omf_format.specs.Header.{IsWritable, header_bytes};
@@ -59,7 +59,7 @@ impl From<BodyFault> for ImageFault {
     }
 }
 
-/// The header with so many zeros behind the body.
+/// The header with so many zeros after the body.
 fn with_reserved_zeros(alloc: Global, header: &Header, zeros: u32) -> Result<Header, ImageFault>
     ensures ok { IfOk result (λ written. fields written ≡ with_space (fields header.now) zeros) }
     ensures memory_alone { IfErr result (λ fault. fault ≡ ImageFault.Memory) }
@@ -88,7 +88,7 @@ fn with_reserved_zeros(alloc: Global, header: &Header, zeros: u32) -> Result<Hea
     })
 }
 
-/// The bytes of a header before a body of so many bytes with END behind it; RESSPC is as the body has it.
+/// The bytes of a header before a body of a given number of bytes with END behind it; RESSPC is as the body has it.
 pub fn front_of(
     alloc: Global,
     header: &Header,
@@ -130,7 +130,7 @@ fn put_room(out: &mut Vec<u8>, room: usize) -> Result<(), ImageFault>
     Ok(())
 }
 
-/// Appends a body. The answer is how many zero bytes stand behind the body's data in memory.
+/// Appends a body. The answer is how many zero bytes are after the body's data in memory.
 fn put_content(
     alloc: Global,
     out: &mut Vec<u8>,
@@ -155,8 +155,8 @@ fn put_content(
     }
 }
 
-/// Appends room for a header, a body behind it, and behind that what the segment exports. The answer is how many zero bytes stand
-/// behind the body's data in memory.
+/// Appends room for a header, a body behind it, and after that what the segment exports. The answer is how many zero bytes are
+/// after the body's data in memory.
 fn put_after(
     alloc: Global,
     out: &mut Vec<u8>,
@@ -249,7 +249,7 @@ fn content_at<'h, 'a>(contents: &'h [LoadContent<'a>], place: usize) -> Option<&
     contents.get(place)
 }
 
-/// Appends load segments, one behind another; the first has the ENTRY records.
+/// Appends load segments, one after another; the first has the ENTRY records.
 pub fn put_images(
     alloc: Global,
     out: &mut Vec<u8>,

@@ -92,7 +92,7 @@ equate_spelled list place location m global name size form private expr has ther
 
 -- ---- the walk over the records
 
--- the lines of what the name and the first records define stand behind a text, and the other records are still to come
+-- the lines of what the name and the first records define stand after a text, and the other records are still to come
 pub record IsTelling (v : Valued) (place : ℕ) (s : Segment) (at : Reader) (location : ℕ) (before text : List ℕ) : Type 0 where
   pub done : List (ℕ × Record)
   pub back : List (ℕ × Record)

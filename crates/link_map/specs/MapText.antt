@@ -21,7 +21,7 @@ use Rattle.link_meaning.specs.LinkedCells.{table_number, targets}
 use Rattle.link_meaning.specs.LinkFaults.{LinkInput}
 use Rattle.link_meaning.specs.EmitFaults.{IsLinkable}
 
--- texts one behind another, each that of a thing and its number, of which the first has this one
+-- texts one after another, each that of a thing and its number, of which the first has this one
 abbrev pub numbered_texts : {A : Type 0} → (ℕ → A → List ℕ) → ℕ → List A → List ℕ
 numbered_texts text_of number [] = []
 numbered_texts text_of number (x ∷ xs) = text_of number x ++ numbered_texts text_of (number + 1) xs

@@ -42,7 +42,7 @@ number_fit code count n =
     else if nat_lt n (256 ^ count) then Some (Number n)
     else None
 
--- a distance from one offset to another, in two's complement, where it fits signed in so many bytes
+-- a distance from one offset to another, in two's complement, where it fits signed in a given number of bytes
 abbrev pub distance_fit : ℕ → ℕ → ℕ → Option Fit
 distance_fit count to from =
     if nat_le from (to + 256 ^ count / 2) && nat_lt to (from + 256 ^ count / 2)
@@ -129,7 +129,7 @@ fit_value headers f targets before code count n (At file segment offset shift) =
 
 -- ---- cells
 
--- the cells of a fit in so many bytes, with the targets up to it; the table is the load segment with this number
+-- the cells of a fit in a given number of bytes, with the targets up to it; the table is the load segment with this number
 abbrev pub parts : ℕ → ℕ → ℕ → ℤ → List Cell
 parts count segment offset shift =
     parts_from (record { location = 0; count = count; file = 1; segment = segment; offset = offset; shift = shift }) 0 count

@@ -90,7 +90,7 @@ inputs_sound law (bytes ∷ files) [] are i is = absurd are
 inputs_sound law (bytes ∷ files) (x ∷ inputs) are i (inl e) = subst IsSoundInput e (input_sound law bytes x are.0)
 inputs_sound law (bytes ∷ files) (x ∷ inputs) are i (inr more) = inputs_sound law files inputs are.1 i more
 
--- the file whose segments stand at a place
+-- the file whose segments are at a place
 file_there : (files : List (List ℕ)) (inputs : List Input) (k : ℕ) (segments : List Segment) → AreInputs files inputs → slice_get (map (λ i. i.segments) inputs) k ≡ Some segments
     → (bytes : List ℕ) × (slice_get files k ≡ Some bytes) × IsFile segments bytes
 file_there [] [] k segments are e = absurd cc
@@ -115,7 +115,7 @@ in_input files inputs (suc k) number s are e = by_file (slice_get (map (λ (i : 
         let f = file_there files inputs k segments are is in
         record { bytes = f.0; input = f.1; segments = segments; is_file = f.2; there = e }
 
--- each member's segment stands in the input with the member's file number
+-- each member's segment is in the input with the member's file number
 pub member_in_input : RowsAreLaidOut → (given : LinkInput) (list : List Member) (place : ℕ) (m : Member) → IsProgram given list → member_at list place ≡ Some m → StandsInInput given.inputs m.file m.number m.segment
 member_in_input law given list zero m is there = absurd (nowhere there)
   where

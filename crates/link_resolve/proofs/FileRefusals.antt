@@ -21,7 +21,7 @@ first_of causes.Unsupported fault bytes other is = is
 first_of causes.BadRecord fault bytes other is = is
 first_of causes.Memory fault bytes other is = absurd (other refl)
 
--- a fault that isn't want of memory
+-- a fault other than out of memory
 pub of_file : (fault : FileFault) (c : FileCause) (file : ℕ) (bytes : List ℕ) (result : LinkFault) → fault.cause ≡ c → (c ≡ causes.Memory → ⊥) → result ≡ fault_at (link_cause c) file fault.segment fault.at → IsRefused fault bytes
     → IsFileRefused file bytes result
 of_file fault c file bytes result cause other reported refused =

@@ -5,7 +5,7 @@ use Rattle.link_meaning.specs.Member.{Row}
 use Rattle.lib_dict.specs.Library.{LibraryRow, row_view}
 use Rattle.link_program.specs.Inputs.{StandsIn, AllStand}
 
--- each segment starts behind those before it
+-- each segment starts after those before it
 abbrev pub StartsAscend : List Segment → Type 0
 StartsAscend segments = (j k : ℕ) (s t : Segment) → j < k → slice_get segments j ≡ Some s → slice_get segments k ≡ Some t → s.start < t.start
 

@@ -103,14 +103,14 @@ pub record IsFirstInput (files : List (List ℕ)) (fault : LinkFault) : Type 0 w
   pub are : AreInputs before inputs
   pub here : HasFileFault (length before + 1) item fault
 
--- the first input at fault has this fault, unless memory ran out
+-- the first input at fault has this fault, unless out of memory
 abbrev pub IsInputFault : List (List ℕ) → LinkFault → Type 0
 IsInputFault files fault = (fault ≡ memory_fault) ⊎ IsFirstInput files fault
 
--- the first use that doesn't resolve has this fault, unless memory ran out
+-- the first use that doesn't resolve has this fault, unless out of memory
 abbrev pub IsUseFault : List Member → LinkFault → Type 0
 IsUseFault list fault = (fault ≡ memory_fault) ⊎ IsFirst (HasUseFault list) (all_uses list) fault
 
--- it is the first fault of what is given, unless memory ran out
+-- it is the first fault of what is given, unless out of memory
 abbrev pub IsRefused : LinkInput → LinkFault → Type 0
 IsRefused given fault = (fault ≡ memory_fault) ⊎ IsFirstResolveFault given fault

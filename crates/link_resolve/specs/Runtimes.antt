@@ -18,12 +18,12 @@ use Rattle.link_program.specs.Programs.{runtimes_of}
 abbrev pub files_of : List Member → List (List ℕ × List ℕ)
 files_of given = map (λ m. (m.name, m.bytes.items)) given
 
--- how a run-time library file's cause is told, unless memory ran out
+-- how a run-time library file's cause is told, unless out of memory
 abbrev pub to_link_cause : LoadCause → Option LinkCause
 to_link_cause Memory = None
 to_link_cause cause = Some (runtime_cause cause)
 
--- the file with this number has this fault, unless memory ran out
+-- the file with this number has this fault, unless out of memory
 abbrev pub IsFileRefused : ℕ → List ℕ → LinkFault → Type 0
 IsFileRefused file bytes fault = (fault ≡ memory_fault) ⊎ HasRuntimeFault file bytes fault
 
@@ -43,6 +43,6 @@ pub record IsFirstFile (inputs : ℕ) (files : List (List ℕ × List ℕ)) (fau
   pub are : AreRuntimes before runtimes
   pub here : HasRuntimeFault (inputs + length before + 1) item.1 fault
 
--- the first of these files that is at fault has this fault, unless memory ran out
+-- the first of these files that is at fault has this fault, unless out of memory
 abbrev pub IsFirstRefused : ℕ → List (List ℕ × List ℕ) → LinkFault → Type 0
 IsFirstRefused inputs files fault = (fault ≡ memory_fault) ⊎ IsFirstFile inputs files fault

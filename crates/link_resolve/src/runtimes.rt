@@ -20,7 +20,7 @@ pub struct Runtimes<'a> {
     pub outside: OutsideNames<'a>,
 }
 
-/// How a run-time library file's cause is told; None where memory ran out.
+/// How a run-time library file's cause is told; None when out of memory.
 fn to_link_cause(cause: LoadCause) -> Option<LinkCause>
     ensures { result ≡ to_link_cause cause }
 {

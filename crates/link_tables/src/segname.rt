@@ -1,4 +1,4 @@
-//! The name of a segment, lent from the file.
+//! The name of a segment, borrowed from the file.
 
 ghost use Rattle.std.specs.Prelude.{◌≡◌, ◌+◌, ◌<◌, ◌≤◌, ◌^◌, ◌==◌, if◌then◌else◌, length, take, drop};
 ghost use Rattle.omf_records.specs.Segments.{placed_view, IsPlaced};

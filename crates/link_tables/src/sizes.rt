@@ -10,7 +10,7 @@ use crate::reading::next_record;
 use omf_base::padding;
 use omf_records::{Rec, SegmentView};
 
-/// How many cells a record gives that stands at this place of its segment.
+/// How many cells a record gives that is at this place of its segment.
 pub fn size_at(rec: &Rec, location: u32) -> u64
     ensures value { result ≡ size_at location (view rec.now) }
     ensures small { result < 2 ^ 63 }

@@ -1,4 +1,4 @@
--- All that a name can find: what members define, and behind it what run-time library files export, none of which is an equate.
+-- All that a name can find: what members define, and after it what run-time library files export, none of which is an equate.
 use Rattle.std.proofs.Common.{◌≡◌, ◌⊎◌, inl, inr, ℕ, zero, suc, ◌+◌, Bool, true, false, cond, List, [], ◌∷◌, ◌++◌, Option, Some, None, refl, sym, ap, ◌∙◌}
 use Rattle.std.specs.Prelude.{slice_get, filter, filter_map, option_map}
 use Rattle.std.specs.List.{AllByRecursion, cons_option}
@@ -16,7 +16,7 @@ use Rattle.link_values.specs.Slots.{label_place}
 
 -- ---- what run-time library files export
 
--- it stands at no place of the list, and is no equate
+-- it is at no place of the list, and is no equate
 abbrev IsOuter : FoundDefinition → Type 0
 IsOuter f = (f.place ≡ 0) × (f.definition.expr ≡ None)
 

@@ -295,7 +295,7 @@ module _ (list : List Member) (rows : List (List ℕ)) (are : AreRows list (all_
   ends_equate x y (Last from to leads) = leads.equate
   ends_equate x y (Through from next to leads path) = ends_equate next to path
 
-  -- an equate on a ring of equates lies on one of numbers
+  -- an equate on a cycle of equates lies on one of numbers
   cycle_of : AreOnce (all_found list) → (a : ℕ) (x : FoundDefinition) → IsCircular list x → slice_get (all_found list) a ≡ Some x → cycle_order.IsOnCycle rows a
   cycle_of once a x cycle here =
       let w = way_of a x x cycle here in

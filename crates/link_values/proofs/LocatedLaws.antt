@@ -1,4 +1,4 @@
--- Records one behind another, and what they make.
+-- Records one after another, and what they make.
 use Rattle.std.proofs.Common.{◌≡◌, ◌⊎◌, inl, inr, ℕ, ◌+◌, List, [], ◌∷◌, ◌++◌, map, Result, Ok, refl, ap, ◌∙◌}
 use Rattle.std.proofs.lemmas.List.{map-append}
 use Rattle.omf_format.specs.Record.{Record}

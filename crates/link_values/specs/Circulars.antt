@@ -30,7 +30,7 @@ abbrev pub IsNth : List Definition → ℕ → Result (Bor (List ℕ) × ℕ) �
 IsNth ds number (Ok found) = (d : Definition) × (slice_get ds number ≡ Some d) × (found.0.now ≡ d.name) × (found.1 ≡ d.at)
 IsNth ds number (Err left) = number ≡ length ds + left
 
--- the fault of the definition with a number, as one that leads back to itself, unless memory ran out
+-- the fault of the definition with a number, as one that leads back to itself, unless out of memory
 abbrev pub IsCircularAt : List Member → ℕ → LinkFault → Type 0
 IsCircularAt list number fault = (e : FoundDefinition) → slice_get (entries list) number ≡ Some e
     → (fault ≡ memory_fault) ⊎ (fault ≡ record { cause = Circular; name = Some e.definition.name; spot = spot_in e.member e.definition.at })

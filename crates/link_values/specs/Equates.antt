@@ -80,6 +80,6 @@ pub record AreValues (list : List Member) (slots : List ValueSlot) : Type 0 wher
   pub known : AreKnown list slots
   pub table : IsTable list (rows_of (all_found list) slots)
 
--- an equate leads back to itself, and this is the first one's fault, unless memory ran out
+-- an equate leads back to itself, and this is the first one's fault, unless out of memory
 abbrev pub IsCycleRefused : List Member → LinkFault → Type 0
 IsCycleRefused list fault = (fault ≡ memory_fault) ⊎ IsFirst (HasCycleFault list) (equates list) fault

@@ -55,13 +55,13 @@ put_cut (suc n) (c ∷ old) bytes k few = ap (λ (l : List ℕ). c ∷ l) (put_c
 
 -- ---- operands
 
--- bytes in parentheses, one behind another
+-- bytes in parentheses, one after another
 pub enclosed_put : (old text a b c : List ℕ) → take 256 a ≡ take 256 (old ++ codes "(") → take 256 b ≡ take 256 (a ++ text) → take 256 c ≡ take 256 (b ++ codes ")") → take 256 c ≡ take 256 (old ++ (codes "(" ++ (text ++ codes ")")))
 enclosed_put old text a b c p q r =
     r ∙ cut_before 256 b (a ++ text) (codes ")") q ∙ cut_before 256 (a ++ text) ((old ++ codes "(") ++ text) (codes ")") (cut_before 256 a (old ++ codes "(") text p)
     ∙ ap (take 256) (append_assoc (old ++ codes "(") text (codes ")") ∙ append_assoc old (codes "(") (text ++ codes ")"))
 
--- two pieces, one behind another
+-- two pieces, one after another
 pub put_both : (old x y a b : List ℕ) → take 256 a ≡ take 256 (old ++ x) → take 256 b ≡ take 256 (a ++ y) → take 256 b ≡ take 256 (old ++ (x ++ y))
 put_both old x y a b p q = q ∙ cut_before 256 a (old ++ x) y p ∙ ap (take 256) (append_assoc old x y)
 
@@ -102,7 +102,7 @@ reported_two code part left right a b is are text alone =
     (text ∙ cut_before 256 (parenthesized left.alone left.text) (as_operand a (formula_text a)) following (enclosed_reported left a is)
     ∙ cut_after 256 (as_operand a (formula_text a)) following other (cut_after 256 (operator_text code) (parenthesized right.alone right.text) (as_operand b (formula_text b)) (enclosed_reported right b are))) alone
 
--- ---- parts one behind another
+-- ---- parts one after another
 
 record SameEnds {A : Type 0} (xs ys : List A) (x y : A) : Type 0 where
   before : xs ≡ ys

@@ -1,4 +1,4 @@
--- A line that was written, and lines one behind another.
+-- A line that was written, and lines one after another.
 use Rattle.std.proofs.Common.{◌≡◌, ℕ, ◌<◌, ◌≤◌, Bool, true, false, List, [], ◌∷◌, ◌++◌, length, refl, sym, ap, subst, ◌∙◌}
 use Rattle.std.specs.Prelude.{◌&&◌}
 use Rattle.std.specs.List.{list_all}
@@ -22,7 +22,7 @@ wrote_of said a b c text same whole line short = record {
 pub long_of : (said : ListedStatement) (b : Output) → open_line b ≡ said_text said → 255 < length (open_line b) → is_short said ≡ false
 long_of said b text long = lt-leb (length (said_text said)) 255 (subst (λ (l : List ℕ). 255 < length l) text long)
 
--- ---- lines one behind another
+-- ---- lines one after another
 
 pub with_lines-append : (a b : List ListedStatement) (k : Kept) → with_lines (a ++ b) k ≡ with_lines b (with_lines a k)
 with_lines-append [] b k = refl

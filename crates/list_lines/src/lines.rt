@@ -20,7 +20,7 @@ use orca_meaning::{Mnemonic, Mode};
 pub enum Wanted<'a> {
     /// None.
     Missing,
-    /// A number of so many bytes, 1 to 3.
+    /// A number of a given number of bytes, 1 to 3.
     Number(u32, u32),
     /// Two banks, the source first.
     Banks(u8, u8),
@@ -53,7 +53,7 @@ fn operand(out: &mut Output, text: &[u8]) -> Result<(), LineFault>
     out.put(text)
 }
 
-/// Writes `$` and so many digits.
+/// Writes `$` and a given number of digits.
 fn number(out: &mut Output, n: u32, digits: u32) -> Result<(), LineFault>
     requires { digits ≤ 8 }
     ensures line { OnOk result (open_line out.new ≡ open_line out.old ++ number_text digits n) }

@@ -14,7 +14,7 @@ const MAX_LINES: u32 = 65_536;
 /// The most bytes of a line.
 const MAX_LINE: usize = 255;
 
-/// The lines so far, as long as they aren't too many, and behind them the line that is being written.
+/// The lines so far, as long as they aren't too many, and after them the line that is being written.
 #[derive(Drop)]
 pub struct Output {
     pub(crate) text: Line,

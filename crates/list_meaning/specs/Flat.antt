@@ -34,7 +34,7 @@ parts_from code count n expr index (suc left) = Part code count n expr index ∷
 abbrev pub zeros : ℕ → List FlatCell
 zeros n = replicate n (One 0)
 
--- the places that a record gives which stands at this one; spaces, alignments and forward moves give zeros
+-- the places that a record gives which is at this one; spaces, alignments and forward moves give zeros
 abbrev pub places_at : ℕ → ℕ → Record → List FlatCell
 places_at lab_len at End = []
 places_at lab_len at (Const bytes) = map One bytes

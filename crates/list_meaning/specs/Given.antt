@@ -133,7 +133,7 @@ pub record Closes (state next : State) : Type 0 where
   pub here : next.segment ≡ None
   pub ended : next.ended ≡ state.ended ++ record { header = record s.header { length = place_after 0 (s.body ++ End ∷ []) }; body = s.body ++ End ∷ [] } ∷ []
 
--- what a line was written for: ALIGN and ORG before START wait for the next segment, and all lines behind it give to the open one
+-- what a line was written for: ALIGN and ORG before START wait for the next segment, and all lines after it give to the open one
 abbrev pub IsLeft : ListedStatement → State → State → Type 0
 IsLeft (NextAlignIs n) state next = next ≡ record state { align = n }
 IsLeft (NextOrg n) state next = next ≡ record state { org = n }

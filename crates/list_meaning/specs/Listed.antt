@@ -15,7 +15,7 @@ use Rattle.asm_meaning.specs.declared.directives.Switch.TheVariants.{LongA, Long
 
 -- ---- what a line says
 
--- the operand of an instruction: none; a number of so many bytes; two bank bytes, the source first; or a name, maybe with a
+-- the operand of an instruction: none; a number of a given number of bytes; two bank bytes, the source first; or a name, maybe with a
 -- number that is added to it or taken from it
 pub data Wanted : Type 0 where
   None' : Wanted
@@ -60,7 +60,7 @@ with_leading_space (byte ∷ text) = ascii.space ∷ byte ∷ text
 abbrev pub statement_text : List ℕ → List ℕ → List ℕ → List ℕ
 statement_text label operation operand = label ++ (ascii.space ∷ (operation ++ with_leading_space operand))
 
--- a number as it is written: `$`, and so many digits
+-- a number as it is written: `$`, and a given number of digits
 abbrev pub number_text : ℕ → ℕ → List ℕ
 number_text places n = ascii.dollar ∷ hexadecimal places n
 
@@ -136,7 +136,7 @@ term_text (Constant n) = number_text 8 n
 term_text (Named code name) = name
 term_text (Offset n) = []
 
--- a formula; as an operand it stands in parentheses unless it is a name, a number or `*`
+-- a formula; as an operand it is in parentheses unless it is a name, a number or `*`
 abbrev pub as_operand : Tree → List ℕ → List ℕ
 as_operand (Leaf term) text = text
 as_operand (Unary code a) text = codes "(" ++ (text ++ codes ")")
@@ -187,6 +187,6 @@ said_text EndIs = statement_text [] (codes "END") []
 abbrev pub line_text : ListedStatement → List ℕ
 line_text said = said_text said ++ ascii.line_feed ∷ []
 
--- the lines one behind another
+-- the lines one after another
 unfoldable pub listing_text : List ListedStatement → List ℕ
 listing_text all = flat_map line_text all

@@ -88,7 +88,7 @@ or_brk (Some i) = i
 abbrev pub instruction_of_opcode : ℕ → Instruction
 instruction_of_opcode opcode = or_brk (slice_get matrix opcode)
 
--- how many bytes stand behind an opcode
+-- how many bytes are after an opcode
 abbrev pub after_opcode : Widths → ℕ → ℕ
 after_opcode w opcode = operand_bytes w (instruction_of_opcode opcode).0 (instruction_of_opcode opcode).1
 
@@ -369,7 +369,7 @@ abbrev pub or_record : {A : Type 0} → ℕ → Option A → Result A ℕ
 or_record at None = Err at
 or_record at (Some a) = Ok a
 
--- the lines of records behind these lines, or the place of the first that can't be listed
+-- the lines of records after these lines, or the place of the first that can't be listed
 unfoldable pub said_from : Fields → List (List ℕ) → PendingRun → List (ℕ × Record) → Result (List ListedStatement) ℕ
 said_from f equates b [] = Ok []
 said_from f equates b (found ∷ founds) =

@@ -1,4 +1,4 @@
--- Bytes that stand in pieces, one behind another.
+-- Bytes that are in pieces, one after another.
 use Rattle.std.proofs.Common.{◌≡◌, ℕ, zero, suc, ◌+◌, ◌-◌, ◌<◌, ◌≤◌, List, [], ◌∷◌, ◌++◌, length, take, replicate, Some, refl, sym, ap, subst, ◌∙◌, append_assoc, arith, inl, inr}
 use Rattle.std.specs.Prelude.{◌⊎◌, slice_get, min}
 use Rattle.std.proofs.lemmas.Bool.{cases_lt}
@@ -114,14 +114,14 @@ piece_filled pieces bytes so_far n size at next p are is fits here to done =
         let place : from_of p size + m ≡ p.start + m = omega (arith, to, lt) in
         ap (slice_get bytes) place ∙ are.inside n m p here (omega (arith, to, lt)) ∙ sym (get-take (next - from_of p size) p.bytes.now m lt)
 
--- the zeros behind the last piece
+-- the zeros after the last piece
 pub all_filled : (pieces : List BytePiece) (bytes so_far : List ℕ) (n size at : ℕ) → ArePieces pieces bytes → IsFilled pieces n size at → size ≤ length bytes → length pieces ≤ n → so_far ≡ take at bytes
     → so_far ++ replicate (size - at) 0 ≡ take size bytes
 all_filled pieces bytes so_far n size at are is fits all done =
     ap (λ (l : List ℕ). l ++ replicate (size - at) 0) done
     ∙ more_zeros bytes at size is.inside fits (gap pieces bytes n size at size are is fits (omega arith) (λ i q le there. absurd (omega (arith, within pieces i q there, all, le))))
 
--- one piece, at the front
+-- one piece, at the start
 pub lone_is : (p : BytePiece) (bytes : List ℕ) → ArePieces (p ∷ []) bytes → p.start ≡ 0 → bytes ≡ p.bytes.now ++ replicate (length bytes - length p.bytes.now) 0
 lone_is p bytes are first = same_list bytes (p.bytes.now ++ replicate (length bytes - length p.bytes.now) 0) there
   where

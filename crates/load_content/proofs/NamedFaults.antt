@@ -1,4 +1,4 @@
--- Faults that a file has unless memory ran out.
+-- Faults that a file has unless out of memory.
 use Rattle.std.proofs.Common.{◌≡◌, refl}
 use Rattle.load_meaning.specs.declared.load.LoadCause.{LoadCause}
 use Rattle.load_meaning.specs.declared.load.LoadCause.TheVariants.{NotLoadFile, Truncated, BadHeader, Unsupported, BadRecord, Sequence, DataTooLong, PatchOutside, NoSuchTarget, DynamicTarget, BadTable, Memory}

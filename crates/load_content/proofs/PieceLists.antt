@@ -1,4 +1,4 @@
--- Pieces of a segment's data, one behind another.
+-- Pieces of a segment's data, one after another.
 use Rattle.std.proofs.Common.{◌≡◌, ℕ, zero, suc, ◌+◌, ◌-◌, ◌<◌, ◌≤◌, List, [], ◌∷◌, ◌++◌, length, drop, get_or, replicate, Some, None, refl, sym, ap, subst, ◌∙◌, arith, inl, inr}
 use Rattle.std.specs.Prelude.{◌⊎◌, slice_get, slice_index}
 use Rattle.std.specs.List.Sorted.{IsNonDecreasingBy}
@@ -22,7 +22,7 @@ get-zeros zero k lt = absurd (omega arith)
 get-zeros (suc n) zero lt = refl
 get-zeros (suc n) (suc k) lt = get-zeros n k (omega arith)
 
--- bytes behind them that are 0
+-- bytes after them that are 0
 pub zeros_more : (pieces : List BytePiece) (bytes more : List ℕ) → ArePieces pieces bytes → IsZeros more → ArePieces pieces (bytes ++ more)
 zeros_more pieces bytes more are zeros = record {
   apart = are.apart;

@@ -13,7 +13,7 @@ use Rattle.load_content.proofs.SpotLists.{shown-append, last_at-append, or_assoc
 
 -- ---- making runs
 
--- so many spots at the front lie apart
+-- so many spots at the start lie apart
 pub front_rises : (spots : List PatchSpot) (n : ℕ) → ((i j : ℕ) (s t : PatchSpot) → i < j → j < n → slice_get spots i ≡ Some s → slice_get spots j ≡ Some t → end_of s ≤ t.at) → AreRising (take n spots)
 front_rises spots n apart = apart_rise (take n spots) (λ i j s t lt is there.
     let inside : j < n = omega (arith, within (take n spots) j t there, length-take n spots) in

@@ -1,4 +1,4 @@
--- What is kept of a segment beside its header: where its bytes stand in the file, and which of them patches give.
+-- What is kept of a segment beside its header: where its bytes are in the file, and which of them patches give.
 use Rattle.std.specs.Prelude.{◌≡◌, ◌⊎◌, ℕ, zero, suc, ◌+◌, ◌-◌, ◌<◌, ◌≤◌, ◌^◌, ◌==◌, nat_le, ◌||◌, if◌then◌else◌, List, [], ◌∷◌, ◌++◌, length, take, drop, replicate, slice_get, slice_index, slice_set, Option, Some, None}
 use Rattle.std.specs.Option.{option_or}
 use Rattle.std.specs.List.{AllByRecursion}
@@ -39,7 +39,7 @@ IsAt pieces i p = slice_get pieces i ≡ Some p
 abbrev pub IsElsewhere : BytePiece → ℕ → Type 0
 IsElsewhere p k = (k < p.start) ⊎ (p.start + length p.bytes.now ≤ k)
 
--- the pieces stand one behind another, the bytes have theirs, and are 0 elsewhere
+-- the pieces stand one after another, the bytes have theirs, and are 0 elsewhere
 pub record ArePieces (pieces : List BytePiece) (bytes : List ℕ) : Type 0 where
   pub apart : (i j : ℕ) (p q : BytePiece) → i < j → IsAt pieces i p → IsAt pieces j q → p.start + length p.bytes.now ≤ q.start
   pub inside : (i n : ℕ) (p : BytePiece) → IsAt pieces i p → n < length p.bytes.now → slice_get bytes (p.start + n) ≡ slice_get p.bytes.now n
@@ -76,7 +76,7 @@ abbrev pub spread_all : List Patch → List (ℕ × Cell)
 spread_all [] = []
 spread_all (p ∷ patches) = cells_of_patch p ++ spread_all patches
 
--- the last of these cells that stands at an offset
+-- the last of these cells that is at an offset
 abbrev pub last_at : List (ℕ × Cell) → ℕ → Option Cell
 last_at [] k = None
 last_at (found ∷ founds) k = option_or (last_at founds k) (if found.0 == k then Some found.1 else None)
@@ -130,7 +130,7 @@ pub record AreRising (spots : List PatchSpot) : Type 0 where
   pub starts : IsNonDecreasingBy offset_of spots
   pub ends : (i j : ℕ) (s t : PatchSpot) → i < j → slice_get spots i ≡ Some s → slice_get spots j ≡ Some t → end_of s ≤ end_of t
 
--- runs of so many spots, one behind another, in each of which no spot begins or ends before an earlier one
+-- runs of so many spots, one after another, in each of which no spot begins or ends before an earlier one
 abbrev pub AreRuns : List ℕ → List PatchSpot → Type 0
 AreRuns [] spots = spots ≡ []
 AreRuns (n ∷ runs) spots = (n ≤ length spots) × AreRising (take n spots) × AreRuns runs (drop n spots)

@@ -13,7 +13,7 @@ abbrev pub UnlessMemory : LoadCause → LoadFault → Type 0 → Type 0
 UnlessMemory Memory fault P = (fault.segment ≡ 0) × (fault.at ≡ 0)
 UnlessMemory _ _ P = P
 
--- the fault is this first one of the phases after phase 1, unless memory ran out
+-- the fault is this first one of the phases after phase 1, unless out of memory
 abbrev pub IsLaterRefused : LoadFault → Option LoadFault → Type 0
 IsLaterRefused fault first = UnlessMemory fault.cause fault (first ≡ Some fault)
 

@@ -54,7 +54,7 @@ fn write_records(records: Records, out: &mut [u8]) -> usize
     }
 }
 
-/// Writes the bytes that the records put into the segment, and zeros behind them.
+/// Writes the bytes that the records put into the segment, and zeros after them.
 pub fn write_body(records: Records, out: &mut [u8])
     requires body { IsBody records }
     requires fits { length (content records) ≤ length out.old }

@@ -1,4 +1,4 @@
-//! The data of a segment as bytes, one behind another.
+//! The data of a segment as bytes, one after another.
 
 ghost use Rattle.std.specs.Prelude.{◌≡◌, ◌+◌, ◌-◌, ◌≤◌, ◌++◌, ℕ, List, length, take, replicate, min, IfOk, IfSome, OnOk};
 ghost use Rattle.load_content.specs.Content.{ArePieces};
@@ -25,7 +25,7 @@ fn put_front(out: &mut Vec<u8>, bytes: &[u8], most: u32) -> Result<u32, AllocErr
     Ok(count as u32)
 }
 
-/// Appends zeros up to the start of a piece, and then the piece, where so many bytes stand before them and there are to be no
+/// Appends zeros up to the start of a piece, and then the piece, where so many bytes are before them and there are to be no
 /// more than `size`. The answer is how many there are then.
 fn put_piece(piece: &BytePiece, at: u32, size: u32, out: &mut Vec<u8>) -> Result<u32, AllocError>
     ensures put { IfOk result (λ next. out.new.items ≡ out.old.items ++ (replicate (min (piece.now).start size - at) 0 ++ take (next - min (piece.now).start size) (piece.now).bytes.now)) }

@@ -84,7 +84,7 @@ fn in_one_run(alloc: Global, spots: &[PatchSpot]) -> Result<Vec<PatchSpot>, Allo
     Ok(bytes)
 }
 
-/// How many spots at the front lie apart, in order.
+/// How many spots at the start lie apart, in order.
 fn apart_count(spots: &[PatchSpot]) -> usize
     ensures bound { result ≤ length spots.now }
     ensures some { 0 < length spots.now → 0 < result }

@@ -1,4 +1,4 @@
-//! The data of a segment: where the bytes of its records stand in the file.
+//! The data of a segment: where the bytes of its records are in the file.
 
 ghost use Rattle.std.specs.Prelude.{◌≡◌, ◌+◌, ◌<◌, ◌≤◌, ◌^◌, ◌++◌, ℕ, List, length, length as size_of, slice_get, slice_index, OnOk, IfOk, MatchOption, Some};
 ghost use Rattle.std.specs.List.Sorted.{IsNonDecreasingBy};
@@ -21,7 +21,7 @@ pub struct BytePiece<'a> {
     pub bytes: &'a [u8],
 }
 
-/// The bytes of a record that stand in the file; the zeros of a DS don't.
+/// The bytes of a record that are in the file; the zeros of a DS don't.
 fn bytes_of<'a>(rec: &Rec<'a>) -> Option<&'a [u8]>
     ensures { MatchOption result (IsZeros (content_of (view rec.now))) (λ bytes. content_of (view rec.now) ≡ bytes.now) }
 {

@@ -34,7 +34,7 @@ pub struct PatchSpot {
     pub end: u8,
 }
 
-/// Whether a patch of so many bytes reaches past LENGTH.
+/// Whether a patch of a given number of bytes reaches past LENGTH.
 #[inline(always)]
 pub fn is_outside(location: u64, count: u8, length: u32) -> bool
     ensures { result ≡ nat_lt length (location + count) }

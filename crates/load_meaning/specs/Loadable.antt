@@ -27,7 +27,7 @@ Fault = LoadCause × ℕ
 
 -- ---- phase 1: header, name and type, and then the records one by one
 
--- `ExpressLoad`, which may stand behind `~`, is the name of segments for the Express Loader
+-- `ExpressLoad`, which may stand after `~`, is the name of segments for the Express Loader
 abbrev pub express_name : List ℕ
 express_name = codes "ExpressLoad"
 
@@ -221,7 +221,7 @@ pub data IsFirstLoadFault (file : List ℕ) (fault : LoadFault) : Type 0 where
 abbrev pub patch_list : Segment → List Patch
 patch_list s = map (λ found. found.1) (patches_of s)
 
--- a patch that stands in a load segment: inside LENGTH, and its target is there, isn't skipped, and is the segment itself or
+-- a patch that is in a load segment: inside LENGTH, and its target is there, isn't skipped, and is the segment itself or
 -- static
 pub record IsPatch (segments : List Segment) (s : Segment) (p : Patch) : Type 0 where
   pub inside : p.location + p.count ≤ s.fields.length

@@ -31,7 +31,7 @@ pub record IsPath (path : List ℕ) : Type 0 where
   pub short : length path ≤ 255
   pub plain : list_all is_path_byte path ≡ true
 
--- rows one behind another, the first with this file number, and the number 0 behind them; a row is its file number, eight zeros, the
+-- rows one after another, the first with this file number, and the number 0 behind them; a row is its file number, eight zeros, the
 -- path's length and the path
 abbrev pub rows_text : ℕ → List (List ℕ) → List ℕ
 rows_text number [] = little_bytes 2 0
@@ -45,7 +45,7 @@ paths_text paths = rows_text 2 paths
 abbrev pub path_start : ℕ
 path_start = 11
 
--- at the front of the bytes stands a row: its number, eight zeros, the path's length, and the path
+-- at the start of the bytes stands a row: its number, eight zeros, the path's length, and the path
 pub record IsRow (number : ℕ) (path bytes : List ℕ) : Type 0 where
   pub inside : path_start + length path ≤ length bytes
   pub number' : number_at 2 0 bytes ≡ number
@@ -55,7 +55,7 @@ pub record IsRow (number : ℕ) (path bytes : List ℕ) : Type 0 where
   pub some : 1 ≤ length path
   pub plain : list_all is_path_byte path ≡ true
 
--- the bytes are rows one behind another, the first with this number, and the number 0
+-- the bytes are rows one after another, the first with this number, and the number 0
 abbrev pub AreRows : ℕ → List (List ℕ) → List ℕ → Type 0
 AreRows number [] bytes = (length bytes ≡ 2) × (number_at 2 0 bytes ≡ 0)
 AreRows number (path ∷ paths) bytes = IsRow number path bytes × AreRows (number + 1) paths (drop (path_start + length path) bytes)
@@ -68,15 +68,15 @@ pub record ArePaths (paths : List (List ℕ)) (bytes : List ℕ) : Type 0 where
 
 -- ---- reading them
 
--- the length byte of the row at the front
+-- the length byte of the row at the start
 abbrev pub path_size : List ℕ → ℕ
 path_size bytes = number_at 1 10 bytes
 
--- the path of the row at the front
+-- the path of the row at the start
 abbrev pub first_path : List ℕ → List ℕ
 first_path bytes = take (path_size bytes) (drop path_start bytes)
 
--- what stands behind the row at the front
+-- what stands after the row at the start
 abbrev pub after_path : List ℕ → List ℕ
 after_path bytes = drop (path_start + path_size bytes) bytes
 
@@ -93,7 +93,7 @@ row_flaw at bytes =
     else if nat_lt (length bytes) (path_start + path_size bytes) || not (list_all is_path_byte (first_path bytes)) then Some (at + path_start)
     else None
 
--- what is wrong with the number that stands there behind so many rows: it is cut, or it is 0 and bytes stand behind it; otherwise it
+-- what is wrong with the number that stands there behind so many rows: it is cut, or it is 0 and bytes are after it; otherwise it
 -- begins a row, of which the rest is told
 abbrev pub end_flaw : ℕ → ℕ → List ℕ → Option ℕ → Option ℕ
 end_flaw rows at bytes row =
@@ -102,7 +102,7 @@ end_flaw rows at bytes row =
     else row
 
 -- where the first field begins that is wrong or passes the end, where these bytes begin there behind so many rows, and so many more
--- may come: the number is the next one, or behind a row 0, and behind that 0 nothing stands
+-- may come: the number is the next one, or behind a row 0, and after that 0 nothing stands
 abbrev pub rows_flaw : ℕ → ℕ → ℕ → List ℕ → Option ℕ
 rows_flaw zero rows at bytes = end_flaw rows at bytes (Some at)
 rows_flaw (suc n) rows at bytes = end_flaw rows at bytes
@@ -116,7 +116,7 @@ abbrev pub long_bytes : Record → Option (List ℕ)
 long_bytes (LongConst bytes) = Some bytes
 long_bytes _ = None
 
--- the records are one LCONST of so many bytes, and END
+-- the records are one LCONST of a given number of bytes, and END
 abbrev pub is_one_long : ℕ → List (ℕ × Record) → Bool
 is_one_long size (a ∷ end ∷ []) = option_map_or (λ bytes. length bytes == size) (long_bytes a.1) false
 is_one_long size _ = false

@@ -1,4 +1,4 @@
--- The file that a linker writes: load segments, one behind another, each a header and the body for its cells (GS/OS
+-- The file that a linker writes: load segments, one after another, each a header and the body for its cells (GS/OS
 -- Reference, appendix F, "Segment header" and "Segment body").
 use Rattle.std.specs.Prelude.{◌≡◌, ◌<◌, ◌≤◌, ◌^◌, ℕ, List, [], ◌∷◌, ◌++◌, length, map, replicate, codes, Bool, true, false, if◌then◌else◌}
 use Rattle.std.specs.List.{flat_map, AllByRecursion}

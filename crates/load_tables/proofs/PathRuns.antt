@@ -32,7 +32,7 @@ end_row rows at bytes row long is = end_test rows at bytes row long ∙ ap (λ (
 
 -- ---- the row that stands there
 
--- what is told of it, where so many rows may come
+-- what is reported for it, where so many rows may come
 abbrev row_then : ℕ → ℕ → ℕ → List ℕ → Option ℕ
 row_then zero rows at bytes = Some at
 row_then (suc n) rows at bytes =

@@ -46,7 +46,7 @@ lone_more r new last (a ∷ b ∷ []) run ended after more =
     absurd (more b second (none_at_end (after_next new) (ends (after_next new) last third ended)))
 lone_more r new last (a ∷ b ∷ c ∷ rest) run ended after more = refl
 
--- what was told of the records that a view shows
+-- what was reported for the records that a view shows
 pub shown_lone : (v : SegmentView) (reader : Reader) (answer : Option (List ℕ)) → reader ≡ body_reader v.start (placed_view v).fields v.file.now → answer ≡ lone_bytes (records_of reader) → lone_bytes (segment_of_view v).records ≡ answer
 shown_lone v reader answer at is = ap (λ (r : Reader). lone_bytes (records_of r)) (sym at) ∙ sym is
 

@@ -32,7 +32,7 @@ flaw_in most bytes = rows_flaw most 0 0 bytes
 unfoldable pub rows_in : ℕ → List ℕ → List (List ℕ)
 rows_in most bytes = paths_in most bytes
 
--- the fault tells this flaw, unless memory ran out
+-- the fault tells this flaw, unless out of memory
 abbrev pub IsFlaw : RowsFault → Option ℕ → Type 0
 IsFlaw (Flaw at) flaw = flaw ≡ Some at
 IsFlaw Memory flaw = Unit {0}

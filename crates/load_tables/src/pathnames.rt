@@ -83,7 +83,7 @@ fn are_path_bytes(bytes: &[u8]) -> bool
     bytes.iter().all(|byte| *byte >= 0x21 && *byte <= 0x7E)
 }
 
-/// Where the first field begins that is wrong or passes the end in the row at the front, behind its number.
+/// Where the first field begins that is wrong or passes the end in the row at the start, behind its number.
 fn row_flaw(bytes: &[u8], at: u32) -> Option<u32>
     requires some { 2 ≤ length bytes.now }
     requires short { at + length bytes.now < 2 ^ 32 }

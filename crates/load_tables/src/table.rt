@@ -26,7 +26,7 @@ const TABLE: u8 = 0x02;
 /// The number of zeros before the entries.
 const FRONT: u32 = 8;
 
-/// The number of zeros behind them.
+/// The number of zeros after them.
 const BACK: u32 = 4;
 
 /// The number of bytes of an entry.
@@ -107,7 +107,7 @@ pub fn target_from(view: &SegmentView, pieces: &[BytePiece], place: u32) -> Targ
     fields_from(view, pieces, FRONT + ENTRY * place).target
 }
 
-/// The first of so many bytes of the data, from there on, that isn't 0.
+/// The first of a given number of bytes of the data, from there on, that isn't 0.
 fn nonzero_from(view: &SegmentView, pieces: &[BytePiece], at: u32, count: u32) -> Option<u32>
     requires pieces { HasPieces view.now pieces.now }
     requires inside { at + count ≤ view.now.header.length }

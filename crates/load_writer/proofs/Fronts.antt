@@ -1,4 +1,4 @@
--- What stands at the front of a list to which something was appended.
+-- What stands at the start of a list to which something was appended.
 use Rattle.std.proofs.Common.{◌≡◌, ℕ, List, [], ◌++◌, length, take, sym, ap, ◌∙◌, append_assoc}
 use Rattle.std.proofs.lemmas.List.{append-nil}
 use Rattle.std.proofs.Math.Seq.{take-append_seam}

@@ -9,7 +9,7 @@ use Rattle.load_meaning.specs.laws.LayingLaws.{Covers, Has, Missed, Found, get-m
 use Rattle.load_meaning.specs.laws.StoredLaws.{written_apart, parts, get-parts, patched-laid, fit-cells, HasPart, zeros_exact, no_byte, cells_size}
 use Rattle.load_writer.specs.WrittenParts.{end_after, IsKept}
 
--- no patch lies behind the end of the last
+-- no patch lies after the end of the last
 pub end_low : (size low : ℕ) (patches : List Patch) → AreWritten size low patches → low ≤ end_after low patches
 end_low size low [] are = omega arith
 end_low size low (p ∷ patches) are = omega (arith, end_low size (p.location + p.count) patches are.2, are.1)

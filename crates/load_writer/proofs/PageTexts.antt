@@ -38,7 +38,7 @@ passing_last (suc m) lt le =
 abbrev pub lows : List ℕ → List ℕ
 lows locations = map (λ (at : ℕ). at % 256) locations
 
--- the page of the first location, with the locations at the front that lie in it, and those behind
+-- the page of the first location, with the locations at the start that lie in it, and those behind
 abbrev pub split_at : ℕ → List ℕ → List Group
 split_at page locations = (page, lows (take (run page locations) locations)) ∷ by_page (drop (run page locations) locations)
 

@@ -15,7 +15,7 @@ use Rattle.load_writer.proofs.DataLaws.{data_is, size_is, one_record, length-one
 abbrev begun : List ℕ
 begun = 0xF2 ∷ little_bytes 4 0
 
--- the records behind the data are none
+-- the records after the data are none
 no_supers : (own form n : ℕ) → supers_from own [] form n ≡ []
 no_supers own form zero = refl
 no_supers own form (suc n) = no_supers own (form + 1) n

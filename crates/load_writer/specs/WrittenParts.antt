@@ -8,7 +8,7 @@ use Rattle.load_writer.specs.declared.written.Patch.{Patch}
 abbrev pub seen : Patch → format.Patch
 seen p = record { location = p.at; count = p.count; file = 1; segment = p.segment; offset = p.offset; shift = p.shift }
 
--- how many locations at the front lie in a page
+-- how many locations at the start lie in a page
 abbrev pub run : ℕ → List ℕ → ℕ
 run page [] = 0
 run page (at ∷ more) = if at / 256 == page then suc (run page more) else 0

@@ -26,7 +26,7 @@ fn put_skips(out: &mut Vec<u8>, pages: u32) -> Result<(), BodyFault>
     Ok(())
 }
 
-/// How many locations at the front lie in a page.
+/// How many locations at the start lie in a page.
 fn count_in(locations: &[u32], page: u32) -> usize
     ensures { result ≡ run page locations.now }
 {

@@ -12,10 +12,10 @@ ghost use Rattle.load_writer.specs.WrittenParts.{IsKept, IsFront};
 use crate::written::BodyFault;
 use crate::written_data::{put_over, stored_length};
 
-/// How many bytes stand before the data of an LCONST: its code and its count.
+/// How many bytes are before the data of an LCONST: its code and its count.
 const FRONT: usize = 5;
 
-/// Appends pieces, one behind another.
+/// Appends pieces, one after another.
 #[tactic(auto, using(crate::proofs::Fronts::front_whole))]
 fn put_pieces(out: &mut Vec<u8>, pieces: &[&[u8]]) -> Result<(), BodyFault>
     ensures ok { OnOk result (out.new.items ≡ out.old.items ++ joined pieces.now) }
@@ -72,8 +72,8 @@ fn close(out: &mut Vec<u8>, start: usize) -> usize
     size
 }
 
-/// Appends the body, without END, of a load segment without patches whose content are these pieces, one behind another, and
-/// tells how many zero bytes stand behind its data in memory: RESSPC. Where memory runs out, nothing is appended.
+/// Appends the body, without END, of a load segment without patches whose content are these pieces, one after another, and
+/// tells how many zero bytes are after its data in memory: RESSPC. Where memory runs out, nothing is appended.
 ///
 /// The pieces have at most $FFFFFF bytes.
 #[tactic(auto, using(crate::proofs::Fronts::front_left))]

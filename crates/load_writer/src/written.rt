@@ -34,7 +34,7 @@ pub struct Patch {
 #[derive(Drop)]
 pub struct Body {
     pub bytes: Vec<u8>,
-    /// How many zero bytes stand behind the body's data in memory: RESSPC.
+    /// How many zero bytes are after the body's data in memory: RESSPC.
     pub zeros: u32,
 }
 
@@ -77,7 +77,7 @@ impl From<PutFault> for BodyFault {
     }
 }
 
-/// Appends the records of the patches that stand in no SUPER, in order.
+/// Appends the records of the patches that are in no SUPER, in order.
 #[tactic(auto, using(crate::proofs::Fronts::front_whole, crate::proofs::Fronts::front_after))]
 fn put_lone(out: &mut Vec<u8>, own: u16, patches: &[Patch], size: usize) -> Result<(), BodyFault>
     requires small { size ≤ 0xFFFFFF }
@@ -146,7 +146,7 @@ fn put_supers(
     Ok(())
 }
 
-/// Appends the data and the records of the patches, and tells how many zero bytes stand behind the data in memory. Where memory
+/// Appends the data and the records of the patches, and tells how many zero bytes are after the data in memory. Where memory
 /// runs out, part of them may be appended.
 #[tactic(auto, using(crate::proofs::Fronts::front_whole, crate::proofs::Fronts::front_after), unfolding(load_meaning::specs::WrittenBody::body_text, load_meaning::specs::WrittenBody::body_records))]
 fn put_parts(
@@ -169,7 +169,7 @@ fn put_parts(
 }
 
 /// Appends the body, without END, of the load segment with this number whose cells are the content with the patches over it,
-/// and tells how many zero bytes stand behind its data in memory: RESSPC. One LCONST holds the content up to the last cell that
+/// and tells how many zero bytes are after its data in memory: RESSPC. One LCONST holds the content up to the last cell that
 /// isn't a byte 0, with the low bytes of each patch's offset over it; behind it stand the patches, each in the shortest record
 /// that can hold it, and all those of one type of SUPER in one (GS/OS Reference, appendix F). Where memory runs out, nothing is
 /// appended.

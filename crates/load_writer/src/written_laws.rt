@@ -14,7 +14,7 @@ pub fn bodies_stand_for_their_cells()
     ensures { BodyStandsFor }
 {}
 
-/// What is written for load segments, one behind another, is a file of exactly these, and each stands for its cells. A jump
+/// What is written for load segments, one after another, is a file of exactly these, and each stands for its cells. A jump
 /// table can be written so.
 pub fn files_stand_for_their_cells()
     ensures files { FileStandsFor }

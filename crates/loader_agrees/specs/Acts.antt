@@ -38,13 +38,13 @@ pub record CanRead (loader : Loaded) (id number at count : ℕ) (h : Handle) : T
   pub is : IsActive loader id number h
   pub inside : at + count ≤ is.head.length
 
--- these bytes are lent
+-- these bytes are borrowed
 pub record HasBorrowed (loader : Loaded) (id number at count : ℕ) (bytes : List ℕ) : Type 0 where
   pub h : Handle
   pub can : CanRead loader id number at count h
   pub is : bytes ≡ take count (drop at (bytes_at loader.memory h.slot))
 
--- what is told of a segment
+-- what is reported for a segment
 pub record HasReported (loader : Loaded) (id number : ℕ) (presence : Presence) (length' kind : ℕ) : Type 0 where
   pub passes : info_refusal (seen_by loader id) number ≡ None
   pub kept : LoadedUser
@@ -112,7 +112,7 @@ joined_kepts (path ∷ paths) [] = []
 joined_kepts (path ∷ paths) (segments ∷ all) = Some (joined_kept path (map head_of segments)) ∷ joined_kepts paths all
 
 -- The static segments of a file are in new blocks, each of which begins with what stands in its segment; nothing else is written; and
--- there is one user more, and behind it one for each row of its pathname segment, attached to it, whose file has these segments.
+-- there is one user more, and after it one for each row of its pathname segment, attached to it, whose file has these segments.
 pub record HasBegun (old : Loaded) (path : List ℕ) (segments : List Segment) (all : List (List Segment)) (id : ℕ) (entry : Option ℕ) (new : Loaded) : Type 0 where
   pub few : length old.users + 1 + length (paths_of segments) ≤ max_users
   pub long : length all ≡ length (paths_of segments)

@@ -85,7 +85,7 @@ command_named word =
     else if bytes_eq word (codes "compact") then Some name.Compact
     else None
 
--- a number stands in the list and again behind
+-- a number is in the list and again behind
 unfoldable pub stands_twice : List ℕ → Bool
 stands_twice [] = false
 stands_twice (n ∷ following) = list_any (λ other. n == other) following || stands_twice following

@@ -1,5 +1,5 @@
 //! What the System Loader's layers speak of: commands and faults of scripts, the machine and why it refuses. The
-//! definitions that contracts cite stand in `specs/`.
+//! definitions that contracts cite are in `specs/`.
 #![tactic(auto)]
 
 mod faults;

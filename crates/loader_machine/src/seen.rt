@@ -6,7 +6,7 @@ use iigs_meaning::Handle;
 #[derive(Clone, Copy, PartialEq, Eq, Debug)]
 pub struct SegmentHead {
     pub length: u32,
-    /// KIND as it stands in the file.
+    /// KIND as it is in the file.
     pub kind: u16,
     pub bank_size: u32,
     pub align: u32,
@@ -23,7 +23,7 @@ pub struct Facts {
     /// The segment's number, from 1.
     pub segment: u32,
     pub length: u32,
-    /// KIND as it stands in the file.
+    /// KIND as it is in the file.
     pub kind: u16,
     pub bank_size: u32,
     pub align: u32,

@@ -96,7 +96,7 @@ module _ (command : Command) (most : ℕ) (old new : Loaded) (before now : Store
   reported_answer files state reply other (inr (inl (is, paths, needs, some, agrees, rose, reads))) = (1, reads.0, state, inr (is, paths, needs, some, refl, refl), reads.1, agrees, rose, reads.2)
   reported_answer files state reply other (inr (inr short)) = absurd (other short.0)
 
-  -- the machine's answer, or none for want of memory
+  -- the machine's answer, or none when out of memory
   abbrev Meets' : Reply → Type 0
   Meets' reply = (files : FileMap) (state : Machine) → before.held ≡ Some files → Agrees files old state → MeetsReads RoomRule files state command reply new before now
 

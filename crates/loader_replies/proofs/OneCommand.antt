@@ -42,7 +42,7 @@ pub line_answered : (line : Result (List ℕ) LineFault) (result : Result (Unit 
 line_answered (Ok text) result command old new o has printed short = answered result command old new has.0 o has.1 (printed (reply_line has.0) has.2)
 line_answered (Err fault) result command old new o has printed short = subst (λ (r : Result (Unit {0}) ReplyStop). HasAnswered r command old new o) (sym short.0) (has, short.1)
 
--- what is told of an answer, where the files are
+-- what is reported for an answer, where the files are
 abbrev pub OneReported : Command → Reply → Loaded → Loaded → StoreSeen → StoreSeen → Option FileMap → Type 0
 OneReported command reply old new before now held = IfRevealedOr held
     ((reads : ℕ) × MayRead command reply reads × (now.faults ≡ saturating_sum (unread (reply ∷ [])) before.faults) × (now.asked ≡ saturating_sum reads before.asked))

@@ -17,7 +17,7 @@ use Rattle.loader_replies.specs.declared.command.ReplyStop.{ReplyStop}
 use Rattle.loader_replies.specs.declared.command.ReplyStop.TheVariants.{CannotPrint, Memory}
 use Rattle.loader_replies.specs.Replied.{unread, MayRead, IsUnanswered}
 
--- what became of a line: it was printed whole, a front of it, or nothing
+-- what became of a line: it was printed whole, the first bytes of it, or nothing
 abbrev pub HasPrinted : Result (Unit {0}) ReplyStop → List ℕ → SinkSeen → SinkSeen → Type 0
 HasPrinted (Ok done) text before now = now ≡ with_text text before
 HasPrinted (Err CannotPrint) text before now = FailsToPrint text before now
@@ -33,12 +33,12 @@ pub record IsAnswer (command : Command) (old : Loaded) (reply : Reply) (new : Lo
   pub store : now ≡ record before { faults = now.faults; asked = now.asked }
   pub unanswered : IsUnanswered command before now
 
--- the line is that of a reply, which isn't want of memory
+-- the line is that of a reply other than out of memory
 abbrev pub IsLineOf : Result (List ℕ) LineFault → Reply → Type 0
 IsLineOf (Ok text) reply = (reply ≢ commands.Refused fault.Memory) × (text ≡ reply_line reply)
 IsLineOf (Err short) reply = Unit {0}
 
--- the line of a command's reply, or none for want of memory
+-- the line of a command's reply, or none when out of memory
 abbrev pub HasLine : Result (List ℕ) LineFault → Command → Loaded → Loaded → StoreSeen → StoreSeen → Type 0
 HasLine (Ok text) command old new before now = (reply : Reply) × IsAnswer command old reply new before now × (text ≡ reply_line reply)
 HasLine (Err short) command old new before now = IsUnanswered command before now

@@ -84,7 +84,7 @@ printed_more replies reply before mid now so_far one =
 
 -- ---- all commands
 
--- what is told of all answers, where the files are
+-- what is reported for all answers, where the files are
 abbrev pub AllReported : (FileMap → Machine → Type 0) → List Command → List Reply → StoreSeen → StoreSeen → Option FileMap → Type 0
 AllReported P commands replies before now held = IfRevealedOr held
     ((reads : ℕ) × MayReadAll commands replies reads × (now.faults ≡ saturating_sum (unread replies) before.faults) × (now.asked ≡ saturating_sum reads before.asked))

@@ -53,7 +53,7 @@ pub record StopsShort (commands : List Command) (o : Outside) : Type 0 where
 abbrev pub IsUntouched : Outside → Type 0
 IsUntouched o = (o.new_store ≡ o.store) × (o.new_sink ≡ o.sink)
 
--- the run of a script with this text, by its end. A script at fault isn't run, and for want of memory none may be.
+-- the run of a script with this text, by its end. A script at fault isn't run, and when out of memory none may be.
 abbrev pub HasRunScript : ScriptEnd → List ℕ → Outside → Type 0
 HasRunScript (Done loader) text o = (commands : List Command) × IsScript text commands × HasRunAll loader commands o
 HasRunScript (Refused fault) text o = HasScriptFault text fault × IsUntouched o

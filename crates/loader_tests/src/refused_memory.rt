@@ -44,7 +44,7 @@ fn made(loader: &mut Loader, files: &mut MemoryFiles, call: Call) -> Result<u32,
     }
 }
 
-/// The sum of bytes, each doubled as often as bytes stand behind it.
+/// The sum of bytes, each doubled as often as bytes are after it.
 fn sum_of(bytes: &[u8]) -> u32 {
     let mut sum = 0u32;
     for byte in bytes {
@@ -128,7 +128,7 @@ fn shut_down(loader: &mut Loader) -> Result<(), LoaderFault> {
     loader.shut_down(0x1001, true)
 }
 
-// The code, and behind it the table; the dynamic segment comes behind both, is entered at its second byte, and comes again where it was
+// The code, and after it the table; the dynamic segment comes after both, is entered at its second byte, and comes again where it was
 // purged.
 fn starts(rt: &impl Abort, loader: &mut Loader, files: &mut MemoryFiles) {
     same(rt, 0, answer(loader, files, Call::Load), Some(Ok(0x800)));

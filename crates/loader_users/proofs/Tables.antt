@@ -19,7 +19,7 @@ length-entries user [] = refl
 length-entries user (t ∷ ts) =
     length-append (entry_bytes (own_entry user t)) (entries user ts) ∙ omega (arith, length-entry_bytes (own_entry user t), length-entries user ts)
 
--- the first so many entries stand behind 8 zeros, and zeros behind them
+-- the first so many entries stand after 8 zeros, and zeros after them
 pub record Entered (user : ℕ) (ts : List Target) (k : ℕ) (out : List ℕ) : Type 0 where
   pub few : k ≤ length ts
   pub rest : ℕ

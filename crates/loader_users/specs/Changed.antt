@@ -6,7 +6,7 @@ use Rattle.loader_machine.specs.declared.seen.SegmentHead.{SegmentHead}
 use Rattle.loader_machine.specs.declared.seen.Facts.{Facts}
 use Rattle.loader_machine.specs.Heads.{at_number}
 
--- what is told of a segment of a file with so many
+-- what is reported for a segment of a file with so many
 abbrev pub facts_of : ℕ → ℕ → SegmentHead → Facts
 facts_of count number head = record {
   count = count;
@@ -19,7 +19,7 @@ facts_of count number head = record {
   entry = head.entry;
 }
 
--- what is told of a file of which only the number of segments has changed
+-- what is reported for a file of which only the number of segments has changed
 abbrev pub count_facts : ℕ → Facts
 count_facts count = facts_of count 0 (record { length = 0; kind = 0; bank_size = 0; align = 0; org = 0; entry = 0 })
 

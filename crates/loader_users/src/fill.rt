@@ -20,7 +20,7 @@ use jump_table::put_entry;
 use loader_machine::SegmentHead;
 use omf_cells::{LoadFile, Places, patch_into};
 
-/// Writes a segment that is no table to the front of the bytes, as it stands at these places.
+/// Writes a segment that is no table to the start of the bytes, as it is at these places.
 fn fill_plain(load: &LoadFile<'_>, number: u32, size: usize, places: &Places, out: &mut [u8])
     requires length { HasLength load.now number size }
     requires fits { size ≤ length out.old }
@@ -37,7 +37,7 @@ fn clear(out: &mut [u8])
     out.fill(0);
 }
 
-/// Writes the file's jump table to the front of the bytes, the entries with the user's ID and none of them loaded.
+/// Writes the file's jump table to the start of the bytes, the entries with the user's ID and none of them loaded.
 fn fill_table(load: &LoadFile<'_>, user: u16, out: &mut [u8])
     requires fits { 12 + 14 * length (table_targets load.now) ≤ length out.old }
     ensures front { IsFront (table_bytes (map (own_entry user) (table_targets load.now))) out.new }
@@ -53,7 +53,7 @@ fn fill_table(load: &LoadFile<'_>, user: u16, out: &mut [u8])
     }
 }
 
-/// Writes a segment to the front of the bytes, as it stands where the file's segments lie at these places.
+/// Writes a segment to the start of the bytes, as it stands where the file's segments lie at these places.
 fn fill(
     load: &LoadFile<'_>,
     number: u32,

@@ -1,4 +1,4 @@
-//! What is made before a program begins, so that nothing is placed where memory runs out.
+//! What is made before a program begins, so that nothing is placed when out of memory.
 
 ghost use Rattle.std.specs.Prelude.{◌≡◌, length, IfOk};
 ghost use Rattle.loader_users.specs.Planned.{IsPlan};

@@ -78,8 +78,8 @@ model_of text = if is_comment text then None else model_by text (three_fields te
 
 -- ---- definitions
 
--- Lines that are visited one behind another, and how many of them, from the first on, a branch can go to: of a macro, the
--- lines behind the model line, and then its MEND line, to which no branch goes.
+-- Lines that are visited one after another, and how many of them, from the first on, a branch can go to: of a macro, the
+-- lines after the model line, and then its MEND line, to which no branch goes.
 pub record Body : Type 0 where
   pub lines : List Line
   pub reach : ℕ

@@ -31,7 +31,7 @@ pieces separator text = pieces_from separator None 0 text
 
 -- ---- texts in quotes
 
--- the text between a quote at the front and the next one of its kind, and what stands behind that
+-- the text between a quote at the start and the next one of its kind, and what stands after that
 unfoldable pub closed_at : ℕ → List ℕ → Found (List ℕ)
 closed_at quote following =
     let n = position_or_len (λ byte. byte == quote) following in

@@ -32,7 +32,7 @@ is_operation spelling operation = bytes_eq (folded operation) spelling
 
 -- ---- names of symbols, and sequence symbols
 
--- what was found, where nothing stands behind it
+-- what was found, where nothing stands after it
 abbrev pub whole_match : Found (List ℕ) → Option (List ℕ)
 whole_match None = None
 whole_match (Some (name, [])) = Some name

@@ -71,7 +71,7 @@ naming_at text fields at = naming_by (statement_of (part text fields.operation))
 
 -- ---- the text of a line
 
--- how long the name at the front is, and with the dot that goes with it
+-- how long the name at the start is, and with the dot that goes with it
 abbrev pub name_length : List ℕ → ℕ
 name_length text = prefix_len is_name_byte text
 
@@ -86,7 +86,7 @@ abbrev pub first_passes : (ℕ → Bool) → List ℕ → Bool
 first_passes test [] = false
 first_passes test (byte ∷ following) = test byte
 
--- behind an `&`: the text in its place, and how many of the bytes behind it go with it; None where the symbol isn't declared
+-- behind an `&`: the text in its place, and how many of the bytes after it go with it; None where the symbol isn't declared
 abbrev pub in_place : (List ℕ → Option (List ℕ)) → Naming → List ℕ → Option (List ℕ × ℕ)
 in_place text_of Replaced following =
     if first_passes is_letter following

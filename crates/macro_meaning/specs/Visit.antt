@@ -1,4 +1,4 @@
--- Visits: the lines that an expansion goes over, one behind another (ORCA/M reference manual, "Macros" and "Conditional
+-- Visits: the lines that an expansion goes over, one after another (ORCA/M reference manual, "Macros" and "Conditional
 -- assembly").
 use Rattle.std.specs.Prelude.{◌≡◌, ℕ, zero, suc, ◌+◌, ◌-◌, ◌==◌, Bool, true, false, List, [], ◌∷◌, ◌++◌, length, take, slice_get, bytes_eq, Option, Some, None, is_some, if◌then◌else◌}
 use Rattle.orca_meaning.specs.Line.{Line, line_of, part}
@@ -71,7 +71,7 @@ setting_of program v number = record {
   values = record { symbols = v.symbols; texts = v.texts; calls = v.calls };
 }
 
--- ---- what a deed leaves
+-- ---- what an effect leaves
 
 abbrev pub set_by : List ℕ → Kind → List ℕ → Visit → Option Symbol → Visit
 set_by name kind text v None = v
@@ -172,7 +172,7 @@ move_of program before v line (Fail cause) = Stops line cause
 
 -- ---- visits
 
--- the lines that a deed gives
+-- the lines that an effect gives
 abbrev pub given_by : Line → Effect → List Line
 given_by line (Emit text) = line_of line.file line.number text ∷ []
 given_by _ _ = []

@@ -32,8 +32,8 @@ pub enum MacroCause {
 #[derive(Clone, Copy, PartialEq, Eq, Debug)]
 pub struct MacroFault {
     pub cause: MacroCause,
-    /// The line's file: 0 is the source, and macro files count from 1. 0 where memory ran out.
+    /// The line's file: 0 is the source, and macro files count from 1. 0 when out of memory.
     pub file: u32,
-    /// The line's number, from 1. 0 where memory ran out.
+    /// The line's number, from 1. 0 when out of memory.
     pub line: u32,
 }

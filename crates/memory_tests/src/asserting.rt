@@ -2,7 +2,7 @@
 use std::fmt::Debug;
 use std::process::Abort;
 
-/// Ends the test where the two aren't equal, and tells at which step. It promises nothing, and an assertion of a test's own would be dearer to
+/// Ends the test where the two aren't equal, and tells at which step. It promises nothing, and an assertion of a test's own would be more expensive to
 /// prove.
 pub(crate) fn same<T: Debug + PartialEq + Drop>(
     rt: &impl Abort,

@@ -11,13 +11,13 @@ use std::test::Fail;
 
 /// A call, and what is answered.
 enum Step {
-    /// A block of so many bytes is placed for a user, at a level.
+    /// A block of a given number of bytes is placed for a user, at a level.
     Put(u32, u16, u8, Result<Handle, PlaceFault>),
     /// The same, locked.
     PutLocked(u32, u16, u8, Result<Handle, PlaceFault>),
     /// Small blocks are placed, each in the next slot, in all slots but the last.
     PutMany,
-    /// Three blocks are placed, all or none, the last of so many bytes; their handles stay where none is.
+    /// Three blocks are placed, all or none, the last of a given number of bytes; their handles stay where none is.
     PutAll(u32, bool, Result<(), PlaceFault>, (Handle, Handle, Handle)),
     Replace(Handle, u32, Result<(), PlaceFault>),
     Free(Handle, Result<(), BlockFault>),
@@ -444,7 +444,7 @@ static BORROWED: [Step; 18] = [
     Step::Stays(SLOT_2, None, 1, false),
 ];
 
-// Three blocks of four bytes side by side: what is written into the second leaves the others, and where no block is lent
+// Three blocks of four bytes side by side: what is written into the second leaves the others, and where no block is borrowed
 // all stay.
 #[test]
 fn a_write_through_a_borrowed_block_changes_it_alone(rt: HostRuntime) -> Result<(), Fail> {

@@ -11,7 +11,7 @@ use std::test::Fail;
 
 /// A call, and what is answered.
 enum Step {
-    /// A block of so many bytes is placed, at a level and locked or not.
+    /// A block of a given number of bytes is placed, at a level and locked or not.
     Put(u32, u8, bool, Result<Handle, PlaceFault>),
     Free(Handle, Result<(), BlockFault>),
     Empty(Handle, Result<(), EmptyFault>),

@@ -12,7 +12,7 @@ use std::test::Fail;
 
 /// A call, and what is answered.
 enum Step {
-    /// A block of so many bytes is placed, at a level, movable or not.
+    /// A block of a given number of bytes is placed, at a level, movable or not.
     Put(u32, u8, bool, Result<Handle, PlaceFault>),
     /// So is one for a want.
     Ask(Want, u8, bool, Result<Handle, PlaceFault>),
@@ -20,7 +20,7 @@ enum Step {
     Lock(Handle),
     Unlock(Handle),
     Replace(Handle, u32, Result<(), PlaceFault>),
-    /// Two blocks of so many bytes are placed, or none.
+    /// Two blocks of a given number of bytes are placed, or none.
     Both(u32, u32, Result<(Handle, Handle), PlaceFault>),
     /// So many blocks are moved.
     Compact(u32),

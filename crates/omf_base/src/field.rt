@@ -1,4 +1,4 @@
-//! Fields: each is taken from the front of the bytes and lent, with the bytes behind it. Where the bytes end in the field,
+//! Fields: each is taken from the start of the bytes and lent, with the bytes after it. Where the bytes end in the field,
 //! it is cut.
 
 ghost use Rattle.std.specs.Prelude.{◌≡◌, ◌<◌, ◌≤◌, length, IfOk, IfErr};
@@ -8,7 +8,7 @@ use crate::trailing::without_trailing;
 use byteorder::{ByteOrder, LittleEndian};
 use omf_format::Flaw;
 
-/// So many bytes, and the bytes behind them.
+/// So many bytes, and the bytes after them.
 #[inline]
 #[tactic(auto, unfolding(omf_format::specs::Field::bytes_field))]
 pub fn bytes_field(bytes: &[u8], n: usize) -> Result<(&[u8], &[u8]), Flaw>
@@ -21,7 +21,7 @@ pub fn bytes_field(bytes: &[u8], n: usize) -> Result<(&[u8], &[u8]), Flaw>
     }
 }
 
-/// One byte, and the bytes behind it.
+/// One byte, and the bytes after it.
 #[inline]
 #[tactic(auto, unfolding(omf_format::specs::Field::byte_field))]
 pub fn u8_field(bytes: &[u8]) -> Result<(u8, &[u8]), Flaw>
@@ -34,7 +34,7 @@ pub fn u8_field(bytes: &[u8]) -> Result<(u8, &[u8]), Flaw>
     }
 }
 
-/// A count of 1 to 4, and the bytes behind it. Every other number is broken.
+/// A count of 1 to 4, and the bytes after it. Every other number is broken.
 #[inline]
 #[tactic(auto, unfolding(omf_format::specs::Field::count_field))]
 pub fn count_field(bytes: &[u8]) -> Result<(u8, &[u8]), Flaw>
@@ -48,7 +48,7 @@ pub fn count_field(bytes: &[u8]) -> Result<(u8, &[u8]), Flaw>
     Ok((count, rest))
 }
 
-/// A shift from -31 to 31, and the bytes behind it. Every other number is broken.
+/// A shift from -31 to 31, and the bytes after it. Every other number is broken.
 #[inline]
 #[tactic(auto, unfolding(omf_format::specs::Field::shift_field))]
 pub fn shift_field(bytes: &[u8]) -> Result<(i8, &[u8]), Flaw>
@@ -63,7 +63,7 @@ pub fn shift_field(bytes: &[u8]) -> Result<(i8, &[u8]), Flaw>
     Ok((shift, rest))
 }
 
-/// A number of two bytes, and the bytes behind it.
+/// A number of two bytes, and the bytes after it.
 #[inline]
 #[tactic(auto, unfolding(omf_format::specs::Field::number_field, omf_format::specs::Number::number_at))]
 pub fn u16_field(bytes: &[u8]) -> Result<(u16, &[u8]), Flaw>
@@ -76,7 +76,7 @@ pub fn u16_field(bytes: &[u8]) -> Result<(u16, &[u8]), Flaw>
     }
 }
 
-/// A number of four bytes, and the bytes behind it.
+/// A number of four bytes, and the bytes after it.
 #[inline]
 #[tactic(auto, unfolding(omf_format::specs::Field::number_field, omf_format::specs::Number::number_at))]
 pub fn u32_field(bytes: &[u8]) -> Result<(u32, &[u8]), Flaw>
@@ -89,7 +89,7 @@ pub fn u32_field(bytes: &[u8]) -> Result<(u32, &[u8]), Flaw>
     }
 }
 
-/// A name, which isn't empty, and the bytes behind it.
+/// A name, which isn't empty, and the bytes after it.
 #[inline]
 fn not_empty<'a>(name: &'a [u8], rest: &'a [u8]) -> Result<(&'a [u8], &'a [u8]), Flaw>
     ensures ok { IfOk result (λ x. (x.0.now ≡ name.now) × (x.1.now ≡ rest.now) × (0 < length name.now)) }
@@ -101,7 +101,7 @@ fn not_empty<'a>(name: &'a [u8], rest: &'a [u8]) -> Result<(&'a [u8], &'a [u8]),
     Ok((name, rest))
 }
 
-/// A name behind its length byte, and the bytes behind it. It isn't empty.
+/// A name behind its length byte, and the bytes after it. It isn't empty.
 #[inline]
 #[tactic(auto, using(omf_format::specs::laws::FieldLaws::counted_none, omf_format::specs::laws::FieldLaws::counted_field))]
 fn counted_name(bytes: &[u8]) -> Result<(&[u8], &[u8]), Flaw>
@@ -117,7 +117,7 @@ fn counted_name(bytes: &[u8]) -> Result<(&[u8], &[u8]), Flaw>
     not_empty(name, rest)
 }
 
-/// A name of so many bytes without the spaces at its end, and the bytes behind it. It isn't empty.
+/// A name of a given number of bytes without the spaces at its end, and the bytes after it. It isn't empty.
 #[inline]
 #[tactic(auto, using(omf_format::specs::laws::FieldLaws::padded_field))]
 fn padded_name(bytes: &[u8], lab_len: u8) -> Result<(&[u8], &[u8]), Flaw>
@@ -132,7 +132,7 @@ fn padded_name(bytes: &[u8], lab_len: u8) -> Result<(&[u8], &[u8]), Flaw>
     not_empty(name, rest)
 }
 
-/// A name under a LABLEN without what pads it, and the bytes behind it. An empty name is broken.
+/// A name under a LABLEN without what pads it, and the bytes after it. An empty name is broken.
 #[inline]
 pub fn name_field(bytes: &[u8], lab_len: u8) -> Result<(&[u8], &[u8]), Flaw>
     ensures gives { Gives (λ x. (x.0.now, x.1.now)) result (name_field lab_len bytes.now) }

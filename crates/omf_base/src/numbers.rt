@@ -4,7 +4,7 @@ ghost use Rattle.omf_format.specs.Number.{number_at};
 
 use byteorder::{ByteOrder, LittleEndian};
 
-/// The number of `width` bytes that stands at the displacement `at` in the bytes, lowest byte first.
+/// The number of `width` bytes that is at the displacement `at` in the bytes, lowest byte first.
 /// None where the width isn't 1 to 4, or the number would pass the end of the bytes.
 #[inline]
 #[tactic(auto, unfolding(omf_format::specs::Number::number_at))]
@@ -29,7 +29,7 @@ pub fn number_at(bytes: &[u8], at: usize, width: usize) -> Option<u32>
     }
 }
 
-/// The number of `width` bytes, 1 to 4, that stands at the displacement `at` inside the bytes, lowest byte first.
+/// The number of `width` bytes, 1 to 4, that is at the displacement `at` inside the bytes, lowest byte first.
 #[inline]
 pub fn number(bytes: &[u8], at: usize, width: usize) -> u32
     requires some { 1 ≤ width }

@@ -11,7 +11,7 @@ pub fn first_items<T>(items: &[T], count: usize) -> &[T]
     &items[..count]
 }
 
-/// The items behind the first `count`.
+/// The items after the first `count`.
 #[inline]
 pub fn items_after<T>(items: &[T], count: usize) -> &[T]
     requires { count ≤ length items.now }

@@ -11,7 +11,7 @@ fn first_end(text: &[u8]) -> Option<usize>
         .position(|byte| *byte == b'\n' || *byte == b'\r')
 }
 
-/// What stands behind the line end at the front, which is LF, CR or CR LF.
+/// What stands after the line end at the start, which is LF, CR or CR LF.
 #[tactic(auto, unfolding(omf_format::specs::Lines::lines_of))]
 fn following_end(text: &[u8]) -> &[u8]
     requires end { is_end_byte (slice_index text.now 0) ≡ true }
@@ -38,7 +38,7 @@ fn without_lf(text: &[u8]) -> &[u8]
     }
 }
 
-/// The first line, and what stands behind its end.
+/// The first line, and what stands after its end.
 #[tactic(auto, using(crate::proofs::FirstLine::lines_of_first, crate::proofs::FirstLine::lines_of_only, crate::proofs::FirstLine::end_at))]
 pub fn split_line(text: &[u8]) -> (&[u8], &[u8])
     requires { 0 < length text.now }

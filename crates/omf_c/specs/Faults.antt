@@ -14,12 +14,12 @@ use Rattle.omf_commands.specs.AsmCauses.{asm_cause_name}
 use Rattle.omf_c.specs.declared.fault.OmfFault.{OmfFault}
 use Rattle.omf_c.specs.Causes.{name_of}
 
--- a name in so many bytes, with zeros behind it
+-- a name in a given number of bytes, with zeros after it
 abbrev pub zero_padded : ℕ → List ℕ → List ℕ
 zero_padded size name = name ++ replicate (size - length name) 0
 
 -- the number is that of the cause with this name; the file from 1, the segment from 1 and the displacement are these, 0 where there is none;
--- so is the line, from 1; and the name to which the fault belongs has zeros behind it
+-- so is the line, from 1; and the name to which the fault belongs has zeros after it
 pub record Reports (reported : OmfFault) (cause : List ℕ) (file segment at line : ℕ) (name : List ℕ) : Type 0 where
   pub cause' : name_of reported.cause ≡ Some cause
   pub file' : reported.file ≡ file

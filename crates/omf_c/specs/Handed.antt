@@ -32,7 +32,7 @@ pub record Room (X : Type 0) : Type 0 where
   pub items : List X
   pub size : ℕ
 
--- the items stand at the front of the room where they fit, and nothing is written where they don't; their number is told in both cases
+-- the items stand at the start of the room where they fit, and nothing is written where they don't; their number is told in both cases
 abbrev pub IsPut : {X : Type 0} → List X → ℕ → Room X → Room X → Type 0
 IsPut xs status old new =
     ((status ≡ status_done) × (length xs ≤ length old.items) × (new ≡ record { items = xs ++ drop (length xs) old.items; size = length xs }))

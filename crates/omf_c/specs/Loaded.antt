@@ -31,7 +31,7 @@ pub data IsUnread (file : List ℕ) (status : ℕ) (old new : OmfFault) : Type 0
 abbrev pub CountsSegments : List ℕ → CallOutcome ℕ → Type 0
 CountsSegments file = Reads file (λ segments count. count ≡ length segments) (λ segments. ⊥)
 
--- the fields of a header; the name has zeros behind it
+-- the fields of a header; the name has zeros after it
 pub record ReportsFields (header : OmfHeader) (f : Fields) : Type 0 where
   pub byte_count : header.byte_count ≡ f.byte_count
   pub res_spc : header.res_spc ≡ f.res_spc
@@ -55,7 +55,7 @@ abbrev pub ReportsHeader : List ℕ → ℕ → CallOutcome OmfHeader → Type 0
 ReportsHeader file number =
     Reads file (λ segments header. IsSomeAnd (segment_at segments number) (λ s. ReportsFields header s.fields)) (λ segments. IsOutside segments number)
 
--- the bytes that stand in memory for the segment with a number, from 1, where all segments of the file lie at these addresses
+-- the bytes that are in memory for the segment with a number, from 1, where all segments of the file lie at these addresses
 abbrev pub Places : List ℕ → ℕ → List ℕ → CallOutcome (List ℕ) → Type 0
 Places file number addresses =
     Reads file (λ segments bytes. (length segments ≡ length addresses) × Stands segments number (map Some addresses) bytes)

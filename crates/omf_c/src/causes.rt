@@ -19,7 +19,7 @@ use load_meaning::LoadCause;
 use omf_records::FileCause;
 use orca_asm::AsmCause;
 
-/// The number of the cause of a listed file's fault; None where memory ran out.
+/// The number of the cause of a listed file's fault; None when out of memory.
 pub fn file_number(cause: FileCause) -> Option<u32>
     ensures { MatchOption result (cause ≡ file_causes.Memory) (λ number. (cause ≢ file_causes.Memory) × (name_of number ≡ Some (cause_name cause))) }
 {
@@ -32,7 +32,7 @@ pub fn file_number(cause: FileCause) -> Option<u32>
     }
 }
 
-/// The number of the cause of a load file's fault; None where memory ran out.
+/// The number of the cause of a load file's fault; None when out of memory.
 #[tactic(auto, unfolding(loader_machine::specs::Replies::cause_text))]
 pub fn load_number(cause: LoadCause) -> Option<u32>
     ensures { MatchOption result (cause ≡ load_causes.Memory) (λ number. (cause ≢ load_causes.Memory) × (name_of number ≡ Some (cause_text cause))) }
@@ -53,7 +53,7 @@ pub fn load_number(cause: LoadCause) -> Option<u32>
     }
 }
 
-/// The number of the cause of a fault of a library's files; None where memory ran out.
+/// The number of the cause of a fault of a library's files; None when out of memory.
 pub fn lib_number(cause: LibCause) -> Option<u32>
     ensures { MatchOption result (cause ≡ lib_causes.Memory) (λ number. (cause ≢ lib_causes.Memory) × (name_of number ≡ Some (lib_cause_name cause))) }
 {
@@ -67,7 +67,7 @@ pub fn lib_number(cause: LibCause) -> Option<u32>
     }
 }
 
-/// The number of the cause of a fault of linked files; None where memory ran out.
+/// The number of the cause of a fault of linked files; None when out of memory.
 pub fn link_number(cause: LinkCause) -> Option<u32>
     ensures { MatchOption result (cause ≡ link_causes.Memory) (λ number. (cause ≢ link_causes.Memory) × (name_of number ≡ Some (link_cause_name cause))) }
 {
@@ -99,7 +99,7 @@ pub fn link_number(cause: LinkCause) -> Option<u32>
     }
 }
 
-/// The number of the cause of a fault of a source; None where memory ran out.
+/// The number of the cause of a fault of a source; None when out of memory.
 pub fn asm_number(cause: AsmCause) -> Option<u32>
     ensures { MatchOption result (cause ≡ asm_causes.Memory) (λ number. (cause ≢ asm_causes.Memory) × (name_of number ≡ Some (asm_cause_name cause))) }
 {

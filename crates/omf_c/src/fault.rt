@@ -34,11 +34,11 @@ pub struct OmfFault {
     pub line: u32,
     /// How many bytes the name has to which the fault belongs.
     pub name_size: u32,
-    /// The name, with zeros behind it.
+    /// The name, with zeros after it.
     pub name: [u8; 256],
 }
 
-/// A name with zeros behind it.
+/// A name with zeros after it.
 pub fn zero_padded(name: &[u8]) -> [u8; 256]
     requires { length name.now ≤ 255 }
     ensures { result ≡ zero_padded 256 name.now }
@@ -64,7 +64,7 @@ fn to_omf_fault(cause: u32, spot: Spot, line: u32, name: &[u8]) -> OmfFault
     }
 }
 
-/// A fault of a listed file, unless memory ran out.
+/// A fault of a listed file, unless out of memory.
 pub fn file_fault(fault: FileFault) -> Option<OmfFault>
     ensures { MatchOption result (fault.cause ≡ file_causes.Memory) (λ to_omf_fault. (fault.cause ≢ file_causes.Memory) × ReportsFile to_omf_fault fault) }
 {
@@ -76,7 +76,7 @@ pub fn file_fault(fault: FileFault) -> Option<OmfFault>
     Some(to_omf_fault(file_number(fault.cause)?, spot, 0, &[]))
 }
 
-/// A fault of a load file, unless memory ran out.
+/// A fault of a load file, unless out of memory.
 pub fn load_fault(fault: LoadFault) -> Option<OmfFault>
     ensures { MatchOption result (fault.cause ≡ load_causes.Memory) (λ to_omf_fault. (fault.cause ≢ load_causes.Memory) × ReportsLoad to_omf_fault fault) }
 {
@@ -88,7 +88,7 @@ pub fn load_fault(fault: LoadFault) -> Option<OmfFault>
     Some(to_omf_fault(load_number(fault.cause)?, spot, 0, &[]))
 }
 
-/// A fault of a library's files, unless memory ran out.
+/// A fault of a library's files, unless out of memory.
 pub fn lib_fault(fault: LibFault) -> Option<OmfFault>
     ensures { MatchOption result (fault.cause ≡ lib_causes.Memory) (λ to_omf_fault. (fault.cause ≢ lib_causes.Memory) × ReportsLib to_omf_fault fault) }
 {
@@ -106,7 +106,7 @@ fn bytes_of(name: &Option<Name>) -> &[u8]
     }
 }
 
-/// A fault of linked files, unless memory ran out.
+/// A fault of linked files, unless out of memory.
 pub fn link_fault(fault: &LinkFault) -> Option<OmfFault>
     ensures { MatchOption result (fault.now.cause ≡ link_causes.Memory) (λ to_omf_fault. (fault.now.cause ≢ link_causes.Memory) × ReportsLink to_omf_fault fault.now) }
 {
@@ -114,7 +114,7 @@ pub fn link_fault(fault: &LinkFault) -> Option<OmfFault>
     Some(to_omf_fault(number, fault.spot, 0, bytes_of(&fault.name)))
 }
 
-/// A fault of a source, unless memory ran out.
+/// A fault of a source, unless out of memory.
 pub fn asm_fault(fault: AsmFault) -> Option<OmfFault>
     ensures { MatchOption result (fault.cause ≡ asm_causes.Memory) (λ to_omf_fault. (fault.cause ≢ asm_causes.Memory) × ReportsAsm to_omf_fault fault) }
 {

@@ -13,7 +13,7 @@ use omf_header::Header;
 pub struct OmfHeader {
     /// The bytes of the segment in the file (BYTECNT, in version 1 512 times the number of blocks).
     pub byte_count: u32,
-    /// The zero bytes behind the body's bytes in memory (RESSPC).
+    /// The zero bytes after the body's bytes in memory (RESSPC).
     pub res_spc: u32,
     /// The bytes of the segment in memory, RESSPC among them (LENGTH).
     pub length: u32,
@@ -41,7 +41,7 @@ pub struct OmfHeader {
     pub load_name: [u8; 10],
     /// How many bytes SEGNAME has, without the spaces that pad it under a LABLEN above 0.
     pub name_size: u32,
-    /// SEGNAME, with zeros behind it.
+    /// SEGNAME, with zeros after it.
     pub name: [u8; 256],
 }
 

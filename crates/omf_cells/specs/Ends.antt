@@ -22,7 +22,7 @@ pub record HasReach (p : BytePiece) (low reach : ℕ) : Type 0 where
   pub zeros : (m : ℕ) → m < length p.bytes.now → low ≤ p.start + m → reach ≤ p.start + m → slice_get p.bytes.now m ≡ Some 0
   pub last : (reach ≡ 0) ⊎ EndsAt p reach
 
--- so it is for so many pieces at the front
+-- so it is for so many pieces at the start
 pub record HaveReach (pieces : List BytePiece) (n low reach : ℕ) : Type 0 where
   pub low' : low ≤ reach
   pub zeros : (i m : ℕ) (p : BytePiece) → i < n → IsAt pieces i p → m < length p.bytes.now → reach ≤ p.start + m → slice_get p.bytes.now m ≡ Some 0

@@ -23,15 +23,15 @@ use Rattle.load_content.specs.Views.{UnlessMemory, IsLoadView}
 use Rattle.load_tables.specs.declared.exports.Export.{Export}
 use Rattle.load_tables.specs.View.{seen_export, seen_paths}
 
--- the fault is the first one of the file, unless memory ran out
+-- the fault is the first one of the file, unless out of memory
 abbrev pub IsRefused : LoadFault → List ℕ → Type 0
 IsRefused fault file = UnlessMemory fault.cause fault (IsFirstLoadFault file fault)
 
--- the fault is the first one of the file as a run-time library file, unless memory ran out
+-- the fault is the first one of the file as a run-time library file, unless out of memory
 abbrev pub IsRuntimeRefused : LoadFault → List ℕ → Type 0
 IsRuntimeRefused fault file = UnlessMemory fault.cause fault (IsFirstRuntimeFault file fault)
 
--- the fault is the one that phase 1 finds in the segment with this number that starts there, unless memory ran out
+-- the fault is the one that phase 1 finds in the segment with this number that starts there, unless out of memory
 abbrev pub IsReadRefused : LoadFault → ℕ → ℕ → List ℕ → Type 0
 IsReadRefused fault number start file = UnlessMemory fault.cause fault ((fault.segment ≡ number) × HasReadFault start file (fault.cause, fault.at))
 

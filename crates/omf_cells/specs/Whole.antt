@@ -17,7 +17,7 @@ front_at segments number = option_map_or front_of (segment_at segments number) 0
 abbrev pub data_at : List Segment → ℕ → List ℕ
 data_at segments number = option_map_or segment_bytes (segment_at segments number) []
 
--- the data of the segment with this number begin with these bytes, and zeros stand behind them
+-- the data of the segment with this number begin with these bytes, and zeros stand after them
 abbrev pub HasData : List Segment → ℕ → List ℕ → Type 0
 HasData segments number bytes = IsSomeAnd (segment_at segments number) (λ s. segment_bytes s ≡ bytes ++ replicate (s.fields.length - length bytes) 0)
 

@@ -29,7 +29,7 @@ use omf_records::SegmentView;
 use std::alloc::{AllocError, Global};
 use std::marker::Model;
 
-/// A load file. Contracts see the list of its segments. Beside the headers it keeps where the data of each segment stands
+/// A load file. Contracts see the list of its segments. Beside the headers it keeps where the data of each segment is
 /// in the file, and the bytes that patches give; and what the file exports, and its paths.
 #[derive(Drop)]
 pub struct LoadFile<'a> {
@@ -242,7 +242,7 @@ impl<'a> LoadFile<'a> {
     }
 
     /// Appends the first bytes of the data of the segment with this number, from 1: so many, or all where there are fewer. These
-    /// are the bytes of its records and zeros behind them up to LENGTH. Where memory runs out, part of them may be appended.
+    /// are the bytes of its records and zeros after them up to LENGTH. Where memory runs out, part of them may be appended.
     pub fn put_data(&self, segment: u32, size: u32, out: &mut Vec<u8>) -> Result<(), AllocError>
         ensures { OnOk result (out.new.items ≡ out.old.items ++ take size (data_at self.now segment)) }
     {
@@ -253,7 +253,7 @@ impl<'a> LoadFile<'a> {
         put_bytes(&content.pieces, size.min(view.header.length), out)
     }
 
-    /// The data of the segment with this number, from 1, without zeros at their end, where they stand in the file one behind
+    /// The data of the segment with this number, from 1, without zeros at their end, where they are in the file one after
     /// another.
     pub fn data(&self, segment: u32) -> Option<&'a [u8]>
         ensures { IfSome result (λ bytes. HasData self.now segment bytes.now) }

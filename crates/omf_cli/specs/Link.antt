@@ -36,7 +36,7 @@ given_with paths files =
     let inputs = length files - length paths in
     record { inputs = take inputs files; runtimes = under_paths paths (drop inputs files); form = Program }
 
--- the line of a fault that isn't want of memory
+-- the line of a fault other than out of memory
 abbrev pub ReportsLinkFault : LinkFault → Made → Type 0
 ReportsLinkFault fault (Bytes bytes) = ⊥
 ReportsLinkFault fault (Refusal text) = (fault.cause ≢ causes.Memory) × (text ≡ link_fault_line fault)

@@ -64,7 +64,7 @@ pub record HasStressed (n seed : ℕ) (loader : Loaded) (text : List ℕ) : Type
   pub runs : RunsTo n seed loader count entered refused sum
   pub text_is : text ≡ stress_line count n entered refused sum
 
--- how a run ends: the line was printed whole, and the loader is handed out; or a front of it; or memory ran out
+-- how a run ends: the line was printed whole, and the loader is handed out; or the first bytes of it; or memory ran out
 abbrev pub HasEnded : Status → ℕ → ℕ → Option Loaded → SinkSeen → SinkSeen → Type 0
 HasEnded Done n seed (Some loader) before now = (text : List ℕ) × HasStressed n seed loader text × (now ≡ with_text text before)
 HasEnded CannotPrint n seed None before now = (loader : Loaded) × (text : List ℕ) × HasStressed n seed loader text × FailsToPrint text before now

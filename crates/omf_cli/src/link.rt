@@ -72,7 +72,7 @@ fn fault_line(alloc: Global, cause: &str, fault: &LinkFault) -> Result<Line, Lin
     }
 }
 
-/// The line that says why nothing is linked, unless memory ran out.
+/// The line that says why nothing is linked, unless out of memory.
 pub fn refusal(alloc: Global, fault: LinkFault) -> Result<Making, AllocError>
     ensures { IfOk result (λ made. ReportsLinkFault fault (made_of made)) }
 {

@@ -121,13 +121,13 @@ few_macros words source output macros is =
 
 -- ---- what is made
 
--- a fault that isn't want of memory is the first fault
+-- a fault other than out of memory is the first fault
 pub reported_asm : (files : List (List ℕ)) (fault : AsmFault) (made : Made) → IsAsmFault (first_of files) (following_first files) fault → ReportsAsmFault fault made → AsmMakes files made
 reported_asm files fault (Bytes bytes) is reports = absurd reports
 reported_asm files fault (Refusal text) (OutOfMemory memory) reports = absurd (reports.0 (ap (λ (f : AsmFault). f.cause) memory))
 reported_asm files fault (Refusal text) (First first) reports = (fault, first, reports.1)
 
--- and so is what is told of it
+-- and so is what is reported for it
 pub reported_making : {E : Type 0} → (files macros : List (List ℕ)) (source : List ℕ) (fault : AsmFault) (r : Result Making E) → source ≡ first_of files → macros ≡ following_first files
     → IsAsmFault source macros fault → IfOk r (λ made. ReportsAsmFault fault (made_of made)) → IfOk r (λ made. AsmMakes files (made_of made))
 reported_making files macros source fault (Ok made) source_is macros_is is reports =

@@ -21,7 +21,7 @@ abbrev pub AsmMakes : List (List ℕ) → Made → Type 0
 AsmMakes files (Bytes object) = IsObject (first_of files) (following_first files) object
 AsmMakes files (Refusal text) = (fault : AsmFault) × IsFirstFault (first_of files) (following_first files) fault × (text ≡ asm_fault_line fault)
 
--- the line of a fault that isn't want of memory
+-- the line of a fault other than out of memory
 abbrev pub ReportsAsmFault : AsmFault → Made → Type 0
 ReportsAsmFault fault (Bytes bytes) = ⊥
 ReportsAsmFault fault (Refusal text) = (fault.cause ≢ causes.Memory) × (text ≡ asm_fault_line fault)

@@ -7,7 +7,7 @@ use Rattle.omf_commands.specs.CompactCauses.{compact_cause_name}
 use Rattle.omf_making.specs.Lines.{refused_line}
 use Rattle.omf_making.specs.Made.{Made, Bytes, Refusal, first_of}
 
--- the line of a fault that isn't want of memory; it stands in file 1
+-- the line of a fault other than out of memory; it is in file 1
 abbrev pub ReportsFault : CompactFault → Made → Type 0
 ReportsFault fault (Bytes bytes) = ⊥
 ReportsFault fault (Refusal text) = (fault.cause ≢ Memory) × (text ≡ refused_line (compact_cause_name fault.cause) None 1 fault.segment fault.at)

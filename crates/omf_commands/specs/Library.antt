@@ -21,7 +21,7 @@ LibMakes paths files (Refusal text) =
     (fault : LibFault) × IsLibRefused fault (given_of paths files) × (fault.cause ≢ lib.Memory)
     × (text ≡ refused_line (lib_cause_name fault.cause) None fault.spot.file fault.spot.segment fault.spot.at)
 
--- the line of a fault that isn't want of memory
+-- the line of a fault other than out of memory
 abbrev pub ReportsFault : LibFault → Made → Type 0
 ReportsFault fault (Bytes bytes) = ⊥
 ReportsFault fault (Refusal text) = (fault.cause ≢ lib.Memory) × (text ≡ refused_line (lib_cause_name fault.cause) None fault.spot.file fault.spot.segment fault.spot.at)

@@ -13,7 +13,7 @@ ListMakes files (Bytes text) = IsListing (first_of files) text
 ListMakes files (Refusal text) =
     (fault : ListFault) × IsListFault (first_of files) fault × (fault.cause ≢ list.Memory) × (text ≡ refused_line (list_cause_name fault.cause) None 1 fault.segment fault.at)
 
--- the line of a fault that isn't want of memory
+-- the line of a fault other than out of memory
 abbrev pub ReportsListFault : ListFault → Made → Type 0
 ReportsListFault fault (Bytes bytes) = ⊥
 ReportsListFault fault (Refusal text) = (fault.cause ≢ list.Memory) × (text ≡ refused_line (list_cause_name fault.cause) None 1 fault.segment fault.at)

@@ -55,7 +55,7 @@ fn cause_name(cause: AsmCause) -> Option<&'static str>
     }
 }
 
-/// The line that says why nothing is assembled, unless memory ran out.
+/// The line that says why nothing is assembled, unless out of memory.
 fn refusal(alloc: Global, fault: AsmFault) -> Result<Making, AllocError>
     ensures { IfOk result (λ made. ReportsAsmFault fault (made_of made)) }
 {

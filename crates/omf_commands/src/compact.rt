@@ -34,7 +34,7 @@ fn cause_name(cause: CompactCause) -> Option<&'static str>
     }
 }
 
-/// The line that says why no file is made, unless memory ran out.
+/// The line that says why no file is made, unless out of memory.
 fn refusal(alloc: Global, fault: CompactFault) -> Result<Making, AllocError>
     ensures { IfOk result (λ made. ReportsFault fault (made_of made)) }
 {

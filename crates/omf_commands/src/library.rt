@@ -65,7 +65,7 @@ fn cause_name(cause: LibCause) -> Option<&'static str>
     }
 }
 
-/// The line that says why no library is made, unless memory ran out.
+/// The line that says why no library is made, unless out of memory.
 fn refusal(alloc: Global, fault: LibFault) -> Result<Making, AllocError>
     ensures { IfOk result (λ made. ReportsFault fault (made_of made)) }
 {

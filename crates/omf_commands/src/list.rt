@@ -27,7 +27,7 @@ fn cause_name(cause: ListCause) -> Option<&'static str>
     }
 }
 
-/// The line that says why there is no source, unless memory ran out. The fault stands in file 1.
+/// The line that says why there is no source, unless out of memory. The fault stands in file 1.
 fn refusal(alloc: Global, fault: ListFault) -> Result<Making, AllocError>
     ensures { IfOk result (λ made. ReportsListFault fault (made_of made)) }
 {

@@ -157,7 +157,7 @@ module _ (segments : List Segment) (number : ℕ) (s : Segment) (known : IsKnown
       ∙ ap (flat_map (spelling written_layout)) (sym (records-front number cs un written))
       ∙ sym (first_plain other)
 
-  -- the zeros behind the data
+  -- the zeros after the data
   pub zeros_are : (size zeros : ℕ) → size ≡ front_at segments number → zeros ≡ s.fields.length - size → is_pathname (plain_of s) ≡ false → zeros ≡ (canon_fields number (plain_of s)).res_spc
   unfolding canon_fields plain_of
   zeros_are size zeros is left other = rw other (omega (arith, left, is, front_is, front_length cs, celled, zeros-le cs))

@@ -100,7 +100,7 @@ later-held number (s ∷ segments) =
 
 -- ---- going over them
 
--- the exports from a place on are some of the segment's, which are still to be written, and those of the segments behind it
+-- the exports from a place on are some of the segment's, which are still to be written, and those of the segments after it
 pub record Left (segments : List Segment) (number : ℕ) (s : Segment) (place : ℕ) (old out : List ℕ) : Type 0 where
   pub rest : List Export
   pub are : drop place (exports_of segments) ≡ rest ++ exports_from (number + 1) (drop number segments)

@@ -52,6 +52,6 @@ IsRefusedBy BrokenPart fault file = HasBroken file fault.segment fault.at
 IsRefusedBy TooLong fault file = IsTooLong file × (fault.segment ≡ 0) × (fault.at ≡ 0)
 IsRefusedBy Memory fault file = (fault.segment ≡ 0) × (fault.at ≡ 0)
 
--- the fault is why the file is refused, unless memory ran out
+-- the fault is why the file is refused, unless out of memory
 abbrev pub IsRefused : CompactFault → List ℕ → Type 0
 IsRefused fault file = IsRefusedBy fault.cause fault file

@@ -107,7 +107,7 @@ canon_segment number p =
     let body = flat_map (spelling written_layout) (canon_records number p) ++ spelling written_layout End in
     header_bytes (canon_fields number p) (length body) ++ body
 
--- the segments one behind another, where the first has this number
+-- the segments one after another, where the first has this number
 abbrev pub canon_from : ℕ → List Plain → List ℕ
 canon_from number [] = []
 canon_from number (p ∷ plains) = canon_segment number p ++ canon_from (number + 1) plains

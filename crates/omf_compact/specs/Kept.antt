@@ -27,6 +27,6 @@ AnswerIsItsOwn = (file out : List ℕ) → IsBytes file → IsAnswer file out �
 abbrev pub OneAnswer : Type 0
 OneAnswer = (file one other : List ℕ) → IsAnswer file one → IsAnswer file other → one ≡ other
 
--- A file that has one isn't refused, unless memory ran out.
+-- A file that has one isn't refused, unless out of memory.
 abbrev pub AnswerOrRefusal : Type 0
 AnswerOrRefusal = (file out : List ℕ) (fault : CompactFault) → IsAnswer file out → IsRefused fault file → fault.cause ≡ Memory

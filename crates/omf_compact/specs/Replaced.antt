@@ -39,7 +39,7 @@ abbrev pub AnswersAlike : FileMap → FileMap → Machine → List Command → L
 AnswersAlike held now state commands replies others reads last = AreAnswered held state commands replies others reads last
     → (answers : List Reply) × AreLikeReplies replies answers × AreAnswered now state commands answers others reads last
 
--- The canonical file in the place of a load file of at most 16,777,216 bytes changes no reply to a script that begins behind that, but
+-- The canonical file in the place of a load file of at most 16,777,216 bytes changes no reply to a script that begins after that, but
 -- for the place in a refusal of a file that is no load file: over both stores a script is answered alike.
 abbrev pub AnswerIsNotSeen : Type 0
 AnswerIsNotSeen = (path file out : List ℕ) (held now : FileMap) → IsBytes file → length file ≤ max_file → IsAnswer file out → Replaces path file out held now

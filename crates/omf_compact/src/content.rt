@@ -44,7 +44,7 @@ fn put_cells(
     Ok(())
 }
 
-/// The same, where the content has so many bytes. They are lent where they stand in the file one behind another.
+/// The same, where the content has so many bytes. They are borrowed where they are in the file one after another.
 fn put_plain(
     alloc: Global,
     out: &mut Vec<u8>,
@@ -103,7 +103,7 @@ fn put_pathnames(
     Ok(())
 }
 
-/// Appends the records of the segment with this number before its ENTRY records. The answer is how many zero bytes stand behind
+/// Appends the records of the segment with this number before its ENTRY records. The answer is how many zero bytes are after
 /// the data in memory. It is too long where the data alone would be.
 pub fn put_content(
     alloc: Global,

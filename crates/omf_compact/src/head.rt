@@ -66,7 +66,7 @@ impl From<PutFault> for WriteFault {
     }
 }
 
-/// The header with so many zeros behind the data, without what its writing gives it.
+/// The header with so many zeros after the data, without what its writing gives it.
 fn with_reserved_zeros(alloc: Global, header: &Header, zeros: u32) -> Result<Header, WriteFault>
     ensures ok { IfOk result (λ written. fields written ≡ fields_with (fields header.now) zeros) }
     ensures memory_alone { IfErr result (λ fault. fault ≡ WriteFault.Memory) }
@@ -95,7 +95,7 @@ fn with_reserved_zeros(alloc: Global, header: &Header, zeros: u32) -> Result<Hea
     })
 }
 
-/// The bytes of a header before a body of so many bytes with END behind it, and with so many zeros behind the data in memory.
+/// The bytes of a header before a body of a given number of bytes with END behind it, and with so many zeros after the data in memory.
 pub fn front_of(
     alloc: Global,
     header: &Header,

@@ -1,4 +1,4 @@
-//! Segments, as they are written one behind another.
+//! Segments, as they are written one after another.
 
 ghost use Rattle.std.specs.Prelude.{◌≡◌, ◌≤◌, ◌+◌, ◌<◌, ◌++◌, [], ◌∷◌, Some, length, map, slice_get, IfOk, IfErr, OnOk, IsErrOf, MatchOption};
 ghost use Rattle.omf_format.specs.File.{Segment, segment_at};
@@ -13,7 +13,7 @@ use omf_cells::{LoadFile, Patch};
 use std::alloc::Global;
 
 /// Appends the segment with this number, whose cells have these patches, and before whose ENTRY records so many stand in the
-/// file. The answer is how many stand behind them. It is too long where the file would exceed 16,777,216 bytes.
+/// file. The answer is how many stand after them. It is too long where the file would exceed 16,777,216 bytes.
 fn put_segment(
     alloc: Global,
     out: &mut Vec<u8>,
@@ -56,7 +56,7 @@ fn patches_at(lists: &[Vec<Patch>], place: usize) -> Option<&Vec<Patch>>
     lists.get(place)
 }
 
-/// Appends all segments of a load file, one behind another.
+/// Appends all segments of a load file, one after another.
 pub fn put_segments(
     alloc: Global,
     out: &mut Vec<u8>,

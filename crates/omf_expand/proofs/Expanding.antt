@@ -9,7 +9,7 @@ use Rattle.omf_commands.specs.Assemble.{following_first}
 use Rattle.omf_making.specs.Made.{Made, Bytes, Refusal, made_of, first_of}
 use Rattle.omf_expand.specs.Expanded.{ExpandMakes, ReportsMacroFault}
 
--- a fault that isn't want of memory is the first fault
+-- a fault other than out of memory is the first fault
 first_fault : (cause : MacroCause) (source : List ℕ) (macros : List (List ℕ)) (fault : MacroFault) → IsFaultFor cause source macros fault → (cause ≡ Memory → ⊥) → IsFirstFault source macros fault
 first_fault LineTooLong source macros fault is some = is
 first_fault TooManyLines source macros fault is some = is
@@ -27,7 +27,7 @@ fault_view : (files : List (List ℕ)) (fault : MacroFault) (made : Made) → Is
 fault_view files fault (Bytes bytes) is reports = absurd reports
 fault_view files fault (Refusal text) is reports = (fault, first_fault fault.cause (first_of files) (following_first files) fault is reports.0, reports.1)
 
--- and so is what is told of it
+-- and so is what is reported for it
 pub reported_making : {E : Type 0} → (files macros : List (List ℕ)) (source : List ℕ) (fault : MacroFault) (r : Result Making E) → source ≡ first_of files → macros ≡ following_first files
     → IsMacroFault source macros fault → IfOk r (λ made. ReportsMacroFault fault (made_of made)) → IfOk r (λ made. ExpandMakes files (made_of made))
 reported_making files macros source fault (Ok made) source_is macros_is is reports =

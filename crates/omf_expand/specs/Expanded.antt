@@ -26,7 +26,7 @@ abbrev pub ExpandMakes : List (List ℕ) → Made → Type 0
 ExpandMakes files (Bytes text) = IsTextOf (first_of files) (following_first files) text
 ExpandMakes files (Refusal text) = (fault : MacroFault) × IsFirstFault (first_of files) (following_first files) fault × (text ≡ expand_fault_line fault)
 
--- the line of a fault that isn't want of memory
+-- the line of a fault other than out of memory
 abbrev pub ReportsMacroFault : MacroFault → Made → Type 0
 ReportsMacroFault fault (Bytes bytes) = ⊥
 ReportsMacroFault fault (Refusal text) = (fault.cause ≢ causes.Memory) × (text ≡ expand_fault_line fault)

@@ -38,7 +38,7 @@ fn cause_name(cause: MacroCause) -> &'static str
     }
 }
 
-/// The line that says why nothing is expanded, unless memory ran out.
+/// The line that says why nothing is expanded, unless out of memory.
 fn refusal(alloc: Global, fault: MacroFault) -> Result<Making, AllocError>
     ensures { IfOk result (λ made. ReportsMacroFault fault (made_of made)) }
 {

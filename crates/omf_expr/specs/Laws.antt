@@ -8,12 +8,12 @@ use Rattle.omf_format.specs.Expression.{Term, IsTerm, term_text, term_field, Tre
 abbrev pub SpellsOneTree : Type 0
 SpellsOneTree = (lab_len : ℕ) (text : List ℕ) (t u : Tree) → Spells lab_len text t → Spells lab_len text u → t ≡ u
 
--- no expression begins another: where bytes begin with one it is the only one, and the same bytes stand behind it
+-- no expression begins another: where bytes begin with one it is the only one, and the same bytes are after it
 abbrev pub NoneBeginsAnother : Type 0
 NoneBeginsAnother =
     (lab_len : ℕ) (a b x y : List ℕ) → IsExpression lab_len a → IsExpression lab_len b → a ++ x ≡ b ++ y → (a ≡ b) × (x ≡ y)
 
--- what is read is a term, and its bytes stood at the front
+-- what is read is a term, and its bytes stood at the start
 abbrev pub ReadIsTerm : Type 0
 ReadIsTerm =
     (lab_len : ℕ) (bytes rest : List ℕ) (term : Term) → IsBytes bytes → term_field lab_len bytes ≡ Ok (Some term, rest)
@@ -31,7 +31,7 @@ HasOneFault = (lab_len : ℕ) (bytes : List ℕ) (f g : ExprFault) → IsFirstFa
 abbrev pub HasNoFault : Type 0
 HasNoFault = (lab_len : ℕ) (bytes text : List ℕ) (f : ExprFault) → BeginsWith lab_len bytes text → IsFirstFault lab_len bytes f → ⊥
 
--- what is read as a field is an expression, and it stood at the front
+-- what is read as a field is an expression, and it stood at the start
 abbrev pub FieldIsExpression : Type 0
 FieldIsExpression =
     (lab_len : ℕ) (bytes text rest : List ℕ) → IsBytes bytes → expression_field lab_len bytes ≡ Ok (text, rest)

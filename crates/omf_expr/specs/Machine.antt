@@ -30,7 +30,7 @@ step env at (Constant n) pending = step_operand env at (Constant n) pending
 step env at (Named code name) pending = step_operand env at (Named code name) pending
 step env at (Offset n) pending = step_operand env at (Offset n) pending
 
--- terms one behind another, of which the first is at this place
+-- terms one after another, of which the first is at this place
 abbrev pub run_terms : Environment → ℕ → ℕ → List Term → List Value → Result (List Value) ValueFault
 run_terms env lab_len at [] pending = Ok pending
 run_terms env lab_len at (term ∷ terms) pending = step env at term pending >>= λ after. run_terms env lab_len (at + length (term_text lab_len term)) terms after

@@ -20,7 +20,7 @@ abbrev pub view_next : Option declared.Term → Option Term
 view_next None = None
 view_next (Some term) = Some (view term)
 
--- what `Expr::of` answered, as a record takes it: the expression's bytes and the bytes behind it, or what is wrong
+-- what `Expr::of` answered, as a record takes it: the expression's bytes and the bytes after it, or what is wrong
 abbrev pub as_field : List ℕ → Result Expression ExprFault → Result (List ℕ × List ℕ) Flaw
 as_field bytes (Ok e) = Ok (e.text, drop (length e.text) bytes)
 as_field bytes (Err fault) = Err (flaw_of fault)

@@ -64,7 +64,7 @@ impl<'a> Expr<'a> {
         self.bytes
     }
 
-    /// The terms of the expression, from the first on, as they stand in postfix order.
+    /// The terms of the expression, from the first on, as they are in postfix order.
     pub fn terms(&self) -> Terms<'a>
         ensures tree { (tree : Tree) → Spells self.now.lab_len self.now.text tree
             → result ≡ placed_terms self.now.lab_len 0 (terms_of tree) }
@@ -83,7 +83,7 @@ impl<'a> Expr<'a> {
     }
 }
 
-/// The bytes behind the expression at the front.
+/// The bytes after the expression at the start.
 #[tactic(auto, using(crate::proofs::ReadTerms::reads_begin, crate::proofs::ReadTerms::reads_more, crate::proofs::ReadTerms::reads_end, crate::proofs::ReadTerms::reads_wrong))]
 fn following_end(bytes: &[u8], lab_len: u8) -> Result<&[u8], ExprFault>
     ensures gives { Gives (λ x. x.now) result (read_all lab_len bytes.now) }
@@ -157,7 +157,7 @@ fn pending_after_term(
     Ok(Some(following))
 }
 
-/// The same for the term at the front of the bytes, with the bytes behind it.
+/// The same for the term at the start of the bytes, with the bytes after it.
 #[inline]
 #[tactic(auto, unfolding(omf_format::specs::Expression::term_step))]
 fn next_step(

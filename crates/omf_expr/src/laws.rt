@@ -7,7 +7,7 @@ pub fn each_spells_one_tree()
     ensures one { SpellsOneTree }
 {}
 
-/// No expression begins another, so where bytes begin with one, it is the only one, and the same bytes stand behind it.
+/// No expression begins another, so where bytes begin with one, it is the only one, and the same bytes are after it.
 pub fn none_begins_another()
     ensures none { NoneBeginsAnother }
 {}

@@ -1,4 +1,4 @@
-//! Expressions: their postfix form, lent from the file, and their value (GS/OS Reference, appendix F,
+//! Expressions: their postfix form, borrowed from the file, and their value (GS/OS Reference, appendix F,
 //! "Expressions").
 #![tactic(auto)]
 

@@ -1,4 +1,4 @@
-//! The term at the front of the bytes.
+//! The term at the start of the bytes.
 
 ghost use Rattle.std.specs.Prelude.{◌<◌, length, IfOk};
 ghost use Rattle.omf_format.specs.Field.{Gives};
@@ -9,7 +9,7 @@ use crate::term::Term;
 use omf_base::{name_field, u32_field};
 use omf_format::Flaw;
 
-/// The term, or at $00 the end, and the bytes behind it.
+/// The term, or at $00 the end, and the bytes after it.
 #[inline]
 #[tactic(auto, unfolding(omf_format::specs::Expression::term_field))]
 pub fn next_term(bytes: &[u8], lab_len: u8) -> Result<(Option<Term<'_>>, &[u8]), Flaw>

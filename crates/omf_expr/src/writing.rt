@@ -55,7 +55,7 @@ fn put_number(out: &mut Vec<u8>, code: u8, n: u32) -> Result<(), AllocError>
     put_both(out, &[code], &number)
 }
 
-/// Writes bytes and more bytes behind them, or nothing.
+/// Writes bytes and more bytes after them, or nothing.
 fn put_both(out: &mut Vec<u8>, front: &[u8], back: &[u8]) -> Result<(), AllocError>
     ensures ok { OnOk result (out.new.items ≡ out.old.items ++ (front.now ++ back.now)) }
     ensures err { OnErr result (out.new.items ≡ out.old.items) }

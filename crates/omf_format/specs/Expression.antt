@@ -46,7 +46,7 @@ term_text lab_len (Constant n) = 0x81 ∷ little_bytes 4 n
 term_text lab_len (Named code name) = code ∷ name_text lab_len name
 term_text lab_len (Offset n) = 0x87 ∷ little_bytes 4 n
 
--- the same for terms one behind another
+-- the same for terms one after another
 abbrev pub AreTerms : ℕ → List Term → Type 0
 AreTerms lab_len [] = Unit {0}
 AreTerms lab_len (term ∷ terms) = IsTerm lab_len term × AreTerms lab_len terms
@@ -107,7 +107,7 @@ pub record Expression : Type 0 where
 
 -- ---- reading terms
 
--- what stands behind each code: a term or, at $00, the end; and the bytes behind it
+-- what stands after each code: a term or, at $00, the end; and the bytes after it
 unfoldable pub term_field : ℕ → List ℕ → Result (Option Term × List ℕ) Flaw
 term_field lab_len [] = Err Cut
 term_field lab_len (code ∷ rest) =
@@ -130,7 +130,7 @@ term_then at following (Err flaw) = []
 term_then at following (Ok (None, rest)) = []
 term_then at following (Ok (Some term, rest)) = (at, term) ∷ following rest
 
--- the terms at the front, so many at most, with their displacements, of which the first has this one
+-- the terms at the start, so many at most, with their displacements, of which the first has this one
 unfoldable pub first_terms : ℕ → ℕ → ℕ → List ℕ → List (ℕ × Term)
 first_terms zero lab_len at bytes = []
 first_terms (suc n) lab_len at bytes =
@@ -151,7 +151,7 @@ operands_of _ = 0
 abbrev pub pending_after : ℕ → Term → ℕ
 pending_after pending term = pending - operands_of term + 1
 
--- each of these terms, one behind another, finds its operands, and no 65th value is ever pending: the first finds
+-- each of these terms, one after another, finds its operands, and no 65th value is ever pending: the first finds
 -- so many values pending, and the last leaves so many
 abbrev pub Lead : ℕ → List Term → ℕ → Type 0
 Lead pending [] last = pending ≡ last
@@ -166,7 +166,7 @@ pending_after_term at pending (Some term) =
     else if nat_lt 64 (pending_after pending term) then Err (TooDeep at)
     else Ok (Some (pending_after pending term))
 
--- the same for what stands at the front of the bytes, with the bytes behind it
+-- the same for what stands at the start of the bytes, with the bytes after it
 abbrev pub step_of : ℕ → ℕ → Result (Option Term × List ℕ) Flaw → Result (Option ℕ × List ℕ) ExprFault
 step_of at pending (Err Cut) = Err (Truncated at)
 step_of at pending (Err Unread) = Err (BadTerm at)
@@ -176,7 +176,7 @@ step_of at pending (Ok found) = pending_after_term at pending found.0 >>= λ fol
 unfoldable pub term_step : ℕ → ℕ → ℕ → List ℕ → Result (Option ℕ × List ℕ) ExprFault
 term_step lab_len at pending bytes = step_of at pending (term_field lab_len bytes)
 
--- terms with which nothing is wrong stand at the front, and the fault is that of what stands behind them
+-- terms with which nothing is wrong stand at the start, and the fault is that of what stands after them
 pub record IsFirstFault (lab_len : ℕ) (bytes : List ℕ) (fault : ExprFault) : Type 0 where
   pub terms : List Term
   pub rest : List ℕ
@@ -194,7 +194,7 @@ pub record BeginsWith (lab_len : ℕ) (bytes text : List ℕ) : Type 0 where
 
 -- ---- an expression as a field of a record
 
--- reading term after term, at most so many, where so many values are pending: the bytes behind the end, or the first fault
+-- reading term after term, at most so many, where so many values are pending: the bytes after the end, or the first fault
 unfoldable pub read_from : ℕ → ℕ → ℕ → ℕ → List ℕ → Result (List ℕ) ExprFault
 read_from zero lab_len at pending bytes = Err (Truncated at)
 read_from (suc n) lab_len at pending bytes =
@@ -218,6 +218,6 @@ abbrev pub split_of : List ℕ → Result (List ℕ) ExprFault → Result (List 
 split_of bytes (Ok rest) = Ok (take (length bytes - length rest) bytes, rest)
 split_of bytes (Err fault) = Err (flaw_of fault)
 
--- the bytes of the expression at the front, and the bytes behind it
+-- the bytes of the expression at the start, and the bytes after it
 unfoldable pub expression_field : ℕ → List ℕ → Result (List ℕ × List ℕ) Flaw
 expression_field lab_len bytes = split_of bytes (read_all lab_len bytes)

@@ -1,4 +1,4 @@
--- Fields: each is a value taken from the front of the bytes, with the bytes behind it, or what is wrong with it.
+-- Fields: each is a value taken from the start of the bytes, with the bytes after it, or what is wrong with it.
 use Rattle.std.specs.Prelude.{◌≡◌, ℕ, zero, suc, ◌-◌, ◌≤◌, Bool, ◌&&◌, ℤ, pos, negsuc, int_le, List, [], ◌∷◌, ◌++◌, length, take, drop, replicate, Result, Ok, Err, nat_lt, nat_le, ◌==◌, if◌then◌else◌}
 use Rattle.std.specs.Int.{w8, cast_signed, cast_unsigned}
 use Rattle.omf_format.specs.declared.fault.Flaw.{Flaw}
@@ -28,7 +28,7 @@ layout_of version lab_len = record { lab_len = lab_len; length_width = length_wi
 abbrev pub written_layout : Layout
 written_layout = record { lab_len = 0; length_width = 2 }
 
--- how a field is read from the front of the bytes
+-- how a field is read from the start of the bytes
 abbrev pub Reads : Type 0 → Type 0
 Reads A = List ℕ → Result (A × List ℕ) Flaw
 
@@ -36,7 +36,7 @@ Reads A = List ℕ → Result (A × List ℕ) Flaw
 unfoldable pub bytes_field : ℕ → List ℕ → Result (List ℕ × List ℕ) Flaw
 bytes_field n bytes = if nat_lt (length bytes) n then Err Cut else Ok (take n bytes, drop n bytes)
 
--- a number of so many bytes
+-- a number of a given number of bytes
 unfoldable pub number_field : ℕ → List ℕ → Result (ℕ × List ℕ) Flaw
 number_field width bytes = if nat_lt (length bytes) width then Err Cut else Ok (number_at width 0 bytes, drop width bytes)
 

@@ -1,4 +1,4 @@
--- A file is its segments, one behind another; its first fault, with segment and displacement (GS/OS Reference, appendix F).
+-- A file is its segments, one after another; its first fault, with segment and displacement (GS/OS Reference, appendix F).
 use Rattle.std.specs.Prelude.{◌≡◌, ℕ, ◌+◌, ◌<◌, true, false, List, [], ◌∷◌, length, take, drop, Some, None, Err, Option, slice_get, zero, suc}
 use Rattle.omf_format.specs.declared.fault.HeaderFault.{HeaderFault}
 use Rattle.omf_format.specs.declared.fault.HeaderFault.TheVariants as header
@@ -32,14 +32,14 @@ pub record IsHeader (start : ℕ) (f : Fields) (file : List ℕ) : Type 0 where
   pub passes : header_fault (drop start file) ≡ None
   pub fields : f ≡ fields_of (drop start file)
 
--- the segment stands in the file: its header, and its records up to END
+-- the segment is in the file: its header, and its records up to END
 pub record IsSegment (s : Segment) (file : List ℕ) : Type 0 where
   pub header : IsHeader s.start s.fields file
   pub last : Reader
   pub records : HandsOut (body_reader s.start s.fields file) s.records last
   pub ended : last.ended ≡ true
 
--- these segments stand one behind another from this displacement on, and the next one would stand there
+-- these segments stand one after another from this displacement on, and the next one would stand there
 abbrev pub AreSegments : List Segment → ℕ → List ℕ → ℕ → Type 0
 AreSegments [] at file next = at ≡ next
 AreSegments (s ∷ segments) at file next =

@@ -43,7 +43,7 @@ kind_of_byte byte = byte % 32 + 256 * (byte / 32 * 32)
 unfoldable pub kind_of : List ℕ → ℕ
 kind_of bytes = if version_of bytes == 1 then kind_of_byte (number_at 1 0x0C bytes) else number_at 2 0x14 bytes
 
--- each field stands at its displacement, and at DISPNAME stand the load name of ten bytes and the segment's name
+-- each field is at its displacement, and at DISPNAME stand the load name of ten bytes and the segment's name
 unfoldable pub fields_of : List ℕ → Fields
 fields_of bytes = record {
   byte_count = byte_count_of bytes;
@@ -163,7 +163,7 @@ displacement_of version ResSpc = 0x04
 
 -- ---- the header that is written
 
--- numbers one behind another, each with its width in bytes
+-- numbers one after another, each with its width in bytes
 abbrev pub laid_out : List (ℕ × ℕ) → List ℕ
 laid_out [] = []
 laid_out (field ∷ fields) = little_bytes field.0 field.1 ++ laid_out fields

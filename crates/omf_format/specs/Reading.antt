@@ -9,7 +9,7 @@ use Rattle.omf_format.specs.Expression.{expression_field}
 use Rattle.omf_format.specs.Super.{is_super, are_pages}
 use Rattle.omf_format.specs.Record.{Record, End, Const, LongConst, Align, Org, Space, Reloc, InterSeg, ShortReloc, ShortInterSeg, Super, Using, Strong, Label, Equate, Formula, Entry}
 
--- ---- what stands behind each code: the record and the bytes after it, or what is wrong first
+-- ---- what stands after each code: the record and the bytes after it, or what is wrong first
 
 unfoldable pub constant_field : ℕ → Reads Record
 constant_field n = taken_as Const (bytes_field n)
@@ -77,7 +77,7 @@ distance_field lab_len = taken_as (λ x. Formula 0xEE x.0 x.1.0 x.1.1) (count_fi
 unfoldable pub entry_field : ℕ → Reads Record
 entry_field lab_len = taken_as (λ x. Entry x.0 x.1.0 x.1.1) (number_field 2 ⊗ number_field 4 ⊗ name_field lab_len)
 
--- the codes from $E0 on, each with what stands behind it
+-- the codes from $E0 on, each with what stands after it
 unfoldable pub rows : Layout → List (ℕ × Reads Record)
 rows l =
     (0xE0, align_field)
@@ -108,7 +108,7 @@ abbrev pub by_code : List (ℕ × Reads Record) → ℕ → Reads Record
 by_code [] code rest = Err Unread
 by_code (row ∷ more) code rest = if code == row.0 then row.1 rest else by_code more code rest
 
--- the record at the front of the bytes, and the bytes behind it
+-- the record at the start of the bytes, and the bytes after it
 unfoldable pub first_record : Layout → Reads Record
 first_record l [] = Err Cut
 first_record l (code ∷ rest) =

@@ -22,7 +22,7 @@ abbrev pub page_text : Page → List ℕ
 page_text (Passed pages) = (0x80 + pages) ∷ []
 page_text (Located lows) = (length lows - 1) ∷ lows
 
--- the bytes are subrecords, one behind another
+-- the bytes are subrecords, one after another
 pub record HavePages (bytes : List ℕ) : Type 0 where
   pub pages : List Page
   pub each : AllByRecursion IsPage pages
@@ -34,7 +34,7 @@ locations_from page [] = []
 locations_from page (Passed pages ∷ more) = locations_from (page + pages) more
 locations_from page (Located lows ∷ more) = map (λ low. page * 256 + low) lows ++ locations_from (page + 1) more
 
--- how many low bytes of the current page are still to come behind a byte, where so many were before it
+-- how many low bytes of the current page are still to come after a byte, where so many were before it
 abbrev pub lows_after : ℕ → ℕ → ℕ
 lows_after zero count = if nat_lt count 0x80 then count + 1 else 0
 lows_after (suc lows) low = lows

@@ -1,4 +1,4 @@
--- The parts of a written header, one behind another.
+-- The parts of a written header, one after another.
 use Rattle.std.proofs.Common.{◌≡◌, ℕ, List, [], ◌∷◌, ◌++◌, refl, sym, ap, ◌∙◌, append_assoc}
 use Rattle.byteorder.specs.Endian.{little_bytes}
 use Rattle.omf_format.specs.Header.{laid_out}

@@ -25,7 +25,7 @@ fields h = record {
   name = h.name;
 }
 
--- the fault is the first one of the header at the front of the bytes, unless memory ran out
+-- the fault is the first one of the header at the start of the bytes, unless out of memory
 abbrev pub IsRefused : HeaderFault → List ℕ → Type 0
 IsRefused (Truncated n) bytes = header_fault bytes ≡ Some (Truncated n)
 IsRefused (Unsupported field) bytes = header_fault bytes ≡ Some (Unsupported field)

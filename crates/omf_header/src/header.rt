@@ -11,7 +11,7 @@ use omf_base::Name;
 pub struct Header {
     /// The bytes of the segment in the file (BYTECNT, in version 1 512 times the number of blocks).
     pub byte_count: u32,
-    /// The zero bytes behind the body's bytes in memory (RESSPC).
+    /// The zero bytes after the body's bytes in memory (RESSPC).
     pub res_spc: u32,
     /// The bytes of the segment in memory, RESSPC among them (LENGTH).
     pub length: u32,

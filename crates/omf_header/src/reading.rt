@@ -43,7 +43,7 @@ fn u8_at(bytes: &[u8], at: usize) -> u8
     }
 }
 
-/// The version of the header at the front of the bytes, 0 where they end before it (VERSION).
+/// The version of the header at the start of the bytes, 0 where they end before it (VERSION).
 #[inline]
 #[tactic(auto, unfolding(omf_format::specs::Header::version_of))]
 pub fn version_of(bytes: &[u8]) -> u8
@@ -249,7 +249,7 @@ fn header_of(alloc: Global, bytes: &[u8]) -> Result<Header, HeaderFault>
     })
 }
 
-/// The header at the front of the bytes, which are those from the segment's start to the file's end.
+/// The header at the start of the bytes, which are those from the segment's start to the file's end.
 ///
 /// The fault is that of the first check that holds, in the order of the standard's fields that the project
 /// chose: the bytes, NUMLEN, VERSION, BANKSIZE, KIND, NUMSEX, DISPNAME, BYTECNT, DISPDATA, RESSPC.

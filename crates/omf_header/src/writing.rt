@@ -100,7 +100,7 @@ fn put_names(out: &mut Vec<u8>, header: &Header) -> Result<(), AllocError>
     out.extend_from_slice(name)
 }
 
-/// A header of a segment of so many bytes, whose body begins there.
+/// A header of a segment of a given number of bytes, whose body begins there.
 #[tactic(auto, using(crate::proofs::Joined::joined))]
 fn put_header(
     out: &mut Vec<u8>,

@@ -67,7 +67,7 @@ IsUnread held path before now =
 abbrev pub HasWritten : List ℕ → List ℕ → StoreSeen → StoreSeen → Type 0
 HasWritten bytes path before now = now ≡ with_written path bytes before
 
--- a write that was refused: where the outside failed, a front of the bytes stands at the path, which may be none or all of them
+-- a write that was refused: where the outside failed, the first bytes of the bytes stands at the path, which may be none or all of them
 abbrev pub WriteFailed : WriteFault → List ℕ → List ℕ → StoreSeen → StoreSeen → Type 0
 WriteFailed write.Failed bytes path before now =
     (front : List ℕ) × IsFront front bytes × (now ≡ record (with_written path front before) { faults = one_more before.faults })

@@ -18,7 +18,7 @@ with_text piece sink = record sink { written = option_map (λ text. text ++ piec
 abbrev pub HasPut : List ℕ → SinkSeen → SinkSeen → Type 0
 HasPut piece before now = now ≡ with_text piece before
 
--- a front of the text was taken, which may be nothing or all of it, and the outside failed once
+-- the first bytes of the text was taken, which may be nothing or all of it, and the outside failed once
 abbrev pub FailsToPrint : List ℕ → SinkSeen → SinkSeen → Type 0
 FailsToPrint text before now = (front : List ℕ) × IsFront front text × (now ≡ record (with_text front before) { faults = one_more before.faults })
 

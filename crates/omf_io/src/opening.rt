@@ -16,7 +16,7 @@ pub trait Opens {
     /// How often a reader was asked for, whatever the answer was. The count stands still at 2^64 - 1.
     ghost asked: { Self → ℕ };
 
-    /// A reader at the front of the file at a path.
+    /// A reader at the start of the file at a path.
     ghost reads: { List ℕ → Self.Reader → Type 0 };
 
     /// A writer of the file at a path, which has no bytes yet.

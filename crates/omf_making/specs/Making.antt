@@ -46,7 +46,7 @@ pub record HasMade (makes : List (List ℕ) → Made → Type 0) (inputs : List 
 abbrev pub all_read : List (List ℕ) → StoreSeen → StoreSeen
 all_read inputs before = after_reads (length inputs) before
 
--- all inputs were read and the bytes made; then the store failed in the write, and a front of the bytes stands at the output
+-- all inputs were read and the bytes made; then the store failed in the write, and the first bytes of the bytes stands at the output
 pub record StopsWriting (makes : List (List ℕ) → Made → Type 0) (output : List ℕ) (inputs : List (List ℕ)) (before now : StoreSeen) : Type 0 where
   pub bytes : List ℕ
   pub made : HasMade makes inputs before (Bytes bytes)
@@ -56,7 +56,7 @@ pub record StopsWriting (makes : List (List ℕ) → Made → Type 0) (output : 
 
 -- ---- the ends
 
--- all was read and made, and the bytes stand at the output
+-- all was read and made, and the bytes are at the output
 abbrev pub Writes : (List (List ℕ) → Made → Type 0) → Option (List ℕ) → List (List ℕ) → StoreSeen → StoreSeen → Type 0
 Writes makes None inputs before now = ⊥
 Writes makes (Some output) inputs before now =

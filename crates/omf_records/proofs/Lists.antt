@@ -59,7 +59,7 @@ is_file file views start number listed end =
     let same : start ≡ length file = omega (arith, listed.within) in
     subst (AreSegments (map segment_of_view views) 0 file) same listed.are
 
--- a fault that isn't want of memory is that of what follows from it
+-- a fault other than out of memory is that of what follows from it
 unless_then : (c : FileCause) (fault : FileFault) (P Q : Type 0) → (P → Q) → UnlessMemory c fault P → UnlessMemory c fault Q
 unless_then cause.Memory fault P Q f h = h
 unless_then cause.Truncated fault P Q f h = f h

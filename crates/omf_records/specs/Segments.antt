@@ -49,15 +49,15 @@ abbrev pub UnlessMemory : FileCause → FileFault → Type 0 → Type 0
 UnlessMemory Memory fault P = (fault.segment ≡ 0) × (fault.at ≡ 0)
 UnlessMemory _ _ P = P
 
--- the fault is the first one of the file, unless memory ran out
+-- the fault is the first one of the file, unless out of memory
 abbrev pub IsRefused : FileFault → List ℕ → Type 0
 IsRefused fault file = UnlessMemory fault.cause fault (IsFirstFault file fault)
 
--- the fault is that of the segment with this number that starts there, unless memory ran out
+-- the fault is that of the segment with this number that starts there, unless out of memory
 abbrev pub IsSegmentFault : FileFault → ℕ → ℕ → List ℕ → Type 0
 IsSegmentFault fault number start file = UnlessMemory fault.cause fault ((fault.segment ≡ number) × HasFault start file (fault.cause, fault.at))
 
--- the fault has this cause, and the place is told of the segment with this number, unless memory ran out
+-- the fault has this cause, and the place is told of the segment with this number, unless out of memory
 pub record IsReported (reported : FaultAt) (number : ℕ) (fault : FileFault) : Type 0 where
   pub cause : fault.cause ≡ reported.0
   pub place : UnlessMemory reported.0 fault ((fault.segment ≡ number) × (fault.at ≡ reported.1))

@@ -38,7 +38,7 @@ record_answer (Ok None) = Ok None
 record_answer (Ok (Some found)) = Ok (Some (found.0, view found.1))
 record_answer (Err fault) = Err fault
 
--- the first item of a list, and the items behind it
+-- the first item of a list, and the items after it
 abbrev pub first : List ℕ → Option ℕ
 first [] = None
 first (x ∷ xs) = Some x

@@ -21,6 +21,6 @@ walk_ends start at last before founds run e all ended = HandsOut-same start befo
 pub walk_fails : (start at : Reader) (before : List (ℕ × Record)) (fault : RecordFault) → IsBody start → HandsOut start before at → next_answer at ≡ Err fault → ⊥
 walk_fails start at before fault comes run e = no_run start before (records_of start) at comes.last fault run e comes.run comes.ended
 
--- what a record gives comes behind what those before it gave
+-- what a record gives comes after what those before it gave
 pub gives_more : (f : ℕ × Record → List ℕ) (before : List (ℕ × Record)) (found : ℕ × Record) → flat_map f before ++ f found ≡ flat_map f (before ++ found ∷ [])
 gives_more f before found = ap (λ (l : List ℕ). flat_map f before ++ l) (sym (append-nil (f found))) ∙ sym (flat_map-append f before (found ∷ []))

@@ -8,7 +8,7 @@ ghost use Rattle.omf_records.specs.Segments.{HasPlace};
 use omf_format::{FileCause, HeaderFault, RecordFault};
 use omf_header::{displacement_of, version_of};
 
-/// A fault of the header at the front of the bytes, which begin at the displacement `start` in the file. The place of a
+/// A fault of the header at the start of the bytes, which begin at the displacement `start` in the file. The place of a
 /// field goes by the header's version. Want of memory has no place; `start` stands for it.
 pub fn to_file_header_fault(fault: HeaderFault, bytes: &[u8], start: u32) -> (FileCause, u32)
     requires { HasPlace fault start }

@@ -1,4 +1,4 @@
-//! The record at the front of the bytes: each field is taken from the left, and the first that fails decides.
+//! The record at the start of the bytes: each field is taken from the left, and the first that fails decides.
 
 ghost use Rattle.std.specs.Prelude.{◌≡◌, ◌<◌, ◌≤◌, length, IfOk};
 ghost use Rattle.omf_format.specs.Field.{Gives};
@@ -112,7 +112,7 @@ fn rarer(code: u8, rest: &[u8], layout: Layout) -> Result<(Rec<'_>, &[u8]), Flaw
     }
 }
 
-/// The record, and the bytes behind it.
+/// The record, and the bytes after it.
 #[inline(always)]
 #[tactic(auto, unfolding(omf_format::specs::Reading::front, omf_format::specs::Reading::rows))]
 fn read_front(bytes: &[u8], layout: Layout) -> Result<(Rec<'_>, &[u8]), Flaw>
@@ -129,7 +129,7 @@ fn read_front(bytes: &[u8], layout: Layout) -> Result<(Rec<'_>, &[u8]), Flaw>
     }
 }
 
-/// The record, which is one of the format, and the bytes behind it.
+/// The record, which is one of the format, and the bytes after it.
 #[inline(always)]
 pub fn record_at_front(bytes: &[u8], layout: Layout) -> Result<(Rec<'_>, &[u8]), Flaw>
     ensures gives { Gives (λ x. (view x.0, x.1.now)) result (first_record (view_layout layout) bytes.now) }

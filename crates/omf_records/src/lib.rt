@@ -1,4 +1,4 @@
-//! The records of bodies, lent from the file, and the segments of a file (GS/OS Reference, appendix F,
+//! The records of bodies, borrowed from the file, and the segments of a file (GS/OS Reference, appendix F,
 //! "Segment body").
 #![tactic(auto)]
 

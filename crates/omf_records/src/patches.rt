@@ -100,7 +100,7 @@ pub fn short_interseg(rest: &[u8]) -> Result<(Rec<'_>, &[u8]), Flaw>
     Ok((rec, rest))
 }
 
-/// Whether the bytes are subrecords of a SUPER, one behind another.
+/// Whether the bytes are subrecords of a SUPER, one after another.
 #[tactic(auto, unfolding(omf_format::specs::Super::are_pages))]
 fn are_pages(bytes: &[u8]) -> bool
     ensures { result ≡ are_pages bytes.now }
@@ -112,7 +112,7 @@ fn are_pages(bytes: &[u8]) -> bool
     lows == 0
 }
 
-/// How many low bytes of locations are still to come behind a byte of subrecords.
+/// How many low bytes of locations are still to come after a byte of subrecords.
 #[inline]
 fn lows_after_byte(lows: u32, byte: u8) -> u32
     requires { lows ≤ 128 }

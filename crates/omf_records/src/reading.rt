@@ -48,7 +48,7 @@ impl<'a> Records<'a> {
     }
 
     /// The next record, with the displacement of its code in the file. END is handed out, and None comes after it.
-    /// After a fault the same fault comes again. What stands behind END in the segment isn't read.
+    /// After a fault the same fault comes again. What stands after END in the segment isn't read.
     #[inline(always)]
     #[tactic(auto, unfolding(omf_format::specs::Reading::next_answer, omf_format::specs::Reading::after_next))]
     pub fn next(&mut self) -> Result<Option<(u32, Rec<'a>)>, RecordFault>

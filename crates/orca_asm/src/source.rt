@@ -52,7 +52,7 @@ fn macro_fault(fault: MacroFault) -> AsmFault
     }
 }
 
-/// The object of a source with macro files: its segments one behind another, as ORCA/M's directives and the 65816's
+/// The object of a source with macro files: its segments one after another, as ORCA/M's directives and the 65816's
 /// instructions give them. Else the first fault: of reading, macro files in order and then the source; of a definition; of the
 /// first visited line that expands with one; of the first expanded line with one, by the order of the causes; `Unclosed` at the
 /// line that begins a segment without END; `TooLong`, with file 0 and line 0, where the object would exceed 16,777,216 bytes.

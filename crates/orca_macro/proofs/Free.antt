@@ -120,7 +120,7 @@ condition_free values text a is = by_comparison (comparison text) is
     by_comparison (Some holds) is = subst Free (sym is) tt
     by_comparison None is = is_number_free values text a is
 
--- ---- deeds
+-- ---- effects
 
 effect_as : (d e : Effect) → d ≡ e → EffectFree e → EffectFree d
 effect_as d e is p = subst EffectFree (sym is) p

@@ -249,7 +249,7 @@ counted_stands before v n f fs texts calls s = record {
   callers = s.callers;
 }
 
--- what follows, by what the code has as its deed
+-- what follows, by what the code has as its effect
 pub at_effect : (program : Program) (before : List Visit) (v : Visit) (line : Line) (d e : effects.Effect) (outcome : Flow) (f : Frame) (fs : List Frame) (texts : SharedTexts) (calls : ℕ) → d ≡ e
     → MovesTo (move_of program before v line e) (before ++ v ∷ []) line outcome f fs texts calls → MovesTo (move_of program before v line d) (before ++ v ∷ []) line outcome f fs texts calls
 at_effect program before v line d e outcome f fs texts calls is moves =

@@ -17,7 +17,7 @@ use Rattle.orca_macro.specs.Parts.{HaveOwn}
 abbrev pub texts_of_files : List (Vec ℕ) → List (List ℕ)
 texts_of_files files = map (λ (file : Vec ℕ). file.items) files
 
--- a fault of reading is the first one; for want of memory it has no line
+-- a fault of reading is the first one; when out of memory it has no line
 abbrev pub IsTextFaultFor : MacroCause → Option MacroFault → MacroFault → Type 0
 IsTextFaultFor LineTooLong first fault = first ≡ Some fault
 IsTextFaultFor TooManyLines first fault = first ≡ Some fault

@@ -1,4 +1,4 @@
-//! Lines that are visited one behind another.
+//! Lines that are visited one after another.
 
 ghost use Rattle.std.specs.Prelude.{◌≡◌, ◌≤◌, ◌<◌, ◌+◌, ◌^◌, ◌∷◌, ◌++◌, [], List, ℕ, length, slice_get, take, bytes_eq, Some, None, IfOk, IfSome, OnOk, MatchOption, if◌then◌else◌};
 ghost use Rattle.macro_meaning.specs.Visit.{places_from, target_of, has_sequence};
@@ -24,7 +24,7 @@ pub(crate) enum BranchTarget {
     Twice,
 }
 
-/// Lines that are visited one behind another. Branches go to the first so many of them, whose sequence symbols are in a
+/// Lines that are visited one after another. Branches go to the first so many of them, whose sequence symbols are in a
 /// map. Of a macro's lines it is kept what is known of each. Contracts see the lines and how many these are.
 #[derive(Drop)]
 pub(crate) struct Body {

@@ -25,7 +25,7 @@ pub(crate) struct MacroDefinition {
     pub(crate) model: ModelLine,
     /// It counts in expansions that began behind this line of the source, in all where that is 0.
     pub(crate) visible_after: u32,
-    /// The lines behind the model line, with the MEND line, to which no branch goes.
+    /// The lines after the model line, with the MEND line, to which no branch goes.
     pub(crate) body: Body,
 }
 
@@ -69,7 +69,7 @@ pub(crate) fn fault_at(of: &SourceLine, cause: MacroCause) -> MacroFault
     }
 }
 
-/// The definition with this model line, whose lines behind it go up to the MEND line at a place.
+/// The definition with this model line, whose lines after it go up to the MEND line at a place.
 fn closed_with(
     alloc: Global,
     following: u32,

@@ -238,7 +238,7 @@ fn front_of(text: &[u8], count: usize) -> &[u8]
     text
 }
 
-/// What stands behind the first so many bytes.
+/// What stands after the first so many bytes.
 #[tactic(auto, using(orca_symbols::proofs::Parted::drop_all))]
 fn following_first(text: &[u8], count: usize) -> &[u8]
     ensures value { result.now ≡ drop count text.now }

@@ -199,7 +199,7 @@ fn effect_at<'a>(
     }
 }
 
-/// The line that a deed gives, behind others.
+/// The line that an effect gives, behind others.
 fn give(
     alloc: Global,
     out: &mut Lines,

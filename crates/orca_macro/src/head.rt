@@ -1,4 +1,4 @@
-//! Fronts of lines whose label and operation are known, whatever stands behind them.
+//! Fronts of lines whose label and operation are known, whatever stands after them.
 
 ghost use Rattle.std.specs.Prelude.{◌≡◌, ◌≤◌, length, take, drop, IfOk, IfSome};
 ghost use Rattle.orca_macro.specs.Head.{IsHead};
@@ -25,7 +25,7 @@ pub(crate) struct LineHead {
 }
 
 impl LineHead {
-    /// What stands behind the sequence symbol.
+    /// What stands after the sequence symbol.
     pub(crate) fn after_sequence<'a>(&self, text: LinePart<'a>) -> LinePart<'a>
         requires { self.now.sequence ≤ length text.bytes.now }
         ensures value { result.bytes.now ≡ drop self.now.sequence text.entry.bytes.now }

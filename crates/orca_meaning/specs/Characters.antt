@@ -4,7 +4,7 @@ use Rattle.std.specs.Char.{to_ascii_uppercase}
 use Rattle.std.specs.List.{list_all}
 use Rattle.omf_format.specs.Ascii as ascii
 
--- fields are parted by spaces and tabs
+-- fields are separated by spaces and tabs
 abbrev pub is_blank : ℕ → Bool
 is_blank byte = byte == ascii.space || byte == ascii.tab
 

@@ -80,7 +80,7 @@ tokens_of (Group inner) = Opens ∷ (tokens_of inner ++ Closes ∷ [])
 tokens_of (Signed sign operand) = Before sign ∷ tokens_of operand
 tokens_of (Joined operator left right) = tokens_of left ++ Between operator ∷ tokens_of right
 
--- a formula stands at the front of a text, where no operator stands behind it
+-- a formula stands at the start of a text, where no operator stands after it
 pub record StandsAt (operands : Operands) (text : List ℕ) (formula : Formula) (rest : List ℕ) : Type 0 where
   pub formed : IsFormula formula
   pub spelled : Stand operands true text (tokens_of formula) rest
@@ -103,7 +103,7 @@ tree_of (Group inner) = tree_of inner
 tree_of (Signed sign operand) = expression.Unary (sign_code sign) (tree_of operand)
 tree_of (Joined operator left right) = expression.Binary (operator_code operator) (tree_of left) (tree_of right)
 
--- a formula that means this stands at the front of a text
+-- a formula that means this stands at the start of a text
 pub record MeansAt (operands : Operands) (text : List ℕ) (tree : expression.Tree) (rest : List ℕ) : Type 0 where
   pub formula : Formula
   pub stands : StandsAt operands text formula rest
@@ -135,6 +135,6 @@ abbrev pub is_large : expression.Term → Bool
 is_large (expression.Constant n) = nat_le (2 ^ 32) n
 is_large _ = false
 
--- whether such a number stands in it
+-- whether such a number is in it
 abbrev pub has_large : expression.Tree → Bool
 has_large tree = list_any is_large (expression.terms_of tree)

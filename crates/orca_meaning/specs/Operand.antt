@@ -78,7 +78,7 @@ abbrev pub index_or : Option Index → List ℕ → List ℕ → Index × List �
 index_or (Some index) text following = (index, following)
 index_or None text following = (Absent, text)
 
--- the index at the front, a comma and a register, and what stands behind it
+-- the index at the start, a comma and a register, and what stands after it
 unfoldable pub index_at : List ℕ → Index × List ℕ
 index_at [] = (Absent, [])
 index_at (byte ∷ []) = (Absent, byte ∷ [])
@@ -124,7 +124,7 @@ abbrev pub immediate_form : List ℕ → Option Form
 immediate_form [] = Some Immediate
 immediate_form (byte ∷ following) = None
 
--- the form of an operand by its opening and what stands behind its formula
+-- the form of an operand by its opening and what stands after its formula
 abbrev pub form_after : Opening → List ℕ → Option Form
 form_after Open rest = option_map plain_form (whole_index rest)
 form_after Hash rest = immediate_form rest
@@ -199,7 +199,7 @@ pub record HasBadNumber (mnemonic : Option Mnemonic) (text : List ℕ) : Type 0 
   pub shallow : AreShallow mnemonic meaning.trees
   pub large : list_any has_large meaning.trees ≡ true
 
--- what an operand is refused for, unless memory ran out
+-- what an operand is refused for, unless out of memory
 abbrev pub IsRefusedFor : TextCause → Option Mnemonic → List ℕ → Type 0
 IsRefusedFor LineTooLong mnemonic text = ⊥
 IsRefusedFor TooManyLines mnemonic text = ⊥

@@ -11,7 +11,7 @@ abbrev pub is_closed : Option ℕ → Bool
 is_closed None = true
 is_closed (Some quote) = false
 
--- how many bytes stand before the first outside quotes that passes the test, where this quote is open; all where none does
+-- how many bytes are before the first outside quotes that passes the test, where this quote is open; all where none does
 unfoldable pub outside_from : (ℕ → Bool) → Option ℕ → List ℕ → ℕ
 outside_from test quote [] = 0
 outside_from test quote (byte ∷ following) =

@@ -44,7 +44,7 @@ OutsideIsFirst = (test : ℕ → Bool) (text : List ℕ) (k : ℕ) → k < lengt
 
 -- ---- formulas
 
--- at the front of a text stands the formula of one tree at most, before one rest
+-- at the start of a text stands the formula of one tree at most, before one rest
 abbrev pub OneTree : Type 0
 OneTree = (operands : Operands) (text : List ℕ) (t u : Tree) (r s : List ℕ) → MeansAt operands text t r → MeansAt operands text u s
     → (t ≡ u) × (r ≡ s)

@@ -30,7 +30,7 @@ pub data Token : Type 0 where
   Opens : Token
   Closes : Token
 
--- what was found at the front of a text, and the bytes behind it
+-- what was found at the start of a text, and the bytes after it
 abbrev pub Found : Type 0 → Type 0
 Found A = Option (A × List ℕ)
 
@@ -39,7 +39,7 @@ seen_as f found = option_map (λ x. (f x.0, x.1)) found
 
 -- ---- numbers
 
--- the number that the digits of a base at the front write
+-- the number that the digits of a base at the start write
 unfoldable pub digits_at : ℕ → List ℕ → Found ℕ
 digits_at base text =
     let n = prefix_len (λ byte. is_digit byte base) text in
@@ -63,7 +63,7 @@ number_at (byte ∷ following) =
 
 -- ---- names
 
--- the longest name at the front, in upper case
+-- the longest name at the start, in upper case
 unfoldable pub name_at : List ℕ → Found (List ℕ)
 name_at [] = None
 name_at (byte ∷ following) =
@@ -95,7 +95,7 @@ unfoldable pub location_at : List ℕ → Found Operand
 location_at [] = None
 location_at (byte ∷ following) = if byte == ascii.star then Some (Here, following) else None
 
--- the operand at the front that isn't a number
+-- the operand at the start that isn't a number
 abbrev pub other_operand_at : Operands → List ℕ → Found Operand
 other_operand_at Labels text = option_or (location_at text) (option_or (attribute_at name_at text) (seen_as Label (name_at text)))
 other_operand_at Symbols text = attribute_at symbol_at text
@@ -105,7 +105,7 @@ operand_at operands text = option_or (seen_as Number (number_at text)) (other_op
 
 -- ---- operators
 
--- the first row of a table whose spelling stands at the front, in upper or lower case
+-- the first row of a table whose spelling stands at the start, in upper or lower case
 unfoldable pub spelled_at : {A : Type 0} → List (List ℕ × A) → List ℕ → Found A
 spelled_at [] text = None
 spelled_at (row ∷ rows) text =
@@ -129,12 +129,12 @@ operator_at text = spelled_at operators text
 
 -- ---- tokens
 
--- this token, where this byte stands at the front
+-- this token, where this byte stands at the start
 unfoldable pub byte_at : ℕ → Token → List ℕ → Found Token
 byte_at wanted token [] = None
 byte_at wanted token (byte ∷ following) = if byte == wanted then Some (token, following) else None
 
--- the token at the front where an operand is expected: a parenthesis, an operator before an operand, or an operand
+-- the token at the start where an operand is expected: a parenthesis, an operator before an operand, or an operand
 unfoldable pub operand_token_at : Operands → List ℕ → Found Token
 operand_token_at operands text =
     option_or (byte_at ascii.opening_round Opens text) (option_or (seen_as Before (sign_at text)) (seen_as Value (operand_at operands text)))
@@ -155,7 +155,7 @@ expects_following (Between operator) = true
 expects_following Opens = true
 expects_following Closes = false
 
--- these tokens stand one behind another at the front of the text, and then the rest
+-- these tokens stand one after another at the start of the text, and then the rest
 abbrev pub Stand : Operands → Bool → List ℕ → List Token → List ℕ → Type 0
 Stand operands expects text [] rest = rest ≡ text
 Stand operands expects text (token ∷ tokens) rest =

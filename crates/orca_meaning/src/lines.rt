@@ -30,6 +30,6 @@ pub struct TextFault {
     pub cause: TextCause,
     /// The line's file: 0 is the source.
     pub file: u32,
-    /// The line's number, from 1. 0 where memory ran out.
+    /// The line's number, from 1. 0 when out of memory.
     pub line: u32,
 }

@@ -15,13 +15,13 @@ pub enum Mode {
     DirectX,
     /// `d,y`: the same, indexed with Y.
     DirectY,
-    /// `(d)`: the address that stands in the direct page.
+    /// `(d)`: the address that is in the direct page.
     DirectIndirect,
     /// `(d),y`: that address, indexed with Y.
     DirectIndirectY,
-    /// `(d,x)`: the address that stands in the direct page, at a place indexed with X.
+    /// `(d,x)`: the address that is in the direct page, at a place indexed with X.
     DirectXIndirect,
-    /// `[d]`: the long address that stands in the direct page.
+    /// `[d]`: the long address that is in the direct page.
     DirectLong,
     /// `[d],y`: that address, indexed with Y.
     DirectLongY,

@@ -5,7 +5,7 @@ use Rattle.std.proofs.lemmas.List.Concat.{flat_map-cons}
 use Rattle.asm_meaning.specs.Constant.{Constants}
 use Rattle.orca_object.specs.AmountView.{less_location, written_term, written_terms, all_written}
 
--- three terms one behind another
+-- three terms one after another
 pub location_put : (old one two three : List ℕ) (back : ℕ) → one ≡ old ++ term_text 0 Location → two ≡ one ++ term_text 0 (Constant back) → three ≡ two ++ term_text 0 (Operator 0x02)
     → three ≡ old ++ terms_text 0 (less_location back)
 location_put old one two three back a b c =

@@ -29,7 +29,7 @@ use Rattle.orca_object.specs.NumberView.{IsTerms, HasAmount, HasNumber}
 abbrev bad : AsmCause → Answer Tree
 bad cause = Err cause
 
--- no formula at the front
+-- no formula at the start
 pub no_formula : (text : List ℕ) → HasNoFormula Labels text → IsTerms text (Err BadOperand)
 no_formula text none = record { found = None; formula = λ tree means. none tree [] means; terms = refl }
 

@@ -16,7 +16,7 @@ use Rattle.orca_object.proofs.Bodies.{records_text-append, one_text}
 use Rattle.orca_object.proofs.OpenLaws.{length_at-one}
 use Rattle.orca_object.proofs.Putting.{Grows}
 
--- a label with its LOCAL, and behind it records that give so many cells
+-- a label with its LOCAL, and after it records that give so many cells
 pub marked_grown : (label : List ℕ) (form size : ℕ) (contents : List Record) (s : Segment) (o : OpenSegment) (b : Body) → ShowsSegment (with_local_label label form size s) o → o.body.cells ≡ cells_of s → size ≡ length_at (cells_of s) contents
     → b.cells ≡ o.body.cells + size → Grows (kept_text o.body.writer.text) (kept_text b.writer.text) (records_text contents) → ShowsBody (0x37 + length s.header.name) (with_local_record label form contents s).body b
 marked_grown label form size contents s o b shown cells is more grows =

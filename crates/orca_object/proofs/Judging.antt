@@ -150,7 +150,7 @@ kept_number cs k r tree e is = is ∙ kept_by k (judged_amount cs tree) e ∙ sy
 pub refused_number : (cs : Constants) (cause : AsmCause) (tree : Tree) → refused cause ≡ kept_answer 0 (judged_amount cs tree) → no_number cause ≡ number_of cs tree
 refused_number cs cause tree e = refused_by cause (judged_amount cs tree) e ∙ sym (number_is cs tree)
 
--- ---- numbers of so many bytes
+-- ---- numbers of a given number of bytes
 
 numbered_is : (cs : Constants) (width : ℕ) (tree : Tree) → piece_of_number cs width tree ≡ (judged_amount cs tree >>= λ a. Ok (number_piece width a))
 numbered_is cs width tree = by_judged (checked_formula tree)

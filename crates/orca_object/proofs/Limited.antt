@@ -57,7 +57,7 @@ grows text bytes new more e put few =
 pub limited_room : (bytes : List ℕ) (size : ℕ) → bytes ≡ replicate size 0 → size ≤ most_bytes → Some bytes ≡ text_within_limit (replicate size 0)
 limited_room bytes size is few = ap Some is ∙ sym (is_limited (replicate size 0) (omega (arith, length-replicate {A = ℕ} size 0, few)))
 
--- what stands behind may be too long by itself
+-- what stands after may be too long by itself
 pub long_after : (text more : List ℕ) → None ≡ text_within_limit more → None ≡ text_within_limit (text ++ more)
 long_after text more e = sym (is_too_long (text ++ more) (omega (arith, length-append text more, long_text more e)))
 

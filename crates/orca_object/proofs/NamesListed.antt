@@ -1,4 +1,4 @@
--- Names one behind another, with commas between them.
+-- Names one after another, with commas between them.
 use Rattle.std.proofs.Common.{◌≡◌, ◌≢◌, ℕ, ◌<◌, ◌≤◌, Bool, true, false, cond, List, [], ◌∷◌, ◌++◌, length, take, drop, Some, None, sym, ap, subst, ◌∙◌, append_assoc, arith}
 use Rattle.std.specs.List.{prefix_len}
 use Rattle.std.proofs.lemmas.List.{length-drop}
@@ -21,7 +21,7 @@ one_found o m n r s p q = ap (λ (x : List ℕ × List ℕ). x.1) (same (m, r) (
 abbrev found : List ℕ × List ℕ → Found (List ℕ)
 found x = Some x
 
--- what stands behind a name is shorter
+-- what stands after a name is shorter
 pub name_shorter : (text name rest : List ℕ) → name_at text ≡ Some (name, rest) → length rest < length text
 unfolding name_at
 name_shorter [] name rest e = absurd cc

@@ -25,7 +25,7 @@ pad (suc k) m (x ∷ l) less =
 
 -- ---- one byte
 
--- so many digits are missing of a byte
+-- a given number of digits are missing of a byte
 pub record GroupLeft (base each : ℕ) (digits left : List ℕ) (value count : ℕ) : Type 0 where
   pub number : digits_value_after base value (take count (left ++ zeros count)) ≡ digits_value base (take each (digits ++ zeros each))
   pub rest : drop count left ≡ drop each digits

@@ -56,7 +56,7 @@ pub record IsKeptOf (terms : List Term) (large : Bool) (tree : Tree) : Type 0 wh
 abbrev pub piece_answer : Result piece_type.Piece AsmCause → Answer Piece
 piece_answer answer = map_answer piece answer
 
--- the formulas of a text, and the numbers of so many bytes that they give
+-- the formulas of a text, and the numbers of a given number of bytes that they give
 pub record HasNumbers (constants : Constants) (width : ℕ) (text : List ℕ) (answer : Answer (List Piece)) : Type 0 where
   pub trees : List Tree
   pub are : AreFormulas text trees

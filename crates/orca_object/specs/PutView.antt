@@ -23,7 +23,7 @@ abbrev pub parts_size : List RepeatedPieces → ℕ
 parts_size [] = 0
 parts_size (p ∷ ps) = p.count * pieces_size p.pieces.items + parts_size ps
 
--- some bytes were written, where constant bytes wait for their record and these pieces stand behind
+-- some bytes were written, where constant bytes wait for their record and these pieces stand after
 pub record Wrote (whole : List ℕ) (kept : Option (List ℕ)) (pending : List ℕ) (rest : List meaning.Piece) : Type 0 where
   pub text : List ℕ
   pub kept_is : kept ≡ text_within_limit text

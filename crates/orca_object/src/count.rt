@@ -65,7 +65,7 @@ fn count_by(found: Option<u32>) -> Result<u32, AsmCause>
     }
 }
 
-/// How often an element stands, which is said at the front of a text, and what stands behind that.
+/// How often an element stands, which is said at the start of a text, and what stands after that.
 pub(crate) fn count_at<'a>(
     alloc: Global,
     known: KnownConstants<'_>,

@@ -39,7 +39,7 @@ fn one_piece(alloc: Global, bytes: Vec<u8>) -> Result<Vec<Piece>, AllocError>
     Ok(pieces)
 }
 
-/// Numbers of so many bytes.
+/// Numbers of a given number of bytes.
 fn number_value<'a>(
     alloc: Global,
     known: KnownConstants<'_>,
@@ -230,7 +230,7 @@ fn weak_value<'a>(
     }
 }
 
-/// The value of a type, behind its opening quote, and what stands behind its closing one.
+/// The value of a type, behind its opening quote, and what stands after its closing one.
 fn value_at<'a>(
     alloc: Global,
     known: KnownConstants<'_>,
@@ -289,7 +289,7 @@ fn part_of(
     }
 }
 
-/// What the element at the front gives, and what stands behind it.
+/// What the element at the start gives, and what stands after it.
 pub(crate) fn element_at<'a>(
     alloc: Global,
     known: KnownConstants<'_>,

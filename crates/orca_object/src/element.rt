@@ -10,7 +10,7 @@ use std::alloc::{AllocError, Global};
 /// The type of an element.
 #[derive(Clone, Copy)]
 pub(crate) enum ElementKind {
-    /// I and A: numbers of so many bytes.
+    /// I and A: numbers of a given number of bytes.
     Number(u8),
     /// H.
     Hexadecimal,
@@ -24,7 +24,7 @@ pub(crate) enum ElementKind {
     WeakReferences,
 }
 
-/// What stands behind a parenthesis that opens at the front.
+/// What stands after a parenthesis that opens at the start.
 pub(crate) fn after_parenthesis(text: &[u8]) -> Option<&[u8]>
     ensures { MatchOption result (after_parenthesis text.now ≡ None) (λ following. after_parenthesis text.now ≡ Some following.now) }
 {
@@ -45,7 +45,7 @@ fn first_quote(text: &[u8]) -> Option<usize>
     text.iter().position(|byte| *byte == b'\'')
 }
 
-/// The text up to the next `'`, and what stands behind that.
+/// The text up to the next `'`, and what stands after that.
 #[tactic(auto, using(crate::proofs::Quoted::never_closes))]
 pub(crate) fn closed_at(text: &[u8]) -> Option<(&[u8], &[u8])>
     ensures text { MatchOption result (closed_at text.now ≡ None) (λ x. closed_at text.now ≡ Some (x.0.now, x.1.now)) }
@@ -69,7 +69,7 @@ fn width_at(following: &[u8]) -> (ElementKind, &[u8])
     (ElementKind::Number(2), following)
 }
 
-/// The type at the front, in upper or lower case.
+/// The type at the start, in upper or lower case.
 #[tactic(auto, unfolding(asm_meaning::specs::Elements::kind_at))]
 pub(crate) fn kind_at(text: &[u8]) -> Option<(ElementKind, &[u8])>
     ensures { MatchOption result (kind_at text.now ≡ None) (λ x. kind_at text.now ≡ Some (element_kind x.0, x.1.now)) }
@@ -116,7 +116,7 @@ pub(crate) fn text_byte(msb: bool, byte: u8) -> u8
     if msb { byte | 0x80 } else { byte }
 }
 
-/// The text of C up to its closing quote, and what stands behind that. Two quotes are one quote of the text.
+/// The text of C up to its closing quote, and what stands after that. Two quotes are one quote of the text.
 #[tactic(auto, using(crate::proofs::Quoted::text_none, crate::proofs::Quoted::text_more, crate::proofs::Quoted::text_last, crate::proofs::Quoted::text_stops, crate::proofs::Quoted::text_quotes))]
 pub(crate) fn text_at(alloc: Global, text: &[u8]) -> Result<Option<(Vec<u8>, &[u8])>, AllocError>
     ensures { IfOk result (λ found. MatchOption found (text_at text.now ≡ None) (λ x. text_at text.now ≡ Some (x.0.items, x.1.now))) }

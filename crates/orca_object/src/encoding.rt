@@ -39,7 +39,7 @@ pub(crate) enum Encoding {
         n: u32,
         expr: Vec<u8>,
     },
-    /// Parts one behind another.
+    /// Parts one after another.
     Parts(Vec<RepeatedPieces>),
 }
 
@@ -118,7 +118,7 @@ pub(crate) fn given_once(alloc: Global, pieces: Vec<Piece>) -> Result<Encoding, 
     Ok(Encoding::Parts(parts))
 }
 
-/// How many cells an opcode and an operand of so many bytes give.
+/// How many cells an opcode and an operand of a given number of bytes give.
 fn operand_cells(count: u8) -> u32
     ensures value { result ≡ count + 1 }
     ensures few { result ≤ 0x100 }

@@ -59,7 +59,7 @@ fn is_long_jump(mnemonic: Mnemonic) -> bool
     }
 }
 
-/// The code of the record of an address of so many bytes.
+/// The code of the record of an address of a given number of bytes.
 #[inline(always)]
 fn address_code(mnemonic: Mnemonic, bytes: u8) -> u8
     ensures { result ≡ address_code mnemonic bytes }
@@ -76,7 +76,7 @@ fn address_code(mnemonic: Mnemonic, bytes: u8) -> u8
     0xEB
 }
 
-/// An opcode, and the record of an operand of so many bytes with this expression.
+/// An opcode, and the record of an operand of a given number of bytes with this expression.
 #[inline(always)]
 fn with_record(opcode: u8, mnemonic: Mnemonic, of: Kind, width: u8, expr: Vec<u8>) -> Encoding
     ensures { (tree : Tree) → expr.items ≡ expression_text tree → given_pieces result ≡ Bytes (opcode ∷ []) ∷ Whole (operand_record mnemonic (kind of) width tree) ∷ [] }

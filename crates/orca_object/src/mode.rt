@@ -25,9 +25,9 @@ pub(crate) enum Kind {
     Missing,
     /// A value.
     Value,
-    /// An address or a stack offset of so many bytes.
+    /// An address or a stack offset of a given number of bytes.
     Address(u8),
-    /// A distance of so many bytes.
+    /// A distance of a given number of bytes.
     Distance(u8),
     /// Two banks.
     Banks,
@@ -154,7 +154,7 @@ pub(crate) fn kind_of(mode: Mode) -> Kind
     }
 }
 
-/// Whether the operand is an address of so many bytes.
+/// Whether the operand is an address of a given number of bytes.
 #[inline(always)]
 fn is_address(of: Kind, bytes: u8) -> bool
     ensures { result ≡ is_address bytes (kind of) }
@@ -250,7 +250,7 @@ fn fits_width(n: u32, width: u8) -> bool
     }
 }
 
-/// Whether a number is one in two's complement of so many bytes that is below 0.
+/// Whether a number is one in two's complement of a given number of bytes that is below 0.
 fn is_negative(n: u32, width: u8) -> bool
     requires { width ≤ 3 }
     ensures { result ≡ nat_le (2 ^ 32 - 256 ^ width / 2) n }
@@ -288,7 +288,7 @@ fn fits_value(prefix: Prefix, width: u8, n: u32) -> bool
     true
 }
 
-/// Whether the operand can be this number in so many bytes.
+/// Whether the operand can be this number in a given number of bytes.
 #[inline(always)]
 fn is_operand_of_width(prefix: Prefix, of: Kind, width: u8, n: u32) -> bool
     requires { width ≤ 3 }

@@ -68,7 +68,7 @@ pub(crate) fn number_of(
     }
 }
 
-/// A number of so many bytes, of which a constant is cut to them.
+/// A number of a given number of bytes, of which a constant is cut to them.
 fn number_piece(alloc: Global, width: u8, amount: Amount) -> Result<Piece, AllocError>
     requires { width ≤ 4 }
     ensures { IfOk result (λ p. (meant : meaning.Amount) → kept_view amount ≡ kept_of 0 meant → piece p ≡ number_piece width meant) }
@@ -90,7 +90,7 @@ fn number_piece(alloc: Global, width: u8, amount: Amount) -> Result<Piece, Alloc
     }
 }
 
-/// What a formula gives where numbers of so many bytes are wanted.
+/// What a formula gives where numbers of a given number of bytes are wanted.
 fn piece_of_number(
     alloc: Global,
     known: KnownConstants<'_>,
@@ -112,7 +112,7 @@ fn piece_of_number(
     }
 }
 
-/// What the formulas give that commas part in a text, numbers of so many bytes.
+/// What the formulas give that commas part in a text, numbers of a given number of bytes.
 pub(crate) fn numbers_in(
     alloc: Global,
     known: KnownConstants<'_>,

@@ -25,7 +25,7 @@ fn recall_header_size(load_name: &[u8; 10])
     ensures { length load_name.now ≡ 10 }
 {}
 
-/// Writes bytes over those at the front.
+/// Writes bytes over those at the start.
 fn put_front(text: &mut [u8], front: &[u8])
     requires { length front.now ≤ length text.old }
     ensures { text.new ≡ front.now ++ drop (length front.now) text.old }

@@ -67,7 +67,7 @@ fn ignored_directive(operation: &[u8]) -> Option<Directive>
     None
 }
 
-/// A directive that stands behind GEQU in the table.
+/// A directive that is after GEQU in the table.
 #[tactic(auto, unfolding(orca_meaning::specs::Operation::beside))]
 fn later_directive(operation: &[u8]) -> Option<Directive>
     ensures { result ≡ value_of_spelling (folded operation.now) directives_after_gequ }

@@ -132,7 +132,7 @@ pub(crate) fn do_align(
     apply_align(alloc, kept, label, number)
 }
 
-/// The number of ORG: in a segment it stands behind `*+`.
+/// The number of ORG: in a segment it is after `*+`.
 fn distance_in(
     alloc: Global,
     kept: &AsmState,

@@ -1,4 +1,4 @@
-//! What lines leave for the lines behind them, with the segment that is open (ORCA/M reference manual, "Assembler directives";
+//! What lines leave for the lines after them, with the segment that is open (ORCA/M reference manual, "Assembler directives";
 //! GS/OS Reference, appendix F).
 
 ghost use Rattle.std.specs.Prelude.{◌≡◌, ◌≤◌, true};

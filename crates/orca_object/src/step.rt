@@ -1,4 +1,4 @@
-//! What lines leave, one behind another, and the object at their end (ORCA/M reference manual, "The assembly language
+//! What lines leave, one after another, and the object at their end (ORCA/M reference manual, "The assembly language
 //! statement").
 
 ghost use Rattle.std.specs.Prelude.{◌≡◌, [], List, true, false, Some, IfOk, OnOk, Err};

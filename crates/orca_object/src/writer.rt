@@ -1,4 +1,4 @@
-//! The records of what statements give, one behind another (GS/OS Reference, appendix F, "Segment body").
+//! The records of what statements give, one after another (GS/OS Reference, appendix F, "Segment body").
 
 ghost use Rattle.std.specs.Prelude.{◌≡◌, ◌++◌, ◌∷◌, [], map, replicate, IfSome, OnOk};
 ghost use Rattle.std.specs.List.{repeat};

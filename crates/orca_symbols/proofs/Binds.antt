@@ -1,4 +1,4 @@
--- Operands that are bound one behind another.
+-- Operands that are bound one after another.
 use Rattle.std.proofs.Common.{◌≡◌, ◌≤◌, ◌+◌, ℕ, Bool, true, false, cond, List, [], ◌∷◌, length, get_or, take, drop, Option, Some, None, refl, sym, ap, subst, ◌∙◌, inl, inr, zero, suc, eqb, arith}
 use Rattle.std.specs.Prelude.{◌≢◌, ◌<◌, ◌⊎◌, slice_get, bytes_eq, is_none, is_some}
 use Rattle.std.specs.Cmp.Lexicographic.{bytes_decides}

@@ -78,7 +78,7 @@ plain_front text_of naming at (byte ∷ following) = by_test (eqb byte 0x26) ref
         ∙ ap (λ (p : ℕ). with_front (byte ∷ take n following) (substituted_from text_of naming p 0 (drop n following))) place
         ∙ ap (λ (k : ℕ). with_front (take k (byte ∷ following)) (substituted_from text_of naming (at + (n + 1)) 0 (drop k (byte ∷ following)))) count
 
--- an `&` stands behind a run
+-- an `&` stands after a run
 pub after_run : (text : List ℕ) (byte : ℕ) (following : List ℕ) → drop (plain_len text) text ≡ byte ∷ following → byte ≡ 0x26
 unfolding plain_len
 after_run [] byte following is = absurd cc

@@ -54,7 +54,7 @@ seen_new f (Some value) fresh is = is
 pub empty_held : {V S : Type 0} (m : IndexMap (Vec ℕ) V S) → IsEmpty m → (q : List ℕ) → value_of_name m q ≡ None
 empty_held m none q = ap (λ es. lookup (λ k. bytes_eq q k.items) es) none
 
--- a name that isn't that of this entry stands behind it, if anywhere
+-- a name that isn't that of this entry stands after it, if anywhere
 pub passed : {V S : Type 0} (name : List ℕ) (m : IndexMap (Vec ℕ) V S) (at : ℕ) (key : Vec ℕ) (value : V) → Some (key, value) ≡ slice_get m.entries at → bytes_eq name key.items ≡ false
     → lookup (λ k. bytes_eq name k.items) (drop at m.entries) ≡ value_of_name m name → lookup (λ k. bytes_eq name k.items) (drop (at + 1) m.entries) ≡ value_of_name m name
 passed {V = V} name m at key value is other so =

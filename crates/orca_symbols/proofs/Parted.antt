@@ -24,7 +24,7 @@ drop_all (y ∷ l) (suc i) end = drop_all l i (omega (arith, end))
 pub drop_read : {A : Type 0} (l : List A) (i : ℕ) (x : A) → i < length l → x ≡ get_or l i x → (get_or l i x ≡ get_or l i x) × (drop i l ≡ x ∷ drop (i + 1) l)
 drop_read {A = A} l i x less is = (refl, drop_more l i x less ∙ ap (λ (y : A). y ∷ drop (i + 1) l) (sym is))
 
--- the first piece, and the pieces of what stands behind its separator
+-- the first piece, and the pieces of what stands after its separator
 after_first : ℕ → List ℕ → List (List ℕ)
 after_first separator [] = []
 after_first separator (byte ∷ following) = pieces separator following

@@ -3,7 +3,7 @@ use Rattle.std.specs.Prelude.{ℕ, ◌+◌, List, [], ◌∷◌, Option, Some, N
 use Rattle.orca_meaning.specs.Quotes.{quote_following}
 use Rattle.macro_meaning.specs.Pieces.{parts, open_after, pieces}
 
--- how many bytes stand before the first separator outside quotes and parentheses
+-- how many bytes are before the first separator outside quotes and parentheses
 unfoldable pub piece_len : ℕ → Option ℕ → ℕ → List ℕ → ℕ
 piece_len separator quote count [] = 0
 piece_len separator quote count (byte ∷ following) =

@@ -31,7 +31,7 @@ text_before text_of (part ∷ parts) tail = join (part_text text_of part) (text_
 pub record HasParts (line : Line) (parts : List TemplatePart) : Type 0 where
   pub is : (text_of : List ℕ → Option (List ℕ)) → text_before text_of parts (Some []) ≡ substituted_from text_of (naming_at line.text line.fields) 0 0 line.text
 
--- what comes in place of an `&`, and how many of the bytes behind it go with it
+-- what comes in place of an `&`, and how many of the bytes after it go with it
 abbrev pub replacement_text : (List ℕ → Option (List ℕ)) → Replacement → Option (List ℕ)
 replacement_text text_of Ampersand = Some (0x26 ∷ [])
 replacement_text text_of (Text name more) = text_of name

@@ -1,4 +1,4 @@
--- Short texts that are lent or kept.
+-- Short texts that are borrowed or kept.
 use Rattle.std.specs.Prelude.{ℕ, List, Option, Some, None}
 
 abbrev pub word_of : Option (List ℕ) → List ℕ → List ℕ

@@ -42,7 +42,7 @@ fn spelled_among<'a>(names: &'a [Name], text: &[u8]) -> Option<&'a [u8]>
     None
 }
 
-/// The name as it is written, and the text behind it, in `NAME=text`.
+/// The name as it is written, and the text after it, in `NAME=text`.
 #[tactic(auto, using(crate::proofs::Binds::no_bytes))]
 fn split_keyword(piece: &[u8]) -> Option<(&[u8], &[u8])>
     ensures short { IfSome result (λ x. length x.1.now ≤ length piece.now) }

@@ -219,7 +219,7 @@ fn long_number(
     value_of(alloc, of, &found.formula)
 }
 
-/// The comparison at the front: whether it asks for equal texts, and what stands behind it.
+/// The comparison at the start: whether it asks for equal texts, and what stands after it.
 fn comparison_at(text: &[u8]) -> Option<(bool, &[u8])>
     ensures { MatchOption result (comparison_at text.now ≡ None) (λ x. comparison_at text.now ≡ Some (x.0, x.1.now)) }
 {

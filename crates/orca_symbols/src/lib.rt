@@ -1,4 +1,4 @@
-//! Symbolic parameters: their names and texts, the lines and conditions that they stand in, and the calls that bind them (ORCA/M
+//! Symbolic parameters: their names and texts, the lines and conditions that they are in, and the calls that bind them (ORCA/M
 //! reference manual, "Symbolic parameters", "Macro calls" and "Conditional assembly expressions").
 #![tactic(auto)]
 

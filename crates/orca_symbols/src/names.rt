@@ -154,7 +154,7 @@ pub fn statement_of(operation: &[u8]) -> Option<Statement>
     None
 }
 
-/// What was found, where nothing stands behind it.
+/// What was found, where nothing stands after it.
 pub(crate) fn whole_match(found: Option<(Name, &[u8])>) -> Option<Name>
     ensures { result ≡ whole_match (option_map (λ x. (x.0, x.1.now)) found.entry) }
 {

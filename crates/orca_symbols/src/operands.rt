@@ -65,7 +65,7 @@ fn open_after(quote: Option<u8>, count: usize, byte: u8) -> usize
     }
 }
 
-/// How many bytes stand before the first separator outside quotes and parentheses.
+/// How many bytes are before the first separator outside quotes and parentheses.
 #[tactic(auto, unfolding(crate::specs::Piece::piece_len))]
 fn piece_len(separator: u8, text: LinePart<'_>) -> usize
     ensures value { result ≡ piece_len separator None 0 text.entry.bytes.now }
@@ -144,7 +144,7 @@ fn closing(quote: u8, following: &[u8]) -> Option<usize>
     following.iter().position(|byte| *byte == quote)
 }
 
-/// The text up to the closing quote, and what stands behind that.
+/// The text up to the closing quote, and what stands after that.
 #[tactic(auto, unfolding(macro_meaning::specs::Pieces::closed_at), using(crate::proofs::Parted::closes, crate::proofs::Parted::never_closes))]
 fn closed_at(quote: u8, following: &[u8]) -> Option<(&[u8], &[u8])>
     ensures bound { IfSome result (λ x. length x.0.now ≤ length following.now) }
@@ -160,7 +160,7 @@ fn closed_at(quote: u8, following: &[u8]) -> Option<(&[u8], &[u8])>
     }
 }
 
-/// The text in quotes at the front, and what stands behind it.
+/// The text in quotes at the start, and what stands after it.
 #[tactic(auto, unfolding(macro_meaning::specs::Pieces::quoted_at))]
 pub(crate) fn quoted_at(text: &[u8]) -> Option<(&[u8], &[u8])>
     ensures bound { IfSome result (λ x. length x.0.now ≤ length text.now) }

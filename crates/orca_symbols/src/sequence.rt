@@ -7,7 +7,7 @@ ghost use Rattle.macro_meaning.specs.Substitution.{first_passes};
 use crate::names::is_sequence;
 use orca_text::{LinePart, label_in};
 
-/// Whether a dot stands at the front.
+/// Whether a dot stands at the start.
 #[inline(always)]
 pub fn begins_dot(text: &[u8]) -> bool
     ensures { result ≡ first_passes (λ byte. byte == 0x2E) text.now }

@@ -154,7 +154,7 @@ fn naming_by(statement: Option<Statement>, of: &SourceLine, at: u32) -> Naming
     Naming::Replaced
 }
 
-/// Whether a letter stands at the front.
+/// Whether a letter stands at the start.
 pub(crate) fn begins_letter(following: &[u8]) -> bool
     ensures { result ≡ first_passes is_letter following.now }
 {
@@ -164,7 +164,7 @@ pub(crate) fn begins_letter(following: &[u8]) -> bool
     }
 }
 
-/// Whether the start of a name stands at the front.
+/// Whether the start of a name is at the start.
 pub(crate) fn begins_name(following: &[u8]) -> bool
     ensures { result ≡ first_passes is_name_start following.now }
 {
@@ -174,7 +174,7 @@ pub(crate) fn begins_name(following: &[u8]) -> bool
     }
 }
 
-/// How many bytes go with the name at the front: its own, and a dot directly behind it.
+/// How many bytes go with the name at the start: its own, and a dot directly behind it.
 #[tactic(auto, unfolding(macro_meaning::specs::Substitution::taken_length))]
 pub(crate) fn taken_length(following: &[u8]) -> usize
     ensures value { result ≡ taken_length following.now }
@@ -194,7 +194,7 @@ pub fn is_folded(name: &[u8]) -> bool
     name.iter().all(|byte| byte.to_ascii_uppercase() == *byte)
 }
 
-/// The text of the symbol whose name stands at the front.
+/// The text of the symbol whose name is at the start.
 fn named_text<'a>(
     alloc: Global,
     of: Values<'a>,
@@ -211,7 +211,7 @@ fn named_text<'a>(
     Ok(text_of(of, name.bytes()))
 }
 
-/// The text in place of an `&`, and how many of the bytes behind it go with it.
+/// The text in place of an `&`, and how many of the bytes after it go with it.
 pub(crate) fn in_place<'a>(
     alloc: Global,
     of: Values<'a>,
@@ -255,7 +255,7 @@ pub(crate) fn naming_at(of: &SourceLine, statement: Option<Statement>, at: u32) 
     naming_by(statement, of, at)
 }
 
-/// How many bytes stand before the first `&`.
+/// How many bytes are before the first `&`.
 #[tactic(auto, unfolding(crate::specs::Plain::plain_len))]
 fn plain_len(text: &[u8]) -> usize
     ensures value { result ≡ plain_len text.now }

@@ -35,13 +35,13 @@ pub enum TemplatePart {
 pub(crate) enum Replacement {
     /// It stays.
     Ampersand,
-    /// The text of this symbol, and so many of the bytes behind it go with it.
+    /// The text of this symbol, and so many of the bytes after it go with it.
     Text(Name, usize),
     /// It stays, but the symbol must be declared.
     Asked(Name),
 }
 
-/// The name at the front, in upper case.
+/// The name at the start, in upper case.
 fn front_name(alloc: Global, following: LinePart<'_>) -> Result<Name, AllocError>
     ensures { IfOk result (λ name. name ≡ characters.folded (take (name_length following.entry.bytes.now) following.entry.bytes.now)) }
 {
@@ -87,7 +87,7 @@ fn close(alloc: Global, parts: &mut Vec<TemplatePart>, run: LinePart<'_>) -> Res
     Ok(())
 }
 
-/// Puts what comes in place of an `&` behind the parts: how many of the bytes behind it go with it.
+/// Puts what comes in place of an `&` behind the parts: how many of the bytes after it go with it.
 #[tactic(auto, using(crate::proofs::Templates::adds_ampersand, crate::proofs::Templates::adds_text, crate::proofs::Templates::adds_asked))]
 fn add(
     alloc: Global,

@@ -1,4 +1,4 @@
-//! Short texts that are kept: few bytes stand in the value itself, and more of them in memory.
+//! Short texts that are kept: few bytes are in the value itself, and more of them in memory.
 
 ghost use Rattle.std.specs.Prelude.{◌≡◌, ◌≤◌, length, IfOk};
 
@@ -8,7 +8,7 @@ use orca_text::LinePart;
 use std::alloc::{AllocError, Global};
 use std::marker::Model;
 
-/// How many bytes stand in the value itself.
+/// How many bytes are in the value itself.
 const FEW: usize = 16;
 
 /// The bytes of a part.

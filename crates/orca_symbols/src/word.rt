@@ -1,4 +1,4 @@
-//! Short texts that are lent where they stand as they are wanted, and kept else.
+//! Short texts that are borrowed where they stand as they are wanted, and kept else.
 
 ghost use Rattle.std.specs.Prelude.{◌≡◌, ◌≤◌, length, IfOk, IsTrue};
 ghost use Rattle.macro_meaning.specs.Statements.{whole_match, symbol_name, sequence_name, target_name};
@@ -31,7 +31,7 @@ impl<'a> Model for Word<'a> {
 }
 
 impl<'a> Word<'a> {
-    /// Bytes that are lent.
+    /// Bytes that are borrowed.
     pub fn borrowed(part: LinePart<'a>) -> Word<'a>
         ensures { result ≡ part.entry.bytes.now }
     {

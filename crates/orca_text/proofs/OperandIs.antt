@@ -265,7 +265,7 @@ no_first m text at some not_a at_is none meaning (IsOne other tree rest form mea
 no_first m text at some not_a at_is none meaning (IsTwo other bare first second following means index means' is) shallow =
     none first (0x2C ∷ following) (subst (λ (t : List ℕ). MeansAt Labels t first (0x2C ∷ following)) (sym at_is) means)
 
--- what stands behind the formula makes no form, and no pair
+-- what stands after the formula makes no form, and no pair
 pub no_form : (m : Option Mnemonic) (text at : List ℕ) (o : Opening) (terms : List Term) (large : Bool) (rest : List ℕ) → 0 < length text → is_accumulator m text ≡ false
     → o ≡ opening m text → at ≡ body m text → IsFormulaAt Labels at terms large rest → None ≡ form_after o rest → (o ≡ Open → HasNoSecond rest) → IsBadOperand m text
 no_form m text at o terms large rest some not_a o_is at_is f none no_second meaning (IsMissing nothing is) shallow = absurd (omega (arith, some, ap length nothing))

@@ -32,7 +32,7 @@ fitting_is (Some (m, following)) n rest is = by_test (ltb m (2 ^ 32)) is
     by_test true e = ap lowered e
     by_test false e = let none : ◌≡◌ {A = Found ℕ} None (Some (n, rest)) = ap lowered e in absurd cc
 
--- a number stands at the front, and no parenthesis and no sign
+-- a number is at the start, and no parenthesis and no sign
 pub number_token : (text : List ℕ) (n : ℕ) (rest : List ℕ) → ((following : List ℕ) → text ≢ 0x28 ∷ following) → sign_at text ≡ None → seen_as fitting (number_at text) ≡ Some (Some n, rest)
     → operand_token_at Symbols text ≡ Some (Value (Number n), rest)
 unfolding operand_token_at operand_at

@@ -1,4 +1,4 @@
--- A formula at the front of a text, as it is kept.
+-- A formula at the start of a text, as it is kept.
 use Rattle.std.specs.Prelude.{◌≡◌, ℕ, Bool, List}
 use Rattle.omf_format.specs.Expression.{Term, Tree, terms_of}
 use Rattle.orca_meaning.specs.declared.operators.Operands.{Operands}
@@ -13,6 +13,6 @@ pub record IsFormulaAt (operands : Operands) (text : List ℕ) (terms : List Ter
   pub kept : terms ≡ kept_terms (terms_of tree)
   pub large_is : large ≡ has_large tree
 
--- no formula stands at the front
+-- no formula stands at the start
 abbrev pub HasNoFormula : Operands → List ℕ → Type 0
 HasNoFormula operands text = (tree : Tree) (rest : List ℕ) → MeansAt operands text tree rest → ⊥

@@ -44,7 +44,7 @@ line_mnemonic line = mnemonic_of (part line.text line.operation)
 abbrev pub line_operand : SourceLine → List ℕ
 line_operand line = part line.text line.operand
 
--- where a fault for this cause lies: in the line, or nowhere for want of memory
+-- where a fault for this cause lies: in the line, or nowhere when out of memory
 abbrev pub line_for : TextCause → ℕ → ℕ
 line_for Memory line = 0
 line_for _ line = line
@@ -57,7 +57,7 @@ pub record IsOperandFault (line : SourceLine) (fault : TextFault) : Type 0 where
 
 -- ---- one formula or two
 
--- a comma stands at the front, and behind it a formula up to the end
+-- a comma stands at the start, and after it a formula up to the end
 pub record IsSecond (rest : List ℕ) (terms : List Term) (large : Bool) : Type 0 where
   pub following : List ℕ
   pub comma : rest ≡ 0x2C ∷ following

@@ -6,7 +6,7 @@ use Rattle.orca_meaning.specs.declared.lines.TextCause.TheVariants.{LineTooLong,
 use Rattle.orca_meaning.specs.declared.lines.TextFault.{TextFault}
 use Rattle.orca_meaning.specs.Line.{first_line_fault}
 
--- the cause is that of the first faulty line, and the number is its; for want of memory the number is 0
+-- the cause is that of the first faulty line, and the number is its; when out of memory the number is 0
 abbrev pub IsRefusedFor : TextCause → ℕ → List ℕ → Type 0
 IsRefusedFor LineTooLong number source = first_line_fault 1 (lines_of source) ≡ Some (number, LineTooLong)
 IsRefusedFor TooManyLines number source = first_line_fault 1 (lines_of source) ≡ Some (number, TooManyLines)

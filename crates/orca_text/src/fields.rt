@@ -112,7 +112,7 @@ pub fn quote_following(quote: Option<u8>, byte: u8) -> Option<u8>
     }
 }
 
-/// How many bytes stand before the first blank outside quotes.
+/// How many bytes are before the first blank outside quotes.
 #[tactic(auto, unfolding(orca_meaning::specs::Quotes::outside_from))]
 #[inline(always)]
 fn blank_outside(rest: &[u8]) -> usize

@@ -22,7 +22,7 @@ pub(crate) fn opening_of(is_instruction: bool, text: &[u8]) -> Opening
     }
 }
 
-/// What stands behind it.
+/// What stands after it.
 #[inline(always)]
 pub(crate) fn after_opening(opening: Opening, text: &[u8]) -> &[u8]
     ensures value { result.now ≡ after_opening opening text.now }
@@ -77,7 +77,7 @@ pub(crate) fn prefix_of(opening: Opening, text: &[u8]) -> Prefix
     }
 }
 
-/// What stands behind the prefix.
+/// What stands after the prefix.
 #[inline(always)]
 pub(crate) fn after_prefix(prefix: Prefix, text: &[u8]) -> &[u8]
     ensures value { result.now ≡ after_prefix prefix text.now }
@@ -105,7 +105,7 @@ fn register_of(letter: u8) -> Option<Index>
     }
 }
 
-/// The index at the front, and what stands behind it.
+/// The index at the start, and what stands after it.
 #[tactic(auto, unfolding(orca_meaning::specs::Operand::index_at))]
 #[inline(always)]
 fn index_at(text: &[u8]) -> (Index, &[u8])
@@ -192,7 +192,7 @@ fn square_form(indexes: (Index, Index)) -> Form
     }
 }
 
-/// The form by the opening and what stands behind the formula.
+/// The form by the opening and what stands after the formula.
 #[inline(always)]
 pub(crate) fn form_after(opening: Opening, rest: &[u8]) -> Option<Form>
     ensures { result ≡ form_after opening rest.now }

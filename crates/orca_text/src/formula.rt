@@ -243,7 +243,7 @@ fn operand_next<'a>(
     Ok(Next::Goes(again, following))
 }
 
-/// Takes what stands behind an operand.
+/// Takes what stands after an operand.
 #[inline(always)]
 fn operator_next<'a>(
     left: &'a [u8],
@@ -289,18 +289,18 @@ fn take_next<'a>(
     operator_next(left.bytes, out, waiting)
 }
 
-/// A formula at the front of a text.
+/// A formula at the start of a text.
 #[derive(Drop)]
 pub struct FormulaAt<'a> {
     /// Its terms in postfix order, with 0 for each number that is too large.
     pub formula: Formula,
     /// Whether a number in it is above 4,294,967,295.
     pub large: bool,
-    /// What stands behind it.
+    /// What stands after it.
     pub rest: &'a [u8],
 }
 
-/// The formula that stands at the front of a text, as far as operators go on, if one does.
+/// The formula that is at the start of a text, as far as operators go on, if one does.
 pub fn formula_at<'a>(
     alloc: Global,
     operands: Operands,

@@ -139,7 +139,7 @@ fn two_formulas(
     })
 }
 
-/// The formula behind the comma at the front, where it is all that stands there.
+/// The formula behind the comma at the start, where it is all that stands there.
 fn second_formula(alloc: Global, rest: LinePart<'_>) -> Result<Option<FormulaAt<'_>>, AllocError>
     ensures found { IfOk result (λ found. IfSome found (λ x. IsSecond rest.entry.bytes.now x.formula x.large)) }
     ensures none { IfOk result (λ found. IfNone found (HasNoSecond rest.entry.bytes.now)) }

@@ -69,7 +69,7 @@ fn is_name_byte(byte: u8) -> bool
     is_name_start(byte) || byte.is_ascii_digit()
 }
 
-/// How many bytes at the front go on with a name.
+/// How many bytes at the start go on with a name.
 #[inline(always)]
 pub fn name_len(following: &[u8]) -> usize
     ensures value { result ≡ prefix_len is_name_byte following.now }
@@ -96,7 +96,7 @@ pub fn to_upper_case(alloc: Global, text: LinePart<'_>) -> Result<Name, AllocErr
     Ok(Name::from_vec(name))
 }
 
-/// The longest name at the front of a text, in upper case, and what stands behind it.
+/// The longest name at the start of a text, in upper case, and what stands after it.
 #[tactic(auto, unfolding(orca_meaning::specs::Token::name_at))]
 pub fn name_at(alloc: Global, text: LinePart<'_>) -> Result<Option<(Name, &[u8])>, AllocError>
     ensures { IfOk result (λ found. MatchOption found (name_at text.entry.bytes.now ≡ None) (λ x. name_at text.entry.bytes.now ≡ Some (x.0, x.1.now))) }
@@ -112,7 +112,7 @@ pub fn name_at(alloc: Global, text: LinePart<'_>) -> Result<Option<(Name, &[u8])
     Ok(Some((name, rest)))
 }
 
-/// The name of a symbol behind `&` at the front of a text, and what stands behind it.
+/// The name of a symbol behind `&` at the start of a text, and what stands after it.
 #[tactic(auto, unfolding(orca_meaning::specs::Token::symbol_at))]
 pub fn symbol_at(alloc: Global, text: LinePart<'_>) -> Result<Option<(Name, &[u8])>, AllocError>
     ensures { IfOk result (λ found. MatchOption found (symbol_at text.entry.bytes.now ≡ None) (λ x. symbol_at text.entry.bytes.now ≡ Some (x.0, x.1.now))) }
@@ -191,7 +191,7 @@ fn attribute_at(
     }
 }
 
-/// What stands behind `*` at the front.
+/// What stands after `*` at the start.
 #[tactic(auto, unfolding(orca_meaning::specs::Token::location_at))]
 #[inline(always)]
 fn after_star(text: &[u8]) -> Option<&[u8]>
@@ -254,7 +254,7 @@ fn number_operand(number: Option<u32>) -> FormulaOperand
     }
 }
 
-/// The operand at the front.
+/// The operand at the start.
 #[tactic(auto, unfolding(orca_meaning::specs::Token::operand_at))]
 #[inline(always)]
 fn operand_at(
@@ -271,7 +271,7 @@ fn operand_at(
     other_operand_at(alloc, operands, text)
 }
 
-/// What stands behind a byte at the front.
+/// What stands after a byte at the start.
 #[inline(always)]
 pub fn after_byte(text: &[u8], wanted: u8) -> Option<&[u8]>
     ensures { MatchOption result ((following : List ℕ) → text.now ≢ wanted ∷ following) (λ rest. text.now ≡ wanted ∷ rest.now) }
@@ -285,7 +285,7 @@ pub fn after_byte(text: &[u8], wanted: u8) -> Option<&[u8]>
     Some(following)
 }
 
-/// The token at the front, where an operand is expected.
+/// The token at the start, where an operand is expected.
 #[tactic(auto, unfolding(orca_meaning::specs::Token::operand_token_at, orca_meaning::specs::Token::byte_at))]
 #[inline(always)]
 pub(crate) fn operand_token(
@@ -308,7 +308,7 @@ pub(crate) fn operand_token(
     }
 }
 
-/// The token at the front, behind an operand.
+/// The token at the start, behind an operand.
 #[tactic(auto, unfolding(orca_meaning::specs::Token::operator_token_at, orca_meaning::specs::Token::byte_at))]
 #[inline(always)]
 pub(crate) fn operator_token(text: &[u8]) -> Option<(OperatorToken, &[u8])>

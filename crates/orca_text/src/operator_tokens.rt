@@ -8,7 +8,7 @@ ghost use Rattle.orca_meaning.specs.Token.{sign_at, operator_at, spelled_at};
 use crate::operation::is_spelled;
 use orca_meaning::{Operator, Sign};
 
-/// What stands behind a spelling at the front, in upper or lower case.
+/// What stands after a spelling at the start, in upper or lower case.
 fn after_word<'a>(text: &'a [u8], spelling: &[u8]) -> Option<&'a [u8]>
     ensures { MatchOption result (bytes_eq spelling.now (folded (take (length spelling.now) text.now)) ≡ false)
         (λ rest. (bytes_eq spelling.now (folded (take (length spelling.now) text.now)) ≡ true) × (rest.now ≡ drop (length spelling.now) text.now)) }
@@ -23,7 +23,7 @@ fn after_word<'a>(text: &'a [u8], spelling: &[u8]) -> Option<&'a [u8]>
     None
 }
 
-/// The operator before an operand that stands at the front.
+/// The operator before an operand that is at the start.
 #[tactic(auto, unfolding(orca_meaning::specs::Token::sign_at, orca_meaning::specs::Token::spelled_at))]
 #[inline(always)]
 pub(crate) fn sign_at(text: &[u8]) -> Option<(Sign, &[u8])>
@@ -42,7 +42,7 @@ pub(crate) fn sign_at(text: &[u8]) -> Option<(Sign, &[u8])>
     }
 }
 
-/// The operator between two operands that stands at the front.
+/// The operator between two operands that is at the start.
 #[tactic(auto, unfolding(orca_meaning::specs::Token::operator_at, orca_meaning::specs::Token::spelled_at))]
 #[inline(always)]
 pub(crate) fn operator_at(text: &[u8]) -> Option<(Operator, &[u8])>

@@ -22,7 +22,7 @@ pub enum ShortFormula {
     Three(Operator, u32, Operator, u32, u32),
 }
 
-/// The number at the front where an operand is expected, and what stands behind it. None where another token stands there,
+/// The number at the start where an operand is expected, and what stands after it. None where another token stands there,
 /// and of a number above 4,294,967,295.
 #[tactic(auto, using(crate::proofs::Shorts::number_token, crate::proofs::ShortTokens::sign_no_number, crate::proofs::ShortTokens::none_no_number, crate::proofs::ShortTokens::large_no_number))]
 fn number_token(text: &[u8]) -> Option<(u32, &[u8])>
@@ -42,7 +42,7 @@ fn number_token(text: &[u8]) -> Option<(u32, &[u8])>
     }
 }
 
-/// The operator at the front behind an operand, and what stands behind it.
+/// The operator at the start behind an operand, and what stands after it.
 fn operator_after(text: &[u8]) -> Option<(Operator, &[u8])>
     ensures { MatchOption result ((operator : Operator) (following : List ℕ) → operator_token_at text.now ≡ Some (Between operator, following) → ⊥)
         (λ x. operator_token_at text.now ≡ Some (Between x.0, x.1.now)) }

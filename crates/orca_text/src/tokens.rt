@@ -36,7 +36,7 @@ pub fn digit(byte: u8, base: u32) -> Option<u32>
     None
 }
 
-/// What stands behind the digits at the front.
+/// What stands after the digits at the start.
 fn after_digits(base: u32, text: &[u8]) -> &[u8]
     requires { base ≤ 36 }
     ensures { result.now ≡ drop (prefix_len (λ byte. is_digit byte base) text.now) text.now }
@@ -51,7 +51,7 @@ fn after_digits(base: u32, text: &[u8]) -> &[u8]
     left
 }
 
-/// The number that the digits of a base at the front write, `None` where it is above 4,294,967,295, and what stands behind
+/// The number that the digits of a base at the start write, `None` where it is above 4,294,967,295, and what stands after
 /// them. The base is 1 to 36.
 #[tactic(auto, unfolding(orca_meaning::specs::Token::digits_at))]
 pub fn digits_at(base: u32, text: &[u8]) -> Option<(Option<u32>, &[u8])>
@@ -85,7 +85,7 @@ fn closing(quote: u8, following: &[u8]) -> Option<usize>
     following.iter().position(|byte| *byte == quote)
 }
 
-/// The number that a text of one to four bytes is, and what stands behind its closing quote.
+/// The number that a text of one to four bytes is, and what stands after its closing quote.
 #[tactic(auto, unfolding(orca_meaning::specs::Token::text_at))]
 fn text_at(quote: u8, following: &[u8]) -> Option<(u32, &[u8])>
     ensures { MatchOption result (text_at quote following.now ≡ None) (λ x. (text_at quote following.now ≡ Some (x.0, x.1.now)) × (x.0 < 2 ^ 32)) }
@@ -99,7 +99,7 @@ fn text_at(quote: u8, following: &[u8]) -> Option<(u32, &[u8])>
     Some((number, from(following, close + 1)))
 }
 
-/// The number at the front, `None` where it is above 4,294,967,295, and what stands behind it.
+/// The number at the start, `None` where it is above 4,294,967,295, and what stands after it.
 #[tactic(auto, unfolding(orca_meaning::specs::Token::number_at))]
 #[inline(always)]
 pub(crate) fn number_at(text: &[u8]) -> Option<(Option<u32>, &[u8])>

@@ -1,4 +1,4 @@
-// Links whose faults no line of a command tells whole: rings of equates, whose names aren't printed. And a program without values.
+// Links whose faults no line of a command tells whole: cycles of equates, whose names aren't printed. And a program without values.
 use crate::files::File::{Equates, Whole};
 use crate::files::Sample::Apart;
 use crate::files::{File, inputs_of};

@@ -17,7 +17,7 @@ use std::alloc::{AllocError, Global};
 /// Where the body of a segment with a name of one letter begins.
 const BODY: &str = "38";
 
-/// A word, and what stands behind the space behind it.
+/// A word, and what stands after the space behind it.
 fn first_word(line: &str) -> (&str, &str) {
     match line.split_once(' ') {
         Some((word, rest)) => (word, rest),
@@ -219,7 +219,7 @@ fn between(
     Ok(bytes)
 }
 
-/// The source that two words and what stands behind them say: the file of the first word, the text, and the file of the second.
+/// The source that two words and what stands after them say: the file of the first word, the text, and the file of the second.
 fn source_of(
     alloc: Global,
     bench: &Fixture,
@@ -305,7 +305,7 @@ fn expand(
     bench.out().extend_from_slice(&reported)
 }
 
-/// The object of a segment M of so many cells with these records, and of the segments that the file `OTHERS` has.
+/// The object of a segment M of a given number of cells with these records, and of the segments that the file `OTHERS` has.
 fn object_of(
     alloc: Global,
     shelf: &Shelf,

@@ -47,7 +47,7 @@ pub fn asked<'a>(run: &'a RunOutcome, word: &str, rest: &str) -> Option<&'a [u8]
     }
 }
 
-/// Tells what is asked for by a word and what stands behind it.
+/// Tells what is asked for by a word and what stands after it.
 pub fn ask(alloc: Global, bench: &mut Fixture, word: &str, rest: &str) -> Result<(), AllocError> {
     let mut reported = Vec::new(alloc);
     match asked(&bench.outcome, word, rest) {
@@ -57,7 +57,7 @@ pub fn ask(alloc: Global, bench: &mut Fixture, word: &str, rest: &str) -> Result
     bench.out().extend_from_slice(&reported)
 }
 
-/// Tells how many bytes stand at `out`, or how often the store was read.
+/// Tells how many bytes are at `out`, or how often the store was read.
 pub fn ask_number(alloc: Global, bench: &mut Fixture, word: &str) -> Result<(), AllocError> {
     let number = match (word, bench.outcome.output()) {
         ("size", Some(bytes)) => bytes.len() as u64,

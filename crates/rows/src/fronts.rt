@@ -25,7 +25,7 @@ fn dump_front(alloc: Global, front: &[u8], counted: bool) -> Result<RunOutcome, 
     dump(alloc, bytes)
 }
 
-/// Tells what is printed for the front of so many bytes, unless it is that the file is cut there: then the answer is that.
+/// Tells what is printed for the front of a given number of bytes, unless it is that the file is cut there: then the answer is that.
 fn is_cut(
     alloc: Global,
     out: &mut Vec<u8>,

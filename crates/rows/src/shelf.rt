@@ -10,7 +10,7 @@ pub struct Held {
     pub bytes: Vec<u8>,
 }
 
-/// The files that a row knows: those of all rows, and behind them its own.
+/// The files that a row knows: those of all rows, and after them its own.
 #[derive(Drop)]
 pub struct Shelf {
     files: Vec<Held>,

@@ -11,7 +11,7 @@ pub data HasTaken (before : ℕ) (line : List ℕ) (old new : List Command) : Ty
   Gave : before < most_lines → is_skipped line ≡ false → (command : Command) → line_command (is_start old) line ≡ Ok command
       → new ≡ old ++ command ∷ [] → HasTaken before line old new
 
--- the line is bad for this cause, unless memory ran out
+-- the line is bad for this cause, unless out of memory
 abbrev pub IsBadFor : ℕ → Bool → List ℕ → ScriptCause → Type 0
 IsBadFor before is_first line TooManyLines = IsBad before is_first line TooManyLines
 IsBadFor before is_first line BadWord = IsBad before is_first line BadWord

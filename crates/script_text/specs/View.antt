@@ -31,7 +31,7 @@ command (declared.Handle h) = machine.StateOf h
 command declared.Room = machine.Room
 command declared.Compact = machine.Compact
 
--- a cause is this answer, unless memory ran out
+-- a cause is this answer, unless out of memory
 abbrev pub IsCause : {A : Type 0} → ScriptCause → Result A ScriptCause → Type 0
 IsCause TooManyLines read = read ≡ Err TooManyLines
 IsCause BadWord read = read ≡ Err BadWord
@@ -42,12 +42,12 @@ IsCause BadNumber read = read ≡ Err BadNumber
 IsCause BankTwice read = read ≡ Err BankTwice
 IsCause Memory read = Unit {0}
 
--- what was read, as it is seen, is this answer, unless memory ran out
+-- what was read, as it is seen, is this answer, unless out of memory
 abbrev pub IsRead : {A B : Type 0} → (A → B) → Result A ScriptCause → Result B ScriptCause → Type 0
 IsRead seen (Ok found) read = read ≡ Ok (seen found)
 IsRead seen (Err cause) read = IsCause cause read
 
--- the text's line with this number is its first bad one, for the first cause; for want of memory the number is 0
+-- the text's line with this number is its first bad one, for the first cause; when out of memory the number is 0
 abbrev pub IsRefusedFor : ScriptCause → ℕ → List ℕ → Type 0
 IsRefusedFor TooManyLines line text = IsFirstBadLine text line TooManyLines
 IsRefusedFor BadWord line text = IsFirstBadLine text line BadWord

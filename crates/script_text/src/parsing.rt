@@ -23,7 +23,7 @@ fn is_among(number: u8, others: &[u8]) -> bool
     others.iter().any(|other| number == *other)
 }
 
-/// Whether a number stands in the list again.
+/// Whether a number is in the list again.
 #[tactic(auto, unfolding(loader_machine::specs::Script::stands_twice))]
 fn stands_twice(numbers: &[u8]) -> bool
     ensures { result ≡ stands_twice numbers.now }

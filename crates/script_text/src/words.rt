@@ -30,7 +30,7 @@ fn first_space(line: &[u8]) -> Option<usize>
     line.iter().position(|byte| *byte == b' ')
 }
 
-/// The first word, and what stands behind the space after it, if there is one.
+/// The first word, and what stands after the space after it, if there is one.
 #[tactic(auto, using(crate::proofs::FirstWord::words_of_only, crate::proofs::FirstWord::words_of_first, crate::proofs::FirstWord::words_of_past))]
 fn split_word(line: &[u8]) -> (&[u8], Option<&[u8]>)
     ensures { words_of line.now ≡ result.0.now ∷ option_map_or (λ rest. words_of rest.now) result.1 [] }

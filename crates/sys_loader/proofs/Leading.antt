@@ -10,7 +10,7 @@ use Rattle.loader_agrees.specs.Agrees.{LoadedUser, Loaded, Outline, kept_outline
 use Rattle.loader_agrees.specs.laws.Leading.{Leading, Its, Holder, is_led}
 use Rattle.loader_users.specs.Renewing.{AreRenewed}
 
--- what is told of the one loader is so of the other
+-- what is reported for the one loader is so of the other
 pub led_pair : (old now : Loaded) (id : ℕ) (pair : ℕ × ℕ) → old ≡ now → pair ≡ led_by (kept_outlines now.users) id → pair ≡ led_by (kept_outlines old.users) id
 led_pair old now id pair same is = is ∙ ap (λ (l : Loaded). led_by (kept_outlines l.users) id) (sym same)
 

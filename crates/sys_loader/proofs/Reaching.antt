@@ -26,7 +26,7 @@ use Rattle.sys_loader.specs.declared.answers.Entered.{Entered}
 use Rattle.sys_loader.specs.Activating.{segment_reads}
 use Rattle.sys_loader.specs.Following.{LeadsTo, IsJslRefusal, NoEntry, EntersPlace, CallsEntry, IsThere, HasAsked}
 
--- ---- the bytes that are lent
+-- ---- the bytes that are borrowed
 
 -- they are as many as were asked for
 pub loaned_size : (loader : Loaded) → IsSound loader.memory loader.users → (id number at count : ℕ) (bytes : List ℕ) → HasBorrowed loader id number at count bytes → length bytes ≡ count
@@ -77,7 +77,7 @@ module _ (loader : Loaded) (address owner segment offset : ℕ) (lies : LiesIn l
   pub entry_in : IsSound loader.memory loader.users → (k size : ℕ) → lies.is.head.length ≡ size → k < entry_count size → 22 + 14 * k ≤ length (bytes_at loader.memory lies.h.slot)
   entry_in sound k size same inside = omega (arith, same, inside, block_room loader sound owner segment lies.h lies.is)
 
-  -- the bytes that are lent are those of its block
+  -- the bytes that are borrowed are those of its block
   pub borrowed_here : (handle : Option Handle) (bytes : List ℕ) → handle ≡ Some lies.h → IsSomeAnd handle (λ h. bytes ≡ bytes_at loader.memory h.slot) → bytes ≡ bytes_at loader.memory lies.h.slot
   borrowed_here handle bytes is here = subst (λ (o : Option Handle). IsSomeAnd o (λ h. bytes ≡ bytes_at loader.memory h.slot)) is here
 

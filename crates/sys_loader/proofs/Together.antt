@@ -177,7 +177,7 @@ module _ {U : Type 0} (change : U → U) (again : (u : U) → change (change u) 
       go was x (inl l) (inr m) = let clash : true ≡ false = sym l.0 ∙ m.0 in absurd cc
       go was x (inr l) (inl m) = let clash : true ≡ false = sym m.0 ∙ l.0 in absurd cc
 
--- what is told of each user is changed along
+-- what is reported for each user is changed along
 module _ {A B : Type 0} (f : A → B) (change : A → A) (change' : B → B) (same : (a : A) → f (change a) ≡ change' (f a)) where
   map_one : (users : List (Option A)) (id : ℕ) → map (option_map f) (option_map_or (λ (u : A). with_user users id (Some (change u))) (user_of users id) users)
       ≡ option_map_or (λ (u : B). with_user (map (option_map f) users) id (Some (change' u))) (user_of (map (option_map f) users) id) (map (option_map f) users)

@@ -26,7 +26,7 @@ pub record HasAddress (held : FileMap) (state : Machine) (id number at target of
   pub target' : segment_at sees.segments target ≡ Some t
   pub inside : offset < t.fields.length
 
--- the number in the three bytes as they stand in memory
+-- the number in the three bytes as they are in memory
 abbrev pub address_read : {held : FileMap} {state : Machine} {id number at target offset : ℕ} → HasAddress held state id number at target offset → ℕ
 address_read {state = state} {id = id} {number = number} {at = at} has =
     number_at 3 at (stands (setting_in state id has.sees.user) (held_at has.sees.user number).pokes has.s)

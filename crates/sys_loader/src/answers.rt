@@ -30,6 +30,6 @@ pub struct Info {
     pub presence: Presence,
     /// LENGTH.
     pub length: u32,
-    /// KIND as it stands in the file.
+    /// KIND as it is in the file.
     pub kind: u16,
 }

@@ -96,7 +96,7 @@ fn report_input(
     }
 }
 
-/// Makes the input for so many patches, and prints what is told of it.
+/// Makes the input for so many patches, and prints what is reported for it.
 fn make(rt: &HostRuntime, what: &str, count: u32) -> io::Result<()> {
     let content = bytes(rt.alloc(), count.wrapping_mul(16))?;
     let patches = patches(rt.alloc(), count)?;

@@ -66,7 +66,7 @@ fn resolve_all(rt: &HostRuntime, inputs: &Vec<Vec<u8>>) -> io::Result<()> {
     }
 }
 
-/// Prints what is told of the files for a word.
+/// Prints what is reported for the files for a word.
 fn reveal(rt: &HostRuntime, what: &str, inputs: &Vec<Vec<u8>>) -> io::Result<()> {
     if what == "resolve" {
         resolve_all(rt, inputs)

@@ -36,7 +36,7 @@ fn first_place(alloc: Global) -> Result<Places, AllocError> {
     }
 }
 
-/// The bytes that stand in memory for the first segment.
+/// The bytes that are in memory for the first segment.
 fn patched(alloc: Global, load: &LoadFile, places: &Places) -> Result<Vec<u8>, AllocError> {
     let length = match load.header(1) {
         Some(header) => header.length,
@@ -55,7 +55,7 @@ fn sum_of(bytes: &[u8]) -> u32 {
     sum
 }
 
-/// The sum of the bytes that stand in memory for the first segment.
+/// The sum of the bytes that are in memory for the first segment.
 fn patched_sum(alloc: Global, load: &LoadFile) -> Result<u32, AllocError> {
     let places = first_place(alloc)?;
     let bytes = patched(alloc, load, &places)?;
@@ -100,7 +100,7 @@ fn reported(alloc: Global, what: &str, file: &[u8]) -> Result<u32, AllocError> {
     }
 }
 
-/// Prints what is told of the file for a word.
+/// Prints what is reported for the file for a word.
 pub fn reveal(rt: &HostRuntime, what: &str, file: &[u8]) -> io::Result<Ended<'static>> {
     match reported(rt.alloc(), what, file) {
         Ok(number) => done(println!(rt; "{what} {number}")),

@@ -200,7 +200,7 @@ fn put_entry(out: &mut Vec<u8>) -> Result<(), PutFault> {
     )
 }
 
-/// Whether every record is written as it stands in the body of the object.
+/// Whether every record is written as it is in the body of the object.
 fn all_are_written(alloc: Global) -> Result<bool, Fail> {
     let mut out = Vec::new(alloc);
     put_all(&mut out)?;

@@ -19,7 +19,7 @@ static AFTER: [(&str, Option<Reported>); 2] = [
     ),
 ];
 
-/// The fault of the loop with lines behind it.
+/// The fault of the loop with lines after it.
 fn fault_of(alloc: Global, following: &str) -> Result<Option<Reported>, AllocError> {
     let mut source = String::from_str(alloc, LOOP)?;
     source.push_str(following)?;

@@ -18,7 +18,7 @@ pub(crate) struct Segment {
     pub(crate) org: [u8; 4],
     /// ENTRY.
     pub(crate) entry: u8,
-    /// What stands behind its header.
+    /// What stands after its header.
     pub(crate) body: &'static [u8],
 }
 

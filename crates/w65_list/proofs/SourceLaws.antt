@@ -1,4 +1,4 @@
--- The lines of records, of segments and of a file, one behind another.
+-- The lines of records, of segments and of a file, one after another.
 use Rattle.std.proofs.Common.{◌≡◌, inl, inr, ℕ, zero, suc, ◌+◌, ◌≤◌, Bool, true, false, cond, List, [], ◌∷◌, ◌++◌, length, take, Option, Some, None, Result, Ok, Err, refl, sym, ap, subst, ◌∙◌, arith, append_assoc, append-nil}
 use Rattle.std.specs.Prelude.{◌&&◌, ◌||◌, slice_get, option_map, bytes_eq, IfErr, OnOk}
 use Rattle.std.specs.List.{list_all}

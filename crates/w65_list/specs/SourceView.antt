@@ -50,7 +50,7 @@ abbrev pub IsStop : ℕ → LineStop → Refusal → Type 0
 IsStop place stops.NotListable refusal = refusal ≡ refusals.NotListable place
 IsStop place stops.Memory refusal = refusal ≡ refusals.Memory
 
--- the place of a refusal is this one, unless memory ran out
+-- the place of a refusal is this one, unless out of memory
 abbrev pub IsRefusal : Refusal → (ℕ → Type 0) → Type 0
 IsRefusal (refusals.NotListable at) P = P at
 IsRefusal refusals.Memory P = Unit {0}

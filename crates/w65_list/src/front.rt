@@ -24,7 +24,7 @@ use omf_base::padding;
 use omf_header::Header;
 use omf_records::{Rec, Records, SegmentView};
 
-/// How many bytes stand before the first space, or all.
+/// How many bytes are before the first space, or all.
 fn name_size(text: &[u8]) -> usize
     ensures { result ≡ position_or_len (λ byte. byte == ascii.space) text.now }
 {
@@ -41,7 +41,7 @@ fn trim_padding(load_name: &[u8]) -> &[u8]
     first_bytes(load_name, name_size(load_name))
 }
 
-/// What stands behind a name.
+/// What stands after a name.
 fn padding_of(load_name: &[u8]) -> &[u8]
     ensures { result.now ≡ drop (position_or_len (λ byte. byte == ascii.space) load_name.now) load_name.now }
 {
@@ -86,7 +86,7 @@ fn greatest_length(bank_size: u32) -> u32
     if bank_size == 0 { 0xFF_FFFF } else { 0x1_0000 }
 }
 
-/// How many cells a record gives that stands at a place of its segment.
+/// How many cells a record gives that is at a place of its segment.
 fn size_at(rec: &Rec, place: u32) -> u64
     ensures value { result ≡ size_at place (view rec.now) }
     ensures few { result < 2 ^ 63 }

@@ -65,7 +65,7 @@ pub fn instruction_of(opcode: u8) -> (Mnemonic, Mode)
     decode(opcode)
 }
 
-/// How many bytes stand behind an opcode.
+/// How many bytes are after an opcode.
 #[tactic(auto, unfolding(asm_meaning::specs::Instruction::operand_bytes))]
 pub fn operand_size(widths: Widths, opcode: u8) -> usize
     ensures size { result ≡ after_opcode (widths_view widths) opcode }
@@ -193,7 +193,7 @@ fn list_instruction(
     Ok(after)
 }
 
-/// The instruction at the front of a run, as far as the run has it.
+/// The instruction at the start of a run, as far as the run has it.
 fn front_of(widths: Widths, run: &[u8]) -> &[u8]
     requires { 1 ≤ length run.now }
     ensures value { result.now ≡ take (after_opcode (widths_view widths) (get_or run.now 0 0) + 1) run.now }

@@ -1,4 +1,4 @@
--- The parts of the object, one behind another.
+-- The parts of the object, one after another.
 use Rattle.std.proofs.Common.{◌≡◌, ℕ, zero, suc, ◌+◌, ◌*◌, ◌/◌, ◌%◌, ◌<◌, ◌≤◌, ◌==◌, false, List, [], ◌∷◌, ◌++◌, length, refl, sym, ap, subst, ◌∙◌, append_assoc, append-nil, arith}
 use Rattle.std.specs.Prelude.{replicate}
 use Rattle.std.proofs.lemmas.List.{length-append, length-replicate}
@@ -38,7 +38,7 @@ no_call i = flat_map-cons (spelling written_layout) End [] ∙ append-nil (spell
 
 -- ---- the calls
 
--- so many calls are left from a number on, and behind these bytes they make the records of MAIN
+-- so many calls are left from a number on, and after these bytes they make the records of MAIN
 pub record CallsLeft (n i : ℕ) (body : List ℕ) : Type 0 where
   pub more : ℕ
   pub count : i + more ≡ n + 1

@@ -48,7 +48,7 @@ impl Counts {
     }
 }
 
-/// What a refusal comes to, unless memory ran out.
+/// What a refusal comes to, unless out of memory.
 fn refused_round(fault: LoaderFault) -> Result<RoundOutcome, AllocError>
     ensures refused_round { IfOk result (λ outcome. outcome ≡ RoundOutcome.Refused) }
     ensures other { OnOk result (fault ≢ LoaderFault.Memory) }

@@ -25,7 +25,7 @@ use Rattle.macro_meaning.specs.Symbol.{Symbol, Symbols, Values, is_count, is_kin
 use Rattle.macro_meaning.specs.Visit.{Program, Visit, Move, On, given_by, IsVisitOf, IsVisitAt, IsVisit, Follow, line_at, setting_of, most_visits, first_visit}
 use Rattle.asm_meaning.specs.laws.PieceLaws.{all-append}
 
--- a deed gives a line of at most 255 bytes, or none
+-- an effect gives a line of at most 255 bytes, or none
 abbrev IsShortEffect : Effect → Type 0
 IsShortEffect NoEffect = Unit {0}
 IsShortEffect (Emit text) = length text ≤ 255

@@ -96,7 +96,7 @@ inner_fit e fit =
     fit.sound.length' ∙ ap (place_after 0) fit.sound.body ∙ place_after-append 0 fit.sound.inner (End ∷ []) in
     plain_fit 0 fit.sound.inner fit.sound.plain (omega (arith, cells, fit.sound.short, Rattle.asm_meaning.specs.laws.PieceLaws.place_after-le (place_after 0 fit.sound.inner) (End ∷ [])))
 
--- ---- where it stands in the file
+-- ---- where it is in the file
 
 body_cut : (front header body rest : List ℕ) (a h n : ℕ) → length front ≡ a → length header ≡ h → length body ≡ n
     → drop (a + h) (take (a + (h + n)) (front ++ ((header ++ body) ++ rest))) ≡ body

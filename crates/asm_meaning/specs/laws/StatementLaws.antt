@@ -98,7 +98,7 @@ names_once text (x ∷ z ∷ xs) (y ∷ w ∷ ys) p q =
     let rest : z ∷ xs ≡ w ∷ ys = names_once p.0 (z ∷ xs) (w ∷ ys) p.2 (subst (λ (t : List ℕ). AreNames t (w ∷ ys)) (sym following) q.2) in
     ap (λ (n : List ℕ). n ∷ (z ∷ xs)) first.0 ∙ ap (λ (ns : List (List ℕ)). y ∷ ns) rest
 
--- a value of one type, and what stands behind it
+-- a value of one type, and what stands after it
 abbrev pub SameValue : Value → Value → List ℕ → List ℕ → Type 0
 SameValue v w r s = (v ≡ w) × (r ≡ s)
 

@@ -1,4 +1,4 @@
-//! Expressions, and what is told of them.
+//! Expressions, and what is reported for them.
 use omf_expr::{ExprFault, Value, ValueFault};
 
 /// What is told of an expression: that it is none, or its value, or why it has none.

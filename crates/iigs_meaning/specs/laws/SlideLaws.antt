@@ -211,7 +211,7 @@ module _ (banks : List ℕ) (old now : Slots) (apart : AreApart banks old) (sett
       let one : other ≡ block = same_Some other block (sym is' ∙ ap (λ (n : ℕ). movable_block (slot_at old n)) same ∙ is) in
       absurd (omega (arith, ap place_of one))
 
-  -- a block that waits lies behind it
+  -- a block that waits lies after it
   waiting : (p : ℕ) (other : Block) → movable_block (slot_at old p) ≡ Some other → place_of block ≤ place_of other → p ≢ place → (a : ℕ) → a ≤ place_of block
       → IsApart a block.want.size (slot_at old p)
   waiting p other is' above ne a le i from to held =

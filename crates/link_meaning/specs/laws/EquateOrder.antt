@@ -18,7 +18,7 @@ use Rattle.link_meaning.specs.EquateValues.{OneNumber}
 
 -- ---- order
 
--- an equate stands behind a member's place and a displacement there
+-- an equate stands after a member's place and a displacement there
 abbrev After : ℕ → ℕ → FoundDefinition → Type 0
 After place at e = (place < e.place) ⊎ ((place ≡ e.place) × (at ≤ e.definition.at))
 
@@ -98,7 +98,7 @@ one_or_none at place (Entry segment offset name) = inl refl
 abbrev founds : ℕ → Member → List Definition → List FoundDefinition
 founds place m ds = map (λ (d : Definition). record { place = place; member = m; definition = d }) ds
 
--- what stands behind the member's equates is in order behind any of its places
+-- what stands after the member's equates is in order behind any of its places
 abbrev IsRest : ℕ → List FoundDefinition → Type 0
 IsRest place rest = (p a : ℕ) → p ≤ place → Ordered p a rest
 
@@ -118,7 +118,7 @@ after_of : (p a place at : ℕ) (m : Member) (d : Definition) → d.at ≡ at �
 after_of p a place at m d is (inl lt) = inl lt
 after_of p a place at m d is (inr same) = inr (same.0, omega (arith, same.1, is))
 
--- what one record defines, and what stands behind it
+-- what one record defines, and what stands after it
 ordered_own : (place : ℕ) (m : Member) (at p a : ℕ) (ds : List Definition) (tail : List FoundDefinition) → OneOrNone at ds → Before p a place at → ((q b : ℕ) → Before q b place (at + 1) → Ordered q b tail)
     → Ordered p a (founds place m ds ++ tail)
 ordered_own place m at p a ds tail (inl none) before go =

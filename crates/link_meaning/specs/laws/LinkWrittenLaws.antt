@@ -296,7 +296,7 @@ path_read number (r ∷ runtimes) [] are = absurd are
 path_read number (r ∷ runtimes) (s ∷ []) are = (pathnames_cells number (map (λ (one : RuntimeFile). one.path) (r ∷ runtimes)) s are.0, tt)
 path_read number (r ∷ runtimes) (s ∷ u ∷ segments) are = absurd are.1
 
--- the table, and what stands behind it
+-- the table, and what stands after it
 following_read : (number : ℕ) (ts : List Target) (more : List Image) (last : List (List Cell)) (segments : List Segment) → number < 2 ^ 16 → length ts ≤ 4680
     → ((rest : List Segment) → AreReadAs more rest → HaveCells last rest) → AreReadAs (table_images number ts ++ more) segments → HaveCells (table_cells ts ++ last) segments
 following_read number [] more last segments small few rest are = rest segments are

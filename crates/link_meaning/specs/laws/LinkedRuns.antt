@@ -19,7 +19,7 @@ use Rattle.link_meaning.specs.LinkWritten.{AreMade, start}
 use Rattle.link_meaning.specs.laws.RunCells.{AreRuns}
 use Rattle.link_meaning.specs.laws.MadeLaws.{no_runs, both_runs, zero_runs, length-zeros, length-made, IsSoundAt, runs-made, Few}
 
--- ---- records one behind another
+-- ---- records one after another
 
 abbrev pub item : ℕ → Member → Located → Item
 item place m r = record { place = place; member = m; here = r }

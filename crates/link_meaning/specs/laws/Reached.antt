@@ -258,7 +258,7 @@ made_keeps list table state i (Formula code count n expr) x in' all e =
     keeps_is list _ state.targets _ x fit.2 (fit_keeps list (load_of list i.member) count state.targets fit.0 all reaches)
 made_keeps list table state i (Entry segment offset name) x in' all e = keeps_bytes list _ state.targets [] x all tt e
 
--- ---- records one behind another
+-- ---- records one after another
 
 -- what is known behind some records: the targets, and the cells of the member at a place
 record Reached (list : List Member) (place own : ℕ) (before : List Target) (state : LinkState) : Type 0 where

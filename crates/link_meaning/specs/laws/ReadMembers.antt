@@ -61,7 +61,7 @@ map_none f (Some x) e = absurd cc
 
 -- ---- a segment that was read
 
--- the segment stands in a file of bytes, and passes the checks of reading
+-- the segment is in a file of bytes, and passes the checks of reading
 pub record IsRead (s : Segment) : Type 0 where
   pub file : List ℕ
   pub bytes : IsBytes file

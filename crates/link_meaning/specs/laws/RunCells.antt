@@ -28,7 +28,7 @@ abbrev pub IsPiece : Piece → Type 0
 IsPiece (One b) = Unit {0}
 IsPiece (Whole count segment offset shift) = IsTrue (is_count count) × IsTrue (is_shift shift) × (segment < 2 ^ 16) × (offset < 2 ^ 32)
 
--- the cells are such pieces, one behind another
+-- the cells are such pieces, one after another
 pub record AreRuns (cells : List Cell) : Type 0 where
   pub pieces : List Piece
   pub each : AllByRecursion IsPiece pieces

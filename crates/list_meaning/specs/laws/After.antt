@@ -1,4 +1,4 @@
--- Lines one behind another inside a segment: what the lister keeps beside them, what the assembler has behind them.
+-- Lines one after another inside a segment: what the lister keeps beside them, what the assembler has behind them.
 use Rattle.std.proofs.Common.{◌≡◌, ℕ, ◌+◌, ◌^◌, ◌<◌, ◌≤◌, Bool, true, false, List, [], ◌∷◌, ◌++◌, length, Option, Some, None, Ok, refl, sym, ap, subst, ◌∙◌, arith, append_assoc, append-nil}
 use Rattle.std.specs.Prelude.{is_some, bytes_eq, ◌||◌, map, cond}
 use Rattle.std.specs.Int.{is_power_of_two}
@@ -222,7 +222,7 @@ left_inside equates align names w (StartIs crosses name load_name) state next s 
 left_inside equates align names w EndIs state next s fine here leaves = absurd fine
 left_inside equates align names w _ state next s fine here leaves = (s, here, leaves)
 
--- ---- lines one behind another
+-- ---- lines one after another
 
 -- what lines leave
 pub record Ran (w : Widths) (lines : List ListedStatement) (state : State) (s : Segment) (number : ℕ) : Type 0 where

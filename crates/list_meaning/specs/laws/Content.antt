@@ -109,7 +109,7 @@ same_line l at run r x g are bytes like =
 
 -- ---- all records of a segment
 
--- a run, the records behind it and RESSPC give what these records give
+-- a run, the records after it and RESSPC give what these records give
 pub record Alike (l res at : ℕ) (run : List ℕ) (rs written : List Record) : Type 0 where
   pub places : map One run ++ (places_from l (at + length run) rs ++ zeros res) ≡ places_from 0 at written
   pub following : place_after (at + length run) rs + res ≡ place_after at written

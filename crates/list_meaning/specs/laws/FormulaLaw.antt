@@ -29,7 +29,7 @@ abbrev pub IsPlainName : List ℕ → Type 0
 IsPlainName [] = ⊥
 IsPlainName (byte ∷ name) = (is_name_start byte ≡ true) × AllByRecursion (λ b. is_name_byte b ≡ true) name × (folded (byte ∷ name) ≡ byte ∷ name)
 
--- no byte of a name and no colon stands at the front
+-- no byte of a name and no colon stands at the start
 abbrev pub EndsName : List ℕ → Type 0
 EndsName [] = Unit {0}
 EndsName (byte ∷ rest) = (is_name_byte byte ≡ false) × ((byte == 0x3A) ≡ false)
@@ -372,7 +372,7 @@ stands_there (Binary code a b) can rest ends =
     subst (λ (l : List ℕ). Stand Labels true l (tokens_of (as_formula (Binary code a b))) rest) (sym same) (stand_append true (left ++ (spelling_of operator ++ (right ++ rest))) (tokens_of (grouped a (as_formula a))) (Between operator ∷ tokens_of (grouped b (as_formula b))) (spelling_of operator ++ (right ++ rest)) rest first
     (rw (expects_none (grouped a (as_formula a))) second))
 
--- the formula of a tree is read again as this tree, where no operator stands behind it
+-- the formula of a tree is read again as this tree, where no operator stands after it
 pub formula_read : (t : Tree) (rest : List ℕ) → CanWrite t → EndsName rest → operator_at rest ≡ None → MeansAt Labels (formula_text t ++ rest) t rest
 formula_read t rest can ends none = record {
   formula = as_formula t;

@@ -86,7 +86,7 @@ pub record Stands (said : ListedStatement) (state : State) (s : Segment) (number
   pub step : IsStep state (line_of 0 number (said_text said)) (Ok next)
   pub leaves : Leaves said state s next
 
--- records behind those of the segment, with no label
+-- records after those of the segment, with no label
 left_marked : (said : ListedStatement) (state : State) (s : Segment) (number form : ℕ) (contents : List Record) → state.segment ≡ Some s
     → records_said state.widths said ≡ contents → names_said said s.names ≡ s.names → widths_said said state.widths ≡ state.widths → header_said said s.header ≡ s.header
     → IsStep state (line_of 0 number (said_text said)) (Ok (in_segment (with_local_record [] form contents) state)) → Stands said state s number

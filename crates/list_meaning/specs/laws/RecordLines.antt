@@ -1,4 +1,4 @@
--- The lines of a record can stand behind those before it, and stand for the same as the record.
+-- The lines of a record can stand after those before it, and stand for the same as the record.
 use Rattle.std.proofs.Common.{◌≡◌, ℕ, ◌^◌, ◌<◌, ◌≤◌, Bool, true, false, cond, eqb, List, [], ◌∷◌, ◌++◌, Option, Some, None, refl, sym, ap, subst, ◌∙◌, arith, append_assoc}
 use Rattle.std.specs.Prelude.{◌&&◌, ◌||◌, ◌==◌, not, nat_le, slice_get, IsTrue}
 use Rattle.std.specs.Int.{is_power_of_two}

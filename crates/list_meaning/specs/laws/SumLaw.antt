@@ -34,7 +34,7 @@ AreUnknown constants (Leaf term) = IsUnknownTerm constants term
 AreUnknown constants (Unary code a) = AreUnknown constants a
 AreUnknown constants (Binary code a b) = AreUnknown constants a × AreUnknown constants b
 
--- a location counter or a name stands in it
+-- a location counter or a name is in it
 abbrev pub has_open : Tree → Bool
 has_open (Leaf term) = is_open term
 has_open (Unary code a) = has_open a

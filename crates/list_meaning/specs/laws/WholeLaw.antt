@@ -1,4 +1,4 @@
--- From the law on one line to the whole text: its lines, its expansion, and what they leave one behind another.
+-- From the law on one line to the whole text: its lines, its expansion, and what they leave one after another.
 use Rattle.std.proofs.Common.{◌≡◌, ℕ, ◌≤◌, List, [], ◌∷◌, length, map, refl, sym, ap, subst, ◌∙◌, append_assoc}
 use Rattle.std.specs.List.{AllByRecursion, flat_map}
 use Rattle.std.proofs.lemmas.List.Concat.{flat_map-cons}

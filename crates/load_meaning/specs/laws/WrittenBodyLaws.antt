@@ -340,7 +340,7 @@ from_records own patches p h = elim (has-parts (patches_stored_alone own patches
 
 -- ---- the law
 
--- a segment that hands out these records, any ENTRY records behind them, and END
+-- a segment that hands out these records, any ENTRY records after them, and END
 abbrev pub HasRecords : ℕ → List ℕ → List Patch → Segment → Type 0
 HasRecords own content patches s =
     (end : ℕ) × (exports : List Record) × AllByRecursion IsExport exports × (s.records ≡ placed end (body_records own content patches ++ exports))

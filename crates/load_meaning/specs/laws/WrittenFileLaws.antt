@@ -96,7 +96,7 @@ whole_cells content exports end s all len is =
     ap (λ (l : List ℕ). patched_cells (map Byte l) (map (λ (p : ℕ × Patch). p.1) (flat_map (λ (found : ℕ × Record). map (λ (p : Patch). (found.0, p)) (patches_in s found.1)) s.records))) all_bytes
     ∙ ap (λ (l : List Patch). patched_cells (map Byte content) l) none
 
--- a part of a file: what stands before a segment, the segment, and what stands behind it
+-- a part of a file: what stands before a segment, the segment, and what stands after it
 record IsPart (at : ℕ) (image : Image) (rest file : List ℕ) : Type 0 where
   front : List ℕ
   size : length front ≡ at

@@ -98,7 +98,7 @@ module _ (file : List ℕ) (segments : List Segment) (loadable : IsLoadable file
   table_front : IsFront (table_bytes (map (entry_for at) (targets_of s))) bytes
   table_front = subst (λ (l : List ℕ). IsFront l bytes) (table_stands s at table) front
 
-  -- it is read as it stands in the file
+  -- it is read as it is in the file
   call_read : (t : Target) → slice_get (targets_of s) k ≡ Some t → IsCall users id t → t.file < 2 ^ 16 → t.segment < 2 ^ 16 → IsCall users id (target_at bytes k)
   unfolding target_at
   call_read t found call file_fits segment_fits = record {

@@ -15,7 +15,7 @@ use Rattle.loader_agrees.specs.laws.Seeing.{user_is, made_at}
 
 -- ---- the search for an ID
 
--- an ID that stands in a list at one place alone is found under that place's file number
+-- an ID that is in a list at one place alone is found under that place's file number
 one_in : (n file i : ℕ) (ids : List ℕ) → slice_get ids i ≡ Some n → ((j : ℕ) → slice_get ids j ≡ Some n → j ≡ i) → file_in file ids n ≡ Some (file + i)
 one_in n file i [] is only = absurd cc
 one_in n file zero (one ∷ ids) is only =
@@ -35,7 +35,7 @@ not_in : (one n : ℕ) (ids : List ℕ) → one ≢ n → ((j : ℕ) → slice_g
 not_in one n ids ne none zero is = ne (same_Some one n is)
 not_in one n ids ne none (suc j) is = none j is
 
--- an ID isn't found, and stands nowhere, or it stands at a place
+-- an ID isn't found, and stands nowhere, or it is at a place
 file_cases : (n file : ℕ) (ids : List ℕ) → ((file_in file ids n ≡ None) × ((j : ℕ) → slice_get ids j ≡ Some n → ⊥)) ⊎ ((j : ℕ) × (slice_get ids j ≡ Some n))
 file_cases n file [] = inl (refl, λ j is. nothing_at j n is)
 file_cases n file (one ∷ ids) = elim (cases_eq one n) [
@@ -78,7 +78,7 @@ found_at a b = Some (a, b)
 pair_is : (a b c d : ℕ) → a ≡ c → b ≡ d → found_at a b ≡ found_at c d
 pair_is a b c d e f = rw (e, f) refl
 
--- an ID that stands in one list alone is found there
+-- an ID that is in one list alone is found there
 holder_is : (n owner p i : ℕ) (users : List (Option Outline)) (user : Outline) → slice_get users p ≡ Some (Some user) → slice_get user.attached i ≡ Some n
     → ((q j : ℕ) (u : Outline) → slice_get users q ≡ Some (Some u) → slice_get u.attached j ≡ Some n → (q ≡ p) × (j ≡ i)) → holder_from owner users n ≡ Some (owner + p, 2 + i)
 holder_is n owner p i [] user made is only = absurd cc

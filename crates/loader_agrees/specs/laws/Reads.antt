@@ -122,7 +122,7 @@ module _ (held : FileMap) (loader : Loaded) (state : Machine) (agrees : Agrees h
     }
 
   module _ (Makes : MakesRoom) where
-    -- the bytes that are lent are those of the machine
+    -- the bytes that are borrowed are those of the machine
     pub borrowed_met : (id number at count : ℕ) (bytes : List ℕ) → HasBorrowed loader id number at count bytes → Met Makes held state (Bytes id number at count) (Shown bytes) loader
     borrowed_met id number at count bytes loaned =
         let is = loaned.can.is in
@@ -147,7 +147,7 @@ module _ (held : FileMap) (loader : Loaded) (state : Machine) (agrees : Agrees h
       agrees,
     )
 
-    -- what is told of a segment is what the machine tells
+    -- what is reported for a segment is what the machine tells
     pub reported_met : (id number : ℕ) (where' : Presence) (length' kind : ℕ) → HasReported loader id number where' length' kind
         → Met Makes held state (Info id number) (SegmentIs where' length' kind) loader
     reported_met id number where' length' kind reported =

@@ -144,7 +144,7 @@ read_long segments number s at sound = go (is_table s) refl
     go true is = table_length segments number s at sound is
     go false is = length-map (cells s) (byte_of at.place) ∙ length-cells segments number s sound
 
--- LENGTH bytes stand in each segment of a load file
+-- LENGTH bytes are in each segment of a load file
 pub stands_long : (segments : List Segment) (number : ℕ) (s : Segment) (at : AddressSetting) (pokes : Pokes) → IsSoundSegment segments number s → length (stands at pokes s) ≡ s.fields.length
 unfolding stands
 stands_long segments number s at pokes sound = length_over pokes (read_bytes at s) ∙ read_long segments number s at sound

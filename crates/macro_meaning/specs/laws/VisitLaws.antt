@@ -30,7 +30,7 @@ condition_once values text a b p q = by_comparison (comparison text) p q
     by_comparison (Some holds) p q = p ∙ sym q
     by_comparison None p q = number_once values text a b p q
 
--- ---- deeds
+-- ---- effects
 
 branch_if_once : (values : Values) (ps : List (List ℕ)) (d e : Effect) → IsBranchIf values ps d → IsBranchIf values ps e → d ≡ e
 branch_if_once values [] d e p q = p ∙ sym q

@@ -1,4 +1,4 @@
--- A segment that is written for cells has these cells, whatever records that give no cell stand behind its patches.
+-- A segment that is written for cells has these cells, whatever records that give no cell stand after its patches.
 use Rattle.std.proofs.Common.{◌≡◌, ℕ, ℤ, pos, negsuc, ◌+◌, ◌-◌, true, List, [], ◌∷◌, ◌++◌, length, map, replicate, None, refl, sym, ap, ◌∙◌}
 use Rattle.std.specs.Prelude.{◌==◌, nat_le, if◌then◌else◌}
 use Rattle.std.specs.List.{flat_map, AllByRecursion}
@@ -109,7 +109,7 @@ cells_same s t f e g =
     let p : map (λ (p : ℕ × Patch). p.1) (patches_of s) ≡ map (λ (p : ℕ × Patch). p.1) (patches_of t) = patches_given s ∙ given_same s t s.records f b ∙ g ∙ sym (patches_given t) in
     ap (λ (l : List ℕ). patched_cells (map Byte l) (map (λ (p : ℕ × Patch). p.1) (patches_of s))) b ∙ ap (λ (l : List Patch). patched_cells (map Byte (segment_bytes t)) l) p
 
--- ---- records behind the patches
+-- ---- records after the patches
 
 abbrev pub AreEntries : List Record → Type 0
 AreEntries records = AllByRecursion (λ r. is_entry r ≡ true) records

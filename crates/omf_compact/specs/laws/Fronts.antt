@@ -36,7 +36,7 @@ all-zero (c ∷ cells) e =
     let both = and_parts (is_zero c) (list_all is_zero cells) e in
     ap (λ (d : Cell). d ∷ cells) (zero-is c both.0) ∙ ap (λ (l : List Cell). Byte 0 ∷ l) (all-zero cells both.1)
 
--- zeros stand behind them
+-- zeros stand after them
 pub front-zeros : (cells : List Cell) → cells ≡ front cells ++ zero_cells (zeros_after cells)
 front-zeros [] = refl
 front-zeros (c ∷ cells) = elim (cases_Bool (list_all is_zero (c ∷ cells))) [

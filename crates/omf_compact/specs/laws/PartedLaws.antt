@@ -54,7 +54,7 @@ all-from : (P : Cell → Type 0) (cells : List Cell) → ((k : ℕ) (c : Cell) �
 all-from P [] each = tt
 all-from P (c ∷ cells) each = (each 0 c refl, all-from P cells (λ k d e. each (suc k) d e))
 
--- each byte above 0 of a number stands behind the byte before it
+-- each byte above 0 of a number is after the byte before it
 abbrev Steady : List Cell → Type 0
 Steady cells = (k f s o : ℕ) (sh : ℤ) (i : ℕ) → slice_get cells (suc k) ≡ Some (Part f s o sh (suc i)) → slice_get cells k ≡ Some (Part f s o sh i)
 

@@ -1,4 +1,4 @@
--- Segments that are written from their fields and records, one behind another, are read again as these (GS/OS Reference, appendix
+-- Segments that are written from their fields and records, one after another, are read again as these (GS/OS Reference, appendix
 -- F, "Segment header" and "Segment body").
 use Rattle.std.proofs.Common.{◌≡◌, ℕ, ◌+◌, ◌<◌, false, true, List, [], ◌∷◌, ◌++◌, length, take, drop, refl, sym, ap, subst, ◌∙◌, append_assoc, arith}
 use Rattle.std.specs.List.{flat_map, AllByRecursion}

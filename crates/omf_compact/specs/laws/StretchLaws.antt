@@ -134,7 +134,7 @@ unbroken-zero at (d ∷ cells) f s o sh i un is =
     let clash : true ≡ false = subst (λ (x : Cell). is_broken None x ≡ false) is_part (unbroken-both at None d cells un).0 in
     cc
 
--- a byte of a number stands behind all lower ones
+-- a byte of a number is after all lower ones
 unbroken-all : (cells : List Cell) (f s o : ℕ) (sh : ℤ) (i k : ℕ) → first_broken cells ≡ None → slice_get cells k ≡ Some (Part f s o sh i)
     → (i ≤ k) × ((j : ℕ) → j ≤ i → slice_get cells (k - i + j) ≡ Some (Part f s o sh j))
 unfolding first_broken
@@ -276,7 +276,7 @@ stretches_written cells all = stretches-written (length (bytes_in cells)) 0 0 ce
 
 -- ---- the cells are given back
 
--- a byte of a number that stands behind all lower ones is one of a stretch
+-- a byte of a number that is after all lower ones is one of a stretch
 pub covers : (cells : List Cell) (f s o : ℕ) (sh : ℤ) (i k : ℕ) → first_broken cells ≡ None → slice_get cells k ≡ Some (Part f s o sh i)
     → (p : Patch) × Has (stretches_from 0 cells) p × Covers p k × (slice_get (parts p) (k - p.location) ≡ Some (Part f s o sh i))
 covers cells f s o sh i k un is =

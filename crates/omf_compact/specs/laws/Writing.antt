@@ -1,4 +1,4 @@
--- Writing the segments of a load file one behind another, as the functions that write them see it. No public clause of the crate
+-- Writing the segments of a load file one after another, as the functions that write them see it. No public clause of the crate
 -- cites this module.
 use Rattle.std.specs.Prelude.{◌≡◌, ◌-◌, ℕ, List, [], ◌∷◌, length, map, drop, Some, None, Vec, slice_get, if◌then◌else◌}
 use Rattle.std.specs.declared.alloc.Global.{Global}
@@ -42,7 +42,7 @@ pub record AreStretches (segments : List Segment) (lists : List (Vec code.Patch 
   pub count : length lists ≡ length segments
   pub each : (k : ℕ) (s : Segment) (patches : Vec code.Patch Global) → slice_get segments k ≡ Some s → slice_get lists k ≡ Some patches → HasStretches s (map seen patches.items)
 
--- the fault tells the first broken part, unless memory ran out
+-- the fault tells the first broken part, unless out of memory
 abbrev pub IsJudgedBy : CompactCause → CompactFault → List Segment → Type 0
 IsJudgedBy BrokenPart fault segments = broken_in 1 (plain segments) ≡ Some (fault.segment, fault.at)
 IsJudgedBy Memory fault segments = (fault.segment ≡ 0) × (fault.at ≡ 0)
@@ -73,6 +73,6 @@ entry_of e = Entry e.segment e.offset e.name
 abbrev pub AtExports : List Segment → ℕ → ℕ → Type 0
 AtExports segments number place = drop place (exports_of segments) ≡ exports_from number (drop (number - 1) segments)
 
--- the fields that are written for a header with so many zeros behind the data
+-- the fields that are written for a header with so many zeros after the data
 abbrev pub fields_with : Fields → ℕ → Fields
 fields_with f zeros = record f { byte_count = 0; res_spc = zeros; lab_len = 0; version = 2; disp_name = 0; disp_data = 0 }

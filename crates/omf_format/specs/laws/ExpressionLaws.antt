@@ -66,7 +66,7 @@ read-through l n at pending last (term ∷ terms) rest are leads =
     first ∙ ap (λ (k : ℕ). read_from (length terms + n) l k (pending_after pending term) more) place ∙ others ∙ ap (λ (k : ℕ). read_from n l k last rest) sum in
     rw (fuel, append_assoc text (terms_text l terms) rest) whole
 
--- the terms, and what stands behind them
+-- the terms, and what stands after them
 pub record Runs (l pending : ℕ) (bytes : List ℕ) (last : ℕ) (rest : List ℕ) : Type 0 where
   pub terms : List Term
   pub parts : bytes ≡ terms_text l terms ++ rest
@@ -155,7 +155,7 @@ read_stops l (suc n) at pending bytes fault fits enough e = by_step (term_step l
           wrong = rw (← place) stops.wrong;
         }
 
--- ---- an expression at the front
+-- ---- an expression at the start
 
 -- what is read to its end is an expression
 pub read-all-takes : (l : ℕ) (bytes rest : List ℕ) → IsBytes bytes → read_all l bytes ≡ Ok rest → (text : List ℕ) × IsExpression l text × (bytes ≡ text ++ rest)

@@ -6,7 +6,7 @@ use Rattle.std.proofs.lemmas.List.{append-nil}
 use Rattle.omf_format.specs.Ascii as ascii
 use Rattle.omf_format.specs.Lines.{lines_of, HasNoEnd}
 
--- the bytes stand before the first line
+-- the bytes are before the first line
 onto_front : List ℕ → List (List ℕ) → List (List ℕ)
 onto_front [] lines = lines
 onto_front (byte ∷ line) lines = onto_first byte (onto_front line lines)

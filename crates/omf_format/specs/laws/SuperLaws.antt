@@ -30,7 +30,7 @@ none_left bytes e = by_front e.front e.size e.parts
 at_page : (bytes : List ℕ) → HavePages bytes → Ends 0 bytes
 at_page bytes have = record { front = []; rest = bytes; parts = refl; size = refl; pages = have }
 
--- what a count says of the bytes behind it
+-- what a count says of the bytes after it
 on_located : (count : ℕ) (bytes : List ℕ) → count < 0x80 → end_pages 0 (count ∷ bytes) ≡ end_pages (count + 1) bytes
 on_located count bytes lt = ap (λ (b : Bool). end_pages (cond b (count + 1) 0) bytes) (lt-ltb count 0x80 lt)
 

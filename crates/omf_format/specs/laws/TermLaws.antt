@@ -143,7 +143,7 @@ term_takes_some l (Constant n) = omega arith
 term_takes_some l (Named code name) = omega arith
 term_takes_some l (Offset n) = omega arith
 
--- ---- terms one behind another
+-- ---- terms one after another
 
 pub AreTerms-append : (l : ℕ) (a b : List Term) → AreTerms l a → AreTerms l b → AreTerms l (a ++ b)
 AreTerms-append l [] b p q = q

@@ -9,7 +9,7 @@ use Rattle.omf_format.specs.Header.{Fields, version_of, byte_count_of, kind_of, 
 use Rattle.omf_format.specs.laws.HeaderLaws.{none_holds, length-laid_out, number_at-laid_out, drop-more}
 use Rattle.omf_format.specs.WrittenHeader.{FitsWritten}
 
--- the fields are as wide as they stand in a header
+-- the fields are as wide as they are in a header
 pub record FitsFields (f : Fields) : Type 0 where
   pub byte_count : f.byte_count < 2 ^ 32
   pub res_spc : f.res_spc < 2 ^ 32

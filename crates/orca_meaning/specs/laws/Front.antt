@@ -1,4 +1,4 @@
--- Where a formula at the front of a text ends: tokens that stand there are compared with those of a formula.
+-- Where a formula at the start of a text ends: tokens that stand there are compared with those of a formula.
 use Rattle.std.proofs.Common.{◌≡◌, ℕ, Bool, true, false, cond, List, [], ◌∷◌, ◌++◌, Option, Some, None, refl, sym, ap, subst, ◌∙◌, eqb}
 use Rattle.std.proofs.lemmas.Bool.{eqb-true}
 use Rattle.std.specs.Option.{option_or}
@@ -10,7 +10,7 @@ use Rattle.orca_meaning.specs.Formula.{Formula, tokens_of, tree_of, StandsAt}
 use Rattle.orca_meaning.specs.laws.Machine.{Wait, Bracket, Pending, State, state, reduced, closed, step, and_then, run, ended, finish, start, postfix}
 use Rattle.orca_meaning.specs.laws.Complete.{complete}
 
--- ---- tokens one behind another
+-- ---- tokens one after another
 
 -- what is expected behind tokens
 abbrev pub expects_after : Bool → List Token → Bool
@@ -23,7 +23,7 @@ pub stand_push : (o : Operands) (e : Bool) (text : List ℕ) (done : List Token)
 stand_push o e text [] left following t stand is = (following, subst (λ (x : List ℕ). token_at o e x ≡ Some (t, following)) stand is, refl)
 stand_push o e text (x ∷ done) left following t stand is = (stand.0, stand.1, stand_push o (expects_following x) stand.0 done left following t stand.2 is)
 
--- of tokens that stand at one front, one list begins the other
+-- of tokens that are at one front, one list begins the other
 pub data Compared (o : Operands) (e : Bool) (a b : List Token) (r s : List ℕ) : Type 0 where
   Longer : (more : List Token) → b ≡ a ++ more → Stand o (expects_after e a) r more s → Compared o e a b r s
   Shorter : (t : Token) (more : List Token) → a ≡ b ++ t ∷ more → Stand o (expects_after e b) s (t ∷ more) r → Compared o e a b r s
@@ -135,7 +135,7 @@ unfolding ended closed
 ended-not_closed (out, []) terms is = refl
 ended-not_closed (out, w ∷ ws) terms is = absurd cc
 
--- no operator stands at the front of a parenthesis
+-- no operator stands at the start of a parenthesis
 pub byte-found : (wanted : ℕ) (t : Token) (text : List ℕ) (x : Token × List ℕ) → byte_at wanted t text ≡ Some x → text ≡ wanted ∷ x.1
 unfolding byte_at
 byte-found wanted t [] x is = absurd cc
