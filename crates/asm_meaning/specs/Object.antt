@@ -89,7 +89,7 @@ pub data IsFirstFault (source : List ℕ) (macros : List (List ℕ)) (fault : As
   InLine : (line : Line) (cause : AsmCause) → HasBadLine source macros line cause
       → fault ≡ record { cause = cause; file = line.file; line = line.number } → IsFirstFault source macros fault
   InSegment : (last : State) (s : Segment) → HasLines source macros last → last.segment ≡ Some s
-      → fault ≡ record { cause = Unclosed; file = s.begun.file; line = s.begun.number } → IsFirstFault source macros fault
+      → fault ≡ record { cause = Unclosed; file = s.start_line.file; line = s.start_line.number } → IsFirstFault source macros fault
   InLength : (last : State) → HasLines source macros last → last.segment ≡ None → most_bytes < length (object_text last.ended)
       → fault ≡ record { cause = TooLong; file = 0; line = 0 } → IsFirstFault source macros fault
 

@@ -23,7 +23,7 @@ Names = List ℕ → Option (Option ℕ)
 -- a segment that hasn't ended: the line that begins it, its class, its header so far, the names that it defines, and its
 -- records
 pub record Segment : Type 0 where
-  pub state_after_start : Line
+  pub start_line : Line
   pub class : Class
   pub header : Fields
   pub names : Names
@@ -117,7 +117,7 @@ state_after_start state line class name load_name = record state {
   align = 0;
   front = [];
   segment = Some (record {
-    state_after_start = line;
+    start_line = line;
     class = class;
     header = header_of state class name load_name;
     names = with_name name None no_names;

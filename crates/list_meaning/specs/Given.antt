@@ -98,7 +98,7 @@ header_said _ header = header
 pub record Leaves (said : ListedStatement) (state : State) (s : Segment) (next : State) : Type 0 where
   pub after : Segment
   pub here : next.segment ≡ Some after
-  pub begun : after.begun ≡ s.begun
+  pub start_line : after.start_line ≡ s.start_line
   pub class : after.class ≡ s.class
   pub header : after.header ≡ header_said said s.header
   pub names : after.names ≡ names_said said s.names

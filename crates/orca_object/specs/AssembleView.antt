@@ -36,7 +36,7 @@ HasStepped lines (Err fault) = Stops lines fault
 -- the fault of what is left at the end: a segment without END, or too many bytes
 abbrev pub IsLastFault : Option Segment → State → AsmFault → Type 0
 IsLastFault None state fault = (most_bytes < length (object_text state.ended)) × (fault ≡ record { cause = TooLong; file = 0; line = 0 })
-IsLastFault (Some s) state fault = fault ≡ record { cause = Unclosed; file = s.begun.file; line = s.begun.number }
+IsLastFault (Some s) state fault = fault ≡ record { cause = Unclosed; file = s.start_line.file; line = s.start_line.number }
 
 -- the object of what is left at the end, or its fault
 abbrev pub IsLast : State → Result (Vec ℕ) AsmFault → Type 0

@@ -41,8 +41,8 @@ header_view o = record {
 
 -- a segment that hasn't ended is kept so
 pub record ShowsSegment (s : Segment) (o : OpenSegment) : Type 0 where
-  pub file : o.file ≡ s.begun.file
-  pub line : o.line ≡ s.begun.number
+  pub file : o.file ≡ s.start_line.file
+  pub line : o.line ≡ s.start_line.number
   pub class : o.class ≡ s.class
   pub header : s.header ≡ header_view o
   pub names : names_of o.names ≡ s.names

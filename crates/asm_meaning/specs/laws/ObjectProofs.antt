@@ -130,7 +130,7 @@ reported_wrong : Wrong → AsmFault
 reported_wrong w = record { cause = w.cause; file = w.line.file; line = w.line.number }
 
 reported_open : Segment → AsmFault
-reported_open s = record { cause = Unclosed; file = s.begun.file; line = s.begun.number }
+reported_open s = record { cause = Unclosed; file = s.start_line.file; line = s.start_line.number }
 
 same_segment : (a b : Segment) (o : Option Segment) → o ≡ Some a → o ≡ Some b → a ≡ b
 same_segment a b o p q = let both : Some a ≡ Some b = sym p ∙ q in cc

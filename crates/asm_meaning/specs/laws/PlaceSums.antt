@@ -353,7 +353,7 @@ begins_empty state next line class none opens step =
   where
     made : List Record → List ℕ → List ℕ → Segment
     made front name load_name = record {
-      state_after_start = line;
+      start_line = line;
       class = class;
       header = Rattle.asm_meaning.specs.State.header_of state class name load_name;
       names = Rattle.macro_meaning.specs.Symbol.with_name name None Rattle.asm_meaning.specs.State.no_names;

@@ -362,7 +362,7 @@ begun_is crosses name load_name align org ended state number ready step =
       next = state_after_start state line class name (padded load_name);
       step = step;
       left = record {
-        after = record { state_after_start = line; class = class; header = states.header_of state class name (padded load_name); names = with_name name None no_names; body = state.front };
+        after = record { start_line = line; class = class; header = states.header_of state class name (padded load_name); names = with_name name None no_names; body = state.front };
         was = ready.none;
         here = refl;
         name_is = refl;
@@ -374,7 +374,7 @@ begun_is crosses name load_name align org ended state number ready step =
         body = ready.front;
         ended = refl;
       };
-      s = record { state_after_start = line; class = class; header = states.header_of state class name (padded load_name); names = with_name name None no_names; body = state.front };
+      s = record { start_line = line; class = class; header = states.header_of state class name (padded load_name); names = with_name name None no_names; body = state.front };
       here = refl;
       class = refl;
       name_is = refl;
