@@ -27,7 +27,7 @@ fn quoted_byte(byte: u8) -> u8
 }
 
 /// Appends a name in quotes. A byte of it outside $20 to $7E, and a quote, is shown as `?`.
-#[tactic(auto, unfolding(crate::specs::Listing::quoted))]
+#[tactic(auto, unfolding(crate::specs::Listing::quoted_name))]
 pub fn put_quoted(line: &mut Line, name: &[u8]) -> Result<(), LineFault>
     ensures { OnOk result (line.new ≡ line.old ++ quoted_name name.now) }
 {

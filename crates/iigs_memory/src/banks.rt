@@ -415,7 +415,7 @@ impl Banks {
 
     /// Purges a block. Its handle stays.
     pub fn empty(&mut self, h: Handle) -> Result<(), EmptyFault>
-        ensures slots_after_purges { IfOk result (λ _. IsEmptied self.old h self.new) }
+        ensures emptied { IfOk result (λ _. IsEmptied self.old h self.new) }
         ensures refused { IfErr result (IsEmptyRefusal self.old.slots h) }
         ensures err { OnErr result (self.new ≡ self.old) }
     {

@@ -78,7 +78,7 @@ pub fn empty_block(
     h: Handle,
 ) -> Result<(), EmptyFault>
     requires laid { IsLayout table.old layout.old }
-    ensures slots_after_purges { OnOk result (Empties table.old h table.new) }
+    ensures emptied { OnOk result (Empties table.old h table.new) }
     ensures refused { IfErr result (IsEmptyRefusal table.old h) }
     ensures err { OnErr result (table.new ≡ table.old) }
     ensures laid { IsLayout table.new layout.new }

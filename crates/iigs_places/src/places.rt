@@ -367,7 +367,7 @@ impl Places {
 
     /// Empties a purgeable block. Its handle stays.
     pub fn empty(&mut self, h: Handle) -> Result<(), EmptyFault>
-        ensures slots_after_purges { OnOk result (Empties self.old.slots h self.new.slots) }
+        ensures emptied { OnOk result (Empties self.old.slots h self.new.slots) }
         ensures banks { self.new.banks ≡ self.old.banks }
         ensures refused { IfErr result (IsEmptyRefusal self.old.slots h) }
         ensures err { OnErr result (self.new ≡ self.old) }

@@ -199,7 +199,7 @@ impl<'a> LinkLayout<'a> {
 
     /// One more member, behind the others.
     pub fn add(&mut self, segment: &SegmentView<'a>, origin: Origin) -> Result<(), AllocError>
-        requires placed_view { IsPlaced (placed_view segment.now) }
+        requires placed { IsPlaced (placed_view segment.now) }
         requires laid { (list : List Member) × Laid list self.old }
         ensures { OnOk result ((list : List Member) (m : Member) → IsOf m origin → m.segment ≡ segment_of_view segment.now → Laid list self.old → Laid (list ++ m ∷ []) self.new) }
     {

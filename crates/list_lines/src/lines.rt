@@ -34,7 +34,7 @@ pub enum Wanted<'a> {
 fn statement(out: &mut Output, label: &[u8], operation: &str) -> Result<(), LineFault>
     requires { open_line out.old ≡ [] }
     ensures line { OnOk result (open_line out.new ≡ label.now ++ (0x20 ∷ operation.now)) }
-    ensures finished_lines { OnOk result (finished_lines out.new ≡ finished_lines out.old) }
+    ensures kept { OnOk result (finished_lines out.new ≡ finished_lines out.old) }
 {
     out.put(label)?;
     out.word(" ")?;
@@ -44,7 +44,7 @@ fn statement(out: &mut Output, label: &[u8], operation: &str) -> Result<(), Line
 /// Writes an operand behind a space, or nothing where there is none.
 fn operand(out: &mut Output, text: &[u8]) -> Result<(), LineFault>
     ensures line { OnOk result (open_line out.new ≡ open_line out.old ++ with_leading_space text.now) }
-    ensures finished_lines { OnOk result (finished_lines out.new ≡ finished_lines out.old) }
+    ensures kept { OnOk result (finished_lines out.new ≡ finished_lines out.old) }
 {
     if text.is_empty() {
         return Ok(());
@@ -57,7 +57,7 @@ fn operand(out: &mut Output, text: &[u8]) -> Result<(), LineFault>
 fn number(out: &mut Output, n: u32, digits: u32) -> Result<(), LineFault>
     requires { digits ≤ 8 }
     ensures line { OnOk result (open_line out.new ≡ open_line out.old ++ number_text digits n) }
-    ensures finished_lines { OnOk result (finished_lines out.new ≡ finished_lines out.old) }
+    ensures kept { OnOk result (finished_lines out.new ≡ finished_lines out.old) }
 {
     out.word("$")?;
     out.digits(n, digits)
@@ -227,7 +227,7 @@ pub fn put_equate(out: &mut Output, global: bool, name: &[u8], n: u32) -> Result
 fn formula(out: &mut Output, wanted: Wanted) -> Result<(), LineFault>
     requires { HasSize (operand_view wanted) }
     ensures line { OnOk result (open_line out.new ≡ open_line out.old ++ wanted_text (operand_view wanted.entry)) }
-    ensures finished_lines { OnOk result (finished_lines out.new ≡ finished_lines out.old) }
+    ensures kept { OnOk result (finished_lines out.new ≡ finished_lines out.old) }
 {
     match wanted {
         Wanted::Missing => Ok(()),
@@ -261,7 +261,7 @@ fn is_nothing(wanted: Wanted) -> bool
 fn whole_operand(out: &mut Output, front: &str, wanted: Wanted, back: &str) -> Result<(), LineFault>
     requires { HasSize (operand_view wanted) }
     ensures line { OnOk result (open_line out.new ≡ open_line out.old ++ (front.now ++ (wanted_text (operand_view wanted.entry) ++ back.now))) }
-    ensures finished_lines { OnOk result (finished_lines out.new ≡ finished_lines out.old) }
+    ensures kept { OnOk result (finished_lines out.new ≡ finished_lines out.old) }
 {
     out.word(front)?;
     formula(out, wanted)?;
@@ -278,7 +278,7 @@ fn spaced_operand(
 ) -> Result<(), LineFault>
     requires { HasSize (operand_view wanted) }
     ensures line { OnOk result (open_line out.new ≡ open_line out.old ++ with_leading_space (front.now ++ (wanted_text (operand_view wanted.entry) ++ back.now))) }
-    ensures finished_lines { OnOk result (finished_lines out.new ≡ finished_lines out.old) }
+    ensures kept { OnOk result (finished_lines out.new ≡ finished_lines out.old) }
 {
     if front.is_empty() && is_nothing(wanted) && back.is_empty() {
         return Ok(());

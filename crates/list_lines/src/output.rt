@@ -37,7 +37,7 @@ impl Output {
 
     /// Nothing.
     pub fn new(alloc: Global) -> Output
-        ensures finished_lines { finished_lines result ≡ Some ([], 0) }
+        ensures kept { finished_lines result ≡ Some ([], 0) }
         ensures line { open_line result ≡ [] }
     {
         Output {
@@ -52,7 +52,7 @@ impl Output {
     /// Appends bytes to the open line.
     pub(crate) fn put(&mut self, piece: &[u8]) -> Result<(), LineFault>
         ensures line { OnOk result (open_line self.new ≡ open_line self.old ++ piece.now) }
-        ensures finished_lines { OnOk result (finished_lines self.new ≡ finished_lines self.old) }
+        ensures kept { OnOk result (finished_lines self.new ≡ finished_lines self.old) }
     {
         self.text.put(piece)
     }
@@ -60,7 +60,7 @@ impl Output {
     /// Appends a text to the open line.
     pub(crate) fn word(&mut self, piece: &str) -> Result<(), LineFault>
         ensures line { OnOk result (open_line self.new ≡ open_line self.old ++ piece.now) }
-        ensures finished_lines { OnOk result (finished_lines self.new ≡ finished_lines self.old) }
+        ensures kept { OnOk result (finished_lines self.new ≡ finished_lines self.old) }
     {
         self.text.text(piece)
     }
@@ -69,7 +69,7 @@ impl Output {
     pub(crate) fn digits(&mut self, value: u32, digits: u32) -> Result<(), LineFault>
         requires { digits ≤ 8 }
         ensures line { OnOk result (open_line self.new ≡ open_line self.old ++ hexadecimal digits value) }
-        ensures finished_lines { OnOk result (finished_lines self.new ≡ finished_lines self.old) }
+        ensures kept { OnOk result (finished_lines self.new ≡ finished_lines self.old) }
     {
         self.text.hex(value, digits)
     }
@@ -84,7 +84,7 @@ impl Output {
     /// Ends the open line. A line of more than 255 bytes can't be listed.
     #[tactic(auto, using(crate::proofs::Ended::no_room, crate::proofs::Ended::room))]
     pub(crate) fn finish(&mut self) -> Result<(), LineStop>
-        ensures finished_lines { OnOk result (finished_lines self.new ≡ with_line (open_line self.old) (finished_lines self.old)) }
+        ensures kept { OnOk result (finished_lines self.new ≡ with_line (open_line self.old) (finished_lines self.old)) }
         ensures line { OnOk result (open_line self.new ≡ []) }
         ensures short { OnOk result (length (open_line self.old) ≤ 255) }
         ensures long { IsErrOf result LineStop.NotListable → 255 < length (open_line self.old) }
@@ -105,7 +105,7 @@ impl Output {
 
     /// The text is too long: the lines behind are only looked at, and what was written needn't be kept.
     fn give_up(&mut self)
-        ensures finished_lines { finished_lines self.new ≡ None }
+        ensures kept { finished_lines self.new ≡ None }
         ensures line { open_line self.new ≡ [] }
     {
         self.over = true;

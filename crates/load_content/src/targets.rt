@@ -393,7 +393,7 @@ fn content_of<'a>(
     view: &SegmentView<'a>,
 ) -> Result<SegmentContent<'a>, LoadFault>
     requires short { length view.now.file.now < 2 ^ 32 }
-    requires segment_of_view { IsLoadView view.now.file.now view.now }
+    requires shown { IsLoadView view.now.file.now view.now }
     requires sized { shape_fault number (segment_of_view view.now) ≡ None }
     ensures ok { IfOk result (λ content. (target_fault (map segment_of_view views.now.items) number (segment_of_view view.now) ≡ None) × IsContent view.now content) }
     ensures refused { IfErr result (λ fault. IsLaterRefused fault (option_map (in_segment number) (target_fault (map segment_of_view views.now.items) number (segment_of_view view.now)))) }
@@ -417,7 +417,7 @@ pub fn contents_of<'a>(
     alloc: Global,
     views: &Vec<SegmentView<'a>>,
 ) -> Result<Vec<SegmentContent<'a>>, LoadFault>
-    requires segment_of_view { AreShown views.now.items }
+    requires shown { AreShown views.now.items }
     requires sized { first_in shape_fault 1 (map segment_of_view views.now.items) ≡ None }
     ensures ok { IfOk result (λ contents. (first_in (target_fault (map segment_of_view views.now.items)) 1 (map segment_of_view views.now.items) ≡ None) × AreContents views.now.items contents.items) }
     ensures refused { IfErr result (λ fault. IsLaterRefused fault (first_in (target_fault (map segment_of_view views.now.items)) 1 (map segment_of_view views.now.items))) }

@@ -223,7 +223,7 @@ fn segment_paths<'a>(
     second: bool,
 ) -> Result<Vec<&'a [u8]>, RowsFault>
     requires short { length view.now.file.now < 2 ^ 32 }
-    requires segment_of_view { IsLoadView view.now.file.now view.now }
+    requires shown { IsLoadView view.now.file.now view.now }
     requires sized { length (segment_bytes (segment_of_view view.now)) ≡ view.now.header.length }
     ensures sound { OnOk result (flaw_after second (segment_of_view view.now) ≡ None) }
     ensures paths { IfOk result (λ paths. seen_paths paths.items ≡ rows_in most_paths (segment_bytes (segment_of_view view.now))) }
@@ -272,7 +272,7 @@ fn take_paths<'a>(
     paths: &mut Vec<&'a [u8]>,
 ) -> Result<(), LoadFault>
     requires short { length view.now.file.now < 2 ^ 32 }
-    requires segment_of_view { IsLoadView view.now.file.now view.now }
+    requires shown { IsLoadView view.now.file.now view.now }
     requires sized { length (segment_bytes (segment_of_view view.now)) ≡ view.now.header.length }
     ensures sound { OnOk result (fault_after second number (segment_of_view view.now) ≡ None) }
     ensures paths { OnOk result (seen_paths paths.new.items ≡ paths_then (segment_of_view view.now) (seen_paths paths.old.items)) }
@@ -295,7 +295,7 @@ pub fn check_pathnames<'a>(
     alloc: Global,
     views: &Vec<SegmentView<'a>>,
 ) -> Result<Vec<&'a [u8]>, LoadFault>
-    requires segment_of_view { AreShown views.now.items }
+    requires shown { AreShown views.now.items }
     requires sized { first_in shape_fault 1 (map segment_of_view views.now.items) ≡ None }
     ensures sound { OnOk result (first_in (pathnames_fault (map segment_of_view views.now.items)) 1 (map segment_of_view views.now.items) ≡ None) }
     ensures paths { IfOk result (λ paths. seen_paths paths.items ≡ paths_of (map segment_of_view views.now.items)) }

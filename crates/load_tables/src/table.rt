@@ -242,7 +242,7 @@ fn table_flaw(
     requires paths { paths ≡ length (paths_of (map segment_of_view views.now.items)) }
     requires few { paths + 1 < 2 ^ 32 }
     requires short { length view.now.file.now < 2 ^ 32 }
-    requires segment_of_view { IsLoadView view.now.file.now view.now }
+    requires shown { IsLoadView view.now.file.now view.now }
     requires pieces { HasPieces view.now pieces.now }
     requires second { second ≡ list_any is_table (take (number - 1) (map segment_of_view views.now.items)) }
     ensures { result ≡ table_flaw (map segment_of_view views.now.items) number (segment_of_view view.now) }
@@ -273,7 +273,7 @@ fn fault_of(
     requires paths { paths ≡ length (paths_of (map segment_of_view views.now.items)) }
     requires few { paths + 1 < 2 ^ 32 }
     requires short { length view.now.file.now < 2 ^ 32 }
-    requires segment_of_view { IsLoadView view.now.file.now view.now }
+    requires shown { IsLoadView view.now.file.now view.now }
     requires pieces { HasPieces view.now pieces.now }
     requires second { second ≡ list_any is_table (take (number - 1) (map segment_of_view views.now.items)) }
     ensures value { result ≡ option_map (in_segment number) (table_fault (map segment_of_view views.now.items) number (segment_of_view view.now)) }
@@ -306,7 +306,7 @@ pub fn check_tables(
     contents: &Vec<SegmentContent>,
     paths: u32,
 ) -> Option<LoadFault>
-    requires segment_of_view { AreShown views.now.items }
+    requires shown { AreShown views.now.items }
     requires paths { paths ≡ length (paths_of (map segment_of_view views.now.items)) }
     requires few { paths + 1 < 2 ^ 32 }
     requires contents { AreContents views.now.items contents.now.items }

@@ -58,7 +58,7 @@ fn kept_from(out: &[u8], start: usize) -> usize
 fn close(out: &mut Vec<u8>, start: usize) -> usize
     requires room { start + 5 ≤ length out.old.items }
     requires small { length out.old.items ≤ start + 5 + 0xFFFFFF }
-    ensures stored_length { IsKept (drop (start + 5) out.old.items) 0 result }
+    ensures kept { IsKept (drop (start + 5) out.old.items) 0 result }
     ensures text { (front content : List ℕ) → out.old.items ≡ front ++ (0xF2 ∷ little_bytes 4 0) ++ content → length front ≡ start
         → out.new.items ≡ front ++ flat_map (spelling written_layout) (data_records (take result content)) }
 {

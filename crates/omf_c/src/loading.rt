@@ -27,7 +27,7 @@ fn read_load_file<'a>(
     fault: &mut OmfFault,
 ) -> Result<LoadFile<'a>, u32>
     ensures ok { IfOk result (λ load. IsLoadable file.now load × (fault.new ≡ fault.old)) }
-    ensures report_load_fault { IfErr result (λ status. IsUnread file.now status fault.old fault.new) }
+    ensures refused { IfErr result (λ status. IsUnread file.now status fault.old fault.new) }
 {
     if file.len() > MOST {
         return Err(MISUSED);

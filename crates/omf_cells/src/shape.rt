@@ -12,7 +12,7 @@ use omf_records::SegmentView;
 /// What is wrong with the segment that has this number.
 fn fault_of(view: &SegmentView, number: u32) -> Option<LoadFault>
     requires short { length view.now.file.now < 2 ^ 32 }
-    requires segment_of_view { IsLoadView view.now.file.now view.now }
+    requires shown { IsLoadView view.now.file.now view.now }
     ensures value { result ≡ option_map (in_segment number) (shape_fault number (segment_of_view view.now)) }
     ensures named { IfSome result (λ fault. fault.cause ≡ LoadCause.Memory → ⊥) }
 {

@@ -44,7 +44,7 @@ fn goes_on(patch: &Patch, part: &Single) -> bool
 fn extend(patches: &mut Vec<Patch>, part: &Single) -> Result<bool, AllocError>
     requires some { (part.now).index ≡ 0 → ⊥ }
     requires few { (part.now).index < 4 }
-    ensures append_part { IfOk result (λ ok. ok ≡ true → with_part (map seen patches.old.items) (placed part.now).0 (placed part.now).1 ≡ Some (map seen patches.new.items)) }
+    ensures put { IfOk result (λ ok. ok ≡ true → with_part (map seen patches.old.items) (placed part.now).0 (placed part.now).1 ≡ Some (map seen patches.new.items)) }
     ensures broken { IfOk result (λ ok. ok ≡ false → with_part (map seen patches.old.items) (placed part.now).0 (placed part.now).1 ≡ None) }
 {
     let mut last = match patches.pop() {
@@ -62,7 +62,7 @@ fn extend(patches: &mut Vec<Patch>, part: &Single) -> Result<bool, AllocError>
 /// Adds a part to the patches, if it isn't broken.
 fn append_part(patches: &mut Vec<Patch>, part: &Single) -> Result<bool, AllocError>
     requires { (part.now).index < 4 }
-    ensures append_part { IfOk result (λ ok. ok ≡ true → with_part (map seen patches.old.items) (placed part.now).0 (placed part.now).1 ≡ Some (map seen patches.new.items)) }
+    ensures put { IfOk result (λ ok. ok ≡ true → with_part (map seen patches.old.items) (placed part.now).0 (placed part.now).1 ≡ Some (map seen patches.new.items)) }
     ensures broken { IfOk result (λ ok. ok ≡ false → with_part (map seen patches.old.items) (placed part.now).0 (placed part.now).1 ≡ None) }
 {
     if part.index > 0 {

@@ -114,7 +114,7 @@ fn rarer(code: u8, rest: &[u8], layout: Layout) -> Result<(Rec<'_>, &[u8]), Flaw
 
 /// The record, and the bytes after it.
 #[inline(always)]
-#[tactic(auto, unfolding(omf_format::specs::Reading::front, omf_format::specs::Reading::rows))]
+#[tactic(auto, unfolding(omf_format::specs::Reading::first_record, omf_format::specs::Reading::rows))]
 fn read_front(bytes: &[u8], layout: Layout) -> Result<(Rec<'_>, &[u8]), Flaw>
     ensures gives { Gives (λ x. (view x.0, x.1.now)) result (first_record (view_layout layout) bytes.now) }
     ensures shorter { IfOk result (λ x. length x.1.now < length bytes.now) }

@@ -304,7 +304,7 @@ fn effect_of_known<'a>(
 ) -> Result<Effect<'a>, AllocError>
     requires fields { HaveFields of.now.text (line of.now).fields }
     requires plain { IsPlain (line of.now) }
-    requires known_effect { FitsLine (line of.now) (known_effect said.now) }
+    requires known { FitsLine (line of.now) (known_effect said.now) }
     ensures { IfOk result (λ d. IsEffect (where_ at.entry) (line of.now) (effect_view d)) }
 {
     match said {

@@ -72,7 +72,7 @@ fn group(base: u32, each: u32, digits: &[u8]) -> (u8, &[u8])
 }
 
 /// The bytes that digits write, so many a byte.
-#[tactic(auto, unfolding(asm_meaning::specs::Elements::packed))]
+#[tactic(auto, unfolding(asm_meaning::specs::Elements::bytes_of_group_digits))]
 fn pack_digits(alloc: Global, base: u32, each: u32, digits: &[u8]) -> Result<Vec<u8>, AllocError>
     requires base { (2 ≤ base) × (base ≤ 36) }
     requires each { (each ≡ 2) ⊎ (each ≡ 8) }

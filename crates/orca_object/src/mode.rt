@@ -355,7 +355,7 @@ fn first_of_two(mnemonic: Mnemonic, prefix: Prefix, modes: &[Mode]) -> Option<Mo
 }
 
 /// The first mode that a mnemonic offers for a form and a prefix, or BadMode.
-#[tactic(auto, unfolding(asm_meaning::specs::Instruction::offered))]
+#[tactic(auto, unfolding(asm_meaning::specs::Instruction::modes_of_form))]
 pub(crate) fn first_mode(mnemonic: Mnemonic, form: Form, prefix: Prefix) -> Option<Mode>
     ensures { result ≡ find (λ m. true) (modes_of_form mnemonic form prefix) }
 {
@@ -363,7 +363,7 @@ pub(crate) fn first_mode(mnemonic: Mnemonic, form: Form, prefix: Prefix) -> Opti
 }
 
 /// The mode of an operand that is this number, where the first one that is offered is this.
-#[tactic(auto, unfolding(asm_meaning::specs::Instruction::offered))]
+#[tactic(auto, unfolding(asm_meaning::specs::Instruction::modes_of_form))]
 pub(crate) fn mode_of_number(
     of: Widths,
     mnemonic: Mnemonic,
@@ -386,7 +386,7 @@ pub(crate) fn mode_of_number(
 }
 
 /// The mode of an operand that is no constant, where the first one that is offered is this.
-#[tactic(auto, unfolding(asm_meaning::specs::Instruction::offered))]
+#[tactic(auto, unfolding(asm_meaning::specs::Instruction::modes_of_form))]
 pub(crate) fn mode_of_tree(mnemonic: Mnemonic, form: Form, prefix: Prefix, first: Mode) -> Mode
     ensures { result ≡ or_first first (find two_test (modes_of_form mnemonic form prefix)) }
 {

@@ -27,7 +27,7 @@ fn is_operation(operation: &[u8], spelling: &[u8]) -> bool
 }
 
 /// A directive without effect.
-#[tactic(auto, unfolding(asm_meaning::specs::Operations::ignored, orca_meaning::specs::Operation::beside))]
+#[tactic(auto, unfolding(asm_meaning::specs::Operations::ignored_directives, orca_meaning::specs::Operation::value_of_spelling))]
 fn ignored_directive(operation: &[u8]) -> Option<Directive>
     ensures { result ≡ value_of_spelling (folded operation.now) (Rattle.std.specs.Prelude.map as_ignored ignored_directives) }
 {
@@ -68,7 +68,7 @@ fn ignored_directive(operation: &[u8]) -> Option<Directive>
 }
 
 /// A directive that is after GEQU in the table.
-#[tactic(auto, unfolding(orca_meaning::specs::Operation::beside))]
+#[tactic(auto, unfolding(orca_meaning::specs::Operation::value_of_spelling))]
 fn later_directive(operation: &[u8]) -> Option<Directive>
     ensures { result ≡ value_of_spelling (folded operation.now) directives_after_gequ }
 {
@@ -103,7 +103,7 @@ fn later_directive(operation: &[u8]) -> Option<Directive>
 }
 
 /// The directive that an operation is, in upper or lower case.
-#[tactic(auto, unfolding(asm_meaning::specs::Operations::directives, orca_meaning::specs::Operation::beside))]
+#[tactic(auto, unfolding(asm_meaning::specs::Operations::directives, orca_meaning::specs::Operation::value_of_spelling))]
 fn directive_of(operation: &[u8]) -> Option<Directive>
     ensures { result ≡ value_of_spelling (folded operation.now) directives }
 {

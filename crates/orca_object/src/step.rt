@@ -192,7 +192,7 @@ fn object_of(kept: AsmState) -> Result<Vec<u8>, AsmFault>
 
 /// The object that lines have left, or the fault of the first that has one.
 fn object_or_fault(stepped: Result<AsmState, AsmFault>) -> Result<Vec<u8>, AsmFault>
-    ensures assemble_lines { (lines : List Line) → HasStepped lines stepped → IsAssembled lines result }
+    ensures assembled { (lines : List Line) → HasStepped lines stepped → IsAssembled lines result }
     ensures fault { (fault : AsmFault) → stepped ≡ Err fault → result ≡ Err fault }
 {
     match stepped {

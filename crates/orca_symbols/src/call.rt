@@ -146,7 +146,7 @@ fn bind_pieces(
 }
 
 /// The same for an operand that may be missing.
-#[tactic(auto, unfolding(macro_meaning::specs::Call::bound_all), using(crate::proofs::Binds::none_reached))]
+#[tactic(auto, unfolding(macro_meaning::specs::Call::bound_arguments_all), using(crate::proofs::Binds::none_reached))]
 fn bind_all(
     alloc: Global,
     parameters: &[Name],
@@ -229,7 +229,7 @@ fn label_bound(
 }
 
 /// The symbols with which an expansion begins, where the operands fit. They stand in the memory of the spare ones.
-#[tactic(auto, unfolding(macro_meaning::specs::Call::bound), using(crate::proofs::Binds::bound_none))]
+#[tactic(auto, unfolding(macro_meaning::specs::Call::bound_arguments), using(crate::proofs::Binds::bound_none))]
 pub fn bind_arguments(
     alloc: Global,
     of: &ModelLine,

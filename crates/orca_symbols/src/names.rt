@@ -34,7 +34,7 @@ pub fn operation_is(of: &SourceLine, spelling: &[u8]) -> bool
 }
 
 /// The statements that begin with A.
-#[tactic(auto, unfolding(crate::specs::Letters::with_a, orca_meaning::specs::Operation::beside))]
+#[tactic(auto, unfolding(crate::specs::Letters::with_a, orca_meaning::specs::Operation::value_of_spelling))]
 fn with_a(operation: &[u8]) -> Option<Statement>
     ensures { result ≡ value_of_spelling (folded operation.now) with_a }
 {
@@ -57,7 +57,7 @@ fn with_a(operation: &[u8]) -> Option<Statement>
 }
 
 /// The statements that begin with S.
-#[tactic(auto, unfolding(crate::specs::Letters::with_s, orca_meaning::specs::Operation::beside))]
+#[tactic(auto, unfolding(crate::specs::Letters::with_s, orca_meaning::specs::Operation::value_of_spelling))]
 fn with_s(operation: &[u8]) -> Option<Statement>
     ensures { result ≡ value_of_spelling (folded operation.now) with_s }
 {
@@ -74,7 +74,7 @@ fn with_s(operation: &[u8]) -> Option<Statement>
 }
 
 /// The statements that begin with L.
-#[tactic(auto, unfolding(crate::specs::Letters::with_l, orca_meaning::specs::Operation::beside))]
+#[tactic(auto, unfolding(crate::specs::Letters::with_l, orca_meaning::specs::Operation::value_of_spelling))]
 fn with_l(operation: &[u8]) -> Option<Statement>
     ensures { result ≡ value_of_spelling (folded operation.now) with_l }
 {
@@ -91,7 +91,7 @@ fn with_l(operation: &[u8]) -> Option<Statement>
 }
 
 /// The statements that begin with M.
-#[tactic(auto, unfolding(crate::specs::Letters::with_m, orca_meaning::specs::Operation::beside))]
+#[tactic(auto, unfolding(crate::specs::Letters::with_m, orca_meaning::specs::Operation::value_of_spelling))]
 fn with_m(operation: &[u8]) -> Option<Statement>
     ensures { result ≡ value_of_spelling (folded operation.now) with_m }
 {
@@ -111,7 +111,7 @@ fn with_m(operation: &[u8]) -> Option<Statement>
 }
 
 /// The statements that begin with G.
-#[tactic(auto, unfolding(crate::specs::Letters::with_g, orca_meaning::specs::Operation::beside))]
+#[tactic(auto, unfolding(crate::specs::Letters::with_g, orca_meaning::specs::Operation::value_of_spelling))]
 fn with_g(operation: &[u8]) -> Option<Statement>
     ensures { result ≡ value_of_spelling (folded operation.now) with_g }
 {

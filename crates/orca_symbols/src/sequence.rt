@@ -19,7 +19,7 @@ pub fn begins_dot(text: &[u8]) -> bool
 }
 
 /// The line behind a sequence symbol in column 1.
-#[tactic(auto, unfolding(macro_meaning::specs::Effect::cut), using(crate::proofs::Cuts::cut_none))]
+#[tactic(auto, unfolding(macro_meaning::specs::Effect::without_sequence_symbol), using(crate::proofs::Cuts::cut_none))]
 pub fn skip_sequence_symbol(text: LinePart<'_>) -> LinePart<'_>
     ensures value { result.bytes.now ≡ without_sequence_symbol text.entry.bytes.now }
     ensures bound { length result.bytes.now ≤ length text.entry.bytes.now }

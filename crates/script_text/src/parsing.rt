@@ -550,7 +550,7 @@ fn is_name(word: &[u8], name: &str) -> bool
 }
 
 /// The command that a word names.
-#[tactic(auto, unfolding(loader_machine::specs::Script::named))]
+#[tactic(auto, unfolding(loader_machine::specs::Script::command_named))]
 fn command_by_name(word: &[u8]) -> Option<CommandName>
     ensures { result ≡ command_named word.now }
 {

@@ -50,7 +50,7 @@ impl Counts {
 
 /// What a refusal comes to, unless out of memory.
 fn refused_round(fault: LoaderFault) -> Result<RoundOutcome, AllocError>
-    ensures refused_round { IfOk result (λ outcome. outcome ≡ RoundOutcome.Refused) }
+    ensures refused { IfOk result (λ outcome. outcome ≡ RoundOutcome.Refused) }
     ensures other { OnOk result (fault ≢ LoaderFault.Memory) }
     ensures memory { OnErr result (fault ≡ LoaderFault.Memory) }
 {

@@ -8,7 +8,7 @@ returns-clause-bytes c = λ own.
     let old = c.args.out.now.items in
     let content = joined c.args.pieces.now in
     let here : length old ≡ c.len-start.result = omega (arith, c.len-start.ensures, c.args.out.now.ok) in
-    plain_is c.close-size.result c.len-start.result old content c.put_open.new.out.items here c.in-Ok.ensures.ok c.close-size.ensures.stored_length own c.close-size.new.out.items
+    plain_is c.close-size.result c.len-start.result old content c.put_open.new.out.items here c.in-Ok.ensures.ok c.close-size.ensures.kept own c.close-size.new.out.items
     (c.close-size.ensures.text old content c.in-Ok.ensures.ok here)
 
 pub returns-clause-zeros : goal.returns-clause-zeros
@@ -17,4 +17,4 @@ returns-clause-zeros c =
     let content = joined c.args.pieces.now in
     let here : length old ≡ c.len-start.result = omega (arith, c.len-start.ensures, c.args.out.now.ok) in
     let whole : c.len.result ≡ length c.put_open.new.out.items = omega (arith, c.len.ensures, c.put_open.new.out.ok) in
-    plain_zeros c.close-size.result c.len-start.result old content c.put_open.new.out.items here c.in-Ok.ensures.ok c.close-size.ensures.stored_length c.len.result whole
+    plain_zeros c.close-size.result c.len-start.result old content c.put_open.new.out.items here c.in-Ok.ensures.ok c.close-size.ensures.kept c.len.result whole

@@ -8,4 +8,4 @@ returns-in-Some c =
     (Made c.reported.result, (_, c.in-Ok.ensures.ok.0, reports_at _ c.args.number c.reported.result _ c.in-Some.ensures c.reported.ensures), (refl, refl, c.in-Ok.ensures.ok.1))
 
 pub returns : goal.returns
-returns c = unread_reported c.args.file.now c.in-Err.status c.args.fault.now c.read_load_file.new.fault _ _ c.args.reported.now c.in-Err.ensures.report_load_fault
+returns c = unread_reported c.args.file.now c.in-Err.status c.args.fault.now c.read_load_file.new.fault _ _ c.args.reported.now c.in-Err.ensures.refused

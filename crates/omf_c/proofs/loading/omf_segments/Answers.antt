@@ -7,4 +7,4 @@ pub returns-in-Ok : goal.returns-in-Ok
 returns-in-Ok c = (Made c.count.result, (_, c.in-Ok.ensures.ok.0, c.count.ensures), (refl, refl, c.in-Ok.ensures.ok.1))
 
 pub returns-in-Err : goal.returns-in-Err
-returns-in-Err c = unread_reported c.args.file.now c.in-Err.status c.args.fault.now c.read_load_file.new.fault _ _ c.args.count.now c.in-Err.ensures.report_load_fault
+returns-in-Err c = unread_reported c.args.file.now c.in-Err.status c.args.fault.now c.read_load_file.new.fault _ _ c.args.count.now c.in-Err.ensures.refused

@@ -6,8 +6,8 @@ use Rattle.omf_compact.specs.laws.Walk.{with_part}
 use Rattle.omf_compact.specs.laws.WalkLaws.{part-puts, part-breaks}
 use Rattle.omf_compact.proofs.parting.extend.Goals as goal
 
-pub returns-then-goes_on-clause-append_part : goal.returns-then-goes_on-clause-append_part
-returns-then-goes_on-clause-append_part c _ =
+pub returns-then-goes_on-clause-put : goal.returns-then-goes_on-clause-put
+returns-then-goes_on-clause-put c _ =
     let part = c.args.part.now in
     let last = c.in-Some.last in
     let next : Patch = record { at = last.at; count = last.count + 1; shift = last.shift; segment = last.segment; offset = last.offset } in

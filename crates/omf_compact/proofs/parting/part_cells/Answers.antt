@@ -22,7 +22,7 @@ cells-preserved c =
     elim c.match-part_at.branch [
       | in-Some+in_ok-append_part-in-Some+else-not-branch w ↦
           subst (λ (l : List Patch). Walked load number (at + 1) (map seen l)) (ap (λ v. v.items) (sym w.patches-is))
-          (walked_more load number at (map seen c.cells.patches.items) (map seen w.append_part.new.patches.items) w.in-Some.part c.cells.invariant w.in-Some.ensures (w.in_ok-append_part-in-Some.ensures.append_part w.if-not-branch.false))
+          (walked_more load number at (map seen c.cells.patches.items) (map seen w.append_part.new.patches.items) w.in-Some.part c.cells.invariant w.in-Some.ensures (w.in_ok-append_part-in-Some.ensures.put w.if-not-branch.false))
       | in-None w ↦
           subst (λ (l : List Patch). Walked load number (at + 1) (map seen l)) (ap (λ v. v.items) (sym w.patches-is))
           (walked_over load number at (map seen c.cells.patches.items) c.cells.invariant w.in-None.ensures)

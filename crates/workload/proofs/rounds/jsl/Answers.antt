@@ -17,5 +17,5 @@ pub returns-in-Err-clause-done : goal.returns-in-Err-clause-done
 returns-in-Err-clause-done c =
     let command = commands.Jsl first_id 1 (4 * (c.args.i - 1)) in
     reading_refused command c.args.loader.now c.jsl.new.self c.args.files.now c.jsl.new.files
-    c.in-Err.fault _ c.refused_round.result c.refused_round.ensures.other c.refused_round.ensures.refused_round
+    c.in-Err.fault _ c.refused_round.result c.refused_round.ensures.other c.refused_round.ensures.refused
     (λ other. by_meets command c.args.loader.now c.jsl.new.self c.args.files.now c.jsl.new.files (commands.Refused c.in-Err.fault) other c.in-Err.ensures.meets c.in-Err.ensures.needed)

@@ -14,5 +14,5 @@ returns-in-Ok-clause-done c =
 pub returns-in-Err-clause-done : goal.returns-in-Err-clause-done
 returns-in-Err-clause-done c =
     reading_refused (commands.Load program) c.args.loader.now c.load.new.self c.args.files.now c.load.new.files
-    c.in-Err.fault _ c.refused_round.result c.refused_round.ensures.other c.refused_round.ensures.refused_round
+    c.in-Err.fault _ c.refused_round.result c.refused_round.ensures.other c.refused_round.ensures.refused
     (λ other. by_reads (commands.Load program) c.args.loader.now c.load.new.self c.args.files.now c.load.new.files (commands.Refused c.in-Err.fault) other c.in-Err.ensures.needed)

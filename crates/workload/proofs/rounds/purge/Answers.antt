@@ -11,4 +11,4 @@ returns-in-Ok c =
 
 pub returns-in-Err : goal.returns-in-Err
 returns-in-Err c =
-    quiet_refused (commands.Purge first_id) c.in-Err.fault _ c.refused_round.result c.args.loader.now c.purge.new.self (λ held state. none_read held state (commands.Purge first_id) refl (refl, refl)) c.refused_round.ensures.refused_round c.in-Err.ensures.meets
+    quiet_refused (commands.Purge first_id) c.in-Err.fault _ c.refused_round.result c.args.loader.now c.purge.new.self (λ held state. none_read held state (commands.Purge first_id) refl (refl, refl)) c.refused_round.ensures.refused c.in-Err.ensures.meets

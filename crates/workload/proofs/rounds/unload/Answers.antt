@@ -12,4 +12,4 @@ returns-in-Ok c =
 pub returns-in-Err : goal.returns-in-Err
 returns-in-Err c =
     quiet_refused (commands.UnloadSegment first_id (c.args.i + 1)) c.in-Err.fault _ c.refused_round.result c.args.loader.now c.unload_segment.new.self (λ held state. none_read held state (commands.UnloadSegment first_id (c.args.i + 1)) refl (refl, refl))
-    c.refused_round.ensures.refused_round c.in-Err.ensures.meets
+    c.refused_round.ensures.refused c.in-Err.ensures.meets
