@@ -26,16 +26,16 @@ pub data Repeat : Type 0 where
   Computed : (tree : Tree) → Repeat
 
 -- the value of an element: numbers of a given number of bytes, constant bytes, a text, names that are asked for, or names that may be missing
-pub data Value : Type 0 where
-  Numbers : (width : ℕ) (trees : List Tree) → Value
-  Fixed : (bytes : List ℕ) → Value
-  Text : (bytes : List ℕ) → Value
-  Asked : (names : List (List ℕ)) → Value
-  Weak : (names : List (List ℕ)) → Value
+pub data ElementValue : Type 0 where
+  Numbers : (width : ℕ) (trees : List Tree) → ElementValue
+  Fixed : (bytes : List ℕ) → ElementValue
+  Text : (bytes : List ℕ) → ElementValue
+  Asked : (names : List (List ℕ)) → ElementValue
+  Weak : (names : List (List ℕ)) → ElementValue
 
 pub record Element : Type 0 where
   pub repeat : Repeat
-  pub value : Value
+  pub value : ElementValue
 
 -- ---- digits
 
@@ -87,21 +87,21 @@ AreNames text (name ∷ []) = name_at text ≡ Some (name, [])
 AreNames text (name ∷ next ∷ names) = (following : List ℕ) × (name_at text ≡ Some (name, ascii.comma ∷ following)) × AreNames following (next ∷ names)
 
 -- the types of elements: I and A with the bytes of each number, H, B, C, R, S
-pub data Kind : Type 0 where
-  Number : (width : ℕ) → Kind
-  Hexadecimal : Kind
-  Binary : Kind
-  Characters : Kind
-  References : Kind
-  WeakReferences : Kind
+pub data ElementType : Type 0 where
+  Number : (width : ℕ) → ElementType
+  Hexadecimal : ElementType
+  Binary : ElementType
+  Characters : ElementType
+  References : ElementType
+  WeakReferences : ElementType
 
 -- the number of bytes behind I and A, which is 2 where none stands there
-abbrev pub width_at : List ℕ → Kind × List ℕ
+abbrev pub width_at : List ℕ → ElementType × List ℕ
 width_at [] = (Number 2, [])
 width_at (digit ∷ following) = if nat_le ascii.digit_1 digit && nat_le digit ascii.digit_4 then (Number (digit - ascii.digit_0), following) else (Number 2, digit ∷ following)
 
 -- the type at the start, in upper or lower case
-unfoldable pub kind_at : List ℕ → Found Kind
+unfoldable pub kind_at : List ℕ → Found ElementType
 kind_at [] = None
 kind_at (letter ∷ following) =
     let capital = to_ascii_uppercase letter in
@@ -114,7 +114,7 @@ kind_at (letter ∷ following) =
     else None
 
 -- the value of a type stands at the start, behind its opening quote and with its closing one
-abbrev pub IsValueAt : Kind → List ℕ → Value → List ℕ → Type 0
+abbrev pub IsValueAt : ElementType → List ℕ → ElementValue → List ℕ → Type 0
 IsValueAt (Number width) text value rest =
     (inner : List ℕ) × (trees : List Tree) × (closed_at text ≡ Some (inner, rest)) × AreFormulas inner trees × (value ≡ Numbers width trees)
 IsValueAt Hexadecimal text value rest =
@@ -144,7 +144,7 @@ IsRepeatAt text repeat rest = IsRepeatBy (after_parenthesis text) (digits_at 10 
 -- an element stands at the start: how often, its type, and its value in quotes
 pub record IsElementAt (text : List ℕ) (element : Element) (rest : List ℕ) : Type 0 where
   pub after_repeat : List ℕ
-  pub kind : Kind
+  pub kind : ElementType
   pub after_quote : List ℕ
   pub repeat : IsRepeatAt text element.repeat after_repeat
   pub of_kind : kind_at after_repeat ≡ Some (kind, ascii.apostrophe ∷ after_quote)
@@ -187,7 +187,7 @@ weak_piece name = Whole (Formula 0xEB 2 0 (expression_text (Leaf (Named 0x82 nam
 abbrev pub strong_piece : List ℕ → Piece
 strong_piece name = Whole (Strong name)
 
-abbrev pub value_pieces : Constants → Bool → Value → Answer (List Piece)
+abbrev pub value_pieces : Constants → Bool → ElementValue → Answer (List Piece)
 value_pieces constants msb (Numbers width trees) = all_of (piece_of_number constants width) trees
 value_pieces constants msb (Fixed bytes) = Ok (Bytes bytes ∷ [])
 value_pieces constants msb (Text bytes) = Ok (Bytes (map (text_byte msb) bytes) ∷ [])

@@ -55,15 +55,15 @@ modes_of forms.Other = []
 
 -- what an operand is in the instruction: nothing, a value, an address or a stack offset of a given number of bytes, a distance of a given number of
 -- bytes, two banks, or a signature
-pub data Kind : Type 0 where
-  Missing : Kind
-  Value : Kind
-  Address : (bytes : ℕ) → Kind
-  Distance : (bytes : ℕ) → Kind
-  Banks : Kind
-  Sign : Kind
+pub data OperandKind : Type 0 where
+  Missing : OperandKind
+  Value : OperandKind
+  Address : (bytes : ℕ) → OperandKind
+  Distance : (bytes : ℕ) → OperandKind
+  Banks : OperandKind
+  Sign : OperandKind
 
-unfoldable pub kind_of : Mode → Kind
+unfoldable pub kind_of : Mode → OperandKind
 kind_of Implied = Missing
 kind_of Accumulator = Missing
 kind_of Immediate = Value
@@ -90,17 +90,17 @@ kind_of Relative16 = Distance 2
 kind_of Move = Banks
 kind_of Signature = Sign
 
-abbrev pub is_address : ℕ → Kind → Bool
+abbrev pub is_address : ℕ → OperandKind → Bool
 is_address n (Address bytes) = bytes == n
 is_address _ _ = false
 
-abbrev pub is_value : Kind → Bool
+abbrev pub is_value : OperandKind → Bool
 is_value Value = true
 is_value _ = false
 
 -- A prefix of an address asks for one of one byte (`<`), two (`|`, `!`) or three (`>`). Behind `#` it says which part of a
 -- value is meant.
-abbrev pub is_asked : Prefix → Kind → Bool
+abbrev pub is_asked : Prefix → OperandKind → Bool
 is_asked Bare kind = true
 is_asked Less kind = is_value kind || is_address 1 kind
 is_asked Bar kind = is_address 2 kind
@@ -131,7 +131,7 @@ fits_value prefix width n = if is_bare prefix then nat_lt n (256 ^ width) || nat
 
 -- whether the operand can be this number in a given number of bytes: an address, a bank and a signature as an unsigned one; a branch
 -- leaves that to the linker
-abbrev pub is_operand_of_width : Prefix → Kind → ℕ → ℕ → Bool
+abbrev pub is_operand_of_width : Prefix → OperandKind → ℕ → ℕ → Bool
 is_operand_of_width prefix Missing width n = false
 is_operand_of_width prefix Value width n = fits_value prefix width n
 is_operand_of_width prefix (Address bytes) width n = nat_lt n (256 ^ width)
@@ -163,7 +163,7 @@ abbrev pub with_right_shift : ℕ → Tree → Tree
 with_right_shift count tree = if count == 0 then tree else Binary 0x07 tree (Leaf (Constant (2 ^ 32 - count)))
 
 -- the shift of an operand: that of a value alone
-abbrev pub shift_in : Kind → Prefix → ℕ
+abbrev pub shift_in : OperandKind → Prefix → ℕ
 shift_in Value prefix = value_shift prefix
 shift_in _ _ = 0
 
@@ -179,7 +179,7 @@ address_code mnemonic bytes =
 
 -- The record of an operand of a given number of bytes: ZEXPR of an address of one byte, BEXPR of two, LEXPR of three behind JSL and
 -- JML; RELEXPR of a distance, which is counted from its own end; EXPR of all others.
-abbrev pub operand_record : Mnemonic → Kind → ℕ → Tree → Record
+abbrev pub operand_record : Mnemonic → OperandKind → ℕ → Tree → Record
 operand_record mnemonic Missing width tree = Formula 0xEB width 0 (expression_text tree)
 operand_record mnemonic Value width tree = Formula 0xEB width 0 (expression_text tree)
 operand_record mnemonic (Address bytes) width tree = Formula (address_code mnemonic bytes) width 0 (expression_text tree)
@@ -187,7 +187,7 @@ operand_record mnemonic (Distance bytes) width tree = Formula 0xEE width width (
 operand_record mnemonic Banks width tree = Formula 0xEB width 0 (expression_text tree)
 operand_record mnemonic Sign width tree = Formula 0xEB width 0 (expression_text tree)
 
-abbrev pub is_distance : Kind → Bool
+abbrev pub is_distance : OperandKind → Bool
 is_distance (Distance bytes) = true
 is_distance _ = false
 

@@ -14,7 +14,7 @@ use Rattle.macro_meaning.specs.Expansion.{IsExpanded}
 use Rattle.asm_meaning.specs.declared.faults.AsmCause.{AsmCause}
 use Rattle.asm_meaning.specs.declared.faults.AsmCause.TheVariants.{LineTooLong, TooManyLines, NoSuchSymbol, BadSetting, BadArguments, NoSequenceSymbol, Unclosed, Counter, TooNested, Noted, TooLong, Memory}
 use Rattle.asm_meaning.specs.declared.faults.AsmFault.{AsmFault}
-use Rattle.asm_meaning.specs.State.{Segment, Ended, State, start}
+use Rattle.asm_meaning.specs.State.{StartedSegment, FinishedSegment, State, start}
 use Rattle.asm_meaning.specs.Statement.{IsStep}
 
 -- ---- what is written
@@ -23,11 +23,11 @@ unfoldable pub records_text : List Record → List ℕ
 records_text contents = flat_map (spelling written_layout) contents
 
 -- a segment in the file: its header, and its records
-unfoldable pub segment_text : Ended → List ℕ
+unfoldable pub segment_text : FinishedSegment → List ℕ
 segment_text s = header_bytes s.header (length (records_text s.body)) ++ records_text s.body
 
 -- the segments one after another
-unfoldable pub object_text : List Ended → List ℕ
+unfoldable pub object_text : List FinishedSegment → List ℕ
 object_text segments = flat_map segment_text segments
 
 -- the most bytes of a file
@@ -88,7 +88,7 @@ pub data IsFirstFault (source : List ℕ) (macros : List (List ℕ)) (fault : As
       → fault ≡ record { cause = cause_of found.cause; file = found.file; line = found.line } → IsFirstFault source macros fault
   InLine : (line : Line) (cause : AsmCause) → HasBadLine source macros line cause
       → fault ≡ record { cause = cause; file = line.file; line = line.number } → IsFirstFault source macros fault
-  InSegment : (last : State) (s : Segment) → HasLines source macros last → last.segment ≡ Some s
+  InSegment : (last : State) (s : StartedSegment) → HasLines source macros last → last.segment ≡ Some s
       → fault ≡ record { cause = Unclosed; file = s.start_line.file; line = s.start_line.number } → IsFirstFault source macros fault
   InLength : (last : State) → HasLines source macros last → last.segment ≡ None → most_bytes < length (object_text last.ended)
       → fault ≡ record { cause = TooLong; file = 0; line = 0 } → IsFirstFault source macros fault

@@ -6,16 +6,16 @@ use Rattle.omf_format.specs.File as format
 use Rattle.omf_format.specs.File.{IsFile}
 use Rattle.object_meaning.specs.Sizes.{body_size}
 use Rattle.asm_meaning.specs.Object.{records_text, object_text, most_bytes, HasLines}
-use Rattle.asm_meaning.specs.State.{Ended, State}
+use Rattle.asm_meaning.specs.State.{FinishedSegment, State}
 
 -- the segment has the header that was written and these records
-pub record IsReadAs (e : Ended) (s : format.Segment) : Type 0 where
+pub record IsReadAs (e : FinishedSegment) (s : format.Segment) : Type 0 where
   pub fields : s.fields ≡ written_fields e.header (length (records_text e.body))
   pub records : map (λ found. found.1) s.records ≡ e.body
   -- LENGTH is the number of cells that the linker counts
   pub cells : s.fields.length ≡ body_size s
 
-abbrev pub AreReadAs : List Ended → List format.Segment → Type 0
+abbrev pub AreReadAs : List FinishedSegment → List format.Segment → Type 0
 AreReadAs [] [] = Unit {0}
 AreReadAs [] (s ∷ segments) = ⊥
 AreReadAs (e ∷ ended) [] = ⊥

@@ -2,7 +2,7 @@
 -- segment header).
 use Rattle.std.specs.Prelude.{ℕ, ◌+◌, ◌%◌, Bool, true, false, nat_lt, min, List, [], ◌∷◌, ◌++◌, length, Option, Some, None, Ok, Err, if◌then◌else◌}
 use Rattle.std.specs.Option.{option_map}
-use Rattle.omf_format.specs.Header.{Fields}
+use Rattle.omf_format.specs.Header.{HeaderFields}
 use Rattle.omf_format.specs.Record.{Record, Label}
 use Rattle.orca_meaning.specs.Line.{Line}
 use Rattle.macro_meaning.specs.Symbol.{with_name}
@@ -22,16 +22,16 @@ Names = List ℕ → Option (Option ℕ)
 
 -- a segment that hasn't ended: the line that begins it, its class, its header so far, the names that it defines, and its
 -- records
-pub record Segment : Type 0 where
+pub record StartedSegment : Type 0 where
   pub start_line : Line
   pub class : Class
-  pub header : Fields
+  pub header : HeaderFields
   pub names : Names
   pub body : List Record
 
 -- a segment that has ended: its header, and its records up to END
-pub record Ended : Type 0 where
-  pub header : Fields
+pub record FinishedSegment : Type 0 where
+  pub header : HeaderFields
   pub body : List Record
 
 -- The widths, whether MSB is on, the constants of GEQU outside segments, what waits for the next segment (ORG, ALIGN, and the
@@ -43,8 +43,8 @@ pub record State : Type 0 where
   pub org : ℕ
   pub align : ℕ
   pub front : List Record
-  pub segment : Option Segment
-  pub ended : List Ended
+  pub segment : Option StartedSegment
+  pub ended : List FinishedSegment
 
 abbrev pub no_constants : Constants
 no_constants name = None
@@ -68,7 +68,7 @@ start = record {
 -- ---- segments
 
 -- how many cells a segment has so far
-abbrev pub cells_of : Segment → ℕ
+abbrev pub cells_of : StartedSegment → ℕ
 cells_of s = place_after 0 s.body
 
 -- KIND and BANKSIZE of a class, and the greatest LENGTH
@@ -91,7 +91,7 @@ greatest_length Data = 0xFFFFFF
 greatest_length PrivateData = 0xFFFFFF
 
 -- The header of the next segment, whose number is the place from 1. The fields that the writing of a header works out are 0.
-abbrev pub header_of : State → Class → List ℕ → List ℕ → Fields
+abbrev pub header_of : State → Class → List ℕ → List ℕ → HeaderFields
 header_of state class name load_name = record {
   byte_count = 0;
   res_spc = 0;
@@ -126,7 +126,7 @@ state_after_start state line class name load_name = record state {
 }
 
 -- the segment ends, and LENGTH is the number of its cells
-abbrev pub ended_of : Option Segment → List Ended
+abbrev pub ended_of : Option StartedSegment → List FinishedSegment
 ended_of None = []
 ended_of (Some s) = record { header = record s.header { length = cells_of s }; body = s.body } ∷ []
 
@@ -147,19 +147,19 @@ local_of [] form size = []
 local_of (byte ∷ label) form size = Label false (byte ∷ label) (min size 0xFFFF) form 0 ∷ []
 
 -- a statement's records are at the end of the segment, behind these for its label, which becomes one of its names
-abbrev pub with_records : List ℕ → Option ℕ → List Record → List Record → Segment → Segment
+abbrev pub with_records : List ℕ → Option ℕ → List Record → List Record → StartedSegment → StartedSegment
 with_records label value front contents s = record s { names = with_label label value s.names; body = s.body ++ (front ++ contents) }
 
 -- the same with LOCAL for its label
-abbrev pub with_local_record : List ℕ → ℕ → List Record → Segment → Segment
+abbrev pub with_local_record : List ℕ → ℕ → List Record → StartedSegment → StartedSegment
 with_local_record label form contents s = with_records label None (local_of label form (length_at (cells_of s) contents)) contents s
 
-abbrev pub in_segment : (Segment → Segment) → State → State
+abbrev pub in_segment : (StartedSegment → StartedSegment) → State → State
 in_segment change state = record state { segment = option_map change state.segment }
 
 -- ---- the greatest length
 
-abbrev pub is_too_long : Option Segment → Bool
+abbrev pub is_too_long : Option StartedSegment → Bool
 is_too_long None = false
 is_too_long (Some s) = nat_lt (greatest_length s.class) (cells_of s)
 

@@ -26,7 +26,7 @@ use Rattle.asm_meaning.specs.declared.directives.Operation.{Operation}
 use Rattle.asm_meaning.specs.declared.directives.Operation.TheVariants.{Instruct, Direct}
 use Rattle.asm_meaning.specs.Operations.{operation_of}
 use Rattle.asm_meaning.specs.Pieces.{records_of}
-use Rattle.asm_meaning.specs.State.{Segment, State, state_after_start, state_after_end, with_records, with_local_record, in_segment, within_length, with_switch_set}
+use Rattle.asm_meaning.specs.State.{StartedSegment, State, state_after_start, state_after_end, with_records, with_local_record, in_segment, within_length, with_switch_set}
 
 -- ---- inside and outside of segments
 
@@ -68,7 +68,7 @@ begins_segment (Direct (directives.Begin class)) = true
 begins_segment _ = false
 
 -- a statement stands on the wrong side
-abbrev pub is_misplaced : Option Segment → Operation → List ℕ → List ℕ → Bool
+abbrev pub is_misplaced : Option StartedSegment → Operation → List ℕ → List ℕ → Bool
 is_misplaced None operation label operand = needs_segment operation label operand
 is_misplaced (Some s) operation label operand = begins_segment operation
 
@@ -83,7 +83,7 @@ needs_label _ = false
 
 -- Whether a label is a name that there is already: in a segment one that it defines, and outside one of the GEQUs there. The
 -- name of a segment is the first that it defines.
-abbrev pub is_taken : State → Option Segment → Operation → List ℕ → Bool
+abbrev pub is_taken : State → Option StartedSegment → Operation → List ℕ → Bool
 is_taken state None operation label = if begins_segment operation then false else is_some (state.outside label)
 is_taken state (Some s) operation label = is_some (s.names label)
 
@@ -126,7 +126,7 @@ abbrev pub value_in : Option (Option ℕ) → Option ℕ
 value_in None = None
 value_in (Some value) = value
 
-abbrev pub constants_in : Option Segment → Constants
+abbrev pub constants_in : Option StartedSegment → Constants
 constants_in None name = None
 constants_in (Some s) name = value_in (s.names name)
 
@@ -141,7 +141,7 @@ number_in state found = formula_of found >>= λ tree. required_number (known_val
 -- ---- directives with a number
 
 -- a power of two up to $10000, and in a segment up to its alignment
-abbrev pub is_alignment : Option Segment → ℕ → Bool
+abbrev pub is_alignment : Option StartedSegment → ℕ → Bool
 is_alignment None n = is_power_of_two n && nat_le n 0x10000
 is_alignment (Some s) n = is_power_of_two n && nat_le n (alignment_of s.header.align)
 
@@ -149,7 +149,7 @@ abbrev pub alignment_in : State → ℕ → Answer ℕ
 alignment_in state n = if is_alignment state.segment n then Ok n else Err BadOperand
 
 -- in a segment ORG moves the location counter forward
-abbrev pub distance_in : Option Segment → ℕ → Answer ℕ
+abbrev pub distance_in : Option StartedSegment → ℕ → Answer ℕ
 distance_in None n = Ok n
 distance_in (Some s) n = if nat_lt n (2 ^ 31) then Ok n else Err BadOperand
 
@@ -158,15 +158,15 @@ abbrev pub listed_kind : ℕ → Answer ℕ
 listed_kind n = if not (is_listed (form_of n)) then Err BadOperand else if nat_lt 0xFFFF n then Err DoesNotFit else Ok n
 
 -- what ALIGN and ORG do: outside segments they wait for the next one
-abbrev pub state_after_align : State → Option Segment → List ℕ → ℕ → State
+abbrev pub state_after_align : State → Option StartedSegment → List ℕ → ℕ → State
 state_after_align state None label n = record state { align = n }
 state_after_align state (Some s) label n = in_segment (with_local_record label 0x4E (Align n ∷ [])) state
 
-abbrev pub state_after_org : State → Option Segment → List ℕ → ℕ → State
+abbrev pub state_after_org : State → Option StartedSegment → List ℕ → ℕ → State
 state_after_org state None label n = record state { org = n }
 state_after_org state (Some s) label n = in_segment (with_local_record label 0x4E (Org n ∷ [])) state
 
-abbrev pub with_kind : ℕ → Segment → Segment
+abbrev pub with_kind : ℕ → StartedSegment → StartedSegment
 with_kind n s = record s { header = record s.header { kind = n } }
 
 -- ---- EQU and GEQU
@@ -180,7 +180,7 @@ abbrev pub value_of : Amount → Option ℕ
 value_of (Known n) = Some n
 value_of (Written tree) = None
 
-abbrev pub with_equate : Bool → List ℕ → Amount → Segment → Segment
+abbrev pub with_equate : Bool → List ℕ → Amount → StartedSegment → StartedSegment
 with_equate global label a s = with_records label (value_of a) [] (equate global label (tree_of_amount a) ∷ []) s
 
 abbrev pub equating : State → Bool → Answer (List ℕ) → Option Tree → Answer State
@@ -194,7 +194,7 @@ equating_outside state label found =
     pair_or_earlier_fault label (number_in state found)
     >>= λ (name, n). Ok (record state { outside = with_name name n state.outside; front = state.front ++ equate true name (Leaf (Constant n)) ∷ [] })
 
-abbrev pub equating_global : State → Option Segment → Answer (List ℕ) → Option Tree → Answer State
+abbrev pub equating_global : State → Option StartedSegment → Answer (List ℕ) → Option Tree → Answer State
 equating_global state None label found = equating_outside state label found
 equating_global state (Some s) label found = equating state true label found
 
@@ -222,7 +222,7 @@ abbrev pub IsMoveText : Option (List ℕ) → Option Tree → Type 0
 IsMoveText None found = found ≡ None
 IsMoveText (Some text) found = IsFormula text found
 
-abbrev pub IsMove : Option Segment → List ℕ → Option Tree → Type 0
+abbrev pub IsMove : Option StartedSegment → List ℕ → Option Tree → Type 0
 IsMove None text found = IsFormula text found
 IsMove (Some s) text found = IsMoveText (following_here text) found
 

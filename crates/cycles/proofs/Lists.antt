@@ -4,7 +4,7 @@ use Rattle.std.specs.Prelude.{slice_get}
 use Rattle.std.proofs.lemmas.List.{length-append}
 use Rattle.cycles.specs.Graphs.{IsIn, at_or}
 use Rattle.cycles.specs.Kept.{ends_of, Fits, AllFit, rows_in}
-use Rattle.cycles.specs.declared.graph.Span.{Span}
+use Rattle.cycles.specs.declared.graph.EdgeSpan.{EdgeSpan}
 
 some_same : {A : Type 0} (x y : A) → Some x ≡ Some y → x ≡ y
 some_same x y e = cc
@@ -54,15 +54,15 @@ front_same ends row zero n within = front ends n (omega (arith, within))
 front_same [] row (suc from) n within = absurd (omega (arith, within))
 front_same (x ∷ ends) row (suc from) n within = front_same ends row from n (omega (arith, within))
 
-row_same : (ends row : List ℕ) (span : Span) → Fits ends span → ends_of (ends ++ row) span ≡ ends_of ends span
+row_same : (ends row : List ℕ) (span : EdgeSpan) → Fits ends span → ends_of (ends ++ row) span ≡ ends_of ends span
 row_same ends row span fits = front_same ends row span.from (span.to - span.from) (omega (arith, fits.ordered, fits.within))
 
-pub fit_more : (ends row : List ℕ) (spans : List Span) → AllFit ends spans → AllFit (ends ++ row) spans
+pub fit_more : (ends row : List ℕ) (spans : List EdgeSpan) → AllFit ends spans → AllFit (ends ++ row) spans
 fit_more ends row [] fit = tt
 fit_more ends row (span ∷ spans) fit =
     (record { ordered = fit.0.ordered; within = omega (arith, fit.0.within, length-append ends row) }, fit_more ends row spans fit.1)
 
-pub fit_one : (ends : List ℕ) (spans : List Span) (span : Span) → AllFit ends spans → Fits ends span → AllFit ends (spans ++ span ∷ [])
+pub fit_one : (ends : List ℕ) (spans : List EdgeSpan) (span : EdgeSpan) → AllFit ends spans → Fits ends span → AllFit ends (spans ++ span ∷ [])
 fit_one ends [] span fit one = (one, tt)
 fit_one ends (x ∷ spans) span fit one = (fit.0, fit_one ends spans span fit.1 one)
 
@@ -77,7 +77,7 @@ new_row (x ∷ ends) row =
     ap (λ (k : ℕ). take k (drop (length ends) (ends ++ row))) n ∙ new_row ends row
 
 -- a row more
-pub row_more : (ends row : List ℕ) (spans : List Span) (span : Span) → AllFit ends spans → span.from ≡ length ends → span.to ≡ length (ends ++ row)
+pub row_more : (ends row : List ℕ) (spans : List EdgeSpan) (span : EdgeSpan) → AllFit ends spans → span.from ≡ length ends → span.to ≡ length (ends ++ row)
     → rows_in (ends ++ row) (spans ++ span ∷ []) ≡ rows_in ends spans ++ row ∷ []
 row_more ends row [] span fit from to =
     ap (λ (n : ℕ). take (n - span.from) (drop span.from (ends ++ row)) ∷ []) to
@@ -87,17 +87,17 @@ row_more ends row (x ∷ spans) span fit from to =
     ap (λ (r : List ℕ). r ∷ rows_in (ends ++ row) (spans ++ span ∷ [])) (row_same ends row x fit.0)
     ∙ ap (λ (l : List (List ℕ)). ends_of ends x ∷ l) (row_more ends row spans span fit.1 from to)
 
-pub fits_at : (ends : List ℕ) (spans : List Span) (k : ℕ) (span : Span) → AllFit ends spans → slice_get spans k ≡ Some span → Fits ends span
+pub fits_at : (ends : List ℕ) (spans : List EdgeSpan) (k : ℕ) (span : EdgeSpan) → AllFit ends spans → slice_get spans k ≡ Some span → Fits ends span
 fits_at ends [] k span fit e = absurd cc
 fits_at ends (x ∷ spans) zero span fit e = subst (Fits ends) (some_same x span e) fit.0
 fits_at ends (x ∷ spans) (suc k) span fit e = fits_at ends spans k span fit.1 e
 
-pub row_there : (ends : List ℕ) (spans : List Span) (k : ℕ) (span : Span) → slice_get spans k ≡ Some span → at_or [] (rows_in ends spans) k ≡ ends_of ends span
+pub row_there : (ends : List ℕ) (spans : List EdgeSpan) (k : ℕ) (span : EdgeSpan) → slice_get spans k ≡ Some span → at_or [] (rows_in ends spans) k ≡ ends_of ends span
 row_there ends [] k span e = absurd cc
 row_there ends (x ∷ spans) zero span e = ap (ends_of ends) (some_same x span e)
 row_there ends (x ∷ spans) (suc k) span e = row_there ends spans k span e
 
-pub row_gone : (ends : List ℕ) (spans : List Span) (k : ℕ) → length spans ≤ k → at_or [] (rows_in ends spans) k ≡ []
+pub row_gone : (ends : List ℕ) (spans : List EdgeSpan) (k : ℕ) → length spans ≤ k → at_or [] (rows_in ends spans) k ≡ []
 row_gone ends [] k past = refl
 row_gone ends (x ∷ spans) zero past = absurd (omega (arith, past))
 row_gone ends (x ∷ spans) (suc k) past = row_gone ends spans k (omega (arith, past))

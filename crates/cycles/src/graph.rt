@@ -8,7 +8,7 @@ use std::marker::Model;
 
 /// Where the edges of a vertex lie among all.
 #[derive(Clone, Copy)]
-pub struct Span {
+pub struct EdgeSpan {
     from: usize,
     to: usize,
 }
@@ -16,7 +16,7 @@ pub struct Span {
 /// Vertices by their numbers, from 0, each with those to which its edges go. Contracts see the list of these lists.
 #[derive(Drop)]
 pub struct Edges {
-    spans: Vec<Span>,
+    spans: Vec<EdgeSpan>,
     ends: Vec<usize>,
 }
 
@@ -80,7 +80,7 @@ impl Edges {
         let from = self.ends.as_slice().len();
         self.ends.extend_from_slice(row)?;
         let to = self.ends.as_slice().len();
-        self.spans.push(Span { from, to })?;
+        self.spans.push(EdgeSpan { from, to })?;
         Ok(())
     }
 }

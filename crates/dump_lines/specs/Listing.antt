@@ -2,7 +2,7 @@
 use Rattle.std.specs.Prelude.{◌≡◌, ℕ, suc, ◌+◌, ◌*◌, ◌&&◌, not, ℤ, List, [], ◌∷◌, ◌++◌, length, take, map, codes, nat_le, nat_lt, ◌==◌, if◌then◌else◌}
 use Rattle.std.specs.List.{flat_map}
 use Rattle.omf_base.specs.Digits.{decimal, hexadecimal}
-use Rattle.omf_format.specs.Header.{Fields}
+use Rattle.omf_format.specs.Header.{HeaderFields}
 use Rattle.omf_format.specs.Field.{Layout, length_width_of, shift_byte}
 use Rattle.omf_format.specs.Record.{Record, End, Const, LongConst, Align, Org, Space, Reloc, InterSeg, ShortReloc, ShortInterSeg, Super, Using, Strong, Label, Equate, Formula, Entry, IsRecord}
 use Rattle.omf_format.specs.File.{Segment, IsFile}
@@ -29,17 +29,17 @@ abbrev pub labelled_number : List ℕ → ℕ → List ℕ
 labelled_number label n = label ++ hexadecimal 8 n
 
 -- the numbers of a header, KIND in four digits
-unfoldable pub numbers_text : Fields → List ℕ
+unfoldable pub numbers_text : HeaderFields → List ℕ
 numbers_text f = codes " kind " ++ hexadecimal 4 f.kind ++ labelled_number (codes " length ") f.length ++ labelled_number (codes " resspc ") f.res_spc
     ++ labelled_number (codes " banksize ") f.bank_size ++ labelled_number (codes " align ") f.align ++ labelled_number (codes " org ") f.org
     ++ labelled_number (codes " entry ") f.entry
 
 -- the names of a header
-unfoldable pub names_text : Fields → List ℕ
+unfoldable pub names_text : HeaderFields → List ℕ
 names_text f = codes " loadname " ++ quoted_name f.load_name ++ codes " segname " ++ quoted_name f.name
 
 -- a segment: its number from 1, where it starts, and what its header says
-unfoldable pub segment_line : ℕ → ℕ → Fields → List ℕ
+unfoldable pub segment_line : ℕ → ℕ → HeaderFields → List ℕ
 segment_line number start f = line (codes "segment " ++ decimal number ++ labelled_number (codes " at ") start ++ numbers_text f ++ names_text f)
 
 -- ---- the fields of records, each with one space before it

@@ -13,7 +13,7 @@ use Rattle.iigs_meaning.specs.Memory.{Memory, bytes_at}
 use Rattle.iigs_places.specs.Offsets.{bytes_below, offset_of}
 use Rattle.iigs_places.specs.Spots.{IsBoundedSlot}
 use Rattle.iigs_memory.specs.Overlay.{written_over, with_bytes_written, start_of}
-use Rattle.iigs_memory.specs.declared.part.Part.{Part}
+use Rattle.iigs_memory.specs.declared.part.BlockPart.{BlockPart}
 use Rattle.iigs_places.specs.Extent.{extent}
 use Rattle.iigs_places.specs.Arranged.{IsArranged}
 use Rattle.iigs_memory.specs.Store.{bytes_in, memory_of, IsPart, IsStore}
@@ -157,7 +157,7 @@ module _ (banks buffer : List ℕ) (slots : List (Slot Block)) (bounded : All Is
 
 -- the same of a store's memory
 module _ (banks buffer : List ℕ) (slots : List (Slot Block)) (arranged : IsArranged banks slots) (made : ℕ) (store : IsStore banks buffer made)
-    (memory : Memory) (view : memory_of banks slots buffer ≡ memory) (h : Handle) (at : Part) (is_part : IsPart memory h at) where
+    (memory : Memory) (view : memory_of banks slots buffer ≡ memory) (h : Handle) (at : BlockPart) (is_part : IsPart memory h at) where
   part_here : IsPart (memory_of banks slots buffer) h (record { start = at.start; end = at.end })
   part_here = rw view is_part
 

@@ -5,7 +5,7 @@ use Rattle.iigs_meaning.specs.declared.slots.Slot.{Slot}
 use Rattle.iigs_meaning.specs.declared.wants.Block.{Block}
 use Rattle.iigs_meaning.specs.declared.handles.Handle.{Handle}
 use Rattle.iigs_meaning.specs.Slots.{get, slot_at}
-use Rattle.iigs_memory.specs.declared.part.Part.{Part}
+use Rattle.iigs_memory.specs.declared.part.BlockPart.{BlockPart}
 use Rattle.iigs_meaning.specs.Fits.{block_in}
 use Rattle.iigs_meaning.specs.Memory.{Memory}
 use Rattle.iigs_places.specs.Offsets.{offset_of, bytes_below}
@@ -32,7 +32,7 @@ pub record IsStore (banks buffer : List ℕ) (made : ℕ) : Type 0 where
   pub made_room : 4096 ≤ made
 
 -- the part of the buffer that a live handle's block has, which is there
-pub record IsPart (memory : Memory) (h : Handle) (part : Part) : Type 0 where
+pub record IsPart (memory : Memory) (h : Handle) (part : BlockPart) : Type 0 where
   pub live : IsSomeAnd (get memory.slots h) (λ block. IsSome block.at)
   pub extent_is : IsSomeAnd (extent (slot_at memory.slots h.slot)) (λ e.
       (part.start ≡ offset_of memory.banks e.0) × (part.end ≡ part.start + e.1))

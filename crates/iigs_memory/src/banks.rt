@@ -16,7 +16,7 @@ ghost use Rattle.iigs_meaning.specs.Placement.{slots_after_purges};
 ghost use Rattle.iigs_meaning.specs.Moves.{count_there, IsNth, IsEmptied, IsEmptyRefusal, IsShifted, IsShiftRefusal};
 ghost use Rattle.iigs_meaning.specs.Room.{CountsBelow, IsRoom};
 
-use crate::part::Part;
+use crate::part::BlockPart;
 use crate::placed::{clear, clear_all, copy_bytes, give};
 use iigs_handles::SLOTS;
 use iigs_meaning::{
@@ -124,7 +124,7 @@ impl Banks {
     }
 
     // The part of the buffer that a block has which is there.
-    fn part_of(&self, h: Handle) -> Result<Part, BlockFault>
+    fn part_of(&self, h: Handle) -> Result<BlockPart, BlockFault>
         ensures part { IfOk result (IsPart self.now h) }
         ensures refused { IfErr result (IsBlockRefusal self.now.slots h) }
     {
@@ -136,7 +136,7 @@ impl Banks {
             return Err(BlockFault::Empty);
         };
         let start = self.places.offset(at);
-        Ok(Part {
+        Ok(BlockPart {
             start,
             end: start + block.want.size as usize,
         })

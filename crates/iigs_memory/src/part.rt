@@ -2,7 +2,7 @@
 
 /// Bytes of the buffer, from one place up to another.
 #[derive(Clone, Copy)]
-pub struct Part {
+pub struct BlockPart {
     pub start: usize,
     pub end: usize,
 }

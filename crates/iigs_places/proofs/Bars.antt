@@ -3,7 +3,7 @@ use Rattle.std.proofs.Common.{◌≡◌, ℕ, ◌+◌, ◌*◌, ◌/◌, ◌%◌
 use Rattle.std.proofs.lemmas.Bool.{cases_lt}
 use Rattle.iigs_meaning.specs.declared.wants.Want.{Want}
 use Rattle.iigs_meaning.specs.Free.{first_free, free_end, IsFree}
-use Rattle.iigs_places.specs.declared.open.Span.{Span}
+use Rattle.iigs_places.specs.declared.open.AddressSpan.{AddressSpan}
 use Rattle.iigs_places.specs.Open.{Permits, Allows, AllowsNone, IsSpan, IsClear, ClearIn, BarredUpTo, IsNextStand, IsOpen}
 
 -- the numbers at a call: the bank's number, the address, and the end of the block
@@ -34,7 +34,7 @@ module _ (banks : List ℕ) (want : Want) (bank at end : ℕ) (reach : Reaches b
         none (max other (bank * 0x10000)) (omega (arith, reach.first)),
       ))
 
-  pub barred_from : (span : Span) → IsSpan banks want bank span → max at (bank * 0x10000) < bank * 0x10000 + span.from
+  pub barred_from : (span : AddressSpan) → IsSpan banks want bank span → max at (bank * 0x10000) < bank * 0x10000 + span.from
       → BarredUpTo banks want at (bank * 0x10000 + span.from)
   barred_from span is less = barred_by (bank * 0x10000 + span.from) (omega arith) (omega (arith, is.begins))
       (λ other from to. (
@@ -44,7 +44,7 @@ module _ (banks : List ℕ) (want : Want) (bank at end : ℕ) (reach : Reaches b
         λ allows. let low : span.from ≤ max other (bank * 0x10000) % 0x10000 = is.from (max other (bank * 0x10000)) (omega (arith, is.begins)) allows in omega (arith, is.begins),
       ))
 
-  pub barred_to : (span : Span) → IsSpan banks want bank span → bank * 0x10000 + span.to < min end (bank * 0x10000 + 0x10000)
+  pub barred_to : (span : AddressSpan) → IsSpan banks want bank span → bank * 0x10000 + span.to < min end (bank * 0x10000 + 0x10000)
       → BarredUpTo banks want at (bank * 0x10000 + 0x10000)
   barred_to span is less = barred_by (bank * 0x10000 + 0x10000) (omega (arith, reach.first)) (omega arith)
       (λ other from to. (
@@ -54,7 +54,7 @@ module _ (banks : List ℕ) (want : Want) (bank at end : ℕ) (reach : Reaches b
         λ allows. let low : max other (bank * 0x10000 + span.to) % 0x10000 < span.to = is.to (max other (bank * 0x10000 + span.to)) (omega arith) allows in omega arith,
       ))
 
-  pub clear_in : (span : Span) → IsSpan banks want bank span → bank * 0x10000 + span.from ≤ max at (bank * 0x10000)
+  pub clear_in : (span : AddressSpan) → IsSpan banks want bank span → bank * 0x10000 + span.from ≤ max at (bank * 0x10000)
       → min end (bank * 0x10000 + 0x10000) ≤ bank * 0x10000 + span.to → ClearIn banks want bank at
   clear_in span is from to i above below in_bank = is.all i in_bank (omega arith) (omega (arith, reach.ends))
 

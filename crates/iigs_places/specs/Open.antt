@@ -2,7 +2,7 @@
 use Rattle.std.specs.Prelude.{◌≡◌, ℕ, ◌+◌, ◌%◌, ◌^◌, ◌<◌, ◌≤◌, false, List, IfSome, IsTrue}
 use Rattle.iigs_meaning.specs.declared.wants.Want.{Want}
 use Rattle.iigs_meaning.specs.Free.{bank_of, low_of, is_special, IsFree}
-use Rattle.iigs_places.specs.declared.open.Span.{Span}
+use Rattle.iigs_places.specs.declared.open.AddressSpan.{AddressSpan}
 
 -- the want lets its block have bytes in this bank
 pub record Permits (want : Want) (bank : ℕ) : Type 0 where
@@ -35,7 +35,7 @@ abbrev pub AllowsNone : List ℕ → Want → ℕ → Type 0
 AllowsNone banks want bank = (i : ℕ) → bank_of i ≡ bank → ¬ Allows banks want i
 
 -- the bytes of the bank that may belong to a block of this want are those from one low part up to another
-pub record IsSpan (banks : List ℕ) (want : Want) (bank : ℕ) (span : Span) : Type 0 where
+pub record IsSpan (banks : List ℕ) (want : Want) (bank : ℕ) (span : AddressSpan) : Type 0 where
   pub begins : span.from ≤ 0x10000
   pub within : span.to ≤ 0x10000
   pub all : (i : ℕ) → bank_of i ≡ bank → span.from ≤ low_of i → low_of i < span.to → Allows banks want i

@@ -10,7 +10,7 @@ use iigs_meaning::Want;
 
 /// Bytes of a bank, from one low part of an address up to another.
 #[derive(Clone, Copy)]
-pub struct Span {
+pub struct AddressSpan {
     pub from: u32,
     pub to: u32,
 }
@@ -56,14 +56,14 @@ fn permits(want: &Want, bank: u32) -> bool
 }
 
 // Which bytes of the bank may belong to a block of this want.
-fn span_of(map: &BankMap, want: &Want, bank: u32) -> Option<Span>
+fn span_of(map: &BankMap, want: &Want, bank: u32) -> Option<AddressSpan>
     requires { bank < 256 }
     ensures { MatchOption result (AllowsNone map.now want.now bank) (IsSpan map.now want.now bank) }
 {
     if !map.is_configured(bank) || !permits(want, bank) {
         return None;
     }
-    Some(Span {
+    Some(AddressSpan {
         from: first_free(bank),
         to: free_end(bank),
     })

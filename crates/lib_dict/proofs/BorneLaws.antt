@@ -14,7 +14,7 @@ use Rattle.omf_format.specs.laws.HeaderLaws.{size_of, number_at-laid_out}
 use Rattle.omf_format.specs.Record.{Record}
 use Rattle.omf_format.specs.File.{Segment, segment_at}
 use Rattle.link_meaning.specs.First.{IsIn}
-use Rattle.link_meaning.specs.Member.{Row}
+use Rattle.link_meaning.specs.Member.{OfferedRow}
 use Rattle.object_meaning.specs.Defines.{Scope, ForSegment, ForUnit, ForAll, Definition, title_of, defined_in}
 use Rattle.lib_dict.specs.Library.{LibraryRow, row_view, name_in, outer_name, outer_names, segment_rows, LibraryFile, rows_from, files_text, names_text, row_text, rows_text, is_dictionary}
 use Rattle.lib_dict.specs.DictionaryLayout.{counted_name, AreFileNumbers, DefinesSo, IsRow, AreRows}
@@ -225,7 +225,7 @@ flag_back true = refl
 flag_back false = refl
 
 -- the rows as they are found
-abbrev pub linked : (segments : List Segment) (numbers : List ℕ) (rows : List LibraryRow) → AllByRecursion (IsBorne segments numbers) rows → List Row
+abbrev pub linked : (segments : List Segment) (numbers : List ℕ) (rows : List LibraryRow) → AllByRecursion (IsBorne segments numbers) rows → List OfferedRow
 linked segments numbers [] all = []
 linked segments numbers (row ∷ rows) all = record { name = row.name; from = row.file; private = row.private; segment = all.0.place } ∷ linked segments numbers rows all.1
 

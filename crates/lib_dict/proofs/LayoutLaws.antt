@@ -14,7 +14,7 @@ use Rattle.omf_format.specs.Header.{form_of}
 use Rattle.omf_format.specs.Record.{Record, End, Const, LongConst, Align, Org, Space, Reloc, InterSeg, ShortReloc, ShortInterSeg, Super, Using, Strong, Label, Equate, Formula, Entry}
 use Rattle.omf_format.specs.File.{Segment, segment_at}
 use Rattle.link_meaning.specs.First.{IsIn}
-use Rattle.link_meaning.specs.Member.{Row, is_library}
+use Rattle.link_meaning.specs.Member.{OfferedRow, is_library}
 use Rattle.object_meaning.specs.Defines.{Scope, ForSegment, ForUnit, ForAll, Definition, outer_scope, defined_in}
 use Rattle.load_meaning.specs.Pathnames.{long_bytes}
 use Rattle.link_meaning.specs.Dictionary.{file_numbers, names_from, numbered_from, has_scope, first_pair, or_false, row_at, rows_from, rows_in, rows_of_records, rows_of}
@@ -319,10 +319,10 @@ defined name private (d ∷ ds) e = by (bytes_eq d.name name && has_scope privat
 
 -- ---- a row
 
-abbrev the_row : List ℕ → ℕ × List ℕ → ℕ × Segment → Row
+abbrev the_row : List ℕ → ℕ × List ℕ → ℕ × Segment → OfferedRow
 the_row bytes name member = record { name = name.1; from = number_at 2 4 bytes; private = not (number_at 2 6 bytes == 0); segment = member.0 }
 
-record RowParts (numbers : List ℕ) (placed : Placed) (members : List (ℕ × Segment)) (bytes : List ℕ) (row : Row) : Type 0 where
+record RowParts (numbers : List ℕ) (placed : Placed) (members : List (ℕ × Segment)) (bytes : List ℕ) (row : OfferedRow) : Type 0 where
   name : ℕ × List ℕ
   named : first_pair (λ x. x.0 == number_at 4 0 bytes) placed ≡ Some name
   member : ℕ × Segment
@@ -331,14 +331,14 @@ record RowParts (numbers : List ℕ) (placed : Placed) (members : List (ℕ × S
   defines : list_any (λ d. bytes_eq d.name name.1 && has_scope (not (number_at 2 6 bytes == 0)) d.scope) (defined_in member.1) ≡ true
   is : row ≡ the_row bytes name member
 
-row_parts : (numbers : List ℕ) (placed : Placed) (members : List (ℕ × Segment)) (at : ℕ) (bytes : List ℕ) (row : Row) → row_at numbers placed members at bytes ≡ Ok row → RowParts numbers placed members bytes row
+row_parts : (numbers : List ℕ) (placed : Placed) (members : List (ℕ × Segment)) (at : ℕ) (bytes : List ℕ) (row : OfferedRow) → row_at numbers placed members at bytes ≡ Ok row → RowParts numbers placed members bytes row
 unfolding row_at
 row_parts numbers placed members at bytes row e = by_name (first_pair (λ x. x.0 == number_at 4 0 bytes) placed) (first_pair (fits_row (number_at 4 8 bytes)) members) refl refl e
   where
-    done : Row → Result Row ℕ
+    done : OfferedRow → Result OfferedRow ℕ
     done r = Ok r
 
-    done_same : (a b : Row) → done a ≡ done b → a ≡ b
+    done_same : (a b : OfferedRow) → done a ≡ done b → a ≡ b
     done_same a b e = cc
 
     any : Bool
@@ -359,7 +359,7 @@ row_parts numbers placed members at bytes row e = by_name (first_pair (λ x. x.0
     by_name (Some name) None n m e = absurd cc
     by_name (Some name) (Some member) n m e = by_test name member any (so name member) refl refl n m e
 
-is_row : (s : Segment) (others : List Segment) (numbers : List ℕ) (names : List (List ℕ)) (at : ℕ) (bytes : List ℕ) (row : Row)
+is_row : (s : Segment) (others : List Segment) (numbers : List ℕ) (names : List (List ℕ)) (at : ℕ) (bytes : List ℕ) (row : OfferedRow)
     → row_at numbers (placed_from 0 names) (numbered_from 2 others) at bytes ≡ Ok row → IsRow (s ∷ others) numbers names bytes row
 is_row s others numbers names at bytes row e =
     let p = row_parts numbers (placed_from 0 names) (numbered_from 2 others) at bytes row e in
@@ -382,20 +382,20 @@ is_row s others numbers names at bytes row e =
 
 -- ---- the second record
 
-record RowsParts (n : ℕ) (numbers : List ℕ) (placed : Placed) (members : List (ℕ × Segment)) (at : ℕ) (bytes : List ℕ) (rows : List Row) : Type 0 where
-  row : Row
+record RowsParts (n : ℕ) (numbers : List ℕ) (placed : Placed) (members : List (ℕ × Segment)) (at : ℕ) (bytes : List ℕ) (rows : List OfferedRow) : Type 0 where
+  row : OfferedRow
   first : row_at numbers placed members at (take 12 bytes) ≡ Ok row
-  more : List Row
+  more : List OfferedRow
   rest : rows_from n numbers placed members (at + 12) (drop 12 bytes) ≡ Ok more
   are : rows ≡ row ∷ more
 
-abbrev done_rows : List Row → Result (List Row) ℕ
+abbrev done_rows : List OfferedRow → Result (List OfferedRow) ℕ
 done_rows rows = Ok rows
 
-rows_same : (x y : List Row) → done_rows x ≡ done_rows y → x ≡ y
+rows_same : (x y : List OfferedRow) → done_rows x ≡ done_rows y → x ≡ y
 rows_same x y e = cc
 
-rows_parts : (n : ℕ) (numbers : List ℕ) (placed : Placed) (members : List (ℕ × Segment)) (at : ℕ) (bytes : List ℕ) (rows : List Row) → rows_from (suc n) numbers placed members at bytes ≡ Ok rows
+rows_parts : (n : ℕ) (numbers : List ℕ) (placed : Placed) (members : List (ℕ × Segment)) (at : ℕ) (bytes : List ℕ) (rows : List OfferedRow) → rows_from (suc n) numbers placed members at bytes ≡ Ok rows
     → RowsParts n numbers placed members at bytes rows
 unfolding rows_from
 rows_parts n numbers placed members at bytes rows e =
@@ -403,7 +403,7 @@ rows_parts n numbers placed members at bytes rows e =
     let rest = bind_ok (rows_from n numbers placed members (at + 12) (drop 12 bytes)) (λ more. done_rows (first.0 ∷ more)) rows first.2 in
     record { row = first.0; first = first.1; more = rest.0; rest = rest.1; are = sym (rows_same (first.0 ∷ rest.0) rows rest.2) }
 
-rows_none : (numbers : List ℕ) (placed : Placed) (members : List (ℕ × Segment)) (at : ℕ) (bytes : List ℕ) (rows : List Row) → rows_from zero numbers placed members at bytes ≡ Ok rows → rows ≡ []
+rows_none : (numbers : List ℕ) (placed : Placed) (members : List (ℕ × Segment)) (at : ℕ) (bytes : List ℕ) (rows : List OfferedRow) → rows_from zero numbers placed members at bytes ≡ Ok rows → rows ≡ []
 unfolding rows_from
 rows_none numbers placed members at bytes rows e = sym (rows_same [] rows e)
 
@@ -411,14 +411,14 @@ nil_of : (xs : List ℕ) → length xs ≡ 0 → xs ≡ []
 nil_of [] e = refl
 nil_of (x ∷ xs) e = absurd (omega arith)
 
-are_rows : (n : ℕ) (s : Segment) (others : List Segment) (numbers : List ℕ) (names : List (List ℕ)) (at : ℕ) (bytes : List ℕ) (rows : List Row) → length bytes ≡ 12 * n
+are_rows : (n : ℕ) (s : Segment) (others : List Segment) (numbers : List ℕ) (names : List (List ℕ)) (at : ℕ) (bytes : List ℕ) (rows : List OfferedRow) → length bytes ≡ 12 * n
     → rows_from n numbers (placed_from 0 names) (numbered_from 2 others) at bytes ≡ Ok rows → AreRows (s ∷ others) numbers names rows bytes
 are_rows zero s others numbers names at bytes rows size e =
-    subst (λ (l : List Row). AreRows (s ∷ others) numbers names l bytes) (sym (rows_none numbers (placed_from 0 names) (numbered_from 2 others) at bytes rows e)) (nil_of bytes (omega (arith, size)))
+    subst (λ (l : List OfferedRow). AreRows (s ∷ others) numbers names l bytes) (sym (rows_none numbers (placed_from 0 names) (numbered_from 2 others) at bytes rows e)) (nil_of bytes (omega (arith, size)))
 are_rows (suc n) s others numbers names at bytes rows size e =
     let p = rows_parts n numbers (placed_from 0 names) (numbered_from 2 others) at bytes rows e in
     let rest = are_rows n s others numbers names (at + 12) (drop 12 bytes) p.more (omega (arith, length-drop 12 bytes, size)) p.rest in
-    subst (λ (l : List Row). AreRows (s ∷ others) numbers names l bytes) (sym p.are)
+    subst (λ (l : List OfferedRow). AreRows (s ∷ others) numbers names l bytes) (sym p.are)
     (take 12 bytes, drop 12 bytes, take-drop 12 bytes, omega (arith, length-take 12 bytes, size), is_row s others numbers names at (take 12 bytes) p.row p.first, rest)
 
 -- ---- the three records
@@ -449,14 +449,14 @@ long_is (Equate global name size form private expr) bytes e = absurd cc
 long_is (Formula code count n expr) bytes e = absurd cc
 long_is (Entry segment offset name) bytes e = absurd cc
 
-pub record InParts (s : Segment) (others : List Segment) (first second third : List ℕ) (rows : List Row) : Type 0 where
+pub record InParts (s : Segment) (others : List Segment) (first second third : List ℕ) (rows : List OfferedRow) : Type 0 where
   pub numbers : List ℕ
   pub files : AreFileNumbers numbers first
   pub names : List (List ℕ)
   pub named : AreNames names third
   pub rows' : AreRows (s ∷ others) numbers names rows second
 
-pub in_parts : (s : Segment) (others : List Segment) (at : ℕ) (first second third : List ℕ) (rows : List Row) → rows_in s.start at first second third others ≡ Ok rows → InParts s others first second third rows
+pub in_parts : (s : Segment) (others : List Segment) (at : ℕ) (first second third : List ℕ) (rows : List OfferedRow) → rows_in s.start at first second third others ≡ Ok rows → InParts s others first second third rows
 unfolding rows_in
 in_parts s others at first second third rows e =
     let one = bind_ok (or_false s.start (file_numbers (length first) first)) _ rows e in
@@ -483,7 +483,7 @@ in_parts s others at first second third rows e =
 
 -- ---- the dictionary
 
-dictionary_is : (s : Segment) (others : List Segment) (records : List (ℕ × Record)) (rows : List Row) → s.records ≡ records → rows_of_records s.start records others ≡ Ok rows → IsDictionary (s ∷ others) rows
+dictionary_is : (s : Segment) (others : List Segment) (records : List (ℕ × Record)) (rows : List OfferedRow) → s.records ≡ records → rows_of_records s.start records others ≡ Ok rows → IsDictionary (s ∷ others) rows
 dictionary_is s others [] rows are e = absurd cc
 dictionary_is s others (a ∷ []) rows are e = absurd cc
 dictionary_is s others (a ∷ b ∷ []) rows are e = absurd cc
@@ -520,7 +520,7 @@ dictionary_is s others (a ∷ b ∷ c ∷ e' ∷ []) rows are e =
       rows' = p.rows';
     }
 
-pub rows_are_laid_out : (segments : List Segment) (rows : List Row) → is_library segments ≡ true → rows_of segments ≡ Ok rows → IsDictionary segments rows
+pub rows_are_laid_out : (segments : List Segment) (rows : List OfferedRow) → is_library segments ≡ true → rows_of segments ≡ Ok rows → IsDictionary segments rows
 unfolding rows_of
 rows_are_laid_out [] rows library e = absurd cc
 rows_are_laid_out (s ∷ others) rows library e = dictionary_is s others s.records rows refl e

@@ -12,7 +12,7 @@ use Rattle.omf_format.specs.Record.{Record}
 use Rattle.omf_format.specs.File.{Segment, AreSegments, IsFile, segment_at}
 use Rattle.omf_format.specs.laws.FileLaws.{header_lies}
 use Rattle.link_meaning.specs.First.{IsIn}
-use Rattle.link_meaning.specs.Member.{Row}
+use Rattle.link_meaning.specs.Member.{OfferedRow}
 use Rattle.object_meaning.specs.Defines.{Scope, Definition, outer_scope, defined_in}
 use Rattle.link_meaning.specs.Dictionary.{file_numbers, names_from, numbered_from, has_scope, first_pair, row_at, rows_from, rows_in, rows_of_records, rows_of}
 use Rattle.lib_dict.specs.DictionaryLayout.{counted_name, AreFileNumbers, IsRow, AreRows, IsDictionary}
@@ -184,7 +184,7 @@ row_answer : (numbers : List ℕ) (placed : Placed) (members : List (ℕ × Segm
 unfolding row_at
 row_answer numbers placed members at bytes name k s named found known defines = rw (named, found, known, defines) refl
 
-read_row : (s : Segment) (others : List Segment) (file : List ℕ) (numbers : List ℕ) (names : List (List ℕ)) (at : ℕ) (bytes : List ℕ) (row : Row) → IsFile (s ∷ others) file → IsRow (s ∷ others) numbers names bytes row
+read_row : (s : Segment) (others : List Segment) (file : List ℕ) (numbers : List ℕ) (names : List (List ℕ)) (at : ℕ) (bytes : List ℕ) (row : OfferedRow) → IsFile (s ∷ others) file → IsRow (s ∷ others) numbers names bytes row
     → row_at numbers (placed_from 0 names) (numbered_from 2 others) at bytes ≡ Ok row
 read_row s others file numbers names at bytes row are is =
     let st = is.name in
@@ -204,10 +204,10 @@ read_row s others file numbers names at bytes row are is =
     ∙ ap (λ (b : Bool). ok_row (made row.name row.from b (2 + place.0))) (sym is.private)
     ∙ ap (λ (k : ℕ). ok_row (made row.name row.from row.private k)) number
   where
-    made : List ℕ → ℕ → Bool → ℕ → Row
+    made : List ℕ → ℕ → Bool → ℕ → OfferedRow
     made name from private segment = record { name = name; from = from; private = private; segment = segment }
 
-    ok_row : Row → Result Row ℕ
+    ok_row : OfferedRow → Result OfferedRow ℕ
     ok_row r = Ok r
 
     two_more : (k : ℕ) → 1 < k → (p : ℕ) × (k ≡ suc (suc p))
@@ -215,7 +215,7 @@ read_row s others file numbers names at bytes row are is =
     two_more (suc zero) lt = absurd (omega arith)
     two_more (suc (suc p)) lt = (p, refl)
 
-rows_next : (n : ℕ) (numbers : List ℕ) (placed : Placed) (members : List (ℕ × Segment)) (at : ℕ) (bytes : List ℕ) (row : Row) (rows : List Row) → row_at numbers placed members at (take 12 bytes) ≡ Ok row
+rows_next : (n : ℕ) (numbers : List ℕ) (placed : Placed) (members : List (ℕ × Segment)) (at : ℕ) (bytes : List ℕ) (row : OfferedRow) (rows : List OfferedRow) → row_at numbers placed members at (take 12 bytes) ≡ Ok row
     → rows_from n numbers placed members (at + 12) (drop 12 bytes) ≡ Ok rows → rows_from (suc n) numbers placed members at bytes ≡ Ok (row ∷ rows)
 unfolding rows_from
 rows_next n numbers placed members at bytes row rows first rest = rw (first, rest) refl
@@ -224,11 +224,11 @@ rows_end : (numbers : List ℕ) (placed : Placed) (members : List (ℕ × Segmen
 unfolding rows_from
 rows_end numbers placed members at bytes = refl
 
-record ReadRows (s : Segment) (others : List Segment) (numbers : List ℕ) (names : List (List ℕ)) (rows : List Row) (bytes : List ℕ) (at : ℕ) : Type 0 where
+record ReadRows (s : Segment) (others : List Segment) (numbers : List ℕ) (names : List (List ℕ)) (rows : List OfferedRow) (bytes : List ℕ) (at : ℕ) : Type 0 where
   size : length bytes ≡ 12 * length rows
   answer : rows_from (length rows) numbers (placed_from 0 names) (numbered_from 2 others) at bytes ≡ Ok rows
 
-read_rows : (s : Segment) (others : List Segment) (file : List ℕ) (numbers : List ℕ) (names : List (List ℕ)) (rows : List Row) (bytes : List ℕ) (at : ℕ) → IsFile (s ∷ others) file
+read_rows : (s : Segment) (others : List Segment) (file : List ℕ) (numbers : List ℕ) (names : List (List ℕ)) (rows : List OfferedRow) (bytes : List ℕ) (at : ℕ) → IsFile (s ∷ others) file
     → AreRows (s ∷ others) numbers names rows bytes → ReadRows s others numbers names rows bytes at
 read_rows s others file numbers names [] bytes at is are = record { size = omega (arith, ap length are); answer = rows_end numbers (placed_from 0 names) (numbered_from 2 others) at bytes }
 read_rows s others file numbers names (row ∷ rows) bytes at is are =
@@ -248,7 +248,7 @@ read_rows s others file numbers names (row ∷ rows) bytes at is are =
 
 -- ---- the dictionary
 
-read_in : (start at : ℕ) (first second third : List ℕ) (others : List Segment) (numbers : List ℕ) (placed : Placed) (rows : List Row) → file_numbers (length first) first ≡ Some numbers → length second ≡ 12 * length rows
+read_in : (start at : ℕ) (first second third : List ℕ) (others : List Segment) (numbers : List ℕ) (placed : Placed) (rows : List OfferedRow) → file_numbers (length first) first ≡ Some numbers → length second ≡ 12 * length rows
     → names_from (length third) 0 third ≡ Some placed → rows_from (length rows) numbers placed (numbered_from 2 others) (at + 5) second ≡ Ok rows → rows_in start at first second third others ≡ Ok rows
 unfolding rows_in
 read_in start at first second third others numbers placed rows files size named answer =
@@ -256,7 +256,7 @@ read_in start at first second third others numbers placed rows files size named 
     let count : length second / 12 ≡ length rows = omega arith in
     rw (files, eq-eqb (length second % 12) 0 whole, named, count) answer
 
-pub laid_out_is_read : (file : List ℕ) (segments : List Segment) (rows : List Row) → IsFile segments file → IsDictionary segments rows → rows_of segments ≡ Ok rows
+pub laid_out_is_read : (file : List ℕ) (segments : List Segment) (rows : List OfferedRow) → IsFile segments file → IsDictionary segments rows → rows_of segments ≡ Ok rows
 unfolding rows_of
 laid_out_is_read file segments rows is d =
     let s = d.dictionary in

@@ -6,7 +6,7 @@ use Rattle.std.proofs.lemmas.List.Concat.{flat_map-cons}
 use Rattle.std.proofs.Math.Seq.{drop-append-add, take-append-add}
 use Rattle.omf_format.specs.Field.{Layout, layout_of, length_width_of, written_layout}
 use Rattle.omf_format.specs.laws.FieldLaws.{IsBytes-drop, IsBytes-front}
-use Rattle.omf_format.specs.Header.{Fields, fields_of, header_fault, header_bytes, written_fields, IsWritable}
+use Rattle.omf_format.specs.Header.{HeaderFields, fields_of, header_fault, header_bytes, written_fields, IsWritable}
 use Rattle.omf_format.specs.Number.{IsBytes}
 use Rattle.omf_format.specs.WrittenHeader.{FitsWritten}
 use Rattle.omf_format.specs.laws.WrittenHeaderLaws.{length-header, fields_of-written, header_fault-written}
@@ -15,7 +15,7 @@ use Rattle.omf_format.specs.Reading.{Reader, HandsOut}
 use Rattle.omf_format.specs.File.{Segment, body_reader, IsSegment, AreSegments, IsFile}
 use Rattle.omf_format.specs.laws.FileLaws.{file_same, no_file}
 use Rattle.object_meaning.specs.laws.RunLaws.{reader_at, text, placed, IsBodyRecord, runs}
-use Rattle.link_meaning.specs.Member.{Row, is_library}
+use Rattle.link_meaning.specs.Member.{OfferedRow, is_library}
 use Rattle.link_meaning.specs.Dictionary.{rows_of}
 use Rattle.lib_dict.specs.declared.fault.DictFault.{DictFault}
 use Rattle.lib_dict.specs.declared.fault.DictFault.TheVariants as dict
@@ -54,7 +54,7 @@ body_is first second third =
     )
 
 -- the header's fields
-abbrev dictionary_header : List ℕ → List ℕ → List ℕ → Fields
+abbrev dictionary_header : List ℕ → List ℕ → List ℕ → HeaderFields
 dictionary_header first second third = written_fields (dictionary_fields (length first + length second + length third)) (length (dictionary_body first second third))
 
 abbrev dictionary_segment : List ℕ → List ℕ → List ℕ → Segment
@@ -297,10 +297,10 @@ made_rows files short few whole other read =
 
 -- ---- read in one way alone
 
-abbrev read_as : List Row → Result (List Row) ℕ
+abbrev read_as : List OfferedRow → Result (List OfferedRow) ℕ
 read_as rows = Ok rows
 
-rows_same : (a b : List Row) → read_as a ≡ read_as b → a ≡ b
+rows_same : (a b : List OfferedRow) → read_as a ≡ read_as b → a ≡ b
 rows_same a b e = cc
 
 one_reading : (bytes : List ℕ) (a b : List LibraryRow) → HasRows bytes a → HasRows bytes b → a ≡ b
@@ -321,10 +321,10 @@ never_refused bytes rows (dict.BadLibrary at) h why =
     let same : h.segments ≡ why.segments = file_same h.segments why.segments bytes h.is_file why.is_file in
     absurd (differ h.found at (sym h.read ∙ ap rows_of same ∙ why.false'))
   where
-    failed : ℕ → Result (List Row) ℕ
+    failed : ℕ → Result (List OfferedRow) ℕ
     failed at = Err at
 
-    differ : (found : List Row) (at : ℕ) → read_as found ≡ failed at → ⊥
+    differ : (found : List OfferedRow) (at : ℕ) → read_as found ≡ failed at → ⊥
     differ found at e = cc
 never_refused bytes rows dict.Memory h why = refl
 

@@ -11,7 +11,7 @@ use Rattle.byteorder.specs.Numbers.{little_from-append}
 use Rattle.omf_format.specs.declared.fault.Flaw.{Flaw}
 use Rattle.omf_format.specs.Number.{number_at}
 use Rattle.omf_format.specs.Name.{without_trailing, name_at, name_size}
-use Rattle.omf_format.specs.Header.{Fields, fields_of, version_of, byte_count_of, kind_of, names_end, checks_of, header_checks, first_of, header_fault}
+use Rattle.omf_format.specs.Header.{HeaderFields, fields_of, version_of, byte_count_of, kind_of, names_end, checks_of, header_checks, first_of, header_fault}
 use Rattle.omf_format.specs.Number.{IsBytes}
 use Rattle.omf_format.specs.laws.HeaderLaws.{sound_from_none, each_false, none_holds}
 use Rattle.omf_format.specs.Record.{Record, spelling}
@@ -131,7 +131,7 @@ passes_more xs ys none =
     let e = ends_in xs none in
     let same = fields_more xs ys e in
     let each = each_false (checks_of (fields_of xs) xs) none in
-    (ap (λ (f : Fields). first_of (checks_of f (xs ++ ys))) same ∙ none_holds (checks_of (fields_of xs) (xs ++ ys)) (checks_more xs ys e each), same)
+    (ap (λ (f : HeaderFields). first_of (checks_of f (xs ++ ys))) same ∙ none_holds (checks_of (fields_of xs) (xs ++ ys)) (checks_more xs ys e each), same)
 
 -- ---- a reader that stands further on
 
@@ -199,7 +199,7 @@ run_up k r (found ∷ founds) last fits le run =
 
 -- ---- segments further on
 
-reader_up : (before file following : List ℕ) (start : ℕ) (f : Fields) → f.disp_data ≤ f.byte_count → start + f.byte_count ≤ length file
+reader_up : (before file following : List ℕ) (start : ℕ) (f : HeaderFields) → f.disp_data ≤ f.byte_count → start + f.byte_count ≤ length file
     → body_reader (length before + start) f (before ++ (file ++ following)) ≡ up (length before) (body_reader start f file)
 unfolding body_reader
 reader_up before file following start f ordered within =
@@ -216,7 +216,7 @@ reader_up before file following start f ordered within =
     at : ℕ → List ℕ → Reader
     at end left = record (body_reader start f file) { end = end; left = left }
 
-left_within : (start : ℕ) (f : Fields) (file : List ℕ) → length (body_reader start f file).left ≤ (body_reader start f file).end
+left_within : (start : ℕ) (f : HeaderFields) (file : List ℕ) → length (body_reader start f file).left ≤ (body_reader start f file).end
 unfolding body_reader
 left_within start f file = omega (arith, length-drop (start + f.disp_data) (take (start + f.byte_count) file), length-take (start + f.byte_count) file)
 

@@ -6,7 +6,7 @@ use Rattle.std.proofs.lemmas.List.{map-append, append-nil}
 use Rattle.std.proofs.lemmas.List.Concat.{flat_map-cons}
 use Rattle.std.proofs.lemmas.List.Elements.{filter_map-append}
 use Rattle.omf_format.specs.Field.{Layout, IsName}
-use Rattle.omf_format.specs.Header.{Fields, is_private}
+use Rattle.omf_format.specs.Header.{HeaderFields, is_private}
 use Rattle.omf_format.specs.Record.{Record, End, Const, LongConst, Align, Org, Space, Reloc, InterSeg, ShortReloc, ShortInterSeg, Super, Using, Strong, Label, Equate, Formula, Entry, IsRecord}
 use Rattle.omf_format.specs.File.{Segment, body_reader}
 use Rattle.object_meaning.specs.Sizes.{size_at, located_from, records_with_offsets, Located}
@@ -179,6 +179,6 @@ outer_short l (Formula code count k expr) n is few found = absurd cc
 outer_short l (Entry segment offset name) n is few found = absurd cc
 
 -- LABLEN of a body's reader is the header's
-pub lab_len-reader : (start : ℕ) (f : Fields) (file : List ℕ) → (body_reader start f file).layout.lab_len ≡ f.lab_len
+pub lab_len-reader : (start : ℕ) (f : HeaderFields) (file : List ℕ) → (body_reader start f file).layout.lab_len ≡ f.lab_len
 unfolding body_reader
 lab_len-reader start f file = refl

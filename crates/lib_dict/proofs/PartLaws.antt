@@ -12,7 +12,7 @@ use Rattle.omf_format.specs.Reading.{Reader, first_record, answer_of_reader, rea
 use Rattle.omf_format.specs.laws.FileLaws.{Answer, gave, same_found}
 use Rattle.omf_format.specs.laws.BodyLaws.{found_by, none_at_end}
 use Rattle.load_meaning.specs.Pathnames.{long_bytes}
-use Rattle.lib_dict.specs.Parts.{Texts, TakesLong, TakesLast, HasParts}
+use Rattle.lib_dict.specs.Parts.{DictionaryTexts, TakesLong, TakesLast, HasParts}
 
 -- a record that was taken is the first of those that come
 record Took (new last : Reader) (at : ℕ) (bytes : List ℕ) (founds : List (ℕ × Record)) : Type 0 where
@@ -82,7 +82,7 @@ has_parts r r1 r2 r3 last at1 at2 at3 first second third founds run ended one tw
 
 pub none_last : (r r1 r2 r3 last : Reader) (at1 at2 at3 : ℕ) (first second third : List ℕ) (founds : List (ℕ × Record)) → HandsOut r founds last → last.ended ≡ true
     → TakesLong r r1 (Some (at1, first)) → TakesLong r1 r2 (Some (at2, second)) → TakesLong r2 r3 (Some (at3, third)) → TakesLast r3 false
-    → (parts : Texts) → HasParts parts founds → ⊥
+    → (parts : DictionaryTexts) → HasParts parts founds → ⊥
 none_last r r1 r2 r3 last at1 at2 at3 first second third founds run ended one two three not_end parts has =
     let t = took r r1 last at1 first founds run ended one in
     let rest : t.rest ≡ has.b ∷ has.c ∷ has.e ∷ [] = ap tail_of (sym t.are ∙ has.are) in
@@ -165,7 +165,7 @@ steps r found fits e =
     }
 
 -- the second record ends in its segment, and so does the third
-pub second_fits : (r last : Reader) (parts : Texts) (founds : List (ℕ × Record)) → HasParts parts founds → HandsOut r founds last → IsBytes r.left → length r.left ≤ r.end
+pub second_fits : (r last : Reader) (parts : DictionaryTexts) (founds : List (ℕ × Record)) → HasParts parts founds → HandsOut r founds last → IsBytes r.left → length r.left ≤ r.end
     → (parts.at + 5 + length parts.second ≤ r.end) × (length parts.third ≤ r.end)
 second_fits r last parts founds has run fits within =
     let h : HandsOut r (has.a ∷ has.b ∷ has.c ∷ has.e ∷ []) last = subst (λ (l : List (ℕ × Record)). HandsOut r l last) has.are run in

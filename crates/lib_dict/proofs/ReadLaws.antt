@@ -4,13 +4,13 @@ use Rattle.std.specs.Prelude.{unwrap_or, ◌==◌}
 use Rattle.std.proofs.lemmas.Bool.{eq-eqb, ne_eqb}
 use Rattle.std.proofs.lemmas.List.{length-take, length-drop}
 use Rattle.omf_format.specs.Field.{◌>>=◌}
-use Rattle.omf_format.specs.Header.{Fields, form_of}
+use Rattle.omf_format.specs.Header.{HeaderFields, form_of}
 use Rattle.omf_format.specs.Number.{IsBytes}
 use Rattle.omf_format.specs.Record.{Record}
 use Rattle.omf_format.specs.File.{Segment, body_reader, IsFile, segment_at}
 use Rattle.omf_format.specs.laws.FileLaws.{header_lies, segments_fit}
 use Rattle.omf_format.specs.laws.BodyLaws.{body_fits}
-use Rattle.link_meaning.specs.Member.{Row, is_library}
+use Rattle.link_meaning.specs.Member.{OfferedRow, is_library}
 use Rattle.load_meaning.specs.Pathnames.{long_bytes}
 use Rattle.link_meaning.specs.Dictionary.{file_numbers, names_from, numbered_from, or_false, rows_from, rows_in, rows_of_records, rows_of}
 use Rattle.lib_dict.specs.declared.fault.DictFault.{DictFault}
@@ -18,12 +18,12 @@ use Rattle.lib_dict.specs.declared.fault.DictFault.TheVariants as dict
 use Rattle.lib_dict.specs.declared.dictionary.Row as declared
 use Rattle.lib_dict.specs.Library.{HasRows, IsNoLibrary, IsFalseAt}
 use Rattle.lib_dict.specs.Rows.{seen_row, HasNoRows}
-use Rattle.lib_dict.specs.Parts.{Texts, HasParts, HasPlace}
+use Rattle.lib_dict.specs.Parts.{DictionaryTexts, HasParts, HasPlace}
 use Rattle.lib_dict.specs.Tables.{SameNumbers, starts_of, AreNumbers, AreStarts, numbers_in, names_in, IsInFile, AreRowsIn, IsRowFault}
 use Rattle.lib_dict.proofs.PartLaws.{second_fits}
 
 abbrev pub Answer : Type 0
-Answer = Result (List Row) ℕ
+Answer = Result (List OfferedRow) ℕ
 
 -- ---- the forms of the records
 
@@ -69,7 +69,7 @@ starts_fit keys third are = subst (λ (names : List (ℕ × List ℕ)). SameNumb
 -- ---- the three records
 
 -- other records are no dictionary's
-pub no_parts : (start : ℕ) (records : List (ℕ × Record)) (others : List Segment) → ((parts : Texts) → HasParts parts records → ⊥) → rows_of_records start records others ≡ Err start
+pub no_parts : (start : ℕ) (records : List (ℕ × Record)) (others : List Segment) → ((parts : DictionaryTexts) → HasParts parts records → ⊥) → rows_of_records start records others ≡ Err start
 no_parts start [] others none = refl
 no_parts start (a ∷ []) others none = refl
 no_parts start (a ∷ b ∷ []) others none = refl
@@ -86,7 +86,7 @@ no_parts start (a ∷ b ∷ c ∷ e ∷ []) others none = by (long_bytes a.1) (l
         absurd (none (record { first = x; second = y; at = b.0; third = z }) (record { a = a; b = b; c = c; e = e; are = refl; first = p; second = q; at = refl; third = r }))
 
 -- these are
-pub with_parts : (start : ℕ) (records : List (ℕ × Record)) (others : List Segment) (parts : Texts) → HasParts parts records
+pub with_parts : (start : ℕ) (records : List (ℕ × Record)) (others : List Segment) (parts : DictionaryTexts) → HasParts parts records
     → rows_of_records start records others ≡ rows_in start parts.at parts.first parts.second parts.third others
 with_parts start records others parts has =
     ap (λ (l : List (ℕ × Record)). rows_of_records start l others) has.are
@@ -125,7 +125,7 @@ rows_are list s here = ap rows_of (head_at list s here)
 
 -- its records are no dictionary's
 pub false_first : (list : List Segment) (file : List ℕ) (s : Segment) → IsFile list file → Some s ≡ segment_at list 1 → form_of s.fields.kind ≡ 0x08
-    → ((parts : Texts) → HasParts parts s.records → ⊥) → IsFalseAt file s.start
+    → ((parts : DictionaryTexts) → HasParts parts s.records → ⊥) → IsFalseAt file s.start
 false_first list file s is here form none = record {
   segments = list;
   is_file = is;
@@ -134,7 +134,7 @@ false_first list file s is here form none = record {
 }
 
 -- its rows are told
-pub row_views : (list : List Segment) (file : List ℕ) (s : Segment) (parts : Texts) (rows : List declared.Row) → IsFile list file → Some s ≡ segment_at list 1 → form_of s.fields.kind ≡ 0x08
+pub row_views : (list : List Segment) (file : List ℕ) (s : Segment) (parts : DictionaryTexts) (rows : List declared.Row) → IsFile list file → Some s ≡ segment_at list 1 → form_of s.fields.kind ≡ 0x08
     → HasParts parts s.records → AreRowsIn list (rows_in s.start parts.at parts.first parts.second parts.third (drop 1 list)) rows → HasRows file (map seen_row rows)
 row_views list file s parts rows is here form has are = record {
   segments = list;
@@ -146,7 +146,7 @@ row_views list file s parts rows is here form has are = record {
 }
 
 -- or it is false there
-pub false_rows : (list : List Segment) (file : List ℕ) (s : Segment) (parts : Texts) (fault : DictFault) → IsFile list file → Some s ≡ segment_at list 1 → form_of s.fields.kind ≡ 0x08
+pub false_rows : (list : List Segment) (file : List ℕ) (s : Segment) (parts : DictionaryTexts) (fault : DictFault) → IsFile list file → Some s ≡ segment_at list 1 → form_of s.fields.kind ≡ 0x08
     → HasParts parts s.records → IsRowFault fault (rows_in s.start parts.at parts.first parts.second parts.third (drop 1 list)) → HasNoRows fault file
 false_rows list file s parts (dict.File fault) is here form has bad = absurd bad
 false_rows list file s parts dict.NotLibrary is here form has bad = absurd bad
@@ -160,15 +160,15 @@ false_rows list file s parts dict.Memory is here form has bad = tt
 
 -- ---- the places of rows fit 32 bits
 
-pub left_within : (start : ℕ) (f : Fields) (file : List ℕ) → length (body_reader start f file).left ≤ (body_reader start f file).end
+pub left_within : (start : ℕ) (f : HeaderFields) (file : List ℕ) → length (body_reader start f file).left ≤ (body_reader start f file).end
 unfolding body_reader
 left_within start f file = omega (arith, length-drop (start + f.disp_data) (take (start + f.byte_count) file), length-take (start + f.byte_count) file)
 
-pub end_is : (start : ℕ) (f : Fields) (file : List ℕ) → (body_reader start f file).end ≡ start + f.byte_count
+pub end_is : (start : ℕ) (f : HeaderFields) (file : List ℕ) → (body_reader start f file).end ≡ start + f.byte_count
 unfolding body_reader
 end_is start f file = refl
 
-pub parts_fit : (list : List Segment) (file : List ℕ) (s : Segment) (parts : Texts) → IsBytes file → length file < 2 ^ 32 → IsFile list file → Some s ≡ segment_at list 1 → HasParts parts s.records → HasPlace parts
+pub parts_fit : (list : List Segment) (file : List ℕ) (s : Segment) (parts : DictionaryTexts) → IsBytes file → length file < 2 ^ 32 → IsFile list file → Some s ≡ segment_at list 1 → HasParts parts s.records → HasPlace parts
 parts_fit list file s parts bytes short is here has =
     let are : IsFile (s ∷ drop 1 list) file = subst (λ (l : List Segment). IsFile l file) (head_at list s here) is in
     let r = body_reader s.start s.fields file in

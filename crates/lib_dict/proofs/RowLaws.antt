@@ -13,7 +13,7 @@ use Rattle.omf_format.specs.Field.{◌>>=◌}
 use Rattle.omf_format.specs.Header.{form_of}
 use Rattle.omf_format.specs.File.{Segment, AreSegments, IsFile, segment_at}
 use Rattle.omf_format.specs.laws.FileLaws.{header_lies}
-use Rattle.link_meaning.specs.Member.{Row}
+use Rattle.link_meaning.specs.Member.{OfferedRow}
 use Rattle.object_meaning.specs.Defines.{Scope, ForSegment, ForUnit, ForAll, Definition, defined_in}
 use Rattle.link_meaning.specs.Dictionary.{names_from, numbered_from, has_scope, first_pair, or_false, row_at}
 use Rattle.lib_dict.specs.declared.rows.Tables.{Tables}
@@ -353,7 +353,7 @@ any-flip : (f : ℕ) (numbers : List ℕ) → list_any (λ k. k == f) numbers �
 any-flip f numbers = any-same (λ k. k == f) (nat_eq f) (λ k. eqb-sym k f) numbers
 
 -- the answer for a row, from what is found
-abbrev answered : ℕ → ℕ → Bool → Option (ℕ × List ℕ) → Option (ℕ × Segment) → Bool → Result Row ℕ
+abbrev answered : ℕ → ℕ → Bool → Option (ℕ × List ℕ) → Option (ℕ × Segment) → Bool → Result OfferedRow ℕ
 answered at from private name member known =
     or_false at name >>= λ n.
     or_false at member >>= λ m.
@@ -361,7 +361,7 @@ answered at from private name member known =
     then Ok (record { name = n.1; from = from; private = private; segment = m.0 })
     else Err at
 
-abbrev row_ok : Row → Result Row ℕ
+abbrev row_ok : OfferedRow → Result OfferedRow ℕ
 row_ok row = Ok row
 
 abbrev pub private_of : List ℕ → Bool
@@ -477,7 +477,7 @@ row_known t bytes fits any number known =
         → IsRowAnswer t bytes (Some (record { name = text_at t bytes; file = number_at 2 4 bytes; private = private_of bytes; at = a }))
     by None is found' name numbers = absurd cc
     by (Some x) is found' name numbers =
-        let found : Row = record { name = text_at t bytes; from = number_at 2 4 bytes; private = private_of bytes; segment = x.0 } in
+        let found : OfferedRow = record { name = text_at t bytes; from = number_at 2 4 bytes; private = private_of bytes; segment = x.0 } in
         let f = found_is a 2 (drop 1 t.list.now) x (sym is) in (
           found,
           λ at.

@@ -2,7 +2,7 @@
 use Rattle.std.proofs.Common.{◌≡◌, ℕ, zero, suc, ◌+◌, ◌*◌, ◌<◌, ◌≤◌, List, [], ◌∷◌, ◌++◌, length, take, drop, map, Some, None, Result, Ok, Err, refl, sym, ap, ◌∙◌, append_assoc, arith}
 use Rattle.std.proofs.lemmas.List.{append-nil, length-drop, map-append, length-append}
 use Rattle.omf_format.specs.Field.{◌>>=◌}
-use Rattle.link_meaning.specs.Member.{Row}
+use Rattle.link_meaning.specs.Member.{OfferedRow}
 use Rattle.link_meaning.specs.Dictionary.{numbered_from, rows_from}
 use Rattle.lib_dict.specs.declared.dictionary.Row as declared
 use Rattle.lib_dict.specs.declared.rows.Tables.{Tables}
@@ -11,10 +11,10 @@ use Rattle.lib_dict.specs.Rows.{seen_row}
 use Rattle.lib_dict.specs.Tables.{numbers_in, names_in, row_in, rows_at, IsRowAnswer, AreRowsIn}
 
 abbrev Answer : Type 0
-Answer = Result (List Row) ℕ
+Answer = Result (List OfferedRow) ℕ
 
 -- rows that were read, and then these
-abbrev after_rows : List Row → Answer → Answer
+abbrev after_rows : List OfferedRow → Answer → Answer
 after_rows found (Ok rows) = Ok (found ++ rows)
 after_rows found (Err at) = Err at
 
@@ -27,7 +27,7 @@ pub record ReadRows (t : Tables) (start : ℕ) (second : List ℕ) (place : ℕ)
   pub size : length rest ≡ 12 * n
   pub place' : place + length rest ≡ start + length second
   pub count : 12 * length rows + length rest ≡ length second
-  pub found : List Row
+  pub found : List OfferedRow
   pub whole : rows_at t start second ≡ after_rows found (rows_left t n place rest)
   pub reported : map seen_row rows ≡ map (row_view t.list.now) found
 
@@ -52,7 +52,7 @@ rows_next t start second place rest next rows new row r long answer is_new is_ne
     let goes : rows_left t r.n place rest ≡ (rows_left t m.0 (place + 12) left >>= λ more. Ok (answer.0 ∷ more)) =
     ap (λ (n : ℕ). rows_left t n place rest) m.1
     ∙ rows_step t m.0 place rest
-    ∙ ap (λ (a : Result Row ℕ). a >>= λ one. rows_left t m.0 (place + 12) left >>= λ more. Ok (one ∷ more)) (answer.1 place) in
+    ∙ ap (λ (a : Result OfferedRow ℕ). a >>= λ one. rows_left t m.0 (place + 12) left >>= λ more. Ok (one ∷ more)) (answer.1 place) in
     record {
       n = m.0;
       size = omega (arith, ap length is_next, length-drop 12 rest, r.size, m.1);
@@ -68,10 +68,10 @@ rows_next t start second place rest next rows new row r long answer is_new is_ne
           ∙ sym (map-append (row_view t.list.now) r.found (answer.0 ∷ []));
     }
   where
-    regroup : (one : Row) (a : Answer) → after_rows r.found (a >>= λ more. Ok (one ∷ more)) ≡ after_rows (r.found ++ one ∷ []) a
-    regroup one (Ok more) = ap (λ (l : List Row). done l) (sym (append_assoc r.found (one ∷ []) more))
+    regroup : (one : OfferedRow) (a : Answer) → after_rows r.found (a >>= λ more. Ok (one ∷ more)) ≡ after_rows (r.found ++ one ∷ []) a
+    regroup one (Ok more) = ap (λ (l : List OfferedRow). done l) (sym (append_assoc r.found (one ∷ []) more))
       where
-        done : List Row → Answer
+        done : List OfferedRow → Answer
         done l = Ok l
     regroup one (Err at) = refl
 
@@ -83,7 +83,7 @@ rows_false t start second place rest rows r long answer =
     r.whole
     ∙ ap (λ (n : ℕ). after_rows r.found (rows_left t n place rest)) m.1
     ∙ ap (after_rows r.found) (rows_step t m.0 place rest)
-    ∙ ap (λ (a : Result Row ℕ). after_rows r.found (a >>= λ one. rows_left t m.0 (place + 12) (drop 12 rest) >>= λ more. Ok (one ∷ more))) (answer place)
+    ∙ ap (λ (a : Result OfferedRow ℕ). after_rows r.found (a >>= λ one. rows_left t m.0 (place + 12) (drop 12 rest) >>= λ more. Ok (one ∷ more))) (answer place)
 
 -- all rows
 pub rows_all : (t : Tables) (start : ℕ) (second : List ℕ) (place : ℕ) (rest : List ℕ) (rows : List declared.Row) → ReadRows t start second place rest rows → length rest < 12
@@ -96,9 +96,9 @@ rows_all t start second place rest rows r short =
           r.whole
           ∙ ap (λ (n : ℕ). after_rows r.found (rows_left t n place rest)) none
           ∙ ap (after_rows r.found) (rows_stop t place rest)
-          ∙ ap (λ (l : List Row). done l) (append-nil r.found);
+          ∙ ap (λ (l : List OfferedRow). done l) (append-nil r.found);
       reported = r.reported;
     }
   where
-    done : List Row → Answer
+    done : List OfferedRow → Answer
     done l = Ok l

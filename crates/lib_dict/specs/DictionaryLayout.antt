@@ -7,7 +7,7 @@ use Rattle.omf_format.specs.Header.{form_of}
 use Rattle.omf_format.specs.Record.{Record, LongConst}
 use Rattle.omf_format.specs.File.{Segment, IsFile, segment_at}
 use Rattle.link_meaning.specs.First.{IsIn}
-use Rattle.link_meaning.specs.Member.{Row, is_library}
+use Rattle.link_meaning.specs.Member.{OfferedRow, is_library}
 use Rattle.object_meaning.specs.Defines.{Definition, outer_scope, defined_in}
 use Rattle.link_meaning.specs.Dictionary.{rows_of}
 
@@ -42,7 +42,7 @@ pub record DefinesSo (s : Segment) (name : List ℕ) (private : Bool) : Type 0 w
 
 -- the twelve bytes of a row: where its name starts, its file's number, the private flag, and where its segment starts, which is
 -- after the dictionary and isn't one
-pub record IsRow (segments : List Segment) (numbers : List ℕ) (names : List (List ℕ)) (bytes : List ℕ) (row : Row) : Type 0 where
+pub record IsRow (segments : List Segment) (numbers : List ℕ) (names : List (List ℕ)) (bytes : List ℕ) (row : OfferedRow) : Type 0 where
   pub name : StartsAt names row.name (number_at 4 0 bytes)
   pub from : row.from ≡ number_at 2 4 bytes
   pub known : IsIn numbers row.from
@@ -55,13 +55,13 @@ pub record IsRow (segments : List Segment) (numbers : List ℕ) (names : List (L
   pub defines : DefinesSo segment row.name row.private
 
 -- the second record: rows of twelve bytes one after another
-abbrev pub AreRows : List Segment → List ℕ → List (List ℕ) → List Row → List ℕ → Type 0
+abbrev pub AreRows : List Segment → List ℕ → List (List ℕ) → List OfferedRow → List ℕ → Type 0
 AreRows segments numbers names [] bytes = bytes ≡ []
 AreRows segments numbers names (row ∷ rows) bytes =
     (text : List ℕ) × (rest : List ℕ) × (bytes ≡ text ++ rest) × (length text ≡ 12) × IsRow segments numbers names text row × AreRows segments numbers names rows rest
 
 -- the first segment is a dictionary with these rows: it has three LCONST records and END
-pub record IsDictionary (segments : List Segment) (rows : List Row) : Type 0 where
+pub record IsDictionary (segments : List Segment) (rows : List OfferedRow) : Type 0 where
   pub dictionary : Segment
   pub others : List Segment
   pub parts : segments ≡ dictionary ∷ others
@@ -81,8 +81,8 @@ pub record IsDictionary (segments : List Segment) (rows : List Row) : Type 0 whe
 
 -- the rows that are read from a library are those of its dictionary
 abbrev pub RowsAreLaidOut : Type 0
-RowsAreLaidOut = (segments : List Segment) (rows : List Row) → is_library segments ≡ true → rows_of segments ≡ Ok rows → IsDictionary segments rows
+RowsAreLaidOut = (segments : List Segment) (rows : List OfferedRow) → is_library segments ≡ true → rows_of segments ≡ Ok rows → IsDictionary segments rows
 
 -- and a file's dictionary is read, with its rows
 abbrev pub LaidOutIsRead : Type 0
-LaidOutIsRead = (file : List ℕ) (segments : List Segment) (rows : List Row) → IsFile segments file → IsDictionary segments rows → rows_of segments ≡ Ok rows
+LaidOutIsRead = (file : List ℕ) (segments : List Segment) (rows : List OfferedRow) → IsFile segments file → IsDictionary segments rows → rows_of segments ≡ Ok rows

@@ -5,10 +5,10 @@ use Rattle.std.specs.List.{flat_map, filter_map, list_any}
 use Rattle.std.specs.Option.{option_map_or}
 use Rattle.byteorder.specs.Endian.{little_bytes}
 use Rattle.omf_format.specs.Field.{written_layout}
-use Rattle.omf_format.specs.Header.{Fields, form_of, header_bytes}
+use Rattle.omf_format.specs.Header.{HeaderFields, form_of, header_bytes}
 use Rattle.omf_format.specs.Record.{End, LongConst, spelling}
 use Rattle.omf_format.specs.File.{Segment, IsFile, segment_at}
-use Rattle.link_meaning.specs.Member.{Row, is_library}
+use Rattle.link_meaning.specs.Member.{OfferedRow, is_library}
 use Rattle.object_meaning.specs.Defines.{Scope, ForSegment, ForUnit, ForAll, Definition, defined_in}
 use Rattle.link_meaning.specs.Dictionary.{rows_of}
 
@@ -23,7 +23,7 @@ pub record LibraryRow : Type 0 where
 -- ---- a dictionary that is read
 
 -- a row as it is told, with the start of its segment
-abbrev pub row_view : List Segment → Row → LibraryRow
+abbrev pub row_view : List Segment → OfferedRow → LibraryRow
 row_view segments row = record {
   name = row.name;
   file = row.from;
@@ -36,7 +36,7 @@ pub record HasRows (file : List ℕ) (rows : List LibraryRow) : Type 0 where
   pub segments : List Segment
   pub is_file : IsFile segments file
   pub library : is_library segments ≡ true
-  pub found : List Row
+  pub found : List OfferedRow
   pub read : rows_of segments ≡ Ok found
   pub reported : rows ≡ map (row_view segments) found
 
@@ -104,7 +104,7 @@ rows_text name [] = []
 rows_text name (row ∷ rows) = row_text name row ++ rows_text (name + 1 + length row.name) rows
 
 -- the dictionary's header, where the three records have so many bytes together
-abbrev pub dictionary_fields : ℕ → Fields
+abbrev pub dictionary_fields : ℕ → HeaderFields
 dictionary_fields n = record {
   byte_count = 0;
   res_spc = 0;

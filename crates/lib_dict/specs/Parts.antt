@@ -6,13 +6,13 @@ use Rattle.load_meaning.specs.Pathnames.{long_bytes}
 use Rattle.lib_dict.specs.declared.parts.Parts.{Parts}
 
 -- the parts without where their bytes lie
-pub record Texts : Type 0 where
+pub record DictionaryTexts : Type 0 where
   pub first : List ℕ
   pub second : List ℕ
   pub at : ℕ
   pub third : List ℕ
 
-abbrev pub seen_parts : Parts → Texts
+abbrev pub seen_parts : Parts → DictionaryTexts
 seen_parts p = record { first = p.first.now; second = p.second.now; at = p.at; third = p.third.now }
 
 -- the next record was taken where it is an LCONST
@@ -26,7 +26,7 @@ TakesLast old true = (found : ℕ × Record) × (next_answer old ≡ Ok (Some fo
 TakesLast old false = (found : ℕ × Record) → next_answer old ≡ Ok (Some found) → next_answer (after_next old) ≡ Ok None → ⊥
 
 -- the records are three LCONST with these bytes and one more
-pub record HasParts (parts : Texts) (records : List (ℕ × Record)) : Type 0 where
+pub record HasParts (parts : DictionaryTexts) (records : List (ℕ × Record)) : Type 0 where
   pub a : ℕ × Record
   pub b : ℕ × Record
   pub c : ℕ × Record
@@ -37,11 +37,11 @@ pub record HasParts (parts : Texts) (records : List (ℕ × Record)) : Type 0 wh
   pub at : b.0 ≡ parts.at
   pub third : long_bytes c.1 ≡ Some parts.third
 
-abbrev pub ArePartsOf : Option Texts → List (ℕ × Record) → Type 0
+abbrev pub ArePartsOf : Option DictionaryTexts → List (ℕ × Record) → Type 0
 ArePartsOf (Some parts) records = HasParts parts records
-ArePartsOf None records = (parts : Texts) → HasParts parts records → ⊥
+ArePartsOf None records = (parts : DictionaryTexts) → HasParts parts records → ⊥
 
 -- the second record ends before 2 ^ 32, and so does the third
-pub record HasPlace (parts : Texts) : Type 0 where
+pub record HasPlace (parts : DictionaryTexts) : Type 0 where
   pub fits : parts.at + 5 + length parts.second < 2 ^ 32
   pub third' : length parts.third < 2 ^ 32

@@ -7,7 +7,7 @@ use Rattle.omf_format.specs.declared.fault.FileFault.{FileFault}
 use Rattle.omf_format.specs.Number.{number_at}
 use Rattle.omf_format.specs.File.{Segment, IsFile}
 use Rattle.omf_records.specs.Segments.{IsRefused}
-use Rattle.link_meaning.specs.Member.{Row}
+use Rattle.link_meaning.specs.Member.{OfferedRow}
 use Rattle.link_meaning.specs.Dictionary.{file_numbers, names_from, numbered_from, row_at, rows_from}
 use Rattle.lib_dict.specs.declared.fault.DictFault.{DictFault}
 use Rattle.lib_dict.specs.declared.fault.DictFault.TheVariants as dict
@@ -78,25 +78,25 @@ pub record IsNameAt (third : List ℕ) (at : ℕ) : Type 0 where
   pub whole : at + 1 + number_at 1 at third ≤ length third
 
 -- the row of these twelve bytes, which are at this displacement
-abbrev pub row_in : Tables → ℕ → List ℕ → Result Row ℕ
+abbrev pub row_in : Tables → ℕ → List ℕ → Result OfferedRow ℕ
 row_in t at bytes = row_at (numbers_in t.first.now) (names_in t.third.now) (numbered_from 2 (drop 1 t.list.now)) at bytes
 
 abbrev pub IsRowAnswer : Tables → List ℕ → Option LibraryRow → Type 0
 IsRowAnswer t bytes None = (at : ℕ) → row_in t at bytes ≡ Err at
-IsRowAnswer t bytes (Some row) = (found : Row) × ((at : ℕ) → row_in t at bytes ≡ Ok found) × (row ≡ row_view t.list.now found)
+IsRowAnswer t bytes (Some row) = (found : OfferedRow) × ((at : ℕ) → row_in t at bytes ≡ Ok found) × (row ≡ row_view t.list.now found)
 
 -- the rows of the second record, which stands there
-abbrev pub rows_at : Tables → ℕ → List ℕ → Result (List Row) ℕ
+abbrev pub rows_at : Tables → ℕ → List ℕ → Result (List OfferedRow) ℕ
 rows_at t at second = rows_from (length second / 12) (numbers_in t.first.now) (names_in t.third.now) (numbered_from 2 (drop 1 t.list.now)) at second
 
 -- these rows are told
-pub record AreRowsIn (segments : List Segment) (answer : Result (List Row) ℕ) (rows : List declared.Row) : Type 0 where
-  pub found : List Row
+pub record AreRowsIn (segments : List Segment) (answer : Result (List OfferedRow) ℕ) (rows : List declared.Row) : Type 0 where
+  pub found : List OfferedRow
   pub read : answer ≡ Ok found
   pub reported : map seen_row rows ≡ map (row_view segments) found
 
 -- the dictionary is false there, or memory ran out
-abbrev pub IsRowFault : DictFault → Result (List Row) ℕ → Type 0
+abbrev pub IsRowFault : DictFault → Result (List OfferedRow) ℕ → Type 0
 IsRowFault (dict.File fault) answer = ⊥
 IsRowFault dict.NotLibrary answer = ⊥
 IsRowFault (dict.BadLibrary at) answer = answer ≡ Err at

@@ -6,12 +6,12 @@ use Rattle.load_meaning.specs.declared.table.Target.{Target}
 use Rattle.link_meaning.specs.declared.fault.LinkCause.{LinkCause}
 use Rattle.link_meaning.specs.Fitting as meaning
 use Rattle.link_meaning.specs.Fitting.{or_does_not_fit, place_fit}
-use Rattle.link_content.specs.declared.fit.Fit.{Fit}
-use Rattle.link_content.specs.declared.fit.Fit.TheVariants.{Number, Place, Entry}
+use Rattle.link_content.specs.declared.fit.FitOutcome.{FitOutcome}
+use Rattle.link_content.specs.declared.fit.FitOutcome.TheVariants.{Number, Place, Entry}
 use Rattle.link_content.specs.Fits.{to_fit, fit_with_room}
 
 -- what needs no entry needs no room
-pub reported_answer : (targets : List Target) (r : Result Fit LinkCause) (o : Option meaning.Fit) → to_fit r ≡ or_does_not_fit o → ((t : Target) → o ≡ Some (meaning.Entry t) → ⊥) → fit_with_room targets r ≡ or_does_not_fit o
+pub reported_answer : (targets : List Target) (r : Result FitOutcome LinkCause) (o : Option meaning.Fit) → to_fit r ≡ or_does_not_fit o → ((t : Target) → o ≡ Some (meaning.Entry t) → ⊥) → fit_with_room targets r ≡ or_does_not_fit o
 reported_answer targets (Ok (Number n)) o e plain = e
 reported_answer targets (Ok (Place segment offset shift)) o e plain = e
 reported_answer targets (Ok (Entry t)) o e plain = by_fit o e plain

@@ -3,7 +3,7 @@ use Rattle.std.proofs.Common.{◌≡◌, inl, inr, ℕ, zero, suc, ◌-◌, List
 use Rattle.std.specs.Prelude.{slice_get, option_map, option_and_then, IsSomeAnd}
 use Rattle.std.specs.Option.{option_map_or}
 use Rattle.std.proofs.lemmas.Option.{slice_get_past}
-use Rattle.omf_format.specs.Header.{Fields}
+use Rattle.omf_format.specs.Header.{HeaderFields}
 use Rattle.omf_format.specs.File.{Segment, segment_at}
 use Rattle.omf_cells.specs.Load.{IsOutside, HasFields}
 use Rattle.link_meaning.specs.Member.{RuntimeFile, LinkSetting}
@@ -16,9 +16,9 @@ length_in segment o = option_map_or (λ (s : Segment). s.fields.length) (option_
 same_segments : (segments : List Segment) (r : RuntimeFile) → Some segments ≡ option_map (λ (x : RuntimeFile). x.segments) (Some r) → segments ≡ r.segments
 same_segments segments r e = cc
 
-fields_length : (o : Option Segment) (f : Fields) → IsSomeAnd o (λ s. s.fields ≡ f) → f.length ≡ option_map_or (λ (s : Segment). s.fields.length) o 0
+fields_length : (o : Option Segment) (f : HeaderFields) → IsSomeAnd o (λ s. s.fields ≡ f) → f.length ≡ option_map_or (λ (s : Segment). s.fields.length) o 0
 fields_length None f is = absurd is
-fields_length (Some s) f is = ap (λ (g : Fields). g.length) (sym is)
+fields_length (Some s) f is = ap (λ (g : HeaderFields). g.length) (sym is)
 
 -- there is no segment
 outside_none : (segments : List Segment) (number : ℕ) → IsOutside segments number → segment_at segments number ≡ None
@@ -26,7 +26,7 @@ outside_none segments zero is = refl
 outside_none segments (suc k) (inl e) = absurd (omega (arith, e))
 outside_none segments (suc k) (inr less) = slice_get_past segments k (omega (arith, less))
 
-pub length_found : (setting : LinkSetting) (file segment : ℕ) (segments : List Segment) (f : Fields) → Some segments ≡ option_map (λ (r : RuntimeFile). r.segments) (slice_get setting.runtimes (file - 2)) → HasFields segments segment f
+pub length_found : (setting : LinkSetting) (file segment : ℕ) (segments : List Segment) (f : HeaderFields) → Some segments ≡ option_map (λ (r : RuntimeFile). r.segments) (slice_get setting.runtimes (file - 2)) → HasFields segments segment f
     → f.length ≡ length_outside setting file segment
 length_found setting file segment segments f is has = by_file (slice_get setting.runtimes (file - 2)) is
   where

@@ -1,17 +1,17 @@
 -- How the emitter's types are seen.
 use Rattle.std.specs.Prelude.{not, List, Result, Ok, Err, if◌then◌else◌}
-use Rattle.omf_format.specs.Header.{Fields, is_dynamic}
+use Rattle.omf_format.specs.Header.{HeaderFields, is_dynamic}
 use Rattle.load_meaning.specs.declared.table.Target.{Target}
 use Rattle.link_meaning.specs.declared.fault.LinkCause.{LinkCause}
 use Rattle.link_meaning.specs.declared.fault.LinkCause.TheVariants.{TooManyEntries}
 use Rattle.link_meaning.specs.Member.{LinkSetting}
 use Rattle.link_meaning.specs.Fitting as meaning
-use Rattle.link_content.specs.declared.fit.Fit.{Fit}
-use Rattle.link_content.specs.declared.fit.Fit.TheVariants.{Number, Place, Entry}
+use Rattle.link_content.specs.declared.fit.FitOutcome.{FitOutcome}
+use Rattle.link_content.specs.declared.fit.FitOutcome.TheVariants.{Number, Place, Entry}
 use Rattle.link_content.specs.declared.fit.LoadLimits.{LoadLimits}
 use Rattle.link_content.specs.declared.fit.PatchPlace.{PatchPlace}
 
-abbrev pub to_fit_meaning : Fit → meaning.Fit
+abbrev pub to_fit_meaning : FitOutcome → meaning.Fit
 to_fit_meaning (Number n) = meaning.Number n
 to_fit_meaning (Place segment offset shift) = meaning.Place segment offset shift
 to_fit_meaning (Entry target) = meaning.Entry target
@@ -21,12 +21,12 @@ abbrev pub shown_frame : LinkSetting → PatchPlace → meaning.PatchPlace
 shown_frame setting f = record { own = f.own; bank_size = f.bank_size; place = f.place; setting = setting }
 
 -- what becomes of a value, or why it doesn't fit
-abbrev pub to_fit : Result Fit LinkCause → Result meaning.Fit LinkCause
+abbrev pub to_fit : Result FitOutcome LinkCause → Result meaning.Fit LinkCause
 to_fit (Ok fit) = Ok (to_fit_meaning fit)
 to_fit (Err cause) = Err cause
 
 -- what is kept of a load segment's header
-abbrev pub to_load_limits : Fields → LoadLimits
+abbrev pub to_load_limits : HeaderFields → LoadLimits
 to_load_limits f = record { dynamic = is_dynamic f.kind; length = f.length; bank_size = f.bank_size }
 
 -- an entry needs room for its target
@@ -36,6 +36,6 @@ with_room targets (meaning.Place segment offset shift) = Ok (meaning.Place segme
 with_room targets (meaning.Entry target) = if not (meaning.has_room_for targets target) then Err TooManyEntries else Ok (meaning.Entry target)
 
 -- what becomes of a value once its target has room
-abbrev pub fit_with_room : List Target → Result Fit LinkCause → Result meaning.Fit LinkCause
+abbrev pub fit_with_room : List Target → Result FitOutcome LinkCause → Result meaning.Fit LinkCause
 fit_with_room targets (Ok fit) = with_room targets (to_fit_meaning fit)
 fit_with_room targets (Err cause) = Err cause

@@ -2,7 +2,7 @@
 
 ghost use Rattle.std.specs.Prelude.{◌≡◌, ◌+◌, ◌^◌, ◌<◌, ◌≤◌, ◌&&◌, Bool, IsTrue, List, map, option_map};
 ghost use Rattle.omf_format.specs.Field.{is_count};
-ghost use Rattle.omf_format.specs.Header.{Fields};
+ghost use Rattle.omf_format.specs.Header.{HeaderFields};
 ghost use Rattle.omf_format.specs.Value.{is_unshifted};
 ghost use Rattle.load_meaning.specs.Cells.{Cell};
 ghost use Rattle.load_meaning.specs.declared.table.Target.{Target};
@@ -26,7 +26,7 @@ const LEXPR: u8 = 0xF3;
 
 /// What a value becomes in its record.
 #[derive(Clone, Copy)]
-pub enum Fit {
+pub enum FitOutcome {
     /// The low bytes of a number.
     Number(u32),
     /// The bytes of a place.
@@ -83,23 +83,23 @@ fn numbers_of(count: u8) -> u64
 }
 
 /// What a number becomes.
-fn number_fit(formula: FormulaRecord, n: u32) -> Option<Fit>
+fn number_fit(formula: FormulaRecord, n: u32) -> Option<FitOutcome>
     ensures { option_map to_fit_meaning result ≡ number_fit formula.code formula.count n }
 {
     if formula.code == EXPR {
-        return Some(Fit::Number(n));
+        return Some(FitOutcome::Number(n));
     }
     if formula.code == RELEXPR {
         return None;
     }
     if u64::from(n) < numbers_of(formula.count) {
-        return Some(Fit::Number(n));
+        return Some(FitOutcome::Number(n));
     }
     None
 }
 
 /// A distance from one offset to another, in two's complement, where it fits signed in a given number of bytes.
-fn distance_fit(count: u8, to: u32, from: u64) -> Option<Fit>
+fn distance_fit(count: u8, to: u32, from: u64) -> Option<FitOutcome>
     requires counted { IsTrue (is_count count) }
     requires small { from < 2 ^ 33 }
     ensures { option_map to_fit_meaning result ≡ distance_fit count to from }
@@ -107,7 +107,7 @@ fn distance_fit(count: u8, to: u32, from: u64) -> Option<Fit>
     let numbers = numbers_of(count);
     let to = u64::from(to);
     if from <= to + numbers / 2 && to < from + numbers / 2 {
-        return Some(Fit::Number(((to + numbers - from) % numbers) as u32));
+        return Some(FitOutcome::Number(((to + numbers - from) % numbers) as u32));
     }
     None
 }
@@ -119,10 +119,10 @@ fn place_fit(
     segment: u16,
     offset: u32,
     shift: i8,
-) -> Option<Fit>
+) -> Option<FitOutcome>
     ensures { (setting : LinkSetting) → option_map to_fit_meaning result ≡ place_fit (shown_frame setting frame) formula.code formula.count formula.n segment offset shift }
 {
-    let place = Fit::Place {
+    let place = FitOutcome::Place {
         segment,
         offset,
         shift,
@@ -154,7 +154,7 @@ fn place_fit(
 
 /// Whether the load segment with this number is dynamic.
 fn is_dynamic(loads: &[LoadLimits], number: u16) -> bool
-    ensures { (headers : List Fields) → loads.now ≡ map to_load_limits headers → result ≡ is_dynamic_load headers number }
+    ensures { (headers : List HeaderFields) → loads.now ≡ map to_load_limits headers → result ≡ is_dynamic_load headers number }
 {
     match loads.get(usize::from(number).saturating_sub(1)) {
         Some(load) => load.dynamic,
@@ -164,14 +164,14 @@ fn is_dynamic(loads: &[LoadLimits], number: u16) -> bool
 
 /// Whether a place is in a run-time library file, or in another load segment that is dynamic.
 fn is_far(loads: &[LoadLimits], own: u16, file: u16, segment: u16) -> bool
-    ensures { (headers : List Fields) → loads.now ≡ map to_load_limits headers → result ≡ is_far headers own file segment }
+    ensures { (headers : List HeaderFields) → loads.now ≡ map to_load_limits headers → result ≡ is_far headers own file segment }
 {
     file != 1 || (segment != own && is_dynamic(loads, segment))
 }
 
 /// LENGTH of the load segment with this number.
 pub fn length_of(loads: &[LoadLimits], number: u16) -> u32
-    ensures { (headers : List Fields) → loads.now ≡ map to_load_limits headers → result ≡ length_of headers number }
+    ensures { (headers : List HeaderFields) → loads.now ≡ map to_load_limits headers → result ≡ length_of headers number }
 {
     match loads.get(usize::from(number).saturating_sub(1)) {
         Some(load) => load.length,
@@ -195,7 +195,7 @@ fn length_outside(program: &Program, file: u16, segment: u16) -> u32
 
 /// LENGTH of the segment that is called.
 fn length_there(program: &Program, loads: &[LoadLimits], target: Target) -> u32
-    ensures { (headers : List Fields) → loads.now ≡ map to_load_limits headers → result ≡ length_there headers (setting_in program.now) target }
+    ensures { (headers : List HeaderFields) → loads.now ≡ map to_load_limits headers → result ≡ length_there headers (setting_in program.now) target }
 {
     if target.file == 1 {
         return length_of(loads, target.segment);
@@ -222,8 +222,8 @@ fn is_call(formula: FormulaRecord, shift: i8, jsl: bool) -> bool
 
 /// What a place in a run-time library file or in another dynamic segment becomes: an entry of the jump table, where the record calls,
 /// what is linked may call, and the offset is below LENGTH.
-fn call_fit(length: u32, call: bool, target: Target) -> Result<Fit, LinkCause>
-    ensures { (headers : List Fields) (setting : LinkSetting) (targets : List Target) (calls : Bool) → length_there headers setting target ≡ length
+fn call_fit(length: u32, call: bool, target: Target) -> Result<FitOutcome, LinkCause>
+    ensures { (headers : List HeaderFields) (setting : LinkSetting) (targets : List Target) (calls : Bool) → length_there headers setting target ≡ length
         → may_call setting.form && calls ≡ call → call_fit headers setting targets calls target ≡ fit_with_room targets result }
 {
     if !call {
@@ -232,10 +232,10 @@ fn call_fit(length: u32, call: bool, target: Target) -> Result<Fit, LinkCause>
     if length <= target.offset {
         return Err(LinkCause::OutOfSegment);
     }
-    Ok(Fit::Entry(target))
+    Ok(FitOutcome::Entry(target))
 }
 
-fn or_does_not_fit(fit: Option<Fit>) -> Result<Fit, LinkCause>
+fn or_does_not_fit(fit: Option<FitOutcome>) -> Result<FitOutcome, LinkCause>
     ensures { to_fit result ≡ or_does_not_fit (option_map to_fit_meaning fit) }
 {
     match fit {
@@ -253,8 +253,8 @@ pub fn fit_value(
     jsl: bool,
     formula: FormulaRecord,
     value: Value,
-) -> Result<Fit, LinkCause>
-    ensures { (headers : List Fields) (targets : List Target) (before : List Cell) → loads.now ≡ map to_load_limits headers → ends_in_jsl before ≡ jsl
+) -> Result<FitOutcome, LinkCause>
+    ensures { (headers : List HeaderFields) (targets : List Target) (before : List Cell) → loads.now ≡ map to_load_limits headers → ends_in_jsl before ≡ jsl
         → fit_value headers (shown_frame (setting_in program.now) frame) targets before formula.code formula.count formula.n value ≡ fit_with_room targets result }
 {
     match value {

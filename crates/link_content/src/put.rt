@@ -3,7 +3,7 @@
 ghost use Rattle.std.specs.Prelude.{◌≡◌, ◌⊎◌, ◌+◌, ◌<◌, ◌≤◌, ◌^◌, ◌++◌, Err, List, IsTrue, IfOk, IfErr, IsErrOf, OnOk, length, map};
 ghost use Rattle.byteorder.specs.Endian.{little_bytes};
 ghost use Rattle.omf_format.specs.Field.{is_count};
-ghost use Rattle.omf_format.specs.Header.{Fields};
+ghost use Rattle.omf_format.specs.Header.{HeaderFields};
 ghost use Rattle.load_meaning.specs.Cells.{Cell, Byte};
 ghost use Rattle.link_meaning.specs.declared.fault.LinkCause.TheVariants as causes;
 ghost use Rattle.link_meaning.specs.Member.{setting_in};
@@ -13,7 +13,7 @@ ghost use Rattle.link_content.specs.Contents.{HoldsCells};
 ghost use Rattle.link_content.specs.Puts.{EntersTarget, LacksRoom, PutsFit, PutsValue};
 
 use crate::content::LoadContent;
-use crate::fit::{Fit, FormulaRecord, LoadLimits, PatchPlace, fit_value};
+use crate::fit::{FitOutcome, FormulaRecord, LoadLimits, PatchPlace, fit_value};
 use jump_table::{Table, TableFault, Target};
 use link_meaning::LinkCause;
 use link_program::Program;
@@ -85,7 +85,7 @@ fn put_fit(
     table: &mut Table,
     number: u16,
     count: u8,
-    fit: Fit,
+    fit: FitOutcome,
 ) -> Result<(), LinkCause>
     requires counted { IsTrue (is_count count) }
     requires small { length (content.old).bytes + 4 < 2 ^ 32 }
@@ -93,13 +93,13 @@ fn put_fit(
     ensures err { IfErr result (λ cause. (cause ≡ causes.Memory) ⊎ (with_room table.old (to_fit_meaning fit) ≡ Err cause)) }
 {
     match fit {
-        Fit::Number(n) => put_number(content, count, n),
-        Fit::Place {
+        FitOutcome::Number(n) => put_number(content, count, n),
+        FitOutcome::Place {
             segment,
             offset,
             shift,
         } => put_place(content, count, segment, offset, shift),
-        Fit::Entry(target) => {
+        FitOutcome::Entry(target) => {
             let at = entry(table, target)?;
             put_place(content, count, number, at, 0)
         }
@@ -120,9 +120,9 @@ pub fn put_formula(
     value: Value,
 ) -> Result<(), LinkCause>
     requires small { length (content.old).bytes + 4 < 2 ^ 32 }
-    ensures ok { OnOk result ((headers : List Fields) (before : List Cell) → loads.now ≡ map to_load_limits headers → ends_in_jsl before ≡ jsl
+    ensures ok { OnOk result ((headers : List HeaderFields) (before : List Cell) → loads.now ≡ map to_load_limits headers → ends_in_jsl before ≡ jsl
         → PutsValue headers (shown_frame (setting_in program.now) frame) before formula value number table.old table.new content.old content.new) }
-    ensures err { IfErr result (λ cause. (headers : List Fields) (before : List Cell) → loads.now ≡ map to_load_limits headers → ends_in_jsl before ≡ jsl
+    ensures err { IfErr result (λ cause. (headers : List HeaderFields) (before : List Cell) → loads.now ≡ map to_load_limits headers → ends_in_jsl before ≡ jsl
         → (cause ≡ causes.Memory) ⊎ (fit_value headers (shown_frame (setting_in program.now) frame) table.old before formula.code formula.count formula.n value ≡ Err cause)) }
 {
     let fit = fit_value(program, loads, frame, jsl, formula, value)?;

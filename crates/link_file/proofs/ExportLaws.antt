@@ -7,7 +7,7 @@ use Rattle.std.proofs.lemmas.List.{length-append}
 use Rattle.std.proofs.lemmas.List.Concat.{flat_map-cons}
 use Rattle.std.proofs.lemmas.Grind.{flat_map-append}
 use Rattle.omf_format.specs.Field.{Layout, IsName, written_layout}
-use Rattle.omf_format.specs.Header.{Fields, is_private}
+use Rattle.omf_format.specs.Header.{HeaderFields, is_private}
 use Rattle.omf_format.specs.Record.{Record, End, Const, LongConst, Align, Org, Space, Reloc, InterSeg, ShortReloc, ShortInterSeg, Super, Using, Strong, Label, Equate, Formula, Entry, IsRecord, spelling}
 use Rattle.omf_format.specs.Reading.{Reader}
 use Rattle.omf_format.specs.declared.value.Value.{Value}
@@ -69,7 +69,7 @@ value_reported (Ok x) v e = let same : v ≡ x = cc in ap ok (sym same)
     ok y = Ok y
 value_reported (Err fault) v e = absurd cc
 
-pub none_reported : (headers : List Fields) (name : List ℕ) (r : Result Value ValueFault) → None ≡ if_ok r → export_at headers name r ≡ []
+pub none_reported : (headers : List HeaderFields) (name : List ℕ) (r : Result Value ValueFault) → None ≡ if_ok r → export_at headers name r ≡ []
 none_reported headers name (Ok x) e = absurd cc
 none_reported headers name (Err fault) e = refl
 

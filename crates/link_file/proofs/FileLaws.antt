@@ -4,7 +4,7 @@ use Rattle.std.proofs.lemmas.List.{length-append, length-map, append-nil}
 use Rattle.std.proofs.lemmas.List.Concat.{flat_map-cons}
 use Rattle.std.proofs.lemmas.Grind.{flat_map-append}
 use Rattle.std.specs.Prelude.{codes}
-use Rattle.omf_format.specs.Header.{Fields, IsWritable}
+use Rattle.omf_format.specs.Header.{HeaderFields, IsWritable}
 use Rattle.load_meaning.specs.declared.table.Target.{Target}
 use Rattle.load_meaning.specs.Cells.{Byte, Patch}
 use Rattle.load_meaning.specs.Table.{file_entry, table_bytes}
@@ -57,7 +57,7 @@ table_small targets few = omega (arith, length-table_bytes (map file_entry targe
 
 -- ---- the table's segment
 
-abbrev named_fields : ℕ → ℕ → List ℕ → Fields
+abbrev named_fields : ℕ → ℕ → List ℕ → HeaderFields
 named_fields number size name = record {
   byte_count = 0;
   res_spc = 0;
@@ -91,7 +91,7 @@ table_len ts n few is =
     let all = table_bytes (map file_entry ts) in
     (is ∙ length-map all (λ (b : ℕ). Byte b), omega (arith, is, length-map all (λ (b : ℕ). Byte b), table_small ts few))
 
-module _ (number n : ℕ) (ts : List Target) (f : Fields) (content : Holding) (fields' : f ≡ table_fields number n) (size : n ≡ length (table_bytes (map file_entry ts))) (few : length ts ≤ 4680)
+module _ (number n : ℕ) (ts : List Target) (f : HeaderFields) (content : Holding) (fields' : f ≡ table_fields number n) (size : n ≡ length (table_bytes (map file_entry ts))) (few : length ts ≤ 4680)
     (holds : HoldsCells (map Byte (table_bytes (map file_entry ts))) content) where
   own_bytes : content.bytes ≡ table_bytes (map file_entry ts)
   own_bytes = holds.bytes' ∙ table_under (table_bytes (map file_entry ts))
@@ -101,7 +101,7 @@ module _ (number n : ℕ) (ts : List Target) (f : Fields) (content : Holding) (f
 
   pub table_ready : IsReady f content
   unfolding table_fields
-  table_ready = subst (λ (g : Fields). IsReady g content) (sym fields') (record {
+  table_ready = subst (λ (g : HeaderFields). IsReady g content) (sym fields') (record {
     writable = table_writable number n;
     length' = size ∙ ap length (sym own_bytes);
     small = omega (arith, size, table_small ts few);
@@ -111,7 +111,7 @@ module _ (number n : ℕ) (ts : List Target) (f : Fields) (content : Holding) (f
   pub table_text : (length ts ≡ 0 → ⊥) → image_text (image_in f content []) ≡ file_text (table_images number ts)
   unfolding table_image
   table_text some =
-      ap (λ (g : Fields). image_text (image_in g content [])) (fields' ∙ ap (table_fields number) size)
+      ap (λ (g : HeaderFields). image_text (image_in g content [])) (fields' ∙ ap (table_fields number) size)
       ∙ ap (λ (l : List ℕ). image_text (image (table_fields number (length (table_bytes (map file_entry ts)))) l (map seen content.patches) [])) own_bytes
       ∙ ap (λ (l : List Patch). image_text (image (table_fields number (length (table_bytes (map file_entry ts)))) (table_bytes (map file_entry ts)) l [])) own_patches
       ∙ by_targets ts some

@@ -6,7 +6,7 @@ use Rattle.std.proofs.Math.Seq.{take-append_seam, drop-append_seam}
 use Rattle.std.proofs.lemmas.List.{length-append, length-drop, length-replicate, append-nil}
 use Rattle.std.proofs.lemmas.List.Concat.{flat_map-cons}
 use Rattle.std.proofs.lemmas.Grind.{flat_map-append}
-use Rattle.omf_format.specs.Header.{Fields, header_bytes, IsWritable}
+use Rattle.omf_format.specs.Header.{HeaderFields, header_bytes, IsWritable}
 use Rattle.omf_format.specs.laws.WrittenHeaderLaws.{length-header}
 use Rattle.omf_format.specs.Field.{written_layout}
 use Rattle.omf_format.specs.Record.{Record, spelling}
@@ -23,7 +23,7 @@ pub zeros_fit : (content : List ℕ) (patches : List Patch) → AreWritten (leng
 unfolding written_cells
 zeros_fit content patches are = omega (arith, zeros-le (written_cells content patches), cells_size content patches are)
 
-abbrev pub image : Fields → List ℕ → List Patch → List Record → Image
+abbrev pub image : HeaderFields → List ℕ → List Patch → List Record → Image
 image f content patches exports = record { fields = f; content = content; patches = patches; exports = exports; whole = false }
 
 -- what a body and what is exported behind it spell
@@ -32,11 +32,11 @@ unfolding body_text
 body_whole own content patches exports = sym (flat_map-append (spelling written_layout) (body_records own content patches) exports)
 
 -- the body of a load segment is what its records spell, and END
-body_is : (f : Fields) (content : List ℕ) (patches : List Patch) (exports : List Record) (body : List ℕ) → body ≡ body_text f.seg_num content patches ++ spelled_records exports → body ++ 0 ∷ [] ≡ image_body (image f content patches exports)
+body_is : (f : HeaderFields) (content : List ℕ) (patches : List Patch) (exports : List Record) (body : List ℕ) → body ≡ body_text f.seg_num content patches ++ spelled_records exports → body ++ 0 ∷ [] ≡ image_body (image f content patches exports)
 unfolding image_body image_records spelling
 body_is f content patches exports body b = ap (λ (l : List ℕ). l ++ 0 ∷ []) (b ∙ body_whole f.seg_num content patches exports)
 
-pub text_is : (f : Fields) (content : List ℕ) (patches : List Patch) (exports : List Record) (front body : List ℕ) → body ≡ body_text f.seg_num content patches ++ spelled_records exports
+pub text_is : (f : HeaderFields) (content : List ℕ) (patches : List Patch) (exports : List Record) (front body : List ℕ) → body ≡ body_text f.seg_num content patches ++ spelled_records exports
     → front ≡ header_bytes (with_space f (zeros_after (written_cells content patches))) (length body + 1) → front ++ (body ++ 0 ∷ []) ≡ image_text (image f content patches exports)
 unfolding image_text
 text_is f content patches exports front body b h =
@@ -47,7 +47,7 @@ text_is f content patches exports front body b h =
     ∙ ap (λ (l : List ℕ). header_bytes g (length (image_body (image f content patches exports))) ++ l) whole
 
 -- how long it is
-pub text_size : (f : Fields) (content : List ℕ) (patches : List Patch) (exports : List Record) (body : List ℕ) → length f.load_name ≡ 10 → body ≡ body_text f.seg_num content patches ++ spelled_records exports
+pub text_size : (f : HeaderFields) (content : List ℕ) (patches : List Patch) (exports : List Record) (body : List ℕ) → length f.load_name ≡ 10 → body ≡ body_text f.seg_num content patches ++ spelled_records exports
     → length (image_text (image f content patches exports)) ≡ 0x37 + length f.name + (length body + 1)
 unfolding image_text
 text_size f content patches exports body ten b =
@@ -56,7 +56,7 @@ text_size f content patches exports body ten b =
     omega (arith, length-append (header_bytes g (length all)) all, length-header g (length all) ten, length-append body (0 ∷ []), ap length (body_is f content patches exports body b))
 
 -- the fields with the body's zeros may be written
-pub space_writable : (f : Fields) (zeros : ℕ) → IsWritable (with_space f 0) → zeros ≤ f.length → IsWritable (with_space f zeros)
+pub space_writable : (f : HeaderFields) (zeros : ℕ) → IsWritable (with_space f 0) → zeros ≤ f.length → IsWritable (with_space f zeros)
 space_writable f zeros is le = record { version = is.version; banks = is.banks; listed = is.listed; spaced = le }
 
 -- ---- answers

@@ -3,7 +3,7 @@ use Rattle.std.proofs.Common.{◌≡◌, ℕ, ◌+◌, ◌^◌, ◌<◌, ◌≤�
 use Rattle.std.specs.List.{AllByRecursion}
 use Rattle.std.proofs.lemmas.Bool.{ne_eqb}
 use Rattle.std.proofs.lemmas.List.{length-map}
-use Rattle.omf_format.specs.Header.{Fields}
+use Rattle.omf_format.specs.Header.{HeaderFields}
 use Rattle.omf_format.specs.Record.{Record}
 use Rattle.omf_header.specs.View.{fields}
 use Rattle.omf_header.specs.declared.header.Header.{Header}
@@ -32,10 +32,10 @@ use Rattle.link_file.specs.Images.{image_in, images_in, images_after, IsReady, A
 
 -- ---- the file
 
-abbrev image : Fields → List ℕ → List Patch → List Record → Image
+abbrev image : HeaderFields → List ℕ → List Patch → List Record → Image
 image f content patches exports = record { fields = f; content = content; patches = patches; exports = exports; whole = false }
 
-image_same : (f : Fields) (cells : List Cell) (content : Holding) (exports : List Record) → HoldsCells cells content → image_in f content exports ≡ image_of f cells exports
+image_same : (f : HeaderFields) (cells : List Cell) (content : Holding) (exports : List Record) → HoldsCells cells content → image_in f content exports ≡ image_of f cells exports
 unfolding image_of
 image_same f cells content exports holds =
     ap (λ (l : List ℕ). image f l (map seen content.patches) exports) holds.bytes' ∙ ap (λ (l : List Patch). image f (map byte_under cells) l exports) holds.patches'
@@ -45,10 +45,10 @@ none_later : (form : LinkForm) (number : ℕ) (all : List Record) → 1 ≤ numb
 none_later Program number all some = refl
 none_later LibraryForm number all some = ap (λ (b : Bool). cond b all []) (ne_eqb (number + 1) 1 (λ (e : number + 1 ≡ 1). absurd (omega (arith, e, some))))
 
-heads : (f g : Fields) (fs gs : List Fields) → f ∷ fs ≡ g ∷ gs → f ≡ g
+heads : (f g : HeaderFields) (fs gs : List HeaderFields) → f ∷ fs ≡ g ∷ gs → f ≡ g
 heads f g fs gs e = cc
 
-tails : (f g : Fields) (fs gs : List Fields) → f ∷ fs ≡ g ∷ gs → fs ≡ gs
+tails : (f g : HeaderFields) (fs gs : List HeaderFields) → f ∷ fs ≡ g ∷ gs → fs ≡ gs
 tails f g fs gs e = cc
 
 images_same : (list : List Member) (table : List EquateAnswer) (number : ℕ) (xs : List (List ℕ)) (headers : List Header) (contents : List Holding) → 1 ≤ number
@@ -61,7 +61,7 @@ images_same list table number (x ∷ xs) (h ∷ headers) (content ∷ contents) 
     let own = exports_for (form_in list) number (exports list table) in
     let head = heads (fields h) (load_fields list number x) (map fields headers) (headers_from list (number + 1) xs) same in
     let tail = tails (fields h) (load_fields list number x) (map fields headers) (headers_from list (number + 1) xs) same in
-    ap (λ (f : Fields). image_in f content own ∷ images_in [] headers contents) head
+    ap (λ (f : HeaderFields). image_in f content own ∷ images_in [] headers contents) head
     ∙ ap (λ (i : Image). i ∷ images_in [] headers contents) (image_same (load_fields list number x) (linked list table x) content own hold.0)
     ∙ ap (λ (l : List Image). image_of (load_fields list number x) (linked list table x) own ∷ l)
     (ap (λ (l : List Record). images_in l headers contents) (sym (none_later (form_in list) number (exports list table) some)) ∙ images_same list table (number + 1) xs headers contents (omega (arith, some)) tail hold.1)
@@ -90,7 +90,7 @@ written_same list table headers contents ts are same =
 
 -- ---- they can be written
 
-is_ready : (f : Fields) (cells : List Cell) (content : Holding) → HasHeader f → f.version ≡ 2 → f.length ≡ length cells → f.length ≤ 0xFFFFFF → AreRuns cells → HoldsCells cells content → IsReady f content
+is_ready : (f : HeaderFields) (cells : List Cell) (content : Holding) → HasHeader f → f.version ≡ 2 → f.length ≡ length cells → f.length ≤ 0xFFFFFF → AreRuns cells → HoldsCells cells content → IsReady f content
 is_ready f cells content header version size small runs holds = record {
   writable = record { version = version; banks = header.bank; listed = header.listed; spaced = omega arith };
   length' = size ∙ sym (length-map cells byte_under) ∙ ap length (sym holds.bytes');
@@ -116,7 +116,7 @@ all_ready list table number (x ∷ xs) (h ∷ headers) [] each have among short 
 all_ready list table number (x ∷ xs) (h ∷ headers) (content ∷ contents) each have among short same hold =
     let head = heads (fields h) (load_fields list number x) (map fields headers) (headers_from list (number + 1) xs) same in
     let tail = tails (fields h) (load_fields list number x) (map fields headers) (headers_from list (number + 1) xs) same in (
-      subst (λ (f : Fields). IsReady f content) (sym head) (load_ready list table number x content (load_header_fits list number x each (among x (inl refl))) short.0 (linked_has list table x have) hold.0),
+      subst (λ (f : HeaderFields). IsReady f content) (sym head) (load_ready list table number x content (load_header_fits list number x each (among x (inl refl))) short.0 (linked_has list table x have) hold.0),
       all_ready list table (number + 1) xs headers contents each have (λ y is. among y (inr is)) short.1 tail hold.1,
     )
 

@@ -6,7 +6,7 @@ use Rattle.std.proofs.lemmas.Option.{slice_get-map}
 use Rattle.byteorder.specs.Endian.{little_bytes}
 use Rattle.byteorder.specs.Numbers.{length-bytes_low_first}
 use Rattle.omf_format.specs.Field.{written_layout}
-use Rattle.omf_format.specs.Header.{Fields, IsWritable, header_bytes}
+use Rattle.omf_format.specs.Header.{HeaderFields, IsWritable, header_bytes}
 use Rattle.omf_format.specs.laws.WrittenHeaderLaws.{length-header}
 use Rattle.omf_format.specs.Record.{LongConst, spelling}
 use Rattle.load_meaning.specs.Pathnames.{rows_text, paths_text}
@@ -56,7 +56,7 @@ no_paths rs = length-map rs (λ (r : RuntimeFile). r.path)
 
 -- ---- the segment
 
-abbrev named_fields : ℕ → ℕ → List ℕ → Fields
+abbrev named_fields : ℕ → ℕ → List ℕ → HeaderFields
 named_fields number size name = record {
   byte_count = 0;
   res_spc = 0;
@@ -84,7 +84,7 @@ unfolding table_fields pathnames_fields
 pathnames_writable number size = record { version = refl; banks = omega arith; listed = refl; spaced = omega arith }
 
 -- the body is one LCONST, and END
-whole_body : (f : Fields) (bytes : List ℕ) → 1 ≤ length bytes → spelling written_layout (LongConst bytes) ++ 0 ∷ [] ≡ image_body (whole_image f bytes)
+whole_body : (f : HeaderFields) (bytes : List ℕ) → 1 ≤ length bytes → spelling written_layout (LongConst bytes) ++ 0 ∷ [] ≡ image_body (whole_image f bytes)
 unfolding image_body image_records spelling
 whole_body f [] some = absurd (omega (arith, some))
 whole_body f (b ∷ bytes) some = ap (λ (l : List ℕ). l ++ 0 ∷ []) (sym (append-nil (spelling written_layout (LongConst (b ∷ bytes)))))
@@ -93,7 +93,7 @@ long_size : (bytes : List ℕ) → length (spelling written_layout (LongConst by
 unfolding spelling
 long_size bytes = omega (arith, length-append (little_bytes 4 (length bytes)) bytes, length-bytes_low_first 0 4 (length bytes))
 
-pub whole_text : (f : Fields) (bytes front : List ℕ) → 1 ≤ length bytes → front ≡ header_bytes (with_space f 0) (5 + length bytes + 1) → front ++ (spelling written_layout (LongConst bytes) ++ 0 ∷ []) ≡ image_text (whole_image f bytes)
+pub whole_text : (f : HeaderFields) (bytes front : List ℕ) → 1 ≤ length bytes → front ≡ header_bytes (with_space f 0) (5 + length bytes + 1) → front ++ (spelling written_layout (LongConst bytes) ++ 0 ∷ []) ≡ image_text (whole_image f bytes)
 unfolding image_text
 whole_text f bytes front some h =
     let long = spelling written_layout (LongConst bytes) in
@@ -102,7 +102,7 @@ whole_text f bytes front some h =
     ap (λ (l : List ℕ). l ++ (long ++ 0 ∷ [])) (h ∙ ap (header_bytes (with_space f 0)) size)
     ∙ ap (λ (l : List ℕ). header_bytes (with_space f 0) (length (image_body (whole_image f bytes))) ++ l) whole
 
-pub whole_size : (f : Fields) (bytes : List ℕ) → 1 ≤ length bytes → length f.load_name ≡ 10 → length (image_text (whole_image f bytes)) ≡ 0x37 + length f.name + (5 + length bytes + 1)
+pub whole_size : (f : HeaderFields) (bytes : List ℕ) → 1 ≤ length bytes → length f.load_name ≡ 10 → length (image_text (whole_image f bytes)) ≡ 0x37 + length f.name + (5 + length bytes + 1)
 unfolding image_text
 whole_size f bytes some ten =
     let all = image_body (whole_image f bytes) in
@@ -116,12 +116,12 @@ unfolding file_text
 no_pathnames number [] out none = sym (append-nil out)
 no_pathnames number (r ∷ rs) out none = absurd (omega (arith, none))
 
-pub pathnames_text : (number size : ℕ) (rs : List RuntimeFile) (f : Fields) (text : List ℕ) → (length rs ≡ 0 → ⊥) → f ≡ pathnames_fields number size → text ≡ paths_text (map (λ (r : RuntimeFile). r.path) rs) → size ≡ length text
+pub pathnames_text : (number size : ℕ) (rs : List RuntimeFile) (f : HeaderFields) (text : List ℕ) → (length rs ≡ 0 → ⊥) → f ≡ pathnames_fields number size → text ≡ paths_text (map (λ (r : RuntimeFile). r.path) rs) → size ≡ length text
     → image_text (whole_image f text) ≡ file_text (path_images number rs)
 unfolding pathnames_image
 pathnames_text number size [] f text some f_is text_is size_is = absurd (some refl)
 pathnames_text number size (r ∷ rs) f text some f_is text_is size_is =
-    ap (λ (g : Fields). image_text (whole_image g text)) (f_is ∙ ap (pathnames_fields number) (size_is ∙ ap length text_is))
+    ap (λ (g : HeaderFields). image_text (whole_image g text)) (f_is ∙ ap (pathnames_fields number) (size_is ∙ ap length text_is))
     ∙ ap (λ (l : List ℕ). image_text (whole_image (pathnames_fields number (length (paths_text (map (λ (o : RuntimeFile). o.path) (r ∷ rs))))) l)) text_is
     ∙ sym (text_one (pathnames_image number (map (λ (o : RuntimeFile). o.path) (r ∷ rs))))
 

@@ -3,7 +3,7 @@ use Rattle.std.specs.Prelude.{◌≡◌, ◌≤◌, ◌+◌, ◌++◌, ℕ, zero
 use Rattle.std.specs.List.{flat_map}
 use Rattle.omf_format.specs.Field.{written_layout}
 use Rattle.omf_format.specs.Record.{Record, spelling}
-use Rattle.omf_format.specs.Header.{Fields, IsWritable}
+use Rattle.omf_format.specs.Header.{HeaderFields, IsWritable}
 use Rattle.omf_header.specs.View.{fields}
 use Rattle.omf_header.specs.declared.header.Header.{Header}
 use Rattle.load_meaning.specs.WrittenBody.{AreWritten}
@@ -19,7 +19,7 @@ use Rattle.link_content.specs.Holding.{Holding}
 use Rattle.link_content.specs.Contents.{HoldsCells}
 
 -- the fields with so many zeros after the body
-abbrev pub with_space : Fields → ℕ → Fields
+abbrev pub with_space : HeaderFields → ℕ → HeaderFields
 with_space f zeros = record f { res_spc = zeros }
 
 -- records, as they are spelled one after another
@@ -27,11 +27,11 @@ abbrev pub spelled_records : List Record → List ℕ
 spelled_records records = flat_map (spelling written_layout) records
 
 -- the load segment with this header and content, and these ENTRY records
-abbrev pub image_in : Fields → Holding → List Record → Image
+abbrev pub image_in : HeaderFields → Holding → List Record → Image
 image_in f content exports = record { fields = f; content = content.bytes; patches = map seen content.patches; exports = exports; whole = false }
 
 -- the load segment with this header whose body is one LCONST of these bytes
-abbrev pub whole_image : Fields → List ℕ → Image
+abbrev pub whole_image : HeaderFields → List ℕ → Image
 whole_image f bytes = record { fields = f; content = bytes; patches = []; exports = []; whole = true }
 
 -- the load segments with these headers and contents, of which the first has the ENTRY records
@@ -46,7 +46,7 @@ left_from zero exports = exports
 left_from (suc place) exports = []
 
 -- it can be written: the header may be, LENGTH is the number of cells, and the patches can be
-pub record IsReady (f : Fields) (content : Holding) : Type 0 where
+pub record IsReady (f : HeaderFields) (content : Holding) : Type 0 where
   pub writable : IsWritable (with_space f 0)
   pub length' : f.length ≡ length content.bytes
   pub small : f.length ≤ 0xFFFFFF

@@ -3,7 +3,7 @@
 
 ghost use Rattle.std.specs.Prelude.{◌≡◌, ◌+◌, ◌++◌, ◌<◌, Some, List, ℕ, length, map, option_map, slice_get, IfSome, IfOk, OnOk};
 ghost use Rattle.omf_format.specs.Field.{IsName, written_layout};
-ghost use Rattle.omf_format.specs.Header.{Fields};
+ghost use Rattle.omf_format.specs.Header.{HeaderFields};
 ghost use Rattle.omf_format.specs.Record.{Entry, spelling};
 ghost use Rattle.omf_records.specs.Segments.{IsSound, segment_of_view};
 ghost use Rattle.omf_records.specs.View.{view};
@@ -102,7 +102,7 @@ fn title_seen<'s>(segment: &'s SegmentView) -> Option<ExportsSeen<'s>>
 
 /// The place that a value stands for, where a name with it is exported: it has no shift, and is below LENGTH of its load segment.
 fn exported_place(loads: &[LoadLimits], value: Value) -> Option<(u16, u32)>
-    ensures { (headers : List Fields) (name : List ℕ) → loads.now ≡ map to_load_limits headers → export_at headers name (Ok value) ≡ entry_with name result }
+    ensures { (headers : List HeaderFields) (name : List ℕ) → loads.now ≡ map to_load_limits headers → export_at headers name (Ok value) ≡ entry_with name result }
 {
     match value {
         Value::Fixed(_) => None,
@@ -139,7 +139,7 @@ fn put_entry(out: &mut Vec<u8>, segment: u16, offset: u32, name: &[u8]) -> Resul
 
 /// The place with which the name of the definition with this number is exported.
 fn place_of(loads: &[LoadLimits], slots: &[ValueSlot], number: usize) -> Option<(u16, u32)>
-    ensures { (list : List Member) (all : List FoundDefinition) (f : FoundDefinition) (headers : List Fields) (name : List ℕ) → AreOnce all → AreSlots list all slots.now
+    ensures { (list : List Member) (all : List FoundDefinition) (f : FoundDefinition) (headers : List HeaderFields) (name : List ℕ) → AreOnce all → AreSlots list all slots.now
         → slice_get all number ≡ Some f → loads.now ≡ map to_load_limits headers → export_at headers name (found_value list (rows_of all slots.now) f) ≡ entry_with name result }
 {
     match label_of(slots, Some(number), false) {

@@ -86,7 +86,7 @@ ghost use Rattle.link_content.specs.Fits.{to_load_limits};
 
 /// BANKSIZE of the load segment with this number.
 fn bank_of(loads: &[LoadLimits], number: u16) -> u32
-    ensures { (headers : List Fields) → loads.now ≡ map to_load_limits headers → result ≡ bank_of headers number }
+    ensures { (headers : List HeaderFields) → loads.now ≡ map to_load_limits headers → result ≡ bank_of headers number }
 {
     match loads.get(usize::from(number).saturating_sub(1)) {
         Some(load) => load.bank_size,
@@ -94,7 +94,7 @@ fn bank_of(loads: &[LoadLimits], number: u16) -> u32
     }
 }
 
-ghost use Rattle.omf_format.specs.Header.{Fields};
+ghost use Rattle.omf_format.specs.Header.{HeaderFields};
 
 /// Puts what the records of a member give, behind what its load segment holds up to the member's offset. The fault is the first
 /// one's, with its displacement.

@@ -1,7 +1,7 @@
 -- What a linked list has at a place.
 use Rattle.std.proofs.Common.{◌≡◌, ℕ, zero, suc, ◌+◌, ◌<◌, ◌≤◌, ◌^◌, List, [], ◌∷◌, ◌++◌, length, Some, None, refl, sym, ap, ◌∙◌, arith}
 use Rattle.std.specs.Prelude.{slice_get, option_map}
-use Rattle.omf_format.specs.Header.{Fields}
+use Rattle.omf_format.specs.Header.{HeaderFields}
 use Rattle.omf_format.specs.Record.{Record}
 use Rattle.omf_format.specs.File.{Segment}
 use Rattle.object_meaning.specs.Sizes.{place_after, body_size}
@@ -36,7 +36,7 @@ load_there list k less =
     let there = item_there (load_headers list) k less in
     (there.0, ap (header_at (load_headers list)) next ∙ there.1)
 
-pub load_item : (list : List Member) (k : ℕ) (f : Fields) → header_at (load_headers list) (k + 1) ≡ Some f → slice_get (load_headers list) k ≡ Some f
+pub load_item : (list : List Member) (k : ℕ) (f : HeaderFields) → header_at (load_headers list) (k + 1) ≡ Some f → slice_get (load_headers list) k ≡ Some f
 load_item list k f there =
     let next : suc k ≡ k + 1 = omega arith in
     ap (header_at (load_headers list)) next ∙ there

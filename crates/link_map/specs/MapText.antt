@@ -7,7 +7,7 @@ use Rattle.omf_format.specs.declared.value.Value.{Value}
 use Rattle.omf_format.specs.declared.value.Value.TheVariants.{Fixed, At}
 use Rattle.omf_format.specs.declared.value.ValueFault.{ValueFault}
 use Rattle.omf_format.specs.Field.{shift_byte}
-use Rattle.omf_format.specs.Header.{Fields}
+use Rattle.omf_format.specs.Header.{HeaderFields}
 use Rattle.omf_format.specs.Value.{is_unshifted}
 use Rattle.dump_lines.specs.Listing.{hex_field, labelled_number, name_text, quoted_name}
 use Rattle.load_meaning.specs.declared.table.Target.{Target}
@@ -62,7 +62,7 @@ symbol_line list table place m d = symbol_text (scope_text d.scope) d.name (mean
 -- ---- members and load segments
 
 -- a member: its file among the inputs and its number there, its offset in the load segment, its LENGTH and its SEGNAME
-unfoldable pub member_line : ℕ → ℕ → ℕ → Fields → List ℕ
+unfoldable pub member_line : ℕ → ℕ → ℕ → HeaderFields → List ℕ
 member_line file number offset f =
     line (codes "member " ++ decimal file ++ codes " " ++ decimal number ++ labelled_number (codes " at ") offset ++ labelled_number (codes " length ") f.length
     ++ codes " name " ++ quoted_name f.name)
@@ -83,11 +83,11 @@ load_line number size kind align name =
     ++ codes " name " ++ quoted_name name)
 
 -- that of a header
-abbrev pub header_line : ℕ → Fields → List ℕ
+abbrev pub header_line : ℕ → HeaderFields → List ℕ
 header_line number f = load_line number f.length f.kind f.align f.name
 
 -- a load segment and its members, in list order
-abbrev pub load_text : List Member → List EquateAnswer → ℕ → Fields → List ℕ
+abbrev pub load_text : List Member → List EquateAnswer → ℕ → HeaderFields → List ℕ
 load_text list table number f = header_line number f ++ numbered_texts (text_in list table number) 1 list
 
 -- ---- the jump table

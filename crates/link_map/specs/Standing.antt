@@ -1,7 +1,7 @@
 -- What a linked list has at a place, from 1, and the map of a program.
 use Rattle.std.specs.Prelude.{◌≡◌, ℕ, List, Some}
 use Rattle.omf_format.specs.File.{Segment}
-use Rattle.omf_format.specs.Header.{Fields}
+use Rattle.omf_format.specs.Header.{HeaderFields}
 use Rattle.omf_format.specs.Record.{Record}
 use Rattle.link_meaning.specs.Member.{Member}
 use Rattle.link_meaning.specs.Layout.{load_headers}
@@ -19,7 +19,7 @@ HasMember list place = (m : Member) × (member_at list place ≡ Some m)
 
 -- a load segment has this number
 abbrev pub HasLoad : List Member → ℕ → Type 0
-HasLoad list number = (f : Fields) × (header_at (load_headers list) number ≡ Some f)
+HasLoad list number = (f : HeaderFields) × (header_at (load_headers list) number ≡ Some f)
 
 -- the member at a place has this segment
 pub record HasSegment (list : List Member) (place : ℕ) (s : Segment) : Type 0 where

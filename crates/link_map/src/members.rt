@@ -1,7 +1,7 @@
 //! The lines of load segments and of their members.
 
 ghost use Rattle.std.specs.Prelude.{◌≡◌, ◌++◌, Some, OnOk};
-ghost use Rattle.omf_format.specs.Header.{Fields};
+ghost use Rattle.omf_format.specs.Header.{HeaderFields};
 ghost use Rattle.omf_header.specs.View.{fields};
 ghost use Rattle.link_meaning.specs.Member.{Member};
 ghost use Rattle.link_meaning.specs.Layout.{load_headers};
@@ -99,7 +99,7 @@ pub fn put_load_line(
 /// Appends the lines of the load segment with a number and of its members.
 fn put_load(line: &mut Line, values: &EquateValues, number: u32) -> Result<(), LineFault>
     requires { HasLoad values.now.list number }
-    ensures { OnOk result ((f : Fields) → header_at (load_headers values.now.list) number ≡ Some f
+    ensures { OnOk result ((f : HeaderFields) → header_at (load_headers values.now.list) number ≡ Some f
         → line.new ≡ line.old ++ load_text values.now.list values.now.table number f) }
 {
     let program = values.program();

@@ -6,7 +6,7 @@ use Rattle.omf_format.specs.declared.value.Value.{Value}
 use Rattle.omf_format.specs.declared.value.Value.TheVariants.{Fixed, At}
 use Rattle.omf_format.specs.declared.value.ValueFault.{ValueFault}
 use Rattle.omf_format.specs.declared.value.ValueFault.TheVariants as faults
-use Rattle.omf_format.specs.Header.{Fields, is_dynamic}
+use Rattle.omf_format.specs.Header.{HeaderFields, is_dynamic}
 use Rattle.omf_format.specs.Value.{is_unshifted}
 use Rattle.load_meaning.specs.Cells.{Cell, Byte, Part, parts_from}
 use Rattle.load_meaning.specs.declared.table.Target.{Target}
@@ -59,13 +59,13 @@ place_fit f code count n segment offset shift =
 
 -- ---- dynamic segments
 
-abbrev pub load_header : List Fields → ℕ → Option Fields
+abbrev pub load_header : List HeaderFields → ℕ → Option HeaderFields
 load_header headers number = slice_get headers (number - 1)
 
-abbrev pub is_dynamic_load : List Fields → ℕ → Bool
+abbrev pub is_dynamic_load : List HeaderFields → ℕ → Bool
 is_dynamic_load headers number = elim (load_header headers number) [ None ↦ false | Some f ↦ is_dynamic f.kind ]
 
-abbrev pub length_of : List Fields → ℕ → ℕ
+abbrev pub length_of : List HeaderFields → ℕ → ℕ
 length_of headers number = elim (load_header headers number) [ None ↦ 0 | Some f ↦ f.length ]
 
 abbrev pub is_jsl_byte : Cell → Bool
@@ -92,7 +92,7 @@ length_outside setting file segment =
     option_map_or (λ s. s.fields.length) (option_and_then (λ r. segment_at r.segments segment) (slice_get setting.runtimes (file - 2))) 0
 
 -- LENGTH of the segment of a target, in the file itself or in a run-time library file
-abbrev pub length_there : List Fields → LinkSetting → Target → ℕ
+abbrev pub length_there : List HeaderFields → LinkSetting → Target → ℕ
 length_there headers setting t = if t.file == 1 then length_of headers t.segment else length_outside setting t.file t.segment
 
 -- only a program calls through a table
@@ -109,18 +109,18 @@ or_does_not_fit None = Err DoesNotFit
 or_does_not_fit (Some fit) = Ok fit
 
 -- a place is in a run-time library file, or in another dynamic load segment
-abbrev pub is_far : List Fields → ℕ → ℕ → ℕ → Bool
+abbrev pub is_far : List HeaderFields → ℕ → ℕ → ℕ → Bool
 is_far headers own file segment = not (file == 1) || (not (segment == own) && is_dynamic_load headers segment)
 
 -- such a place is reached by a call alone, through the table
-abbrev pub call_fit : List Fields → LinkSetting → List Target → Bool → Target → Result Fit LinkCause
+abbrev pub call_fit : List HeaderFields → LinkSetting → List Target → Bool → Target → Result Fit LinkCause
 call_fit headers setting targets call target =
     if not (may_call setting.form && call) then Err DynamicReference
     else if nat_le (length_there headers setting target) target.offset then Err OutOfSegment
     else if not (has_room_for targets target) then Err TooManyEntries
     else Ok (Entry target)
 
-abbrev pub fit_value : List Fields → PatchPlace → List Target → List Cell → ℕ → ℕ → ℕ → Value → Result Fit LinkCause
+abbrev pub fit_value : List HeaderFields → PatchPlace → List Target → List Cell → ℕ → ℕ → ℕ → Value → Result Fit LinkCause
 fit_value headers f targets before code count n (Fixed k) = or_does_not_fit (number_fit code count k)
 fit_value headers f targets before code count n (At file segment offset shift) =
     if is_far headers f.own file segment

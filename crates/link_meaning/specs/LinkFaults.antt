@@ -7,7 +7,7 @@ use Rattle.std.specs.Option.{option_or}
 use Rattle.omf_format.specs.declared.fault.FileCause.{FileCause}
 use Rattle.omf_format.specs.declared.fault.FileCause.TheVariants as causes
 use Rattle.omf_format.specs.declared.fault.FileFault.{FileFault}
-use Rattle.omf_format.specs.Header.{Fields, alignment_of, form_of, first_of, is_dynamic, is_skipped}
+use Rattle.omf_format.specs.Header.{HeaderFields, alignment_of, form_of, first_of, is_dynamic, is_skipped}
 use Rattle.omf_format.specs.Record.{Record, Align, Reloc, InterSeg, ShortReloc, ShortInterSeg, Super, Entry}
 use Rattle.omf_format.specs.File.{Segment, IsFile, IsFirstFault}
 use Rattle.omf_base.specs.declared.spot.Spot.{Spot}
@@ -17,7 +17,7 @@ use Rattle.link_meaning.specs.declared.fault.LinkCause.TheVariants.{Truncated, B
 use Rattle.link_meaning.specs.declared.fault.LinkFault.{LinkFault}
 use Rattle.link_meaning.specs.First.{IsFirst, HasNone, first_some}
 use Rattle.object_meaning.specs.Sizes.{body_size}
-use Rattle.link_meaning.specs.Member.{Row, Input, RuntimeFile, LinkSetting, Member, is_library, objects, form_in}
+use Rattle.link_meaning.specs.Member.{OfferedRow, Input, RuntimeFile, LinkSetting, Member, is_library, objects, form_in}
 use Rattle.link_meaning.specs.declared.form.LinkForm.{LinkForm}
 use Rattle.link_meaning.specs.declared.form.LinkForm.TheVariants.{Program, Runtime as LibraryForm}
 use Rattle.load_meaning.specs.declared.load.LoadCause.{LoadCause}
@@ -25,8 +25,8 @@ use Rattle.load_meaning.specs.declared.load.LoadCause.TheVariants as loads
 use Rattle.load_meaning.specs.declared.load.LoadFault.{LoadFault}
 use Rattle.load_meaning.specs.Runtime.{IsRuntime, IsFirstRuntimeFault}
 use Rattle.link_meaning.specs.Dictionary.{rows_of}
-use Rattle.link_meaning.specs.declared.search.Want.{Want}
-use Rattle.link_meaning.specs.declared.search.Want.TheVariants.{Data, One, Any}
+use Rattle.link_meaning.specs.declared.search.SearchKind.{SearchKind}
+use Rattle.link_meaning.specs.declared.search.SearchKind.TheVariants.{Data, One, Any}
 use Rattle.link_meaning.specs.Search.{FoundDefinition}
 use Rattle.link_meaning.specs.LinkedList.{PlacedUse, all_uses, found_for, IsLinked}
 use Rattle.link_meaning.specs.Layout.{in_load, load_names, load_members, load_headers}
@@ -48,7 +48,7 @@ link_cause causes.BadRecord = BadRecord
 link_cause causes.Memory = Memory
 
 -- a type that no input has, and a dictionary that isn't the first segment
-abbrev pub type_fault : Bool → Fields → Option LinkCause
+abbrev pub type_fault : Bool → HeaderFields → Option LinkCause
 type_fault first f = first_of (
     (form_of f.kind == 0x02, Unsupported)
     ∷ (form_of f.kind == 0x04, Unsupported)
@@ -89,7 +89,7 @@ segments_fault number [] = None
 segments_fault number (s ∷ segments) =
     option_or (option_map (λ found. (number, found)) (segment_fault (number == 1) s)) (segments_fault (number + 1) segments)
 
-abbrev pub rows_in_file : List Segment → Result (List Row) ℕ
+abbrev pub rows_in_file : List Segment → Result (List OfferedRow) ℕ
 rows_in_file segments = if is_library segments then rows_of segments else Ok []
 
 -- the first fault of a file: as of any file, then of its segments, then of its dictionary
@@ -163,16 +163,16 @@ abbrev pub plain : List (List ℕ) → LinkInput
 plain files = record { inputs = files; runtimes = []; form = Program }
 
 -- the files in the order in which they are read, and numbered
-pub data Part : Type 0 where
-  OfInput : (bytes : List ℕ) → Part
-  OfRuntime : (bytes : List ℕ) → Part
+pub data InputPart : Type 0 where
+  OfInput : (bytes : List ℕ) → InputPart
+  OfRuntime : (bytes : List ℕ) → InputPart
 
 -- first the inputs, and then the run-time library files
-abbrev pub parts_of : LinkInput → List Part
+abbrev pub parts_of : LinkInput → List InputPart
 parts_of given = map OfInput given.inputs ++ map (λ file. OfRuntime file.1) given.runtimes
 
 -- the first fault of a file, which is numbered by those before it
-abbrev pub HasPartFault : List Part → Part → LinkFault → Type 0
+abbrev pub HasPartFault : List InputPart → InputPart → LinkFault → Type 0
 HasPartFault before (OfInput bytes) fault = HasFileFault (length before + 1) bytes fault
 HasPartFault before (OfRuntime bytes) fault = HasRuntimeFault (length before + 1) bytes fault
 
@@ -192,7 +192,7 @@ pub record IsProgram (given : LinkInput) (list : List Member) : Type 0 where
 -- ---- names
 
 -- a weak name may have none, every other use has exactly one
-abbrev pub use_cause : Want → List FoundDefinition → Option LinkCause
+abbrev pub use_cause : SearchKind → List FoundDefinition → Option LinkCause
 use_cause Data [] = Some Unresolved
 use_cause One [] = Some Unresolved
 use_cause Data (f ∷ g ∷ more) = Some Duplicate
@@ -223,19 +223,19 @@ pub record HasCountFault (list : List Member) (fault : LinkFault) : Type 0 where
   pub there : slice_get (load_names list) 254 ≡ Some load_name
   pub reported : fault ≡ record { cause = TooManySegments; name = None; spot = first_spot (load_members load_name list) }
 
-abbrev pub is_too_long : Fields → Bool
+abbrev pub is_too_long : HeaderFields → Bool
 is_too_long f = nat_lt 0xFFFFFF f.length || (not (f.bank_size == 0) && nat_lt f.bank_size f.length)
 
-pub record HasLengthFault (list : List Member) (before : List Fields) (f : Fields) (fault : LinkFault) : Type 0 where
+pub record HasLengthFault (list : List Member) (before : List HeaderFields) (f : HeaderFields) (fault : LinkFault) : Type 0 where
   pub long : is_too_long f ≡ true
   pub reported : fault ≡ record { cause = SegmentTooLong; name = None; spot = first_spot (load_members f.load_name list) }
 
 -- a run-time library file has only dynamic load segments, and none is skipped
-abbrev pub may_not_stand : LinkForm → Fields → Bool
+abbrev pub may_not_stand : LinkForm → HeaderFields → Bool
 may_not_stand Program f = false
 may_not_stand LibraryForm f = not (is_dynamic f.kind && not (is_skipped f.kind))
 
-pub record HasKindFault (list : List Member) (before : List Fields) (f : Fields) (fault : LinkFault) : Type 0 where
+pub record HasKindFault (list : List Member) (before : List HeaderFields) (f : HeaderFields) (fault : LinkFault) : Type 0 where
   pub other : may_not_stand (form_in list) f ≡ true
   pub reported : fault ≡ record { cause = NotDynamic; name = None; spot = first_spot (load_members f.load_name list) }
 

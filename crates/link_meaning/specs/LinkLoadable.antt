@@ -2,7 +2,7 @@
 -- appendix F; the jump table's frame and the order of faults are this project's own).
 use Rattle.std.specs.Prelude.{◌≡◌, ◌≤◌, ◌<◌, ◌⊎◌, ℕ, ◌+◌, false, true, Bool, List, [], ◌∷◌, ◌++◌, length, map, Some, None, slice_get}
 use Rattle.std.specs.List.{AllByRecursion}
-use Rattle.omf_format.specs.Header.{Fields, is_skipped}
+use Rattle.omf_format.specs.Header.{HeaderFields, is_skipped}
 use Rattle.omf_format.specs.File.{Segment, IsFile}
 use Rattle.load_meaning.specs.Cells.{Cell, Byte, Part, cells}
 use Rattle.load_meaning.specs.declared.load.LoadFault.{LoadFault}
@@ -25,21 +25,21 @@ use Rattle.link_meaning.specs.EmitFaults.{most_bytes, IsLinkable, IsLinkedTo}
 -- ---- headers and cells
 
 -- the fields of a header; those that tell how it is written are 0
-abbrev pub plain_fields : Fields → Fields
+abbrev pub plain_fields : HeaderFields → HeaderFields
 plain_fields f = record f { byte_count = 0; res_spc = 0; lab_len = 0; disp_name = 0; disp_data = 0 }
 
 -- the header of the table, where there is an entry
-abbrev pub table_headers : ℕ → List Target → List Fields
+abbrev pub table_headers : ℕ → List Target → List HeaderFields
 table_headers number [] = []
 table_headers number (target ∷ targets) = table_fields number (length (table_bytes (map file_entry (target ∷ targets)))) ∷ []
 
 -- the header of the pathnames, where there are run-time library files
-abbrev pub path_headers : ℕ → List RuntimeFile → List Fields
+abbrev pub path_headers : ℕ → List RuntimeFile → List HeaderFields
 path_headers number [] = []
 path_headers number (r ∷ runtimes) = pathnames_fields number (length (paths_text (map (λ one. one.path) (r ∷ runtimes)))) ∷ []
 
 -- the headers of the load segments in order of number, the table's behind them, and the pathnames' behind all
-unfoldable pub linked_headers : List Member → List EquateAnswer → List Fields
+unfoldable pub linked_headers : List Member → List EquateAnswer → List HeaderFields
 linked_headers list table =
     let tables = table_headers (table_number list) (targets list table) in
     load_headers list ++ (tables ++ path_headers (table_number list + length tables) (setting_in list).runtimes)
@@ -92,7 +92,7 @@ abbrev pub IsNamed : List Member → ℕ → ℕ → Type 0
 IsNamed list file segment = ((file ≡ 1) × IsLoad (length (load_names list)) segment) ⊎ IsRuntimeFile list file
 
 -- the load segment with this number is never loaded
-abbrev pub is_skipped_load : List Fields → ℕ → Bool
+abbrev pub is_skipped_load : List HeaderFields → ℕ → Bool
 is_skipped_load headers number = elim (load_header headers number) [ None ↦ false | Some f ↦ is_skipped f.kind ]
 
 -- no part of a place and no entry of the file itself names a skipped load segment

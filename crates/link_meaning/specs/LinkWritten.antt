@@ -3,7 +3,7 @@
 use Rattle.std.specs.Prelude.{◌≡◌, ◌≤◌, ℕ, ◌+◌, ◌&&◌, List, [], ◌∷◌, ◌++◌, length, map, Ok, ◌==◌, if◌then◌else◌, Result, Err, false, nat_lt}
 use Rattle.std.specs.List.{flat_map}
 use Rattle.std.specs.Ordering.{int_eq}
-use Rattle.omf_format.specs.Header.{Fields}
+use Rattle.omf_format.specs.Header.{HeaderFields}
 use Rattle.omf_format.specs.File.{Segment, IsFile}
 use Rattle.load_meaning.specs.Cells.{Cell, Byte, Part, Patch, cells}
 use Rattle.load_meaning.specs.declared.table.Target.{Target}
@@ -59,13 +59,13 @@ byte_under (Part file segment offset shift index) = 0
 -- ---- the file
 
 -- the load segment with these fields and cells
-unfoldable pub image_of : Fields → List Cell → List Record → Image
+unfoldable pub image_of : HeaderFields → List Cell → List Record → Image
 image_of fields cells exports = record { fields = fields; content = map byte_under cells; patches = patches_of_cells cells; exports = exports; whole = false }
 
 -- ---- the names that a run-time library file exports
 
 -- the ENTRY record of a name with this value: a place without a shift, below LENGTH of its load segment
-abbrev pub export_at : List Fields → List ℕ → Result Value ValueFault → List Record
+abbrev pub export_at : List HeaderFields → List ℕ → Result Value ValueFault → List Record
 export_at headers name (Ok (Fixed n)) = []
 export_at headers name (Ok (At file segment offset shift)) =
     if is_unshifted shift && nat_lt offset (length_of headers segment) then Entry segment offset name ∷ [] else []

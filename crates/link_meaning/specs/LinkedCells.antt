@@ -2,7 +2,7 @@
 use Rattle.std.specs.Prelude.{ℕ, ◌+◌, ◌-◌, List, [], ◌∷◌, ◌++◌, length, map, replicate, filter, Some, None, Result, Ok, Err, ◌==◌, if◌then◌else◌, nat_le}
 use Rattle.omf_format.specs.Field.{◌>>=◌}
 use Rattle.omf_format.specs.Record.{Record, Const, LongConst, Align, Org, Space, Equate, Formula}
-use Rattle.omf_format.specs.Header.{Fields}
+use Rattle.omf_format.specs.Header.{HeaderFields}
 use Rattle.load_meaning.specs.Cells.{Cell, Byte}
 use Rattle.link_meaning.specs.declared.fault.LinkCause.{LinkCause}
 use Rattle.object_meaning.specs.Sizes.{Located, records_with_offsets}
@@ -34,7 +34,7 @@ items list = items_from 1 list
 abbrev pub table_number : List Member → ℕ
 table_number list = length (load_names list) + 1
 
-abbrev pub bank_of : List Fields → ℕ → ℕ
+abbrev pub bank_of : List HeaderFields → ℕ → ℕ
 bank_of headers number = elim (load_header headers number) [ None ↦ 0 | Some f ↦ f.bank_size ]
 
 abbrev pub frame_of : List Member → Item → PatchPlace

@@ -8,7 +8,7 @@ use Rattle.link_meaning.specs.Member.{LinkSetting, Member, Input, Offer, objects
 use Rattle.omf_format.specs.Header.{is_private}
 use Rattle.omf_format.specs.File.{Segment}
 use Rattle.object_meaning.specs.Defines.{data_title_of}
-use Rattle.link_meaning.specs.declared.search.Want.TheVariants.{Data, One, Any}
+use Rattle.link_meaning.specs.declared.search.SearchKind.TheVariants.{Data, One, Any}
 use Rattle.link_meaning.specs.Uses.{Use, uses_of}
 use Rattle.link_meaning.specs.Search.{FoundDefinition, finds, finds_data}
 

@@ -15,4 +15,4 @@ pub use laws::{
     linked_files_are_loaded, linked_files_have_their_headers_and_cells,
     linked_files_stand_for_their_cells, offsets_are_least, records_without_a_fault_give_cells,
 };
-pub use search::{Step, Want};
+pub use search::{SearchKind, SearchStep};

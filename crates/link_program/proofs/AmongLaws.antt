@@ -4,7 +4,7 @@ use Rattle.std.specs.Prelude.{slice_get, option_and_then, if◌then◌else◌}
 use Rattle.std.specs.List.{filter_map, cons_option}
 use Rattle.omf_format.specs.File.{Segment, segment_at}
 use Rattle.link_meaning.specs.First.{IsIn}
-use Rattle.link_meaning.specs.Member.{Row, Input, Member, Offer, is_library, members_from, objects_from, objects, offer_of, offers_from, library_offers, LinkSetting}
+use Rattle.link_meaning.specs.Member.{OfferedRow, Input, Member, Offer, is_library, members_from, objects_from, objects, offer_of, offers_from, library_offers, LinkSetting}
 use Rattle.link_meaning.specs.LinkFaults.{segments_fault}
 use Rattle.link_meaning.specs.laws.ProgressLaws.{AreSound}
 use Rattle.lib_dict.specs.DictionaryLayout.{DefinesSo}
@@ -85,12 +85,12 @@ abbrev AllSound : List Input → Type 0
 AllSound inputs = (i : Input) → IsIn inputs i → IsSoundInput i
 
 -- the row that offers it
-record IsOffered (setting : LinkSetting) (file : ℕ) (segments : List Segment) (rows : List Row) (o : Offer) : Type 0 where
-  row : Row
+record IsOffered (setting : LinkSetting) (file : ℕ) (segments : List Segment) (rows : List OfferedRow) (o : Offer) : Type 0 where
+  row : OfferedRow
   among : IsIn rows row
   is : offer_of setting file segments row ≡ Some o
 
-offered : (setting : LinkSetting) (file : ℕ) (segments : List Segment) (rows : List Row) (o : Offer) → IsIn (filter_map (offer_of setting file segments) rows) o → IsOffered setting file segments rows o
+offered : (setting : LinkSetting) (file : ℕ) (segments : List Segment) (rows : List OfferedRow) (o : Offer) → IsIn (filter_map (offer_of setting file segments) rows) o → IsOffered setting file segments rows o
 offered setting file segments [] o is = absurd is
 offered setting file segments (r ∷ rows) o is = settle (offer_of setting file segments r) refl is (λ more. offered setting file segments rows o more)
   where

@@ -7,8 +7,8 @@ use Rattle.omf_format.specs.File.{Segment, segment_at}
 use Rattle.link_meaning.specs.First.{IsIn}
 use Rattle.link_meaning.specs.laws.FirstLaws.{first_some-first}
 use Rattle.link_meaning.specs.Member.{Member, Offer, Input, LinkSetting, setting_in, members_from, objects_from, objects, library_offers, is_library}
-use Rattle.link_meaning.specs.declared.search.Want.{Want}
-use Rattle.link_meaning.specs.declared.search.Want.TheVariants.{Data, One, Any}
+use Rattle.link_meaning.specs.declared.search.SearchKind.{SearchKind}
+use Rattle.link_meaning.specs.declared.search.SearchKind.TheVariants.{Data, One, Any}
 use Rattle.link_meaning.specs.Search.{FoundDefinition, finds, finds_data}
 use Rattle.link_meaning.specs.LinkedList.{all_uses, row_for, found_for, unless_found, wanted, Follow}
 use Rattle.object_meaning.specs.Sizes.{body_size}
@@ -52,7 +52,7 @@ leads_end os before (x ∷ added) leads is =
 
 -- ---- a wanted member is new
 
-fresh_by : (os : List Offer) (list : List Member) (place : ℕ) (u m : Member) (want : Want) (name : List ℕ) (at : ℕ) → AreSound os
+fresh_by : (os : List Offer) (list : List Member) (place : ℕ) (u m : Member) (want : SearchKind) (name : List ℕ) (at : ℕ) → AreSound os
     → unless_found (found_for list place u (record { want = want; name = name; at = at })) (row_for os u (record { want = want; name = name; at = at })) ≡ Some m → IsIn list m → ⊥
 fresh_by os list place u m Data name at sound e there = settle (finds_data list u name) refl e
   where

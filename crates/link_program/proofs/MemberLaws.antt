@@ -3,10 +3,10 @@ use Rattle.std.proofs.Common.{◌≡◌, ◌⊎◌, inl, inr, ℕ, zero, suc, �
 use Rattle.std.specs.Prelude.{slice_get, option_map, option_and_then, if◌then◌else◌, IfSome}
 use Rattle.omf_format.specs.File.{Segment, IsFile, segment_at}
 use Rattle.lib_dict.specs.DictionaryLayout.{RowsAreLaidOut}
-use Rattle.link_meaning.specs.declared.search.Want.{Want}
-use Rattle.link_meaning.specs.declared.search.Want.TheVariants.{Data, One, Any}
+use Rattle.link_meaning.specs.declared.search.SearchKind.{SearchKind}
+use Rattle.link_meaning.specs.declared.search.SearchKind.TheVariants.{Data, One, Any}
 use Rattle.link_meaning.specs.First.{IsIn}
-use Rattle.link_meaning.specs.Member.{Row, Input, Member, is_library, objects, library_offers}
+use Rattle.link_meaning.specs.Member.{OfferedRow, Input, Member, is_library, objects, library_offers}
 use Rattle.link_meaning.specs.Dictionary.{rows_of}
 use Rattle.link_meaning.specs.Uses.{Use, uses_of}
 use Rattle.link_meaning.specs.Search.{FoundDefinition, finds}
@@ -45,7 +45,7 @@ few_found (f ∷ g ∷ more) e = absurd (several e)
     several : use_cause Any (f ∷ g ∷ more) ≡ None → ⊥
     several e = cc
 
-finds_only : (list : List Member) (place : ℕ) (m : Member) (name : List ℕ) (at : ℕ) (w : Want) → use_cause w (found_for list place m (record { want = w; name = name; at = at })) ≡ None → FindsOnly w (finds list place m name)
+finds_only : (list : List Member) (place : ℕ) (m : Member) (name : List ℕ) (at : ℕ) (w : SearchKind) → use_cause w (found_for list place m (record { want = w; name = name; at = at })) ≡ None → FindsOnly w (finds list place m name)
 finds_only list place m name at Data e = tt
 finds_only list place m name at One e = one_found (finds list place m name) e
 finds_only list place m name at Any e = few_found (finds list place m name) e
@@ -67,10 +67,10 @@ uses_find_only list (suc k) m u name of there is same =
 
 -- ---- where a segment stands
 
-abbrev fine : List Row → Result (List Row) ℕ
+abbrev fine : List OfferedRow → Result (List OfferedRow) ℕ
 fine rows = Ok rows
 
-ok_same : (x y : List Row) → fine x ≡ fine y → x ≡ y
+ok_same : (x y : List OfferedRow) → fine x ≡ fine y → x ≡ y
 ok_same x y e = cc
 
 -- what was read is sound, and each row stands in it
@@ -81,7 +81,7 @@ input_sound law bytes i is = (is.sound, by_library (is_library i.segments) refl)
     by_library true e = rows_stand i.segments i.rows law e (sym (ap (λ (b : Bool). if b then rows_of i.segments else fine []) e) ∙ is.rows)
     by_library false e =
         let none : i.rows ≡ [] = ok_same i.rows [] (sym is.rows ∙ ap (λ (b : Bool). if b then rows_of i.segments else fine []) e) in
-        λ row among. absurd (subst (λ (l : List Row). IsIn l row) none among)
+        λ row among. absurd (subst (λ (l : List OfferedRow). IsIn l row) none among)
 
 inputs_sound : RowsAreLaidOut → (files : List (List ℕ)) (inputs : List Input) → AreInputs files inputs → (i : Input) → IsIn inputs i → IsSoundInput i
 inputs_sound law [] [] are i is = absurd is

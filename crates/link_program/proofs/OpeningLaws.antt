@@ -11,10 +11,10 @@ use Rattle.std.proofs.lemmas.List.Concat.{flat_map-cons}
 use Rattle.link_meaning.specs.First.{first_some, IsIn}
 use Rattle.link_meaning.specs.Member.{Member, Offer, setting_in}
 use Rattle.object_meaning.specs.Defines.{Definition, Scope, ForSegment, ForUnit, ForAll, outer_scope, data_title_of, defined_in}
-use Rattle.link_meaning.specs.declared.search.Step.{Step}
-use Rattle.link_meaning.specs.declared.search.Step.TheVariants.{Within, OfUnit, Everyone}
-use Rattle.link_meaning.specs.declared.search.Want.{Want}
-use Rattle.link_meaning.specs.declared.search.Want.TheVariants as wants
+use Rattle.link_meaning.specs.declared.search.SearchStep.{SearchStep}
+use Rattle.link_meaning.specs.declared.search.SearchStep.TheVariants.{Within, OfUnit, Everyone}
+use Rattle.link_meaning.specs.declared.search.SearchKind.{SearchKind}
+use Rattle.link_meaning.specs.declared.search.SearchKind.TheVariants as wants
 use Rattle.link_meaning.specs.Uses.{Use, uses_of, usings_of}
 use Rattle.link_meaning.specs.Search.{FoundDefinition, step_for, is_step, is_seen_by_step, or_else, first_step_found, outer_steps, steps_of, used_data, entries, data_titles, with_this_name, outside, finds_inside, finds, finds_data, only_place}
 use Rattle.link_meaning.specs.LinkedList.{PlacedUse, asked_from, all_uses, row_for, found_for, unless_found}
@@ -31,12 +31,12 @@ use Rattle.link_program.proofs.LinkedLaws.{entries_from-snoc, asked_from-snoc, u
 
 -- ---- steps
 
-none_at : (steps : List Step) (all : List FoundDefinition) (s : Step) → AllNone steps all → IsIn steps s → filter (is_seen_by_step s) all ≡ []
+none_at : (steps : List SearchStep) (all : List FoundDefinition) (s : SearchStep) → AllNone steps all → IsIn steps s → filter (is_seen_by_step s) all ≡ []
 none_at [] all s none is = absurd is
-none_at (x ∷ steps) all s none (inl e) = subst (λ (y : Step). filter (is_seen_by_step y) all ≡ []) e none.0
+none_at (x ∷ steps) all s none (inl e) = subst (λ (y : SearchStep). filter (is_seen_by_step y) all ≡ []) e none.0
 none_at (x ∷ steps) all s none (inr is) = none_at steps all s none.1 is
 
-none_from : (steps : List Step) (all : List FoundDefinition) → ((s : Step) → IsIn steps s → filter (is_seen_by_step s) all ≡ []) → first_step_found steps all ≡ []
+none_from : (steps : List SearchStep) (all : List FoundDefinition) → ((s : SearchStep) → IsIn steps s → filter (is_seen_by_step s) all ≡ []) → first_step_found steps all ≡ []
 none_from [] all each = refl
 none_from (x ∷ steps) all each = ap (λ (l : List FoundDefinition). or_else l (first_step_found steps all)) (each x (inl refl)) ∙ none_from steps all (λ s is. each s (inr is))
 
@@ -45,7 +45,7 @@ front_empty [] ys e = refl
 front_empty (x ∷ xs) ys e = absurd cc
 
 -- what more steps don't find among more, fewer don't find among fewer
-none_before : (steps steps' : List Step) (xs ys : List FoundDefinition) → ((s : Step) → IsIn steps s → IsIn steps' s) → first_step_found steps' (xs ++ ys) ≡ [] → first_step_found steps xs ≡ []
+none_before : (steps steps' : List SearchStep) (xs ys : List FoundDefinition) → ((s : SearchStep) → IsIn steps s → IsIn steps' s) → first_step_found steps' (xs ++ ys) ≡ [] → first_step_found steps xs ≡ []
 none_before steps steps' xs ys more e =
     let none = none_decided steps' (xs ++ ys) e in
     none_from steps xs (λ s is. front_empty (filter (is_seen_by_step s) xs) (filter (is_seen_by_step s) ys) (sym (filter-append (is_seen_by_step s) xs ys) ∙ none_at steps' (xs ++ ys) s none (more s is)))
@@ -92,7 +92,7 @@ public_stays [] a' b b' n same none is = absurd (never_one b n none (subst (λ (
 public_stays (f ∷ a) a' b b' n same none is = subst (λ (l : List FoundDefinition). IsIn (only_place (or_else l (or_else b' []))) n) (sym same) is
 
 -- one more that a step doesn't see
-unseen : (s : Step) (f : FoundDefinition) (xs : List FoundDefinition) → is_seen_by_step s f ≡ false → filter (is_seen_by_step s) (xs ++ f ∷ []) ≡ filter (is_seen_by_step s) xs
+unseen : (s : SearchStep) (f : FoundDefinition) (xs : List FoundDefinition) → is_seen_by_step s f ≡ false → filter (is_seen_by_step s) (xs ++ f ∷ []) ≡ filter (is_seen_by_step s) xs
 unseen s f xs hidden =
     filter-append (is_seen_by_step s) xs (f ∷ []) ∙ ap (λ (t : Bool). filter (is_seen_by_step s) xs ++ (if t then f ∷ [] else [])) hidden ∙ append-nil (filter (is_seen_by_step s) xs)
 
@@ -116,7 +116,7 @@ unit_stays u m f xs n of scope none is = settle (is_seen_by_step (OfUnit u.file 
         let from : u.from ≡ m.from = same.1 ∙ ap (λ (y : Member). y.from) of in
         let steps : outer_steps u ≡ outer_steps m =
         ap (λ (x : ℕ). OfUnit x u.from ∷ Everyone ∷ []) file ∙ ap (λ (x : ℕ). OfUnit m.file x ∷ Everyone ∷ []) from in
-        absurd (never_one (first_step_found (outer_steps m) xs) n none (subst (λ (l : List Step). IsIn (only_place (first_step_found l xs)) n) steps is))
+        absurd (never_one (first_step_found (outer_steps m) xs) n none (subst (λ (l : List SearchStep). IsIn (only_place (first_step_found l xs)) n) steps is))
     settle false e =
         let every : is_seen_by_step Everyone f ≡ false = ap (λ (c : Scope). is_step Everyone (step_for f.place f.member.file f.member.from c)) scope in
         let same : first_step_found (outer_steps u) (xs ++ f ∷ []) ≡ first_step_found (outer_steps u) xs =
@@ -210,7 +210,7 @@ unfolding used_data
 used_stays list m u n opens is =
     places_stay (λ name. only_place (finds_data list u name)) (λ name. only_place (finds_data (list ++ m ∷ []) u name)) (usings_of u.segment) n (λ name. opens u name n) is
 
-within_stays : (xs ys : List ℕ) (s : Step) → ((n : ℕ) → IsIn xs n → IsIn ys n) → IsIn (map Within xs) s → IsIn (map Within ys) s
+within_stays : (xs ys : List ℕ) (s : SearchStep) → ((n : ℕ) → IsIn xs n → IsIn ys n) → IsIn (map Within xs) s → IsIn (map Within ys) s
 within_stays [] ys s each is = absurd is
 within_stays (x ∷ xs) ys s each (inl e) = subst (IsIn (map Within ys)) e (in_map ys x (each x (inl refl)))
   where
@@ -220,7 +220,7 @@ within_stays (x ∷ xs) ys s each (inl e) = subst (IsIn (map Within ys)) e (in_m
     in_map (y ∷ ys) n (inr more) = inr (in_map ys n more)
 within_stays (x ∷ xs) ys s each (inr is) = within_stays xs ys s (λ n i. each n (inr i)) is
 
-steps_stay : (list : List Member) (m u : Member) (place : ℕ) (s : Step) → OpensNothing list m → IsIn (steps_of list place u) s → IsIn (steps_of (list ++ m ∷ []) place u) s
+steps_stay : (list : List Member) (m u : Member) (place : ℕ) (s : SearchStep) → OpensNothing list m → IsIn (steps_of list place u) s → IsIn (steps_of (list ++ m ∷ []) place u) s
 steps_stay list m u place s opens (inl e) = inl e
 steps_stay list m u place s opens (inr is) = inr (settle (in_both (map Within (used_data list u)) (outer_steps u) s is))
   where
@@ -253,10 +253,10 @@ finds_before list m u place name opens e =
 
 -- ---- uses
 
-abbrev use_as : Want → List ℕ → ℕ → Use
+abbrev use_as : SearchKind → List ℕ → ℕ → Use
 use_as want name at = record { want = want; name = name; at = at }
 
-found_before : (list : List Member) (m u : Member) (place : ℕ) (want : Want) (name : List ℕ) (at : ℕ) → OpensNothing list m → found_for (list ++ m ∷ []) place u (use_as want name at) ≡ [] → found_for list place u (use_as want name at) ≡ []
+found_before : (list : List Member) (m u : Member) (place : ℕ) (want : SearchKind) (name : List ℕ) (at : ℕ) → OpensNothing list m → found_for (list ++ m ∷ []) place u (use_as want name at) ≡ [] → found_for list place u (use_as want name at) ≡ []
 found_before list m u place wants.Data name at opens e = data_before list m u name e
 found_before list m u place wants.One name at opens e = finds_before list m u place name opens e
 found_before list m u place wants.Any name at opens e = finds_before list m u place name opens e

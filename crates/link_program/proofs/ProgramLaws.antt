@@ -6,7 +6,7 @@ use Rattle.std.specs.Str.{bytes_eq}
 use Rattle.std.proofs.lemmas.List.{length-map, take-append-drop}
 use Rattle.std.proofs.lemmas.Option.{slice_get-map, slice_get_within}
 use Rattle.omf_format.specs.File.{Segment}
-use Rattle.omf_format.specs.Header.{Fields, alignment_of}
+use Rattle.omf_format.specs.Header.{HeaderFields, alignment_of}
 use Rattle.omf_header.specs.View.{fields}
 use Rattle.link_meaning.specs.First.{IsIn}
 use Rattle.lib_dict.specs.declared.member.Member as held
@@ -167,17 +167,17 @@ kept_is list kept layout holds among short laid lengths few places headers setti
 abbrev some : {A : Type 0} → A → Option A
 some x = Some x
 
-pub header_found : (headers : List Header) (fs : List Fields) (segment : ℕ) (h : Header) → map fields headers ≡ fs → (segment ≡ 0 → ⊥) → slice_get headers (segment - 1) ≡ Some h → Some (fields h) ≡ header_at fs segment
+pub header_found : (headers : List Header) (fs : List HeaderFields) (segment : ℕ) (h : Header) → map fields headers ≡ fs → (segment ≡ 0 → ⊥) → slice_get headers (segment - 1) ≡ Some h → Some (fields h) ≡ header_at fs segment
 header_found headers fs zero h are some at = absurd (some refl)
 header_found headers fs (suc k) h are some' at =
     let less : suc k - 1 ≡ k = omega arith in
-    sym (ap (λ (l : List Fields). slice_get l k) (sym are) ∙ slice_get-map fields headers k ∙ ap (option_map fields) (ap (slice_get headers) (sym less) ∙ at))
+    sym (ap (λ (l : List HeaderFields). slice_get l k) (sym are) ∙ slice_get-map fields headers k ∙ ap (option_map fields) (ap (slice_get headers) (sym less) ∙ at))
 
-pub header_none : (headers : List Header) (fs : List Fields) (segment : ℕ) → map fields headers ≡ fs → (segment ≡ 0 → ⊥) → slice_get headers (segment - 1) ≡ None → None ≡ header_at fs segment
+pub header_none : (headers : List Header) (fs : List HeaderFields) (segment : ℕ) → map fields headers ≡ fs → (segment ≡ 0 → ⊥) → slice_get headers (segment - 1) ≡ None → None ≡ header_at fs segment
 header_none headers fs zero are some at = absurd (some refl)
 header_none headers fs (suc k) are some' at =
     let less : suc k - 1 ≡ k = omega arith in
-    sym (ap (λ (l : List Fields). slice_get l k) (sym are) ∙ slice_get-map fields headers k ∙ ap (option_map fields) (ap (slice_get headers) (sym less) ∙ at))
+    sym (ap (λ (l : List HeaderFields). slice_get l k) (sym are) ∙ slice_get-map fields headers k ∙ ap (option_map fields) (ap (slice_get headers) (sym less) ∙ at))
 
 -- the member whose origin was told
 pub record IsReported (list : List Member) (place : ℕ) (origin : Origin) : Type 0 where

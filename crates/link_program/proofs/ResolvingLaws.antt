@@ -4,8 +4,8 @@ use Rattle.std.specs.Prelude.{slice_get, option_map}
 use Rattle.std.proofs.lemmas.Option.{slice_get-map, slice_get_within}
 use Rattle.std.proofs.lemmas.List.{length-take-le, take-append-drop}
 use Rattle.link_meaning.specs.declared.fault.LinkCause.{LinkCause}
-use Rattle.link_meaning.specs.declared.search.Want.{Want}
-use Rattle.link_meaning.specs.declared.search.Want.TheVariants as wants
+use Rattle.link_meaning.specs.declared.search.SearchKind.{SearchKind}
+use Rattle.link_meaning.specs.declared.search.SearchKind.TheVariants as wants
 use Rattle.link_meaning.specs.First.{HasNone}
 use Rattle.link_meaning.specs.laws.FirstLaws.{none_more, none_yet}
 use Rattle.link_meaning.specs.Member.{Member}
@@ -28,7 +28,7 @@ shape_of T [] o e = e
 shape_of T (f ∷ []) o e = (e.0, e.1)
 shape_of T (f ∷ g ∷ more) o e = (e.0, e.1)
 
-pub cause_is : (want : Want) (found : List FoundDefinition) (o : Matches) → IsShape found o → use_cause want found ≡ cause_of want o
+pub cause_is : (want : SearchKind) (found : List FoundDefinition) (o : Matches) → IsShape found o → use_cause want found ≡ cause_of want o
 cause_is wants.Data [] o e = sym (ap (cause_of wants.Data) e)
 cause_is wants.One [] o e = sym (ap (cause_of wants.One) e)
 cause_is wants.Any [] o e = sym (ap (cause_of wants.Any) e)

@@ -4,8 +4,8 @@ use Rattle.std.specs.Prelude.{filter, ◌&&◌, slice_get, if◌then◌else◌}
 use Rattle.std.specs.Str.{bytes_eq}
 use Rattle.std.proofs.lemmas.List.{map-append}
 use Rattle.std.proofs.lemmas.List.Concat.{flat_map-cons}
-use Rattle.link_meaning.specs.declared.search.Step.{Step}
-use Rattle.link_meaning.specs.declared.search.Step.TheVariants.{Within, OfUnit, Everyone}
+use Rattle.link_meaning.specs.declared.search.SearchStep.{SearchStep}
+use Rattle.link_meaning.specs.declared.search.SearchStep.TheVariants.{Within, OfUnit, Everyone}
 use Rattle.link_meaning.specs.Member.{Member}
 use Rattle.std.specs.Borrow.{Bor}
 use Rattle.link_meaning.specs.Uses.{usings_of}
@@ -36,23 +36,23 @@ filter_both p q (x ∷ xs) = settle (q x) (p x) (filter_both p q xs)
         by_p true = e
         by_p false = e
 
-abbrev key : Step → List ℕ → Named
+abbrev key : SearchStep → List ℕ → Named
 key s name = record { step = s; name = name }
 
 -- what a step sees under a name is what its key finds
-pub found_named : (s : Step) (name : List ℕ) (fs : List FoundDefinition) → filter (is_seen_by_step s) (with_this_name name fs) ≡ filter (is_found (record { step = s; name = name })) fs
+pub found_named : (s : SearchStep) (name : List ℕ) (fs : List FoundDefinition) → filter (is_seen_by_step s) (with_this_name name fs) ≡ filter (is_found (record { step = s; name = name })) fs
 unfolding with_this_name
 found_named s name fs = filter_both (is_seen_by_step s) (λ f. bytes_eq name f.definition.name) fs
 
-pub seen_named : (T : FoundDefinition → ℕ → Type 0) (s : Step) (name : List ℕ) (fs : List FoundDefinition) (o : Matches) → Seen T (filter (is_found (record { step = s; name = name })) fs) o → Seen T (filter (is_seen_by_step s) (with_this_name name fs)) o
+pub seen_named : (T : FoundDefinition → ℕ → Type 0) (s : SearchStep) (name : List ℕ) (fs : List FoundDefinition) (o : Matches) → Seen T (filter (is_found (record { step = s; name = name })) fs) o → Seen T (filter (is_seen_by_step s) (with_this_name name fs)) o
 seen_named T s name fs o seen = subst (λ (l : List FoundDefinition). Seen T l o) (sym (found_named s name fs)) seen
 
 -- what a look-up of definitions answered
-pub seen_definitions : (fs : List FoundDefinition) (s : Step) (name : List ℕ) (answer o : Matches) → Sees fs (filter (is_found (record { step = s; name = name })) fs) answer → answer ≡ o → Sees fs (filter (is_seen_by_step s) (with_this_name name fs)) o
+pub seen_definitions : (fs : List FoundDefinition) (s : SearchStep) (name : List ℕ) (answer o : Matches) → Sees fs (filter (is_found (record { step = s; name = name })) fs) answer → answer ≡ o → Sees fs (filter (is_seen_by_step s) (with_this_name name fs)) o
 seen_definitions fs s name answer o seen is = seen_named (λ f number. slice_get fs number ≡ Some f) s name fs o (subst (λ (a : Matches). Sees fs (filter (is_found (key s name)) fs) a) is seen)
 
 -- a step that finds nothing leaves the decision to those behind it
-pub step_none : (T : FoundDefinition → ℕ → Type 0) (s : Step) (steps : List Step) (xs : List FoundDefinition) → Seen T (filter (is_seen_by_step s) xs) Nothing → first_step_found (s ∷ steps) xs ≡ first_step_found steps xs
+pub step_none : (T : FoundDefinition → ℕ → Type 0) (s : SearchStep) (steps : List SearchStep) (xs : List FoundDefinition) → Seen T (filter (is_seen_by_step s) xs) Nothing → first_step_found (s ∷ steps) xs ≡ first_step_found steps xs
 step_none T s steps xs seen = settle (filter (is_seen_by_step s) xs) seen
   where
     settle : (found : List FoundDefinition) → Seen T found Nothing → or_else found (first_step_found steps xs) ≡ first_step_found steps xs
@@ -61,7 +61,7 @@ step_none T s steps xs seen = settle (filter (is_seen_by_step s) xs) seen
     settle (f ∷ g ∷ more) e = let clash = e.1 in absurd cc
 
 -- every other one decides
-pub step_some : (T : FoundDefinition → ℕ → Type 0) (s : Step) (steps : List Step) (xs : List FoundDefinition) (o : Matches) → Seen T (filter (is_seen_by_step s) xs) o → (o ≡ Nothing → ⊥) → Seen T (first_step_found (s ∷ steps) xs) o
+pub step_some : (T : FoundDefinition → ℕ → Type 0) (s : SearchStep) (steps : List SearchStep) (xs : List FoundDefinition) (o : Matches) → Seen T (filter (is_seen_by_step s) xs) o → (o ≡ Nothing → ⊥) → Seen T (first_step_found (s ∷ steps) xs) o
 step_some T s steps xs o seen some = settle (filter (is_seen_by_step s) xs) seen
   where
     settle : (found : List FoundDefinition) → Seen T found o → Seen T (or_else found (first_step_found steps xs)) o
@@ -83,11 +83,11 @@ or_else-assoc : (xs ys zs : List FoundDefinition) → or_else (or_else xs ys) zs
 or_else-assoc [] ys zs = refl
 or_else-assoc (x ∷ xs) ys zs = refl
 
-pub decided-append : (steps more : List Step) (xs : List FoundDefinition) → first_step_found (steps ++ more) xs ≡ or_else (first_step_found steps xs) (first_step_found more xs)
+pub decided-append : (steps more : List SearchStep) (xs : List FoundDefinition) → first_step_found (steps ++ more) xs ≡ or_else (first_step_found steps xs) (first_step_found more xs)
 decided-append [] more xs = refl
 decided-append (s ∷ steps) more xs = ap (or_else (filter (is_seen_by_step s) xs)) (decided-append steps more xs) ∙ sym (or_else-assoc (filter (is_seen_by_step s) xs) (first_step_found steps xs) (first_step_found more xs))
 
-pub first_steps_none : (T : FoundDefinition → ℕ → Type 0) (steps more : List Step) (xs : List FoundDefinition) → Seen T (first_step_found steps xs) Nothing → first_step_found (steps ++ more) xs ≡ first_step_found more xs
+pub first_steps_none : (T : FoundDefinition → ℕ → Type 0) (steps more : List SearchStep) (xs : List FoundDefinition) → Seen T (first_step_found steps xs) Nothing → first_step_found (steps ++ more) xs ≡ first_step_found more xs
 first_steps_none T steps more xs seen = decided-append steps more xs ∙ settle (first_step_found steps xs) seen
   where
     settle : (found : List FoundDefinition) → Seen T found Nothing → or_else found (first_step_found more xs) ≡ first_step_found more xs
@@ -95,7 +95,7 @@ first_steps_none T steps more xs seen = decided-append steps more xs ∙ settle 
     settle (f ∷ []) e = let clash = e.1 in absurd cc
     settle (f ∷ g ∷ rest) e = let clash = e.1 in absurd cc
 
-pub first_steps_some : (T : FoundDefinition → ℕ → Type 0) (steps more : List Step) (xs : List FoundDefinition) (o : Matches) → Seen T (first_step_found steps xs) o → (o ≡ Nothing → ⊥) → Seen T (first_step_found (steps ++ more) xs) o
+pub first_steps_some : (T : FoundDefinition → ℕ → Type 0) (steps more : List SearchStep) (xs : List FoundDefinition) (o : Matches) → Seen T (first_step_found steps xs) o → (o ≡ Nothing → ⊥) → Seen T (first_step_found (steps ++ more) xs) o
 first_steps_some T steps more xs o seen some = subst (λ (l : List FoundDefinition). Seen T l o) (sym (decided-append steps more xs)) (settle (first_step_found steps xs) seen)
   where
     settle : (found : List FoundDefinition) → Seen T found o → Seen T (or_else found (first_step_found more xs)) o
@@ -105,7 +105,7 @@ first_steps_some T steps more xs o seen some = subst (λ (l : List FoundDefiniti
 
 -- ---- a unit, and then all
 
-abbrev pub outer_of : Origin → List Step
+abbrev pub outer_of : Origin → List SearchStep
 outer_of origin = OfUnit origin.file origin.from ∷ Everyone ∷ []
 
 pub outer_same : (m : Member) (origin : Origin) → IsOf m origin → outer_steps m ≡ outer_of origin
@@ -115,13 +115,13 @@ outer_same m origin is =
 pub outer_first : (T : FoundDefinition → ℕ → Type 0) (m : Member) (origin : Origin) (xs : List FoundDefinition) (o : Matches) → IsOf m origin → Seen T (filter (is_seen_by_step (OfUnit origin.file origin.from)) xs) o → (o ≡ Nothing → ⊥)
     → Seen T (first_step_found (outer_steps m) xs) o
 outer_first T m origin xs o is seen some =
-    subst (λ (steps : List Step). Seen T (first_step_found steps xs) o) (sym (outer_same m origin is)) (step_some T (OfUnit origin.file origin.from) (Everyone ∷ []) xs o seen some)
+    subst (λ (steps : List SearchStep). Seen T (first_step_found steps xs) o) (sym (outer_same m origin is)) (step_some T (OfUnit origin.file origin.from) (Everyone ∷ []) xs o seen some)
 
 pub outer_second : (T : FoundDefinition → ℕ → Type 0) (m : Member) (origin : Origin) (xs : List FoundDefinition) (o : Matches) → IsOf m origin → Seen T (filter (is_seen_by_step (OfUnit origin.file origin.from)) xs) Nothing
     → Seen T (filter (is_seen_by_step Everyone) xs) o → Seen T (first_step_found (outer_steps m) xs) o
 outer_second T m origin xs o is none seen =
     let same : filter (is_seen_by_step Everyone) xs ≡ first_step_found (outer_of origin) xs = sym (or_else-nil (filter (is_seen_by_step Everyone) xs)) ∙ sym (step_none T (OfUnit origin.file origin.from) (Everyone ∷ []) xs none) in
-    subst (λ (steps : List Step). Seen T (first_step_found steps xs) o) (sym (outer_same m origin is)) (subst (λ (l : List FoundDefinition). Seen T l o) same seen)
+    subst (λ (steps : List SearchStep). Seen T (first_step_found steps xs) o) (sym (outer_same m origin is)) (subst (λ (l : List FoundDefinition). Seen T l o) same seen)
 
 -- ---- titles and their places
 
@@ -143,7 +143,7 @@ seen_places (f ∷ fs) k = settle (is_found k f) (seen_places fs k)
     settle true s = place_more f (key_of_found f, f.place) (filter (is_found k) fs) (filter (is_row k) (place_rows fs)) refl s
     settle false s = s
 
-pub seen_titles : (fs : List FoundDefinition) (titles : NameTable) (s : Step) (name : List ℕ) (o : Matches) → Indexes (place_rows fs) titles → ((rows : List Row) → Indexes rows titles → o ≡ outcome rows (record { step = s; name = name }))
+pub seen_titles : (fs : List FoundDefinition) (titles : NameTable) (s : SearchStep) (name : List ℕ) (o : Matches) → Indexes (place_rows fs) titles → ((rows : List Row) → Indexes rows titles → o ≡ outcome rows (record { step = s; name = name }))
     → SeesPlace (filter (is_seen_by_step s) (with_this_name name fs)) o
 seen_titles fs titles s name o ix looks =
     seen_named (λ f number. number ≡ f.place) s name fs o
@@ -151,7 +151,7 @@ seen_titles fs titles s name o ix looks =
 
 -- ---- the data segments that names of USING find
 
-abbrev steps_for : List Member → Member → List (List ℕ) → List Step
+abbrev steps_for : List Member → Member → List (List ℕ) → List SearchStep
 steps_for list m names = map Within (used_places list m names)
 
 steps_for-cons : (list : List Member) (m : Member) (name : List ℕ) (names : List (List ℕ)) → steps_for list m (name ∷ names) ≡ map Within (only_place (finds_data list m name)) ++ steps_for list m names
@@ -206,21 +206,21 @@ pub used_found : (T : FoundDefinition → ℕ → Type 0) (list : List Member) (
 used_found T list m usings k d xs n o less data' so_far seen some =
     let rest = names_of (drop (k + 1) usings) in
     let whole : by_names list m xs (names_of usings) ≡ first_step_found (Within n ∷ map Within (used_places list m rest)) xs =
-    so_far ∙ ap (by_names list m xs) (next_names usings k d less) ∙ ap (λ (steps : List Step). first_step_found steps xs) (one_step list m (get_or usings k d).now rest n data') in
+    so_far ∙ ap (by_names list m xs) (next_names usings k d less) ∙ ap (λ (steps : List SearchStep). first_step_found steps xs) (one_step list m (get_or usings k d).now rest n data') in
     subst (λ (l : List FoundDefinition). Seen T l o) (sym whole) (step_some T (Within n) (map Within (used_places list m rest)) xs o seen some)
 
 pub used_empty : (T : FoundDefinition → ℕ → Type 0) (list : List Member) (m : Member) (usings : List Text) (k : ℕ) (d : Text) (xs : List FoundDefinition) (n : ℕ) → k < length usings → SeesPlace (finds_data list m (get_or usings k d).now) (One n)
     → SoFar list m usings k xs → Seen T (filter (is_seen_by_step (Within n)) xs) Nothing → SoFar list m usings (k + 1) xs
 used_empty T list m usings k d xs n less data' so_far seen =
     let rest = names_of (drop (k + 1) usings) in
-    so_far ∙ ap (by_names list m xs) (next_names usings k d less) ∙ ap (λ (steps : List Step). first_step_found steps xs) (one_step list m (get_or usings k d).now rest n data')
+    so_far ∙ ap (by_names list m xs) (next_names usings k d less) ∙ ap (λ (steps : List SearchStep). first_step_found steps xs) (one_step list m (get_or usings k d).now rest n data')
     ∙ step_none T (Within n) (map Within (used_places list m rest)) xs seen
 
 pub used_other : (list : List Member) (m : Member) (usings : List Text) (k : ℕ) (d : Text) (xs : List FoundDefinition) (o : Matches) → k < length usings → SeesPlace (finds_data list m (get_or usings k d).now) o
     → ((n : ℕ) → o ≡ One n → ⊥) → SoFar list m usings k xs → SoFar list m usings (k + 1) xs
 used_other list m usings k d xs o less data' none so_far =
     let rest = names_of (drop (k + 1) usings) in
-    so_far ∙ ap (by_names list m xs) (next_names usings k d less) ∙ ap (λ (steps : List Step). first_step_found steps xs) (no_step list m (get_or usings k d).now rest o data' none)
+    so_far ∙ ap (by_names list m xs) (next_names usings k d less) ∙ ap (λ (steps : List SearchStep). first_step_found steps xs) (no_step list m (get_or usings k d).now rest o data' none)
 
 pub nothing_one : (n : ℕ) → Nothing ≡ One n → ⊥
 nothing_one n e = cc

@@ -5,10 +5,10 @@ use Rattle.std.proofs.lemmas.Bool.{eq-eqb, ne_eqb}
 use Rattle.std.proofs.lemmas.List.{map-append}
 use Rattle.omf_format.specs.Header.{form_of, is_private}
 use Rattle.omf_format.specs.File.{Segment}
-use Rattle.link_meaning.specs.declared.search.Step.{Step}
+use Rattle.link_meaning.specs.declared.search.SearchStep.{SearchStep}
 use Rattle.object_meaning.specs.Defines.{Definition, outer_scope, title_of, data_title_of}
 use Rattle.link_meaning.specs.Member.{Member}
-use Rattle.link_meaning.specs.declared.search.Step.TheVariants.{Everyone}
+use Rattle.link_meaning.specs.declared.search.SearchStep.TheVariants.{Everyone}
 use Rattle.link_meaning.specs.Search.{FoundDefinition, step_for, is_seen_by_step, with_this_name, data_titles, finds_data}
 use Rattle.link_tables.specs.declared.names.Matches.{Matches}
 use Rattle.link_tables.specs.declared.names.Matches.TheVariants.{One}
@@ -47,10 +47,10 @@ no_name titles origin place s form name is data' with_this_name none = none_gain
     by_name [] e = refl
     by_name (b ∷ bs) e = absurd cc
 
-abbrev key_as : Step → List ℕ → Named
+abbrev key_as : SearchStep → List ℕ → Named
 key_as t n = record { step = t; name = n }
 
-pub gained : (old new : NameTable) (origin : Origin) (place : ℕ) (s : Segment) (form : ℕ) (name : List ℕ) (private : Bool) (step : Step) → form ≡ form_of s.fields.kind → form ≡ 0x01 → name ≡ s.fields.name → (name ≡ [] → ⊥)
+pub gained : (old new : NameTable) (origin : Origin) (place : ℕ) (s : Segment) (form : ℕ) (name : List ℕ) (private : Bool) (step : SearchStep) → form ≡ form_of s.fields.kind → form ≡ 0x01 → name ≡ s.fields.name → (name ≡ [] → ⊥)
     → private ≡ is_private s.fields.kind → ((p : ℕ) → step ≡ step_for p origin.file origin.from (outer_scope private))
     → ((rows : List Row) → Indexes rows old → Indexes (rows ++ (record { step = step; name = name }, place) ∷ []) new) → GainsTitle old new origin place (data_title_of s)
 unfolding title_of
@@ -66,7 +66,7 @@ gained old new origin place s form name private step is data' with_this_name som
         let f : FoundDefinition = record { place = place; member = m; definition = record { name = b ∷ bs; scope = outer_scope (is_private s.fields.kind); place = 0; at = s.start; expr = None; size = 0; form = 0x4E } } in
         let key : key_as step name ≡ key_of_found f =
         ap (λ (n : List ℕ). key_as step n) (sym e)
-        ∙ ap (λ (t : Step). key_as t (b ∷ bs)) (step_is place
+        ∙ ap (λ (t : SearchStep). key_as t (b ∷ bs)) (step_is place
         ∙ ap (λ (h : Bool). step_for place origin.file origin.from (outer_scope h)) hidden
         ∙ ap (λ (n : ℕ). step_for place n origin.from (outer_scope (is_private s.fields.kind))) (sym of.0)
         ∙ ap (λ (n : ℕ). step_for place m.file n (outer_scope (is_private s.fields.kind))) (sym of.2)) in

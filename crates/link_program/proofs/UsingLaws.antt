@@ -14,8 +14,8 @@ use Rattle.object_meaning.specs.Defines.{is_data, Definition, title_of, data_tit
 use Rattle.link_meaning.specs.laws.MemberLists.{in_filter}
 use Rattle.link_meaning.specs.laws.EquatePlaces.{passes_filter}
 use Rattle.link_meaning.specs.laws.PlaceFits.{in-append, own_entry}
-use Rattle.link_meaning.specs.declared.search.Step.{Step}
-use Rattle.link_meaning.specs.declared.search.Step.TheVariants.{Within}
+use Rattle.link_meaning.specs.declared.search.SearchStep.{SearchStep}
+use Rattle.link_meaning.specs.declared.search.SearchStep.TheVariants.{Within}
 use Rattle.link_meaning.specs.Search.{FoundDefinition, is_seen_by_step, or_else, first_step_found, outer_steps, only_place, entries_from, data_titles, with_this_name, finds_data}
 use Rattle.link_meaning.specs.Uses.{usings_of}
 use Rattle.link_tables.specs.declared.names.Matches.{Matches}
@@ -104,7 +104,7 @@ titled_from place (m ∷ ms) f is = settle (in-append (own_titles place m) (entr
         let there = go more in
         (suc there.0, omega (arith, there.1), there.2)
 
-in_steps : (steps : List Step) (all : List FoundDefinition) (f : FoundDefinition) → IsIn (first_step_found steps all) f → IsIn all f
+in_steps : (steps : List SearchStep) (all : List FoundDefinition) (f : FoundDefinition) → IsIn (first_step_found steps all) f → IsIn all f
 in_steps [] all f is = absurd is
 in_steps (s ∷ steps) all f is = settle (filter (is_seen_by_step s) all) is (in_filter (is_seen_by_step s) all f) (in_steps steps all f)
   where

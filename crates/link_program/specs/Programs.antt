@@ -2,10 +2,10 @@
 use Rattle.std.specs.Prelude.{◌≡◌, ◌<◌, ◌≤◌, ◌^◌, ◌+◌, ℕ, zero, suc, List, length, Option, Some, None, map, option_map, slice_get, ◌==◌, if◌then◌else◌, [], ◌∷◌}
 use Rattle.std.specs.List.{filter_map}
 use Rattle.omf_format.specs.File.{Segment, IsFile, segment_at}
-use Rattle.omf_format.specs.Header.{Fields}
+use Rattle.omf_format.specs.Header.{HeaderFields}
 use Rattle.omf_header.specs.View.{fields}
-use Rattle.link_meaning.specs.declared.search.Want.{Want}
-use Rattle.link_meaning.specs.declared.search.Want.TheVariants.{Data, One, Any}
+use Rattle.link_meaning.specs.declared.search.SearchKind.{SearchKind}
+use Rattle.link_meaning.specs.declared.search.SearchKind.TheVariants.{Data, One, Any}
 use Rattle.link_meaning.specs.Member.{LinkSetting, Member, setting_in, RuntimeFile}
 use Rattle.link_meaning.specs.Search.{FoundDefinition}
 use Rattle.link_meaning.specs.Layout.{load_of, offset_of, load_headers}
@@ -89,12 +89,12 @@ linked_at list place =
     option_map (λ m. record { file = m.file; segment = m.number; load_segment = load_of list m; offset = offset_of list place m }) (member_at list place)
 
 -- the header with a number, from 1
-abbrev pub header_at : List Fields → ℕ → Option Fields
+abbrev pub header_at : List HeaderFields → ℕ → Option HeaderFields
 header_at headers zero = None
 header_at headers (suc k) = slice_get headers k
 
 -- how many definitions a use finds: STRONG and a name in an expression one, a weak name one at most; USING looks for data segments
-abbrev pub FindsOnly : Want → List FoundDefinition → Type 0
+abbrev pub FindsOnly : SearchKind → List FoundDefinition → Type 0
 FindsOnly Data found = Unit {0}
 FindsOnly One found = length found ≡ 1
 FindsOnly Any found = length found ≤ 1

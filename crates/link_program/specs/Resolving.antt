@@ -2,8 +2,8 @@
 use Rattle.std.specs.Prelude.{◌≡◌, ℕ, List, [], ◌∷◌, ◌++◌, length, Option, Some, None}
 use Rattle.link_meaning.specs.declared.fault.LinkCause.{LinkCause}
 use Rattle.link_meaning.specs.declared.fault.LinkCause.TheVariants.{Unresolved, Duplicate}
-use Rattle.link_meaning.specs.declared.search.Want.{Want}
-use Rattle.link_meaning.specs.declared.search.Want.TheVariants as wants
+use Rattle.link_meaning.specs.declared.search.SearchKind.{SearchKind}
+use Rattle.link_meaning.specs.declared.search.SearchKind.TheVariants as wants
 use Rattle.link_meaning.specs.First.{HasNone}
 use Rattle.link_meaning.specs.Member.{Member}
 use Rattle.link_meaning.specs.Search.{FoundDefinition}
@@ -21,7 +21,7 @@ IsShape (f ∷ []) answer = (number : ℕ) × (answer ≡ One number)
 IsShape (f ∷ g ∷ more) answer = (number : ℕ) × (answer ≡ Several number)
 
 -- how a use fails that was answered so
-abbrev pub cause_of : Want → Matches → Option LinkCause
+abbrev pub cause_of : SearchKind → Matches → Option LinkCause
 cause_of wants.Data Nothing = Some Unresolved
 cause_of wants.One Nothing = Some Unresolved
 cause_of wants.Data (Several number) = Some Duplicate

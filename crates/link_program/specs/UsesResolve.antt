@@ -3,8 +3,8 @@ use Rattle.std.proofs.Common.{◌≡◌, ◌⊎◌, inl, inr, ℕ, ◌+◌, List
 use Rattle.std.specs.Option.{option_or}
 use Rattle.link_meaning.specs.declared.fault.LinkCause.{LinkCause}
 use Rattle.link_meaning.specs.declared.fault.LinkFault.{LinkFault}
-use Rattle.link_meaning.specs.declared.search.Want.{Want}
-use Rattle.link_meaning.specs.declared.search.Want.TheVariants.{One, Any}
+use Rattle.link_meaning.specs.declared.search.SearchKind.{SearchKind}
+use Rattle.link_meaning.specs.declared.search.SearchKind.TheVariants.{One, Any}
 use Rattle.link_meaning.specs.First.{IsIn, IsFirst, first_some}
 use Rattle.link_meaning.specs.laws.FirstLaws.{first_some-first}
 use Rattle.link_meaning.specs.Member.{Member}
@@ -110,5 +110,5 @@ asked_there place (o ∷ front) m back u is =
 
 -- a use of a definition looks for all that its name finds
 pub found_any : (list : List Member) (place : ℕ) (m : Member) (u : Use) → (u.want ≡ Any) ⊎ (u.want ≡ One) → found_for list place m u ≡ finds list place m u.name
-found_any list place m u (inl any) = ap (λ (w : Want). found_for list place m (record { want = w; name = u.name; at = u.at })) any
-found_any list place m u (inr one) = ap (λ (w : Want). found_for list place m (record { want = w; name = u.name; at = u.at })) one
+found_any list place m u (inl any) = ap (λ (w : SearchKind). found_for list place m (record { want = w; name = u.name; at = u.at })) any
+found_any list place m u (inr one) = ap (λ (w : SearchKind). found_for list place m (record { want = w; name = u.name; at = u.at })) one

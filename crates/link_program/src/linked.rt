@@ -19,7 +19,7 @@ ghost use Rattle.link_tables.specs.Uses.{use_of};
 ghost use Rattle.link_tables.specs.Offers.{AreOffers, IsRow};
 ghost use Rattle.link_program.specs.Wanted.{WantsNothing, IsWanted};
 ghost use Rattle.link_program.specs.Linked.{Holds, GainsTitle, SeesPlace, title_of_data, title_in, name_at, names_of, usings_from, used_places, OriginOf, member_at};
-ghost use Rattle.link_meaning.specs.declared.search.Step.TheVariants.{Within, Everyone};
+ghost use Rattle.link_meaning.specs.declared.search.SearchStep.TheVariants.{Within, Everyone};
 ghost use Rattle.std.specs.Prelude.{false, true};
 ghost use Rattle.link_meaning.specs.LinkedList.{PlacedUse};
 ghost use Rattle.link_program.specs.Opening.{OpensNothing};
@@ -27,7 +27,7 @@ ghost use Rattle.link_program.specs.Outside.{IsTable, IsOutsideOf, all_found};
 
 use crate::outside::{OutsideNames, with_number_after};
 use indexmap::IndexMap;
-use link_meaning::{LinkCause, Step, Want};
+use link_meaning::{LinkCause, SearchKind, SearchStep};
 use link_tables::{
     Defined, Definitions, Key, Matches, NameTable, Offers, Origin, Use, Uses, Usings, add_body,
     outer_step, title,
@@ -89,12 +89,12 @@ fn add_using<'a>(names: &mut Vec<&'a [u8]>, used: Use<'a>) -> Result<(), AllocEr
     ensures { OnOk result (names_of names.new.items ≡ names_of names.old.items ++ data_name (use_of used.entry).1) }
 {
     match used.want {
-        Want::Data => {
+        SearchKind::Data => {
             names.push(used.name)?;
             Ok(())
         }
-        Want::One => Ok(()),
-        Want::Any => Ok(()),
+        SearchKind::One => Ok(()),
+        SearchKind::Any => Ok(()),
     }
 }
 
@@ -188,7 +188,7 @@ impl<'a> Linked<'a> {
             return self.find_data(origin, name);
         }
         self.titles.look(Key {
-            step: Step::Everyone,
+            step: SearchStep::Everyone,
             name,
         })
     }
@@ -230,13 +230,13 @@ impl<'a> Linked<'a> {
         ensures { (fs : List FoundDefinition) (m : Member) → AreDefinitions fs self.now.definitions → IsOf m origin
             → Sees fs (first_step_found (outer_steps m) (with_this_name name.now fs)) result }
     {
-        let unit = Step::OfUnit {
+        let unit = SearchStep::OfUnit {
             file: origin.file,
             from: origin.from,
         };
         match self.definitions.look(Key { step: unit, name }) {
             Matches::Nothing => self.definitions.look(Key {
-                step: Step::Everyone,
+                step: SearchStep::Everyone,
                 name,
             }),
             Matches::One(first) => Matches::One(first),
@@ -248,13 +248,13 @@ impl<'a> Linked<'a> {
     pub fn find_data(&self, origin: Origin, name: &[u8]) -> Matches
         ensures { (list : List Member) (m : Member) → Holds list self.now → IsOf m origin → SeesPlace (finds_data list m name.now) result }
     {
-        let unit = Step::OfUnit {
+        let unit = SearchStep::OfUnit {
             file: origin.file,
             from: origin.from,
         };
         match self.titles.look(Key { step: unit, name }) {
             Matches::Nothing => self.titles.look(Key {
-                step: Step::Everyone,
+                step: SearchStep::Everyone,
                 name,
             }),
             Matches::One(first) => Matches::One(first),
@@ -270,7 +270,7 @@ impl<'a> Linked<'a> {
         for using in usings {
             match self.find_data(origin, using) {
                 Matches::One(data) => match self.definitions.look(Key {
-                    step: Step::Within(data),
+                    step: SearchStep::Within(data),
                     name,
                 }) {
                     Matches::Nothing => {}
@@ -330,7 +330,7 @@ impl<'a> Linked<'a> {
                     return Matches::Nothing;
                 }
                 self.definitions.look(Key {
-                    step: Step::Within(data),
+                    step: SearchStep::Within(data),
                     name,
                 })
             }
@@ -353,7 +353,7 @@ impl<'a> Linked<'a> {
             Matches::One(_) | Matches::Several(_) => {}
         }
         self.definitions.look(Key {
-            step: Step::Within(place as usize),
+            step: SearchStep::Within(place as usize),
             name,
         })
     }
@@ -404,12 +404,12 @@ impl<'a> Linked<'a> {
             → IsShape (found_for list used.now.place m (use_of used.now).1) result }
     {
         match used.want {
-            Want::Data => {
+            SearchKind::Data => {
                 let origin = self.members[used.place as usize - 1];
                 self.find_data(origin, used.name)
             }
-            Want::One => self.find(outside, used.place, used.name),
-            Want::Any => self.find(outside, used.place, used.name),
+            SearchKind::One => self.find(outside, used.place, used.name),
+            SearchKind::Any => self.find(outside, used.place, used.name),
         }
     }
 
@@ -513,14 +513,14 @@ impl<'a> Linked<'a> {
 }
 
 /// How a use fails that finds this: a weak name may have no definition, every other use has one.
-fn use_cause(want: Want, found: Matches) -> Option<LinkCause>
+fn use_cause(want: SearchKind, found: Matches) -> Option<LinkCause>
     ensures { result ≡ cause_of want found }
 {
     match found {
         Matches::Nothing => match want {
-            Want::Data => Some(LinkCause::Unresolved),
-            Want::One => Some(LinkCause::Unresolved),
-            Want::Any => None,
+            SearchKind::Data => Some(LinkCause::Unresolved),
+            SearchKind::One => Some(LinkCause::Unresolved),
+            SearchKind::Any => None,
         },
         Matches::One(_) => None,
         Matches::Several(_) => Some(LinkCause::Duplicate),

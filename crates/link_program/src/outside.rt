@@ -9,7 +9,7 @@ ghost use Rattle.link_meaning.specs.Search.{FoundDefinition, with_this_name, out
 ghost use Rattle.link_tables.specs.Definitions.{Sees};
 ghost use Rattle.link_program.specs.Outside.{AreOutside, IsTable, IsFar, IsBelow, far_of, with_number_after};
 
-use link_meaning::Step;
+use link_meaning::SearchStep;
 use link_tables::{Key, Matches, NameTable};
 use omf_cells::{Export, LoadFile};
 use std::alloc::{AllocError, Global};
@@ -48,7 +48,7 @@ impl<'a> OutsideNames<'a> {
         ensures below { IsTable self.now → IsBelow (2 ^ 63) result }
     {
         self.names.look(Key {
-            step: Step::Everyone,
+            step: SearchStep::Everyone,
             name,
         })
     }
@@ -71,7 +71,7 @@ impl<'a> OutsideNames<'a> {
         let number = self.places.as_slice().len();
         self.names.add(
             Key {
-                step: Step::Everyone,
+                step: SearchStep::Everyone,
                 name,
             },
             number,

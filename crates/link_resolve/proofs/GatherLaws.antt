@@ -8,7 +8,7 @@ use Rattle.omf_format.specs.File.{Segment, IsFile, IsFirstFault}
 use Rattle.omf_format.specs.laws.FileLaws.{file_same, no_file}
 use Rattle.link_meaning.specs.declared.fault.LinkCause.TheVariants.{BadLibrary}
 use Rattle.link_meaning.specs.First.{IsIn}
-use Rattle.link_meaning.specs.Member.{Row, Input, Member, Offer, is_library, members_from, objects_from, objects, offer_of, offers_from, library_offers, LinkSetting}
+use Rattle.link_meaning.specs.Member.{OfferedRow, Input, Member, Offer, is_library, members_from, objects_from, objects, offer_of, offers_from, library_offers, LinkSetting}
 use Rattle.link_meaning.specs.Dictionary.{rows_of}
 use Rattle.link_meaning.specs.LinkFaults.{segments_fault, OfDictionary, IsInput}
 use Rattle.link_meaning.specs.declared.fault.LinkFault.{LinkFault}
@@ -112,7 +112,7 @@ pub object_input : (list : List Segment) (bytes : List ℕ) → IsFile list byte
 object_input list bytes is_file sound other = record { is_file = is_file; sound = sound; rows = ap (λ (b : Bool). if b then rows_of list else Ok []) other }
 
 -- and a library's
-pub library_input : (list : List Segment) (bytes : List ℕ) (rows : List Row) → IsFile list bytes → segments_fault 1 list ≡ None → is_library list ≡ true → rows_of list ≡ Ok rows → IsInput bytes (record { segments = list; rows = rows })
+pub library_input : (list : List Segment) (bytes : List ℕ) (rows : List OfferedRow) → IsFile list bytes → segments_fault 1 list ≡ None → is_library list ≡ true → rows_of list ≡ Ok rows → IsInput bytes (record { segments = list; rows = rows })
 library_input list bytes rows is_file sound library read = record { is_file = is_file; sound = sound; rows = ap (λ (b : Bool). if b then rows_of list else Ok []) library ∙ read }
 
 pub gathered_none : (new : gathered.Gathered) → new.files.items ≡ [] → Holds [] new.linked → AreOffers [] new.offers → IsGathered [] new
@@ -132,7 +132,7 @@ adds_object file list old new other offered linked = (
 )
 
 -- and a library
-pub adds_library : (file : ℕ) (list : List Segment) (rows : List Row) (old new : gathered.Gathered) → is_library list ≡ true → new.linked ≡ old.linked
+pub adds_library : (file : ℕ) (list : List Segment) (rows : List OfferedRow) (old new : gathered.Gathered) → is_library list ≡ true → new.linked ≡ old.linked
     → ((setting : LinkSetting) (os : List Offer) → AreOffers os old.offers → AreOffers (os ++ filter_map (offer_of setting file list) rows) new.offers)
     → AddsInput file (record { segments = list; rows = rows }) old new
 adds_library file list rows old new library linked offered = (

@@ -2,19 +2,19 @@
 use Rattle.std.proofs.Common.{◌≡◌, ℕ, ◌+◌, List, [], ◌∷◌, ◌++◌, Option, Some, None, Result, Ok, Err, sym, ap, ◌∙◌}
 use Rattle.omf_format.specs.laws.FileLaws.{file_same, no_file}
 use Rattle.link_meaning.specs.declared.fault.LinkFault.{LinkFault}
-use Rattle.link_meaning.specs.Member.{Row, Input}
+use Rattle.link_meaning.specs.Member.{OfferedRow, Input}
 use Rattle.link_meaning.specs.LinkFaults.{segments_fault, rows_in_file, HasFileFault, OfFile, OfSegment, OfDictionary, IsInput, AreInputs}
 
 abbrev some : {A : Type 0} → A → Option A
 some x = Some x
 
-abbrev failed : ℕ → Result (List Row) ℕ
+abbrev failed : ℕ → Result (List OfferedRow) ℕ
 failed at = Err at
 
-abbrev fine : List Row → Result (List Row) ℕ
+abbrev fine : List OfferedRow → Result (List OfferedRow) ℕ
 fine rows = Ok rows
 
-not_both : (at : ℕ) (rows : List Row) → failed at ≡ fine rows → ⊥
+not_both : (at : ℕ) (rows : List OfferedRow) → failed at ≡ fine rows → ⊥
 not_both at rows e = cc
 
 -- what an input is has no fault

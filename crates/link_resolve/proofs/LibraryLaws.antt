@@ -12,7 +12,7 @@ use Rattle.omf_records.specs.Segments.{segment_of_view}
 use Rattle.omf_records.specs.SegmentLaws.{shown_at}
 use Rattle.std.proofs.lemmas.List.Elements.{filter_map-append}
 use Rattle.link_meaning.specs.First.{IsIn}
-use Rattle.link_meaning.specs.Member.{Row, Offer, offer_of, LinkSetting}
+use Rattle.link_meaning.specs.Member.{OfferedRow, Offer, offer_of, LinkSetting}
 use Rattle.object_meaning.specs.Defines.{Definition, outer_scope, title_of, data_title_of}
 use Rattle.link_meaning.specs.LinkedList.{has_title}
 use Rattle.lib_dict.specs.Library.{LibraryRow, row_view}
@@ -102,13 +102,13 @@ same_title s name private is_so form title is data' named some same so =
 
 -- ---- rows
 
-pub there_is : (setting : LinkSetting) (file : ℕ) (segments : List Segment) (row : Row) (k : ℕ) (s : Segment) → row.segment ≡ suc k → slice_get segments k ≡ Some s
+pub there_is : (setting : LinkSetting) (file : ℕ) (segments : List Segment) (row : OfferedRow) (k : ℕ) (s : Segment) → row.segment ≡ suc k → slice_get segments k ≡ Some s
     → offer_of setting file segments row ≡ Some (record { name = row.name; private = row.private; member = record { file = file; number = row.segment; from = row.from; segment = s; setting = setting } })
 there_is setting file segments row k s number here =
     let place : row.segment - 1 ≡ k = omega (arith, number) in
     ap (λ (x : Option Segment). option_map (offer_with setting file row) x) (ap (slice_get segments) place ∙ here)
 
-pub offered_so : (setting : LinkSetting) (file : ℕ) (segments : List Segment) (row : Row) (reported : LibraryRow) (o : Offer) (k : ℕ) (s : Segment) (number : ℕ) (titled : Bool) → offer_of setting file segments row ≡ Some o → row.segment ≡ suc k → slice_get segments k ≡ Some s
+pub offered_so : (setting : LinkSetting) (file : ℕ) (segments : List Segment) (row : OfferedRow) (reported : LibraryRow) (o : Offer) (k : ℕ) (s : Segment) (number : ℕ) (titled : Bool) → offer_of setting file segments row ≡ Some o → row.segment ≡ suc k → slice_get segments k ≡ Some s
     → reported ≡ row_view segments row → number ≡ k + 1 → titled ≡ has_title s reported.name reported.private → IsOfferOf o reported.name reported.private (record { file = file; segment = number; from = reported.file }) titled
 offered_so setting file segments row reported o k s number titled is place here reported_is number_is titled_is =
     let same = offer_is setting file segments row o k s is place here in
@@ -131,7 +131,7 @@ offered_so setting file segments row reported o k s number titled is place here 
 -- ---- the rows so far
 
 -- one more row
-pub offers_more : (setting : LinkSetting) (file : ℕ) (segments : List Segment) (os : List Offer) (rows : List Row) (k : ℕ) (row : Row) (o : Offer) → slice_get rows k ≡ Some row → offer_of setting file segments row ≡ Some o
+pub offers_more : (setting : LinkSetting) (file : ℕ) (segments : List Segment) (os : List Offer) (rows : List OfferedRow) (k : ℕ) (row : OfferedRow) (o : Offer) → slice_get rows k ≡ Some row → offer_of setting file segments row ≡ Some o
     → (os ++ filter_map (offer_of setting file segments) (take k rows)) ++ o ∷ [] ≡ os ++ filter_map (offer_of setting file segments) (take (k + 1) rows)
 offers_more setting file segments os rows k row o here is =
     let h = offer_of setting file segments in
@@ -156,7 +156,7 @@ number_same : (a b : ℕ) → Some a ≡ Some b → a ≡ b
 number_same a b e = cc
 
 -- what was looked up for a row
-pub offered_row : (setting : LinkSetting) (file : ℕ) (segments : List Segment) (row : Row) (reported : LibraryRow) (o : Offer) (number : ℕ) (v : SegmentView) (titled : Bool) (stands : StandsIn segments row) (is : reported ≡ row_view segments row) → offer_of setting file segments row ≡ Some o
+pub offered_row : (setting : LinkSetting) (file : ℕ) (segments : List Segment) (row : OfferedRow) (reported : LibraryRow) (o : Offer) (number : ℕ) (v : SegmentView) (titled : Bool) (stands : StandsIn segments row) (is : reported ≡ row_view segments row) → offer_of setting file segments row ≡ Some o
     → Some number ≡ Some ((row_place segments row reported is stands).k + 1) → Some (segment_of_view v) ≡ segment_at segments number → titled ≡ has_title (segment_of_view v) reported.name reported.private
     → IsOfferOf o reported.name reported.private (record { file = file; segment = number; from = reported.file }) titled
 offered_row setting file segments row reported o number v titled stands is offer numbered there titled_is =
@@ -168,13 +168,13 @@ offered_row setting file segments row reported o number v titled stands is offer
 -- ---- the loop
 
 -- the row that is told at a place
-pub record IsRowAt (segments : List Segment) (rows : List Row) (k : ℕ) (reported : LibraryRow) : Type 0 where
-  pub row : Row
+pub record IsRowAt (segments : List Segment) (rows : List OfferedRow) (k : ℕ) (reported : LibraryRow) : Type 0 where
+  pub row : OfferedRow
   pub at : slice_get rows k ≡ Some row
   pub among : IsIn rows row
   pub reported' : reported ≡ row_view segments row
 
-pub row_at : (segments : List Segment) (dictionary : List LibraryRow) (rows : List Row) (k : ℕ) (reported : LibraryRow) → dictionary ≡ map (row_view segments) rows → Some reported ≡ slice_get dictionary k → IsRowAt segments rows k reported
+pub row_at : (segments : List Segment) (dictionary : List LibraryRow) (rows : List OfferedRow) (k : ℕ) (reported : LibraryRow) → dictionary ≡ map (row_view segments) rows → Some reported ≡ slice_get dictionary k → IsRowAt segments rows k reported
 row_at segments dictionary rows k reported are at = settle (slice_get rows k) refl
   where
     both : option_map (row_view segments) (slice_get rows k) ≡ Some reported
@@ -183,12 +183,12 @@ row_at segments dictionary rows k reported are at = settle (slice_get rows k) re
     reported_same : (a b : LibraryRow) → Some a ≡ Some b → a ≡ b
     reported_same a b e = cc
 
-    settle : (o : Option Row) → slice_get rows k ≡ o → IsRowAt segments rows k reported
+    settle : (o : Option OfferedRow) → slice_get rows k ≡ o → IsRowAt segments rows k reported
     settle None e = let clash : option_map (row_view segments) None ≡ Some reported = sym (ap (option_map (row_view segments)) e) ∙ both in absurd cc
     settle (Some row) e = record { row = row; at = e; among = in_at rows k row e; reported' = sym (reported_same (row_view segments row) reported (sym (ap (option_map (row_view segments)) e) ∙ both)) }
 
-pub rows_next : (setting : LinkSetting) (file : ℕ) (segments : List Segment) (os : List Offer) (rows : List Row) (k : ℕ) (reported : LibraryRow) (r : IsRowAt segments rows k reported) → AllStand segments rows → (old new : Offers) → AreOffers (os ++ filter_map (offer_of setting file segments) (take k rows)) old
-    → ((os' : List Offer) (row : Row) (o : Offer) → reported ≡ row_view segments row → StandsIn segments row → offer_of setting file segments row ≡ Some o → AreOffers os' old → AreOffers (os' ++ o ∷ []) new)
+pub rows_next : (setting : LinkSetting) (file : ℕ) (segments : List Segment) (os : List Offer) (rows : List OfferedRow) (k : ℕ) (reported : LibraryRow) (r : IsRowAt segments rows k reported) → AllStand segments rows → (old new : Offers) → AreOffers (os ++ filter_map (offer_of setting file segments) (take k rows)) old
+    → ((os' : List Offer) (row : OfferedRow) (o : Offer) → reported ≡ row_view segments row → StandsIn segments row → offer_of setting file segments row ≡ Some o → AreOffers os' old → AreOffers (os' ++ o ∷ []) new)
     → AreOffers (os ++ filter_map (offer_of setting file segments) (take (k + 1) rows)) new
 rows_next setting file segments os rows k reported r stand old new are add =
     let s = stand r.row r.among in
@@ -197,8 +197,8 @@ rows_next setting file segments os rows k reported r stand old new are add =
     let o : Offer = offer_with setting file r.row p.segment in
     subst (λ (l : List Offer). AreOffers l new) (offers_more setting file segments os rows k r.row o r.at offer) (add (os ++ filter_map (offer_of setting file segments) (take k rows)) r.row o r.reported' s offer are)
 
-pub rows_all : (setting : LinkSetting) (file : ℕ) (segments : List Segment) (dictionary : List LibraryRow) (os : List Offer) (rows : List Row) (k : ℕ) (offers : Offers) → dictionary ≡ map (row_view segments) rows → length dictionary ≤ k
+pub rows_all : (setting : LinkSetting) (file : ℕ) (segments : List Segment) (dictionary : List LibraryRow) (os : List Offer) (rows : List OfferedRow) (k : ℕ) (offers : Offers) → dictionary ≡ map (row_view segments) rows → length dictionary ≤ k
     → AreOffers (os ++ filter_map (offer_of setting file segments) (take k rows)) offers → AreOffers (os ++ filter_map (offer_of setting file segments) rows) offers
 rows_all setting file segments dictionary os rows k offers are past is =
     let size : length rows ≤ k = omega (arith, past, ap length are, length-map rows (row_view segments)) in
-    subst (λ (l : List Row). AreOffers (os ++ filter_map (offer_of setting file segments) l) offers) (take_all rows k size) is
+    subst (λ (l : List OfferedRow). AreOffers (os ++ filter_map (offer_of setting file segments) l) offers) (take_all rows k size) is

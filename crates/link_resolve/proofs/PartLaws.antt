@@ -9,7 +9,7 @@ use Rattle.load_meaning.specs.laws.LoadableLaws.{loadable_sound, loadable_same}
 use Rattle.link_meaning.specs.declared.fault.LinkFault.{LinkFault}
 use Rattle.link_meaning.specs.First.{HasNone, IsFirst}
 use Rattle.link_meaning.specs.Member.{Input, RuntimeFile}
-use Rattle.link_meaning.specs.LinkFaults.{LinkInput, Part, OfInput, OfRuntime, parts_of, HasFileFault, HasRuntimeFault, HasPartFault, IsInput, AreInputs, AreRuntimes}
+use Rattle.link_meaning.specs.LinkFaults.{LinkInput, InputPart, OfInput, OfRuntime, parts_of, HasFileFault, HasRuntimeFault, HasPartFault, IsInput, AreInputs, AreRuntimes}
 use Rattle.link_resolve.specs.Resolved.{IsFirstInput}
 use Rattle.link_resolve.specs.Runtimes.{IsFirstFile}
 use Rattle.link_resolve.proofs.InputLaws.{input_sound}
@@ -24,22 +24,22 @@ runtime_sound bytes segments found is (OfKind other is' kind) =
     absurd cc
 
 -- the file was read
-abbrev IsRead : Part → Type 0
+abbrev IsRead : InputPart → Type 0
 IsRead (OfInput bytes) = (i : Input) × IsInput bytes i
 IsRead (OfRuntime bytes) = (segments : List Segment) × IsRuntime bytes segments
 
-read_sound : (front : List Part) (part : Part) (fault : LinkFault) → IsRead part → HasPartFault front part fault → ⊥
+read_sound : (front : List InputPart) (part : InputPart) (fault : LinkFault) → IsRead part → HasPartFault front part fault → ⊥
 read_sound front (OfInput bytes) fault read has = input_sound (length front + 1) bytes read.0 fault read.1 has
 read_sound front (OfRuntime bytes) fault read has = runtime_sound bytes read.0 has.found read.1 has.first
 
-part_at : (front : List Part) (part : Part) (rest parts : List Part) → parts ≡ front ++ part ∷ rest → AllByRecursion IsRead parts → IsRead part
+part_at : (front : List InputPart) (part : InputPart) (rest parts : List InputPart) → parts ≡ front ++ part ∷ rest → AllByRecursion IsRead parts → IsRead part
 part_at front part rest parts e all = there front (subst (AllByRecursion IsRead) e all)
   where
-    there : (xs : List Part) → AllByRecursion IsRead (xs ++ part ∷ rest) → IsRead part
+    there : (xs : List InputPart) → AllByRecursion IsRead (xs ++ part ∷ rest) → IsRead part
     there [] a = a.0
     there (x ∷ xs) a = there xs a.1
 
-none_of : (parts : List Part) → AllByRecursion IsRead parts → HasNone HasPartFault parts
+none_of : (parts : List InputPart) → AllByRecursion IsRead parts → HasNone HasPartFault parts
 none_of parts all front part rest fault e has = read_sound front part fault (part_at front part rest parts e all) has
 
 inputs_read : (files : List (List ℕ)) (inputs : List Input) → AreInputs files inputs → AllByRecursion IsRead (map OfInput files)
@@ -54,7 +54,7 @@ runtimes_read [] (r ∷ runtimes) are = absurd are
 runtimes_read (f ∷ files) [] are = absurd are
 runtimes_read (f ∷ files) (r ∷ runtimes) are = ((r.segments, are.1), runtimes_read files runtimes are.2)
 
-all_both : (xs ys : List Part) → AllByRecursion IsRead xs → AllByRecursion IsRead ys → AllByRecursion IsRead (xs ++ ys)
+all_both : (xs ys : List InputPart) → AllByRecursion IsRead xs → AllByRecursion IsRead ys → AllByRecursion IsRead (xs ++ ys)
 all_both [] ys a b = b
 all_both (x ∷ xs) ys a b = (a.0, all_both xs ys a.1 b)
 
@@ -75,7 +75,7 @@ first_input given fault first =
       after = map OfInput first.after ++ runtimes;
       parts =
           ap (λ (l : List (List ℕ)). map OfInput l ++ runtimes) first.parts
-          ∙ ap (λ (l : List Part). l ++ runtimes) (map-append OfInput first.before (first.item ∷ first.after))
+          ∙ ap (λ (l : List InputPart). l ++ runtimes) (map-append OfInput first.before (first.item ∷ first.after))
           ∙ append_assoc (map OfInput first.before) (OfInput first.item ∷ map OfInput first.after) runtimes;
       none = none_of (map OfInput first.before) (inputs_read first.before first.inputs first.are);
       here = subst (λ (n : ℕ). HasFileFault (n + 1) first.item fault) (sym (length-map first.before OfInput)) first.here;
@@ -94,7 +94,7 @@ first_runtime given fault inputs are first =
       after = map (λ file. OfRuntime file.1) first.after;
       parts =
           ap (λ (l : List (List ℕ × List ℕ)). front ++ map (λ (file : List ℕ × List ℕ). OfRuntime file.1) l) first.parts
-          ∙ ap (λ (l : List Part). front ++ l) (map-append (λ (file : List ℕ × List ℕ). OfRuntime file.1) first.before (first.item ∷ first.after))
+          ∙ ap (λ (l : List InputPart). front ++ l) (map-append (λ (file : List ℕ × List ℕ). OfRuntime file.1) first.before (first.item ∷ first.after))
           ∙ sym (append_assoc front before (OfRuntime first.item.1 ∷ map (λ (file : List ℕ × List ℕ). OfRuntime file.1) first.after));
       none = none_of (front ++ before) (all_both front before (inputs_read given.inputs inputs are) (runtimes_read first.before first.runtimes first.are));
       here = subst (λ (n : ℕ). HasRuntimeFault (n + 1) first.item.1 fault) size first.here;

@@ -4,7 +4,7 @@ use Rattle.std.specs.List.{filter_map}
 use Rattle.omf_format.specs.File.{Segment}
 use Rattle.lib_dict.specs.Library.{LibraryRow, row_view}
 use Rattle.link_meaning.specs.First.{IsIn}
-use Rattle.link_meaning.specs.Member.{Row, Input, LinkSetting, Member, Offer, is_library, members_from, offer_of, objects, library_offers}
+use Rattle.link_meaning.specs.Member.{OfferedRow, Input, LinkSetting, Member, Offer, is_library, members_from, offer_of, objects, library_offers}
 use Rattle.link_meaning.specs.Dictionary.{rows_of}
 use Rattle.link_resolve.specs.declared.gather.Gathered as kept
 use Rattle.link_program.specs.Linked.{Holds}
@@ -21,7 +21,7 @@ pub record IsGathered (inputs : List Input) (kept : kept.Gathered) : Type 0 wher
 
 -- these rows are told of a library
 pub record AreRows (segments : List Segment) (reported : List LibraryRow) : Type 0 where
-  pub rows : List Row
+  pub rows : List OfferedRow
   pub read : rows_of segments ≡ Ok rows
   pub reported' : reported ≡ map (row_view segments) rows
   pub stand : AllStand segments rows

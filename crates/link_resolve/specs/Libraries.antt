@@ -1,7 +1,7 @@
 -- The rows of a library, each with its segment.
 use Rattle.std.specs.Prelude.{◌≡◌, ◌<◌, ℕ, List, Some, map, slice_get}
 use Rattle.omf_format.specs.File.{Segment}
-use Rattle.link_meaning.specs.Member.{Row}
+use Rattle.link_meaning.specs.Member.{OfferedRow}
 use Rattle.lib_dict.specs.Library.{LibraryRow, row_view}
 use Rattle.link_program.specs.Inputs.{StandsIn, AllStand}
 
@@ -11,8 +11,8 @@ StartsAscend segments = (j k : ℕ) (s t : Segment) → j < k → slice_get segm
 
 -- it tells a row that stands there
 abbrev pub IsReported : List Segment → LibraryRow → Type 0
-IsReported segments reported = (row : Row) × (reported ≡ row_view segments row) × StandsIn segments row
+IsReported segments reported = (row : OfferedRow) × (reported ≡ row_view segments row) × StandsIn segments row
 
 -- these tell rows that stand there
 abbrev pub AreReported : List Segment → List LibraryRow → Type 0
-AreReported segments reported = (rows : List Row) × (reported ≡ map (row_view segments) rows) × AllStand segments rows
+AreReported segments reported = (rows : List OfferedRow) × (reported ≡ map (row_view segments) rows) × AllStand segments rows

@@ -82,7 +82,7 @@ fn add_row<'a>(
 ) -> Result<(), AllocError>
     requires ascend { StartsAscend segments.now }
     requires reported { IsReported segments.now (seen_row row) }
-    ensures { OnOk result ((setting : LinkSetting) (os : List Offer) (r : reported.Row) (o : Offer) → seen_row row.entry ≡ row_view segments.now r → StandsIn segments.now r
+    ensures { OnOk result ((setting : LinkSetting) (os : List Offer) (r : reported.OfferedRow) (o : Offer) → seen_row row.entry ≡ row_view segments.now r → StandsIn segments.now r
         → offer_of setting file segments.now r ≡ Some o → AreOffers os offers.old → AreOffers (os ++ o ∷ []) offers.new) }
 {
     let number = match number_of(segments, row.at) {
@@ -111,7 +111,7 @@ pub fn add_rows<'a>(
 ) -> Result<(), AllocError>
     requires ascend { StartsAscend segments.now }
     requires reported { AreReported segments.now dictionary.now }
-    ensures { OnOk result ((setting : LinkSetting) (os : List Offer) (rows : List reported.Row) → dictionary.now ≡ map (row_view segments.now) rows → AllStand segments.now rows
+    ensures { OnOk result ((setting : LinkSetting) (os : List Offer) (rows : List reported.OfferedRow) → dictionary.now ≡ map (row_view segments.now) rows → AllStand segments.now rows
         → AreOffers os offers.old → AreOffers (os ++ filter_map (offer_of setting file segments.now) rows) offers.new) }
 {
     let rows = dictionary.count() as usize;

@@ -17,8 +17,8 @@ use Rattle.link_meaning.specs.Member.{Member}
 use Rattle.object_meaning.specs.Defines.{Definition, outer_scope, defined_by, title_of}
 use Rattle.omf_format.specs.Header.{is_private}
 use Rattle.link_meaning.specs.Search.{FoundDefinition, step_for, step_of, is_step, is_seen_by_step, with_this_name}
-use Rattle.link_meaning.specs.declared.search.Step.{Step}
-use Rattle.link_meaning.specs.declared.search.Step.TheVariants.{Within, OfUnit, Everyone}
+use Rattle.link_meaning.specs.declared.search.SearchStep.{SearchStep}
+use Rattle.link_meaning.specs.declared.search.SearchStep.TheVariants.{Within, OfUnit, Everyone}
 use Rattle.link_tables.specs.declared.names.Matches.{Matches}
 use Rattle.link_tables.specs.declared.names.Matches.TheVariants.{One, Several}
 use Rattle.link_tables.specs.declared.names.NameTable.{NameTable}
@@ -101,17 +101,17 @@ no_local_rows (f ∷ fs) name place none = settle (step_of f) refl (bytes_eq nam
     both : Apart place (filter (is_row (all_key name)) here ++ others)
     both = subst (Apart place) (ap (filter (is_row (all_key name))) (flat_map-cons (λ (g : FoundDefinition). local_under (step_of g) g.definition.name) f fs) ∙ filter-append (is_row (all_key name)) here (local_rows fs)) none
 
-    unseen : (t : Step) → step_of f ≡ t → is_step (Within place) t ≡ false → filter (is_seen_by_step (Within place)) rest ≡ [] → filter (is_seen_by_step (Within place)) (f ∷ rest) ≡ []
+    unseen : (t : SearchStep) → step_of f ≡ t → is_step (Within place) t ≡ false → filter (is_seen_by_step (Within place)) rest ≡ [] → filter (is_seen_by_step (Within place)) (f ∷ rest) ≡ []
     unseen t is apart again = ap (λ (u : Bool). if u then f ∷ filter (is_seen_by_step (Within place)) rest else filter (is_seen_by_step (Within place)) rest) (ap (is_step (Within place)) is ∙ apart) ∙ again
 
-    settle : (t : Step) → step_of f ≡ t → (b : Bool) → bytes_eq name f.definition.name ≡ b → Apart place (filter (is_row (all_key name)) here ++ others) → filter (is_seen_by_step (Within place)) rest ≡ []
+    settle : (t : SearchStep) → step_of f ≡ t → (b : Bool) → bytes_eq name f.definition.name ≡ b → Apart place (filter (is_row (all_key name)) here ++ others) → filter (is_seen_by_step (Within place)) rest ≡ []
         → filter (is_seen_by_step (Within place)) (if bytes_eq name f.definition.name then f ∷ rest else rest) ≡ []
     settle t is false e none again = ap (λ (b : Bool). filter (is_seen_by_step (Within place)) (if b then f ∷ rest else rest)) e ∙ again
     settle (OfUnit file from) is true e none again = ap (λ (b : Bool). filter (is_seen_by_step (Within place)) (if b then f ∷ rest else rest)) e ∙ unseen (OfUnit file from) is refl again
     settle Everyone is true e none again = ap (λ (b : Bool). filter (is_seen_by_step (Within place)) (if b then f ∷ rest else rest)) e ∙ unseen Everyone is refl again
     settle (Within p) is true e none again =
         let row : filter (is_row (all_key name)) here ≡ (all_key f.definition.name, p) ∷ [] =
-        ap (λ (u : Step). filter (is_row (all_key name)) (local_under u f.definition.name)) is ∙ ap (λ (b : Bool). if b then (all_key f.definition.name, p) ∷ [] else []) e in
+        ap (λ (u : SearchStep). filter (is_row (all_key name)) (local_under u f.definition.name)) is ∙ ap (λ (b : Bool). if b then (all_key f.definition.name, p) ∷ [] else []) e in
         let apart : Apart place ((all_key f.definition.name, p) ∷ others) = subst (λ (l : List Row). Apart place (l ++ others)) row none in
         ap (λ (b : Bool). filter (is_seen_by_step (Within place)) (if b then f ∷ rest else rest)) e ∙ unseen (Within p) is (ne_eqb place p (λ same. apart.0 (sym same))) again
 
@@ -229,14 +229,14 @@ titled_none table origin place s name is none = by_name s.fields.name (sym is �
     by_name [] e = gains_none table origin place
     by_name (b ∷ bs) e = absurd cc
 
-abbrev key_as : Step → List ℕ → Named
+abbrev key_as : SearchStep → List ℕ → Named
 key_as t n = record { step = t; name = n }
 
 -- what a push of one definition gains
 abbrev pub Pushes : Definitions → Definitions → Named → DefinitionRow → Type 0
 Pushes old new key reported = (fs : List FoundDefinition) (f : FoundDefinition) → AreDefinitions fs old → key ≡ key_of_found f → reported ≡ definition_view f → AreDefinitions (fs ++ f ∷ []) new
 
-pub titled : (old new : Definitions) (origin : Origin) (place : ℕ) (s : Segment) (name : List ℕ) (private : Bool) (step : Step) → name ≡ s.fields.name → (name ≡ [] → ⊥) → private ≡ is_private s.fields.kind
+pub titled : (old new : Definitions) (origin : Origin) (place : ℕ) (s : Segment) (name : List ℕ) (private : Bool) (step : SearchStep) → name ≡ s.fields.name → (name ≡ [] → ⊥) → private ≡ is_private s.fields.kind
     → ((p : ℕ) → step ≡ step_for p origin.file origin.from (outer_scope private))
     → Pushes old new (record { step = step; name = name }) (record { member = place; at = 0; expr = None; length = 0; form = 0x4E }) → Gains old new origin place (title_of s)
 unfolding title_of
@@ -251,7 +251,7 @@ titled old new origin place s name private step is some hidden step_is pushes = 
         let f : FoundDefinition = record { place = place; member = m; definition = record { name = b ∷ bs; scope = outer_scope (is_private s.fields.kind); place = 0; at = s.start; expr = None; size = 0; form = 0x4E } } in
         let key : key_as step name ≡ key_of_found f =
         ap (λ (n : List ℕ). key_as step n) (sym e)
-        ∙ ap (λ (t : Step). key_as t (b ∷ bs)) (step_is place
+        ∙ ap (λ (t : SearchStep). key_as t (b ∷ bs)) (step_is place
         ∙ ap (λ (h : Bool). step_for place origin.file origin.from (outer_scope h)) hidden
         ∙ ap (λ (n : ℕ). step_for place n origin.from (outer_scope (is_private s.fields.kind))) (sym of.0)
         ∙ ap (λ (n : ℕ). step_for place m.file n (outer_scope (is_private s.fields.kind))) (sym of.2)) in

@@ -10,7 +10,7 @@ use Rattle.std.proofs.lemmas.List.{map-append, length-map, length-append, take-a
 use Rattle.std.proofs.lemmas.Option.{slice_get-map, slice_get_within}
 use Rattle.std.proofs.lemmas.List.Elements.{filter-append}
 use Rattle.omf_base.specs.declared.spot.Spot.{Spot}
-use Rattle.omf_format.specs.Header.{Fields, alignment_of}
+use Rattle.omf_format.specs.Header.{HeaderFields, alignment_of}
 use Rattle.omf_format.specs.File.{Segment}
 use Rattle.link_meaning.specs.First.{IsFirst}
 use Rattle.link_meaning.specs.laws.FirstLaws.{none_more, none_yet}
@@ -124,7 +124,7 @@ aligns_more (x ∷ members) m = ap (max x.segment.fields.align) (aligns_more mem
     max_assoc : (a b c : ℕ) → max a (max b c) ≡ max (max a b) c
     max_assoc a b c = omega arith
 
-first_more : (field : Fields → ℕ) (members : List Member) (m : Member) → (members ≡ [] → ⊥) → of_first field (members ++ m ∷ []) ≡ of_first field members
+first_more : (field : HeaderFields → ℕ) (members : List Member) (m : Member) → (members ≡ [] → ⊥) → of_first field (members ++ m ∷ []) ≡ of_first field members
 first_more field [] m some = absurd (some refl)
 first_more field (x ∷ members) m some = refl
 

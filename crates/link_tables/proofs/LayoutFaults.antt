@@ -7,7 +7,7 @@ use Rattle.std.proofs.lemmas.List.{length-map, take-append-drop, length-take-le}
 use Rattle.std.proofs.lemmas.Option.{slice_get-map, slice_get_within}
 use Rattle.omf_base.specs.declared.spot.Spot.{Spot}
 use Rattle.omf_format.specs.Name.{without_trailing}
-use Rattle.omf_format.specs.Header.{Fields, is_dynamic, is_skipped}
+use Rattle.omf_format.specs.Header.{HeaderFields, is_dynamic, is_skipped}
 use Rattle.link_meaning.specs.declared.fault.LinkCause.TheVariants.{TooManySegments, SegmentTooLong, NotDynamic}
 use Rattle.link_meaning.specs.declared.fault.LinkFault.{LinkFault}
 use Rattle.link_meaning.specs.First.{HasNone, IsFirst}
@@ -66,7 +66,7 @@ long_same bank end = settle (le_or_less end 0xFFFFFF)
         or_left (min end 16777216 == 16777216) (not (bank == 0) && nat_lt bank (min end 16777216)) (eq-eqb (min end 16777216) 16777216 same)
         ∙ sym (or_left (nat_lt 0xFFFFFF end) (not (bank == 0) && nat_lt bank end) (nat_lt-yes 0xFFFFFF end p))
 
-abbrev fields_of : List Member → ℕ → List ℕ → Fields
+abbrev fields_of : List Member → ℕ → List ℕ → HeaderFields
 fields_of list n x = load_fields list n x
 
 long_is : (list : List Member) (n : ℕ) (load : LoadLayout) → IsLoad list load → is_long load ≡ is_too_long (fields_of list n load.load_name)
@@ -78,12 +78,12 @@ long_is list n load is =
 
 -- ---- headers by their numbers
 
-record IsHeaderAt (list : List Member) (n : ℕ) (names : List (List ℕ)) (j : ℕ) (f : Fields) : Type 0 where
+record IsHeaderAt (list : List Member) (n : ℕ) (names : List (List ℕ)) (j : ℕ) (f : HeaderFields) : Type 0 where
   name : List ℕ
   at : slice_get names j ≡ Some name
   is : f ≡ fields_of list (n + j) name
 
-header_from : (list : List Member) (n : ℕ) (names : List (List ℕ)) (j : ℕ) (f : Fields) → slice_get (headers_from list n names) j ≡ Some f → IsHeaderAt list n names j f
+header_from : (list : List Member) (n : ℕ) (names : List (List ℕ)) (j : ℕ) (f : HeaderFields) → slice_get (headers_from list n names) j ≡ Some f → IsHeaderAt list n names j f
 header_from list n [] j f e = absurd cc
 header_from list n (x ∷ names) zero f e =
     let same : load_fields list n x ≡ f = cc in
@@ -101,13 +101,13 @@ header_there list n (y ∷ names) zero x e =
     let number : n ≡ n + 0 = omega arith in
     ap (λ (z : List ℕ). some (load_fields list n z)) same ∙ ap (λ (k : ℕ). some (load_fields list k x)) number
   where
-    some : Fields → Option Fields
+    some : HeaderFields → Option HeaderFields
     some f = Some f
 header_there list n (y ∷ names) (suc j) x e =
     let number : n + 1 + j ≡ n + suc j = omega arith in
     header_there list (n + 1) names j x e ∙ ap (λ (k : ℕ). some (load_fields list k x)) number
   where
-    some : Fields → Option Fields
+    some : HeaderFields → Option HeaderFields
     some f = Some f
 
 name_at : (list : List Member) (layout : kept.LinkLayout) (k : ℕ) (load : LoadLayout) → Laid list layout → slice_get layout.loads.items k ≡ Some load → slice_get (load_names list) k ≡ Some load.load_name
@@ -133,13 +133,13 @@ load_there list layout k x laid e = settle (slice_get layout.loads.items k) refl
     settle (Some load) is = record { load = load; at = is; name = text_same load.load_name x (sym (ap (option_map (λ (l : LoadLayout). l.load_name)) is) ∙ both) }
 
 -- the load segment of a header
-record OfHeader (list : List Member) (layout : kept.LinkLayout) (k : ℕ) (f : Fields) : Type 0 where
+record OfHeader (list : List Member) (layout : kept.LinkLayout) (k : ℕ) (f : HeaderFields) : Type 0 where
   load : LoadLayout
   at : slice_get layout.loads.items k ≡ Some load
   is : IsLoad list load
   fields : f ≡ fields_of list (1 + k) load.load_name
 
-of_header : (list : List Member) (layout : kept.LinkLayout) (k : ℕ) (f : Fields) → Laid list layout → slice_get (load_headers list) k ≡ Some f → OfHeader list layout k f
+of_header : (list : List Member) (layout : kept.LinkLayout) (k : ℕ) (f : HeaderFields) → Laid list layout → slice_get (load_headers list) k ≡ Some f → OfHeader list layout k f
 unfolding load_headers
 of_header list layout k f laid e =
     let h = header_from list 1 (load_names list) k f e in
@@ -161,19 +161,19 @@ true_false : (b : Bool) → b ≡ true → b ≡ false → ⊥
 true_false b p q = let clash : true ≡ false = sym p ∙ q in cc
 
 -- a test of load segments is one of their headers
-abbrev IsTest : List Member → (LoadLayout → Bool) → (Fields → Bool) → Type 0
+abbrev IsTest : List Member → (LoadLayout → Bool) → (HeaderFields → Bool) → Type 0
 IsTest list bad wrong = (n : ℕ) (load : LoadLayout) → IsLoad list load → bad load ≡ wrong (fields_of list n load.load_name)
 
 -- what has a fault fails the test
-abbrev Fails : (List Fields → Fields → LinkFault → Type 0) → (Fields → Bool) → Type 0
-Fails Has wrong = (before : List Fields) (f : Fields) (its : LinkFault) → Has before f its → wrong f ≡ true
+abbrev Fails : (List HeaderFields → HeaderFields → LinkFault → Type 0) → (HeaderFields → Bool) → Type 0
+Fails Has wrong = (before : List HeaderFields) (f : HeaderFields) (its : LinkFault) → Has before f its → wrong f ≡ true
 
 -- where the load segments before a place pass, those before it have no fault
-none_bad : (bad : LoadLayout → Bool) (wrong : Fields → Bool) (Has : List Fields → Fields → LinkFault → Type 0) (list : List Member) (layout : kept.LinkLayout) (items : List Fields) → IsTest list bad wrong → Fails Has wrong → Laid list layout
-    → ((j : ℕ) (f : Fields) → slice_get items j ≡ Some f → slice_get (load_headers list) j ≡ Some f)
+none_bad : (bad : LoadLayout → Bool) (wrong : HeaderFields → Bool) (Has : List HeaderFields → HeaderFields → LinkFault → Type 0) (list : List Member) (layout : kept.LinkLayout) (items : List HeaderFields) → IsTest list bad wrong → Fails Has wrong → Laid list layout
+    → ((j : ℕ) (f : HeaderFields) → slice_get items j ≡ Some f → slice_get (load_headers list) j ≡ Some f)
     → ((j : ℕ) (load : LoadLayout) → j < length items → slice_get layout.loads.items j ≡ Some load → bad load ≡ false) → HasNone Has items
 none_bad bad wrong Has list layout items test fails laid front fine before f rest its e has =
-    let at : slice_get items (length before) ≡ Some f = ap (λ (l : List Fields). slice_get l (length before)) e ∙ middle_at before f rest in
+    let at : slice_get items (length before) ≡ Some f = ap (λ (l : List HeaderFields). slice_get l (length before)) e ∙ middle_at before f rest in
     let h = of_header list layout (length before) f laid (front (length before) f at) in
     let within = slice_get_within items (length before) f at in
     true_false (wrong f) (fails before f its has) (ap wrong h.fields ∙ sym (test (1 + length before) h.load h.is) ∙ fine (length before) h.load within h.at)
@@ -276,7 +276,7 @@ take_few (suc n) [] = omega arith
 take_few (suc n) (x ∷ xs) = let rest = take_few n xs in omega arith
 
 -- the first load segment that fails a test has the first fault
-first_bad : (bad : LoadLayout → Bool) (wrong : Fields → Bool) (Has : List Fields → Fields → LinkFault → Type 0) (list : List Member) (layout : kept.LinkLayout) (k : ℕ) (load : LoadLayout) (fault : LinkFault) → IsTest list bad wrong → Fails Has wrong
+first_bad : (bad : LoadLayout → Bool) (wrong : HeaderFields → Bool) (Has : List HeaderFields → HeaderFields → LinkFault → Type 0) (list : List Member) (layout : kept.LinkLayout) (k : ℕ) (load : LoadLayout) (fault : LinkFault) → IsTest list bad wrong → Fails Has wrong
     → Laid list layout → slice_get layout.loads.items k ≡ Some load
     → ((j : ℕ) (other : LoadLayout) → slice_get (take k layout.loads.items) j ≡ Some other → bad other ≡ false)
     → Has (take k (load_headers list)) (fields_of list (1 + k) load.load_name) fault → IsFirst Has (load_headers list) fault
@@ -289,7 +289,7 @@ first_bad bad wrong Has list layout k load fault test fails laid at before here 
       before = take k headers;
       item = f;
       after = drop (k + 1) headers;
-      parts = sym (take-append-drop k headers) ∙ ap (λ (l : List Fields). take k headers ++ l) (drop_at headers k f there);
+      parts = sym (take-append-drop k headers) ∙ ap (λ (l : List HeaderFields). take k headers ++ l) (drop_at headers k f there);
       none = none_bad bad wrong Has list layout (take k headers) test fails laid (λ j g e. take_at headers k j g e)
           (λ j other within found. let fewer = take_few k headers in before j other (at_take layout.loads.items k j other (omega (arith, within, fewer)) found));
       here = here;
@@ -347,21 +347,21 @@ length_short list load is short = settle (le_or_less (load_length load.load_name
         let most : load.length ≡ 16777216 = omega (arith, is.length', p) in
         absurd (true_false (is_long load) (or_left (load.length == 16777216) (not (load.bank_size == 0) && nat_lt load.bank_size load.length) (eq-eqb load.length 16777216 most)) short)
 
-one_header : (list : List Member) (n : ℕ) (load : LoadLayout) (f : Fields) → IsLoad list load → is_long load ≡ false → ShowsLoad load n f → f ≡ load_fields list n load.load_name
+one_header : (list : List Member) (n : ℕ) (load : LoadLayout) (f : HeaderFields) → IsLoad list load → is_long load ≡ false → ShowsLoad load n f → f ≡ load_fields list n load.load_name
 unfolding load_fields
 one_header list n load f is short shows =
     shows.fields
     ∙ ap (λ (x : ℕ). header_with x load.bank_size load.kind.bits load.org load.align load.entry) (length_short list load is short)
     ∙ ap (λ (x : ℕ). header_with (load_length load.load_name list) x load.kind.bits load.org load.align load.entry) is.bank_size
     ∙ ap (λ (x : ℕ). header_with (load_length load.load_name list) (least_bank members) x load.org load.align load.entry) is.kind
-    ∙ ap (λ (x : ℕ). header_with (load_length load.load_name list) (least_bank members) (load_segment_kind (of_first (λ (g : Fields). g.kind) members)) x load.align load.entry) is.org
-    ∙ ap (λ (x : ℕ). header_with (load_length load.load_name list) (least_bank members) (load_segment_kind (of_first (λ (g : Fields). g.kind) members)) (of_first (λ (g : Fields). g.org) members) x load.entry) is.align
-    ∙ ap (λ (x : ℕ). header_with (load_length load.load_name list) (least_bank members) (load_segment_kind (of_first (λ (g : Fields). g.kind) members)) (of_first (λ (g : Fields). g.org) members) (greatest_align members) x) is.entry
+    ∙ ap (λ (x : ℕ). header_with (load_length load.load_name list) (least_bank members) (load_segment_kind (of_first (λ (g : HeaderFields). g.kind) members)) x load.align load.entry) is.org
+    ∙ ap (λ (x : ℕ). header_with (load_length load.load_name list) (least_bank members) (load_segment_kind (of_first (λ (g : HeaderFields). g.kind) members)) (of_first (λ (g : HeaderFields). g.org) members) x load.entry) is.align
+    ∙ ap (λ (x : ℕ). header_with (load_length load.load_name list) (least_bank members) (load_segment_kind (of_first (λ (g : HeaderFields). g.kind) members)) (of_first (λ (g : HeaderFields). g.org) members) (greatest_align members) x) is.entry
   where
     members : List Member
     members = load_members load.load_name list
 
-    header_with : ℕ → ℕ → ℕ → ℕ → ℕ → ℕ → Fields
+    header_with : ℕ → ℕ → ℕ → ℕ → ℕ → ℕ → HeaderFields
     header_with len bank kind org align entry = record {
       byte_count = 0;
       res_spc = 0;
@@ -380,19 +380,19 @@ one_header list n load f is short shows =
       name = without_trailing 32 load.load_name;
     }
 
-headers_are : (list : List Member) (n : ℕ) (loads : List LoadLayout) (fs : List Fields) → ((k : ℕ) (load : LoadLayout) → slice_get loads k ≡ Some load → IsLoad list load) → AllShort loads → AreHeaders n loads fs → fs ≡ headers_from list n (map (λ l. l.load_name) loads)
+headers_are : (list : List Member) (n : ℕ) (loads : List LoadLayout) (fs : List HeaderFields) → ((k : ℕ) (load : LoadLayout) → slice_get loads k ≡ Some load → IsLoad list load) → AllShort loads → AreHeaders n loads fs → fs ≡ headers_from list n (map (λ l. l.load_name) loads)
 headers_are list n [] fs each short are = are
 headers_are list n (load ∷ loads) [] each short are = absurd are
 headers_are list n (load ∷ loads) (f ∷ fs) each short are =
-    ap (λ (g : Fields). g ∷ fs) (one_header list n load f (each 0 load refl) (short 0 load refl) are.0)
-    ∙ ap (λ (l : List Fields). load_fields list n load.load_name ∷ l) (headers_are list (n + 1) loads fs (λ k l e. each (suc k) l e) (λ k l e. short (suc k) l e) are.1)
+    ap (λ (g : HeaderFields). g ∷ fs) (one_header list n load f (each 0 load refl) (short 0 load refl) are.0)
+    ∙ ap (λ (l : List HeaderFields). load_fields list n load.load_name ∷ l) (headers_are list (n + 1) loads fs (λ k l e. each (suc k) l e) (λ k l e. short (suc k) l e) are.1)
 
-pub all_headers : (list : List Member) (layout : kept.LinkLayout) (fs : List Fields) → Laid list layout → AllShort layout.loads.items → AreHeaders 1 layout.loads.items fs → fs ≡ load_headers list
+pub all_headers : (list : List Member) (layout : kept.LinkLayout) (fs : List HeaderFields) → Laid list layout → AllShort layout.loads.items → AreHeaders 1 layout.loads.items fs → fs ≡ load_headers list
 unfolding load_headers
 all_headers list layout fs laid short are = headers_are list 1 layout.loads.items fs laid.loads short are ∙ ap (headers_from list 1) laid.named
 
 -- one more header
-headers-snoc : (n : ℕ) (loads : List LoadLayout) (fs : List Fields) (load : LoadLayout) (f : Fields) → AreHeaders n loads fs → ShowsLoad load (n + length loads) f → AreHeaders n (loads ++ load ∷ []) (fs ++ f ∷ [])
+headers-snoc : (n : ℕ) (loads : List LoadLayout) (fs : List HeaderFields) (load : LoadLayout) (f : HeaderFields) → AreHeaders n loads fs → ShowsLoad load (n + length loads) f → AreHeaders n (loads ++ load ∷ []) (fs ++ f ∷ [])
 headers-snoc n [] [] load f are shows = let same : n + 0 ≡ n = omega arith in (subst (λ (k : ℕ). ShowsLoad load k f) same shows, refl)
 headers-snoc n [] (g ∷ fs) load f are shows = absurd cc
 headers-snoc n (l ∷ loads) [] load f are shows = absurd are
@@ -400,7 +400,7 @@ headers-snoc n (l ∷ loads) (g ∷ fs) load f are shows =
     let same : n + suc (length loads) ≡ n + 1 + length loads = omega arith in
     (are.0, headers-snoc (n + 1) loads fs load f are.1 (subst (λ (k : ℕ). ShowsLoad load k f) same shows))
 
-pub headers_next : (loads : List LoadLayout) (k number : ℕ) (load : LoadLayout) (fs : List Fields) (f : Fields) → slice_get loads k ≡ Some load → number ≡ k → AreHeaders 1 (take k loads) fs → ShowsLoad load (number + 1) f
+pub headers_next : (loads : List LoadLayout) (k number : ℕ) (load : LoadLayout) (fs : List HeaderFields) (f : HeaderFields) → slice_get loads k ≡ Some load → number ≡ k → AreHeaders 1 (take k loads) fs → ShowsLoad load (number + 1) f
     → AreHeaders 1 (take (k + 1) loads) (fs ++ f ∷ [])
 headers_next loads k number load fs f at is are shows =
     let within = slice_get_within loads k load at in

@@ -9,8 +9,8 @@ use Rattle.link_meaning.specs.Search.{is_step}
 use Rattle.link_tables.specs.contracts.names.PublicNamePartialEq.TheImpl as test_public
 use Rattle.link_tables.specs.contracts.names.OwnNamePartialEq.TheImpl as test_own
 use Rattle.link_tables.specs.contracts.names.UnitNamePartialEq.TheImpl as test_unit
-use Rattle.link_meaning.specs.declared.search.Step.{Step}
-use Rattle.link_meaning.specs.declared.search.Step.TheVariants.{Within, OfUnit, Everyone}
+use Rattle.link_meaning.specs.declared.search.SearchStep.{SearchStep}
+use Rattle.link_meaning.specs.declared.search.SearchStep.TheVariants.{Within, OfUnit, Everyone}
 use Rattle.link_tables.specs.declared.names.PublicName.{PublicName}
 use Rattle.link_tables.specs.declared.names.OwnName.{OwnName}
 use Rattle.link_tables.specs.declared.names.UnitName.{UnitName}
@@ -19,24 +19,24 @@ use Rattle.link_tables.specs.declared.names.Matches.TheVariants.{One, Several}
 use Rattle.link_tables.specs.declared.names.NameTable.{NameTable}
 use Rattle.link_tables.specs.Names.{Named, Row, is_key, is_row, seen_of, with_one_more, outcome, found_or, kept_under, Keeps, Indexes}
 
-abbrev pub named_as : Step → List ℕ → Named
+abbrev pub named_as : SearchStep → List ℕ → Named
 named_as step name = record { step = step; name = name }
 
-pub looked : (rows : List Row) (names : NameTable) (k : Named) (s : Step) → Indexes rows names → k.step ≡ s → found_or (kept_under s k.name names) ≡ outcome rows k
-looked rows names k s ix is = ap (λ (t : Step). found_or (kept_under t k.name names)) (sym is) ∙ ix k
+pub looked : (rows : List Row) (names : NameTable) (k : Named) (s : SearchStep) → Indexes rows names → k.step ≡ s → found_or (kept_under s k.name names) ≡ outcome rows k
+looked rows names k s ix is = ap (λ (t : SearchStep). found_or (kept_under t k.name names)) (sym is) ∙ ix k
 
 -- a table with the same entries
 pub same_entries : (rows : List Row) (old new : NameTable) → new.public.entries ≡ old.public.entries → new.own ≡ old.own → new.units ≡ old.units → Indexes rows old → Indexes rows new
 same_entries rows old new same own units ix = λ key. settle key.step key.name ∙ ix key
   where
-    settle : (s : Step) (name : List ℕ) → found_or (kept_under s name new) ≡ found_or (kept_under s name old)
+    settle : (s : SearchStep) (name : List ℕ) → found_or (kept_under s name new) ≡ found_or (kept_under s name old)
     settle (Within place) name = ap (λ (m : IndexMap OwnName Matches _). found_or (get_by (λ k. place == k.place && bytes_eq name k.name.now) m)) own
     settle (OfUnit file from) name = ap (λ (m : IndexMap UnitName Matches _). found_or (get_by (λ k. file == k.file && (from == k.from && bytes_eq name k.name.now)) m)) units
     settle Everyone name = ap (λ (es : List (PublicName × Matches)). found_or (lookup (λ k. bytes_eq name k.name.now) es)) same
 
 -- ---- one key, and one more row
 
-pub step_same : (s t : Step) → is_step s t ≡ true → s ≡ t
+pub step_same : (s t : SearchStep) → is_step s t ≡ true → s ≡ t
 step_same (Within p) (Within q) e = ap Within (eqb-true p q e)
 step_same (Within p) (OfUnit file from) e = absurd cc
 step_same (Within p) Everyone e = absurd cc
@@ -60,7 +60,7 @@ bytes_same (x ∷ xs) (y ∷ ys) e =
 pub key_same : (a b : Named) → is_key a b ≡ true → a ≡ b
 key_same a b e =
     let parts = and_parts (is_step a.step b.step) (bytes_eq a.name b.name) e in
-    ap (λ (s : Step). named_as s a.name) (step_same a.step b.step parts.0) ∙ ap (named_as b.step) (bytes_same a.name b.name parts.1)
+    ap (λ (s : SearchStep). named_as s a.name) (step_same a.step b.step parts.0) ∙ ap (named_as b.step) (bytes_same a.name b.name parts.1)
 
 key_sym : (a b : Named) → is_key a b ≡ is_key b a
 key_sym a b = settle (is_key a b) (is_key b a) refl refl
@@ -86,14 +86,14 @@ filter-snoc test (x ∷ rows) row = settle (test x) (test row) (filter-snoc test
     settle false true e = e
     settle false false e = e
 
-abbrev IsKept : NameTable → NameTable → Named → Matches → Step → List ℕ → Type 0
+abbrev IsKept : NameTable → NameTable → Named → Matches → SearchStep → List ℕ → Type 0
 IsKept old new k now s name = kept_under s name new ≡ (if is_key k (named_as s name) then Some now else kept_under s name old)
 
 pub keeps_public : (old new : NameTable) (k : PublicName) (now : Matches) → Updates (test_public.ghosts).eq old.public new.public k (Some now)
     → new.own ≡ old.own → new.units ≡ old.units → Keeps old new (named_as Everyone k.name.now) now
 keeps_public old new k now updates own units = λ at. settle at.step at.name
   where
-    settle : (s : Step) (name : List ℕ) → IsKept old new (named_as Everyone k.name.now) now s name
+    settle : (s : SearchStep) (name : List ℕ) → IsKept old new (named_as Everyone k.name.now) now s name
     settle (Within place) name = ap (λ (m : IndexMap OwnName Matches _). get_by (λ x. place == x.place && bytes_eq name x.name.now) m) own
     settle (OfUnit file from) name = ap (λ (m : IndexMap UnitName Matches _). get_by (λ x. file == x.file && (from == x.from && bytes_eq name x.name.now)) m) units
     settle Everyone name = updates.0 (record { name = record k.name { now = name } })
@@ -102,7 +102,7 @@ pub keeps_own : (old new : NameTable) (k : OwnName) (now : Matches) → Updates 
     → new.public ≡ old.public → new.units ≡ old.units → Keeps old new (named_as (Within k.place) k.name.now) now
 keeps_own old new k now updates public units = λ at. settle at.step at.name
   where
-    settle : (s : Step) (name : List ℕ) → IsKept old new (named_as (Within k.place) k.name.now) now s name
+    settle : (s : SearchStep) (name : List ℕ) → IsKept old new (named_as (Within k.place) k.name.now) now s name
     settle (Within place) name = updates.0 (record { place = place; name = record k.name { now = name } })
     settle (OfUnit file from) name = ap (λ (m : IndexMap UnitName Matches _). get_by (λ x. file == x.file && (from == x.from && bytes_eq name x.name.now)) m) units
     settle Everyone name = ap (λ (m : IndexMap PublicName Matches _). get_by (λ x. bytes_eq name x.name.now) m) public
@@ -120,7 +120,7 @@ pub keeps_unit : (old new : NameTable) (k : UnitName) (now : Matches) → Update
     → new.public ≡ old.public → new.own ≡ old.own → Keeps old new (named_as (OfUnit k.file k.from) k.name.now) now
 keeps_unit old new k now updates public own = λ at. settle at.step at.name
   where
-    settle : (s : Step) (name : List ℕ) → IsKept old new (named_as (OfUnit k.file k.from) k.name.now) now s name
+    settle : (s : SearchStep) (name : List ℕ) → IsKept old new (named_as (OfUnit k.file k.from) k.name.now) now s name
     settle (Within place) name = ap (λ (m : IndexMap OwnName Matches _). get_by (λ x. place == x.place && bytes_eq name x.name.now) m) own
     settle (OfUnit file from) name =
         updates.0 (record { file = file; from = from; name = record k.name { now = name } })

@@ -4,9 +4,9 @@ use Rattle.std.specs.Prelude.{filter, slice_get, not, ◌&&◌, ◌==◌, if◌t
 use Rattle.std.specs.Option.{option_or}
 use Rattle.std.specs.Str.{bytes_eq}
 use Rattle.std.proofs.lemmas.List.{map-append, length-map}
-use Rattle.link_meaning.specs.declared.search.Step.{Step}
-use Rattle.link_meaning.specs.declared.search.Step.TheVariants.{OfUnit, Everyone}
-use Rattle.link_meaning.specs.declared.search.Want.TheVariants as wants
+use Rattle.link_meaning.specs.declared.search.SearchStep.{SearchStep}
+use Rattle.link_meaning.specs.declared.search.SearchStep.TheVariants.{OfUnit, Everyone}
+use Rattle.link_meaning.specs.declared.search.SearchKind.TheVariants as wants
 use Rattle.link_meaning.specs.Member.{Member, Offer}
 use Rattle.link_meaning.specs.Uses.{Use}
 use Rattle.object_meaning.specs.Defines.{outer_scope}
@@ -122,7 +122,7 @@ unit_key user name = record { step = OfUnit user.file user.from; name = name }
 abbrev all_key : List ℕ → Named
 all_key name = record { step = Everyone; name = name }
 
-abbrev key_as : Step → List ℕ → Named
+abbrev key_as : SearchStep → List ℕ → Named
 key_as step name = record { step = step; name = name }
 
 unit_key-same : (m : Member) (user : Origin) (name : List ℕ) → IsOf m user → key_as (OfUnit m.file m.from) name ≡ unit_key user name
@@ -185,7 +185,7 @@ step_of : (p : Bool) (f r : ℕ) → step_for 0 f r (outer_scope p) ≡ (if p th
 step_of true f r = refl
 step_of false f r = refl
 
-titled_test : (s : Step) (test : Bool) (name : List ℕ) (at : ℕ) (o : Offer) → test ≡ is_step s (step_of_offer o) → (counts_for (use_data name at) o && test) ≡ titled_by (record { step = s; name = name }) o
+titled_test : (s : SearchStep) (test : Bool) (name : List ℕ) (at : ℕ) (o : Offer) → test ≡ is_step s (step_of_offer o) → (counts_for (use_data name at) o && test) ≡ titled_by (record { step = s; name = name }) o
 titled_test s test name at o is = settle (bytes_eq name o.name) refl
   where
     settle : (b : Bool) → bytes_eq name o.name ≡ b → ((b && has_title o.member.segment name o.private) && test) ≡ (is_titled o && (is_step s (step_of_offer o) && b))
@@ -247,7 +247,7 @@ titled_rows-snoc n (p ∷ os) o =
 pub offered_none : (new : Offers) → new.origins.items ≡ [] → Indexes [] new.names → Indexes [] new.titles → AreOffers [] new
 offered_none new origins names titles = record { origins = origins; names = names; titles = titles }
 
-pub offered_more : (os : List Offer) (o : Offer) (old new : Offers) (name : List ℕ) (private : Bool) (origin : Origin) (titled : Bool) (step : Step) (number : ℕ) → AreOffers os old → IsOfferOf o name private origin titled
+pub offered_more : (os : List Offer) (o : Offer) (old new : Offers) (name : List ℕ) (private : Bool) (origin : Origin) (titled : Bool) (step : SearchStep) (number : ℕ) → AreOffers os old → IsOfferOf o name private origin titled
     → ((p : ℕ) → step ≡ step_for p origin.file origin.from (outer_scope private)) → number ≡ length old.origins.items
     → ((rows : List Row) → Indexes rows old.titles → Indexes (if titled then rows ++ (record { step = step; name = name }, number) ∷ [] else rows) new.titles)
     → ((rows : List Row) → Indexes rows old.names → Indexes (rows ++ (record { step = step; name = name }, number) ∷ []) new.names)
@@ -255,7 +255,7 @@ pub offered_more : (os : List Offer) (o : Offer) (old new : Offers) (name : List
 offered_more os o old new name private origin titled step number are is step_is number_is titles names origins =
     let size : number ≡ 0 + length os = omega (arith, number_is, ap length are.origins, length-map os origin_view) in
     let key : key_as step name ≡ key_of_offer o =
-    ap (λ (s : Step). key_as s name) (step_is 0 ∙ ap (λ (p : Bool). step_for 0 origin.file origin.from (outer_scope p)) (sym is.private')
+    ap (λ (s : SearchStep). key_as s name) (step_is 0 ∙ ap (λ (p : Bool). step_for 0 origin.file origin.from (outer_scope p)) (sym is.private')
     ∙ ap (λ (x : Origin). step_for 0 x.file x.from (outer_scope o.private)) (sym is.origin') ∙ step_of o.private o.member.file o.member.from)
     ∙ ap (λ (n : List ℕ). key_as (step_of_offer o) n) (sym is.name') in
     let row : (key_as step name, number) ≡ (key_of_offer o, 0 + length os) = ap (λ (k : Named). (k, number)) key ∙ ap (λ (n : ℕ). (key_of_offer o, n)) size in

@@ -5,7 +5,7 @@ use Rattle.std.proofs.Math.Seq.{take-append_seam}
 use Rattle.std.proofs.lemmas.List.{take-append-drop, length-take, length-drop}
 use Rattle.omf_format.specs.Number.{number_at}
 use Rattle.omf_format.specs.Name.{without_trailing, name_at, name_size}
-use Rattle.omf_format.specs.Header.{Fields, fields_of, names_end}
+use Rattle.omf_format.specs.Header.{HeaderFields, fields_of, names_end}
 use Rattle.omf_format.specs.laws.HeaderLaws.{sound_from_none}
 use Rattle.omf_format.specs.File.{IsHeader}
 use Rattle.omf_format.specs.laws.FieldLaws.{padded-trim}
@@ -33,7 +33,7 @@ lies_by false l at bytes =
     front_of ys w (pad ++ drop l ys) (sym (take-append-drop l ys) ∙ ap (λ (z : List ℕ). z ++ drop l ys) (sym (padded-trim 32 xs)) ∙ append_assoc w pad (drop l ys))
 
 -- where it stands, and that it ends in the file
-pub record Lies (start : ℕ) (f : Fields) (file : List ℕ) : Type 0 where
+pub record Lies (start : ℕ) (f : HeaderFields) (file : List ℕ) : Type 0 where
   pub text : take (length f.name) (drop (start + from_by (f.lab_len == 0) (f.disp_name + 10)) file) ≡ f.name
   pub within : start + from_by (f.lab_len == 0) (f.disp_name + 10) + length f.name ≤ length file
 
@@ -41,7 +41,7 @@ from_within : (b : Bool) (l k at end : ℕ) → at + (if b then 1 + k else l) �
 from_within true l k at end h = omega (arith, h)
 from_within false l k at end h = omega (arith, h)
 
-pub name_lies : (start : ℕ) (f : Fields) (file : List ℕ) → IsHeader start f file → start ≤ length file → Lies start f file
+pub name_lies : (start : ℕ) (f : HeaderFields) (file : List ℕ) → IsHeader start f file → start ≤ length file → Lies start f file
 unfolding fields_of name_at names_end name_size
 name_lies start f file is inside =
     let bytes = drop start file in
@@ -55,10 +55,10 @@ name_lies start f file is inside =
     let few : length g.name ≤ length (drop (from_by (g.lab_len == 0) at) bytes) = omega (arith, ap length text, length-take (length g.name) (drop (from_by (g.lab_len == 0) at) bytes)) in
     let room : start + from_by (g.lab_len == 0) at + length g.name ≤ length file = omega (arith, ends, few, length-drop (from_by (g.lab_len == 0) at) bytes, length-drop start file, inside) in
     let lies : Lies start g file = record { text = whole; within = room } in
-    subst (λ (x : Fields). Lies start x file) (sym is.fields) lies
+    subst (λ (x : HeaderFields). Lies start x file) (sym is.fields) lies
 
 -- LOADNAME lies there, and ends in the file
-pub load_name_lies : (start : ℕ) (f : Fields) (file : List ℕ) → IsHeader start f file → start ≤ length file
+pub load_name_lies : (start : ℕ) (f : HeaderFields) (file : List ℕ) → IsHeader start f file → start ≤ length file
     → (take 10 (drop (start + f.disp_name) file) ≡ f.load_name) × (start + f.disp_name + 10 ≤ length file)
 unfolding fields_of names_end
 load_name_lies start f file is inside =
@@ -68,5 +68,5 @@ load_name_lies start f file is inside =
     let moved = drop_twice start g.disp_name file in
     let text : take 10 (drop (start + g.disp_name) file) ≡ g.load_name = ap (take 10) moved in
     let room : start + g.disp_name + 10 ≤ length file = omega (arith, sound.names, sound.data', sound.whole, length-drop start file, inside) in
-    let P : Fields → Type 0 = λ x. (take 10 (drop (start + x.disp_name) file) ≡ x.load_name) × (start + x.disp_name + 10 ≤ length file) in
+    let P : HeaderFields → Type 0 = λ x. (take 10 (drop (start + x.disp_name) file) ≡ x.load_name) × (start + x.disp_name + 10 ≤ length file) in
     subst P (sym is.fields) (text, room)

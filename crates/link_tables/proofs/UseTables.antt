@@ -8,25 +8,25 @@ use Rattle.std.proofs.lemmas.List.Concat.{flat_map-cons}
 use Rattle.std.proofs.lemmas.Option.{slice_get-map}
 use Rattle.std.proofs.lemmas.Slice.Zip.{length-zip}
 use Rattle.indexmap.proofs.ReorderLemmas.{slice_get-zip_some}
-use Rattle.link_meaning.specs.declared.search.Want.{Want}
+use Rattle.link_meaning.specs.declared.search.SearchKind.{SearchKind}
 use Rattle.link_meaning.specs.Uses.{Use, data_name}
 use Rattle.link_tables.specs.declared.uses.UseSite.{UseSite}
 use Rattle.link_tables.specs.Uses.{use_of_site, uses_of_sites}
 use Rattle.link_tables.specs.Usings.{usings_from}
 
-pub sites_count : (wants : List Want) (sites : List UseSite) → length wants ≡ length sites → length (uses_of_sites wants sites) ≡ length sites
+pub sites_count : (wants : List SearchKind) (sites : List UseSite) → length wants ≡ length sites → length (uses_of_sites wants sites) ≡ length sites
 sites_count wants sites same = omega (arith, same, length-map (zip wants sites) use_of_site, length-zip wants sites)
 
-pub site_at : (wants : List Want) (sites : List UseSite) (k : ℕ) (want : Want) (site : UseSite) → slice_get wants k ≡ Some want → slice_get sites k ≡ Some site → slice_get (uses_of_sites wants sites) k ≡ Some (use_of_site (want, site))
+pub site_at : (wants : List SearchKind) (sites : List UseSite) (k : ℕ) (want : SearchKind) (site : UseSite) → slice_get wants k ≡ Some want → slice_get sites k ≡ Some site → slice_get (uses_of_sites wants sites) k ≡ Some (use_of_site (want, site))
 site_at wants sites k want site a b = slice_get-map use_of_site (zip wants sites) k ∙ ap (option_map use_of_site) (slice_get-zip_some wants sites k want site a b)
 
-zip-snoc : (wants : List Want) (sites : List UseSite) (want : Want) (site : UseSite) → length wants ≡ length sites → zip (wants ++ want ∷ []) (sites ++ site ∷ []) ≡ zip wants sites ++ (want, site) ∷ []
+zip-snoc : (wants : List SearchKind) (sites : List UseSite) (want : SearchKind) (site : UseSite) → length wants ≡ length sites → zip (wants ++ want ∷ []) (sites ++ site ∷ []) ≡ zip wants sites ++ (want, site) ∷ []
 zip-snoc [] [] want site same = refl
 zip-snoc [] (s ∷ sites) want site same = absurd (omega (arith, same))
 zip-snoc (w ∷ wants) [] want site same = absurd (omega (arith, same))
-zip-snoc (w ∷ wants) (s ∷ sites) want site same = ap (λ (l : List (Want × UseSite)). (w, s) ∷ l) (zip-snoc wants sites want site (omega (arith, same)))
+zip-snoc (w ∷ wants) (s ∷ sites) want site same = ap (λ (l : List (SearchKind × UseSite)). (w, s) ∷ l) (zip-snoc wants sites want site (omega (arith, same)))
 
-pub sites_more : (wants : List Want) (sites : List UseSite) (want : Want) (site : UseSite) → length wants ≡ length sites → uses_of_sites (wants ++ want ∷ []) (sites ++ site ∷ []) ≡ uses_of_sites wants sites ++ use_of_site (want, site) ∷ []
+pub sites_more : (wants : List SearchKind) (sites : List UseSite) (want : SearchKind) (site : UseSite) → length wants ≡ length sites → uses_of_sites (wants ++ want ∷ []) (sites ++ site ∷ []) ≡ uses_of_sites wants sites ++ use_of_site (want, site) ∷ []
 sites_more wants sites want site same = ap (map use_of_site) (zip-snoc wants sites want site same) ∙ map-append use_of_site (zip wants sites) ((want, site) ∷ [])
 
 -- ---- names of USING

@@ -2,8 +2,8 @@
 pub use Rattle.link_tables.specs.Listed.{DefinitionRow, definition_of}
 use Rattle.std.specs.Prelude.{◌≡◌, ℕ, ◌+◌, Bool, List, [], ◌∷◌, Some, map, filter, slice_get}
 use Rattle.std.specs.List.{flat_map}
-use Rattle.link_meaning.specs.declared.search.Step.{Step}
-use Rattle.link_meaning.specs.declared.search.Step.TheVariants.{Within, OfUnit, Everyone}
+use Rattle.link_meaning.specs.declared.search.SearchStep.{SearchStep}
+use Rattle.link_meaning.specs.declared.search.SearchStep.TheVariants.{Within, OfUnit, Everyone}
 use Rattle.link_meaning.specs.Member.{Member}
 use Rattle.object_meaning.specs.Defines.{Definition}
 use Rattle.link_meaning.specs.Search.{FoundDefinition, step_of, with_this_name, is_seen_by_step}
@@ -29,7 +29,7 @@ numbered_rows n [] = []
 numbered_rows n (f ∷ fs) = (key_of_found f, n) ∷ numbered_rows (n + 1) fs
 
 -- a name that a segment has for itself, as one that all see, with the member's place
-abbrev pub local_under : Step → List ℕ → List Row
+abbrev pub local_under : SearchStep → List ℕ → List Row
 local_under (Within place) name = (record { step = Everyone; name = name }, place) ∷ []
 local_under (OfUnit file from) name = []
 local_under Everyone name = []

@@ -5,8 +5,8 @@ use Rattle.std.specs.List.{list_any}
 use Rattle.std.specs.Str.{bytes_eq}
 use Rattle.omf_format.specs.File.{Segment}
 use Rattle.omf_format.specs.Name.{without_trailing}
-use Rattle.omf_format.specs.Header.{Fields, is_dynamic, is_skipped}
-use Rattle.link_meaning.specs.declared.search.Step.TheVariants.{Everyone}
+use Rattle.omf_format.specs.Header.{HeaderFields, is_dynamic, is_skipped}
+use Rattle.link_meaning.specs.declared.search.SearchStep.TheVariants.{Everyone}
 use Rattle.link_meaning.specs.declared.fault.LinkCause.TheVariants.{OrgConflict}
 use Rattle.link_meaning.specs.declared.fault.LinkFault.{LinkFault}
 use Rattle.link_meaning.specs.First.{HasNone, IsFirst}
@@ -22,7 +22,7 @@ abbrev pub layout_checks : List LayoutCheck
 layout_checks = Orgs ∷ Count ∷ Lengths ∷ Kinds ∷ []
 
 -- a load segment of one member, which starts there
-pub record IsFresh (f : Fields) (spot : Spot) (load : LoadLayout) : Type 0 where
+pub record IsFresh (f : HeaderFields) (spot : Spot) (load : LoadLayout) : Type 0 where
   pub first : load.first ≡ spot
   pub load_name : load.load_name ≡ f.load_name
   pub kind : load.kind.bits ≡ load_segment_kind f.kind
@@ -33,7 +33,7 @@ pub record IsFresh (f : Fields) (spot : Spot) (load : LoadLayout) : Type 0 where
   pub length' : load.length ≡ min f.length 16777216
 
 -- with one more member
-pub record IsJoined (f : Fields) (offset : ℕ) (old new : LoadLayout) : Type 0 where
+pub record IsJoined (f : HeaderFields) (offset : ℕ) (old new : LoadLayout) : Type 0 where
   pub first : new.first ≡ old.first
   pub load_name : new.load_name ≡ old.load_name
   pub kind : new.kind ≡ old.kind
@@ -90,7 +90,7 @@ pub record Laid (list : List Member) (kept : kept.LinkLayout) : Type 0 where
   pub conflict : IsConflict list kept.conflict
 
 -- the header of a load segment with this number
-pub record ShowsLoad (load : LoadLayout) (number : ℕ) (f : Fields) : Type 0 where
+pub record ShowsLoad (load : LoadLayout) (number : ℕ) (f : HeaderFields) : Type 0 where
   pub fields : f ≡ record {
     byte_count = 0;
     res_spc = 0;
@@ -156,7 +156,7 @@ pub record IsFirstOther (loads : List LoadLayout) (spot : Spot) : Type 0 where
   pub before : AllDynamic (take k loads)
 
 -- the headers of load segments, the first with this number
-abbrev pub AreHeaders : ℕ → List LoadLayout → List Fields → Type 0
+abbrev pub AreHeaders : ℕ → List LoadLayout → List HeaderFields → Type 0
 AreHeaders n [] fs = fs ≡ []
 AreHeaders n (load ∷ loads) [] = ⊥
 AreHeaders n (load ∷ loads) (f ∷ fs) = ShowsLoad load n f × AreHeaders (n + 1) loads fs

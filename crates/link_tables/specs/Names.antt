@@ -2,8 +2,8 @@
 use Rattle.std.specs.Prelude.{◌≡◌, ◌==◌, ℕ, Bool, ◌&&◌, List, [], ◌∷◌, Option, Some, None, filter, if◌then◌else◌}
 use Rattle.std.specs.Str.{bytes_eq}
 use Rattle.indexmap.specs.IndexMap.{get_by}
-use Rattle.link_meaning.specs.declared.search.Step.{Step}
-use Rattle.link_meaning.specs.declared.search.Step.TheVariants.{Within, OfUnit, Everyone}
+use Rattle.link_meaning.specs.declared.search.SearchStep.{SearchStep}
+use Rattle.link_meaning.specs.declared.search.SearchStep.TheVariants.{Within, OfUnit, Everyone}
 use Rattle.link_meaning.specs.Search.{is_step}
 use Rattle.link_tables.specs.declared.names.Key.{Key}
 use Rattle.link_tables.specs.declared.names.Matches.{Matches}
@@ -12,7 +12,7 @@ use Rattle.link_tables.specs.declared.names.NameTable.{NameTable}
 
 -- a step and a name, without where it lies
 pub record Named : Type 0 where
-  pub step : Step
+  pub step : SearchStep
   pub name : List ℕ
 
 abbrev pub key_of : Key → Named
@@ -49,7 +49,7 @@ found_or None = Nothing
 found_or (Some found) = found
 
 -- what a table keeps under a name that a step sees
-abbrev pub kept_under : Step → List ℕ → NameTable → Option Matches
+abbrev pub kept_under : SearchStep → List ℕ → NameTable → Option Matches
 kept_under (Within place) name names = get_by (λ k. place == k.place && bytes_eq name k.name.now) names.own
 kept_under (OfUnit file from) name names = get_by (λ k. file == k.file && (from == k.from && bytes_eq name k.name.now)) names.units
 kept_under Everyone name names = get_by (λ k. bytes_eq name k.name.now) names.public

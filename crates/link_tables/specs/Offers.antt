@@ -1,8 +1,8 @@
 -- What is kept of the rows of libraries.
 use Rattle.std.specs.Prelude.{◌≡◌, ℕ, ◌+◌, Bool, List, [], ◌∷◌, Option, Some, None, map, if◌then◌else◌, slice_get}
 use Rattle.std.specs.Option.{option_or}
-use Rattle.link_meaning.specs.declared.search.Step.{Step}
-use Rattle.link_meaning.specs.declared.search.Step.TheVariants.{OfUnit, Everyone}
+use Rattle.link_meaning.specs.declared.search.SearchStep.{SearchStep}
+use Rattle.link_meaning.specs.declared.search.SearchStep.TheVariants.{OfUnit, Everyone}
 use Rattle.link_meaning.specs.Member.{Member, Offer}
 use Rattle.link_meaning.specs.LinkedList.{has_title}
 use Rattle.link_tables.specs.declared.names.Matches.{Matches}
@@ -12,7 +12,7 @@ use Rattle.link_tables.specs.declared.offers.Offers as kept
 use Rattle.link_tables.specs.Names.{Named, Row, Indexes, outcome}
 
 -- whom a row serves: its member's unit, or all
-abbrev pub step_of_offer : Offer → Step
+abbrev pub step_of_offer : Offer → SearchStep
 step_of_offer o = if o.private then OfUnit o.member.file o.member.from else Everyone
 
 abbrev pub key_of_offer : Offer → Named

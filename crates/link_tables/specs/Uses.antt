@@ -4,18 +4,18 @@ use Rattle.std.specs.List.{AllByRecursion, zip}
 use Rattle.omf_format.specs.Expression.{Term, Named}
 use Rattle.omf_format.specs.Field.{Layout}
 use Rattle.omf_format.specs.Record.{Record, IsRecord}
-use Rattle.link_meaning.specs.declared.search.Want.{Want}
+use Rattle.link_meaning.specs.declared.search.SearchKind.{SearchKind}
 use Rattle.link_meaning.specs.Uses.{Use}
 use Rattle.link_meaning.specs.LinkedList.{PlacedUse}
 use Rattle.link_tables.specs.declared.uses.Use as kept
 use Rattle.link_tables.specs.declared.uses.UseSite.{UseSite}
 
 -- a use, and the place of its member: what it wants beside the rest
-abbrev pub use_of_site : Want × UseSite → ℕ × Use
+abbrev pub use_of_site : SearchKind × UseSite → ℕ × Use
 use_of_site p = (p.1.place, record { want = p.0; name = p.1.name.now; at = p.1.at })
 
 -- uses whose wants lie apart
-abbrev pub uses_of_sites : List Want → List UseSite → List (ℕ × Use)
+abbrev pub uses_of_sites : List SearchKind → List UseSite → List (ℕ × Use)
 uses_of_sites wants sites = map use_of_site (zip wants sites)
 
 -- a use, and the place of its member

@@ -13,7 +13,7 @@ ghost use Rattle.link_tables.specs.Listed.{definition_of};
 use crate::listed::Listed;
 use crate::names::{Key, Matches, NameTable};
 use crate::segname::title;
-use link_meaning::Step;
+use link_meaning::SearchStep;
 use omf_records::{Rec, SegmentView};
 use std::alloc::{AllocError, Global};
 
@@ -74,7 +74,7 @@ impl<'a> Definitions<'a> {
         ensures { (fs : List FoundDefinition) → AreDefinitions fs self.now → AreHolders fs name.now result }
     {
         self.locals.look(Key {
-            step: Step::Everyone,
+            step: SearchStep::Everyone,
             name,
         })
     }
@@ -205,39 +205,39 @@ fn add_local<'a>(locals: &mut NameTable<'a>, key: Key<'a>) -> Result<(), AllocEr
     ensures { OnOk result ((rows : List Row) → Indexes rows locals.old → Indexes (rows ++ local_under key.entry.step key.entry.name.now) locals.new) }
 {
     match key.step {
-        Step::Within(place) => {
+        SearchStep::Within(place) => {
             let name = Key {
-                step: Step::Everyone,
+                step: SearchStep::Everyone,
                 name: key.name,
             };
             locals.add(name, place)
         }
-        Step::OfUnit { .. } => Ok(()),
-        Step::Everyone => Ok(()),
+        SearchStep::OfUnit { .. } => Ok(()),
+        SearchStep::Everyone => Ok(()),
     }
 }
 
 /// The step that sees what others than the segment itself may see.
-pub fn outer_step(private: bool, origin: Origin) -> Step
+pub fn outer_step(private: bool, origin: Origin) -> SearchStep
     ensures { (place : ℕ) → result ≡ step_for place origin.file origin.from (outer_scope private) }
 {
     if private {
-        Step::OfUnit {
+        SearchStep::OfUnit {
             file: origin.file,
             from: origin.from,
         }
     } else {
-        Step::Everyone
+        SearchStep::Everyone
     }
 }
 
 /// The step that sees a label or an equate.
-fn step_for(global: bool, private: u8, origin: Origin, place: u32) -> Step
+fn step_for(global: bool, private: u8, origin: Origin, place: u32) -> SearchStep
     ensures { result ≡ step_for place origin.file origin.from (scope_of global private) }
 {
     if global {
         outer_step(private != 0, origin)
     } else {
-        Step::Within(place as usize)
+        SearchStep::Within(place as usize)
     }
 }

@@ -13,7 +13,7 @@ ghost use Rattle.link_tables.specs.Laid.{Laid, IsFresh, IsJoined, IsAt, IsSpotOf
 use crate::definitions::Origin;
 use crate::names::{Key, Matches, NameTable};
 use crate::segname::load_name;
-use link_meaning::{LinkCause, LinkFault, LinkForm, Step};
+use link_meaning::{LinkCause, LinkFault, LinkForm, SearchStep};
 use omf_base::{Name, Spot, without_trailing};
 use omf_header::{Header, Kind};
 use omf_records::SegmentView;
@@ -174,7 +174,7 @@ impl<'a> LinkLayout<'a> {
     {
         let load = self.loads.as_slice().len();
         let key = Key {
-            step: Step::Everyone,
+            step: SearchStep::Everyone,
             name,
         };
         self.names.add(key, load)?;
@@ -210,7 +210,7 @@ impl<'a> LinkLayout<'a> {
             at: segment.start,
         };
         let key = Key {
-            step: Step::Everyone,
+            step: SearchStep::Everyone,
             name,
         };
         match self.names.look(key) {

@@ -1,17 +1,17 @@
 //! Tables of names: what each step of a search finds.
 
 ghost use Rattle.std.specs.Prelude.{◌≡◌, ◌∷◌, ◌++◌, [], List, ℕ, IfOk, OnOk};
-ghost use Rattle.link_meaning.specs.declared.search.Step.TheVariants.{Within, OfUnit, Everyone};
+ghost use Rattle.link_meaning.specs.declared.search.SearchStep.TheVariants.{Within, OfUnit, Everyone};
 ghost use Rattle.link_tables.specs.Names.{Row, Indexes, Keeps, outcome, key_of, found_or, kept_under};
 
 use indexmap::IndexMap;
-use link_meaning::Step;
+use link_meaning::SearchStep;
 use std::alloc::{AllocError, Global};
 
 /// A name that a step sees.
 #[derive(Clone, Copy)]
 pub struct Key<'a> {
-    pub step: Step,
+    pub step: SearchStep,
     pub name: &'a [u8],
 }
 
@@ -82,9 +82,9 @@ impl<'a> NameTable<'a> {
         ensures { (rows : List Row) → Indexes rows self.now → result ≡ outcome rows (key_of key.entry) }
     {
         match key.step {
-            Step::Everyone => self.look_public(key.name),
-            Step::Within(place) => self.look_own(place, key.name),
-            Step::OfUnit { file, from } => self.look_unit(file, from, key.name),
+            SearchStep::Everyone => self.look_public(key.name),
+            SearchStep::Within(place) => self.look_own(place, key.name),
+            SearchStep::OfUnit { file, from } => self.look_unit(file, from, key.name),
         }
     }
 
@@ -147,15 +147,15 @@ impl<'a> NameTable<'a> {
     {
         let name = key.name;
         match key.step {
-            Step::Everyone => {
+            SearchStep::Everyone => {
                 let before = self.public.insert(PublicName { name }, found)?;
                 Ok(found_or(before))
             }
-            Step::Within(place) => {
+            SearchStep::Within(place) => {
                 let before = self.own.insert(OwnName { place, name }, found)?;
                 Ok(found_or(before))
             }
-            Step::OfUnit { file, from } => {
+            SearchStep::OfUnit { file, from } => {
                 let before = self.units.insert(UnitName { file, from, name }, found)?;
                 Ok(found_or(before))
             }

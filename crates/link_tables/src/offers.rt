@@ -1,7 +1,7 @@
 //! What the rows of libraries offer: which row serves a use that finds nothing.
 
 ghost use Rattle.std.specs.Prelude.{◌≡◌, ◌<◌, ◌++◌, ◌∷◌, [], List, ℕ, Some, length, slice_get, OnOk, if◌then◌else◌};
-ghost use Rattle.link_meaning.specs.declared.search.Step.TheVariants.{OfUnit, Everyone};
+ghost use Rattle.link_meaning.specs.declared.search.SearchStep.TheVariants.{OfUnit, Everyone};
 ghost use Rattle.link_meaning.specs.Member.{Member, Offer};
 ghost use Rattle.link_meaning.specs.LinkedList.{row_for};
 ghost use Rattle.link_tables.specs.Names.{Row, Indexes, key_of, outcome};
@@ -10,7 +10,7 @@ ghost use Rattle.link_tables.specs.Offers.{AreOffers, origin_view, IsOfferOf, Is
 
 use crate::definitions::{Origin, outer_step};
 use crate::names::{Key, Matches, NameTable};
-use link_meaning::{Step, Want};
+use link_meaning::{SearchKind, SearchStep};
 use std::alloc::{AllocError, Global};
 
 /// Rows of libraries in order, each with the member that it would bring in.
@@ -42,7 +42,7 @@ fn first_row(names: &NameTable, user: Origin, name: &[u8]) -> Option<usize>
     ensures { (rows : List Row) → Indexes rows names.now
         → result ≡ first_number rows (record { step = OfUnit user.file user.from; name = name.now }) (record { step = Everyone; name = name.now }) }
 {
-    let unit = Step::OfUnit {
+    let unit = SearchStep::OfUnit {
         file: user.file,
         from: user.from,
     };
@@ -58,7 +58,7 @@ fn first_public(names: &NameTable, name: &[u8]) -> Option<usize>
     ensures { (rows : List Row) → Indexes rows names.now → result ≡ number_of (outcome rows (record { step = Everyone; name = name.now })) }
 {
     match names.look(Key {
-        step: Step::Everyone,
+        step: SearchStep::Everyone,
         name,
     }) {
         Matches::Nothing => None,
@@ -127,14 +127,14 @@ impl<'a> Offers<'a> {
 
     /// The number of the row, from 0, that serves a use of a name in a member: one of the member's own library and file
     /// number, or else one that isn't private. A weak name has none.
-    pub fn row_for(&self, user: Origin, want: Want, name: &[u8]) -> Option<usize>
+    pub fn row_for(&self, user: Origin, want: SearchKind, name: &[u8]) -> Option<usize>
         ensures { (os : List Offer) (m : Member) (at : ℕ) → AreOffers os self.now → IsOf m user
             → IsRow os (row_for os m (record { want = want; name = name.now; at = at })) result }
     {
         match want {
-            Want::Data => first_row(&self.titles, user, name),
-            Want::One => first_row(&self.names, user, name),
-            Want::Any => None,
+            SearchKind::Data => first_row(&self.titles, user, name),
+            SearchKind::One => first_row(&self.names, user, name),
+            SearchKind::Any => None,
         }
     }
 }

@@ -7,7 +7,7 @@ ghost use Rattle.omf_records.specs.View.{view};
 ghost use Rattle.link_meaning.specs.Uses.{used_by_term, used_in_text, used_by};
 ghost use Rattle.link_tables.specs.Uses.{use_of, at_place, HasSpelling, HaveShortNames, IsShortTerm};
 
-use link_meaning::Want;
+use link_meaning::SearchKind;
 use omf_expr::{Expr, Term, Terms};
 use omf_records::Rec;
 use std::alloc::{AllocError, Global};
@@ -16,7 +16,7 @@ use std::marker::Model;
 /// A use of a name.
 #[derive(Clone, Copy)]
 pub struct Use<'a> {
-    pub want: Want,
+    pub want: SearchKind,
     pub name: &'a [u8],
     /// The record's displacement in the file.
     pub at: u32,
@@ -35,7 +35,7 @@ struct UseSite<'a> {
 /// Uses in order. What each wants lies apart, since one byte beside 24 takes less memory than both together.
 #[derive(Drop)]
 pub struct Uses<'a> {
-    wants: Vec<Want>,
+    wants: Vec<SearchKind>,
     sites: Vec<UseSite<'a>>,
 }
 
@@ -112,7 +112,11 @@ fn add_term<'a>(uses: &mut Uses<'a>, term: Term<'a>, at: u32, place: u32) -> Res
             if code == 0x86 {
                 return Ok(());
             }
-            let want = if code == 0x82 { Want::Any } else { Want::One };
+            let want = if code == 0x82 {
+                SearchKind::Any
+            } else {
+                SearchKind::One
+            };
             uses.push(Use {
                 want,
                 name,
@@ -167,8 +171,8 @@ pub fn add_record<'a>(
     ensures short { OnOk result (HaveShortNames uses.old → HaveShortNames uses.new) }
 {
     let (want, name) = match rec {
-        Rec::Using { name } => (Want::Data, *name),
-        Rec::Strong { name } => (Want::One, *name),
+        Rec::Using { name } => (SearchKind::Data, *name),
+        Rec::Strong { name } => (SearchKind::One, *name),
         // An arm each: one for both would have each record stand in memory, whatever its type.
         Rec::Equate { expr, .. } => return add_terms(uses, expr, lab_len, at, place),
         Rec::Formula { expr, .. } => return add_terms(uses, expr, lab_len, at, place),

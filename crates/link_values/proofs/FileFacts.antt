@@ -8,8 +8,8 @@ use Rattle.omf_format.specs.Field.{layout_of}
 use Rattle.omf_format.specs.Expression.{Term, Operator, Location, Constant, Named, Offset, IsExpression, terms_in}
 use Rattle.omf_format.specs.Record.{Record, IsRecord, End, Const, LongConst, Align, Org, Space, Reloc, InterSeg, ShortReloc, ShortInterSeg, Super, Using, Strong, Label, Equate, Formula, Entry}
 use Rattle.omf_format.specs.File.{Segment}
-use Rattle.link_meaning.specs.declared.search.Want.{Want}
-use Rattle.link_meaning.specs.declared.search.Want.TheVariants.{One, Any}
+use Rattle.link_meaning.specs.declared.search.SearchKind.{SearchKind}
+use Rattle.link_meaning.specs.declared.search.SearchKind.TheVariants.{One, Any}
 use Rattle.link_meaning.specs.First.{IsIn}
 use Rattle.object_meaning.specs.Sizes.{Located, size_at, located_from, body_size}
 use Rattle.link_meaning.specs.Member.{Member}
@@ -204,16 +204,16 @@ in_flat f [] x y is there = absurd is
 in_flat {A} {B} f (z ∷ xs) x y (inl e) there = subst (λ (l : List B). IsIn l y) (sym (flat_map-cons f z xs)) (in_left (f z) (flat_map f xs) y (subst (λ (w : A). IsIn (f w) y) (sym e) there))
 in_flat {A} {B} f (z ∷ xs) x y (inr more) there = subst (λ (l : List B). IsIn l y) (sym (flat_map-cons f z xs)) (in_right (f z) (flat_map f xs) y (in_flat f xs x y more there))
 
-one_of : (want : Want) (found : List FoundDefinition) (f g : FoundDefinition) → (want ≡ Any) ⊎ (want ≡ One) → use_cause want found ≡ None → IsIn found f → IsIn found g → f ≡ g
+one_of : (want : SearchKind) (found : List FoundDefinition) (f g : FoundDefinition) → (want ≡ Any) ⊎ (want ≡ One) → use_cause want found ≡ None → IsIn found f → IsIn found g → f ≡ g
 one_of want [] f g wants e is there = absurd is
 one_of want (x ∷ []) f g wants e (inl a) (inl b) = sym a ∙ b
 one_of want (x ∷ []) f g wants e (inl a) (inr b) = absurd b
 one_of want (x ∷ []) f g wants e (inr a) there = absurd a
-one_of want (x ∷ y ∷ more) f g (inl any) e is there = absurd (several (ap (λ (w : Want). use_cause w (x ∷ y ∷ more)) (sym any) ∙ e))
+one_of want (x ∷ y ∷ more) f g (inl any) e is there = absurd (several (ap (λ (w : SearchKind). use_cause w (x ∷ y ∷ more)) (sym any) ∙ e))
   where
     several : use_cause Any (x ∷ y ∷ more) ≡ None → ⊥
     several e = cc
-one_of want (x ∷ y ∷ more) f g (inr one) e is there = absurd (several (ap (λ (w : Want). use_cause w (x ∷ y ∷ more)) (sym one) ∙ e))
+one_of want (x ∷ y ∷ more) f g (inr one) e is there = absurd (several (ap (λ (w : SearchKind). use_cause w (x ∷ y ∷ more)) (sym one) ∙ e))
   where
     several : use_cause One (x ∷ y ∷ more) ≡ None → ⊥
     several e = cc

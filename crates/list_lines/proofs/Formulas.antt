@@ -7,7 +7,7 @@ use Rattle.omf_base.specs.Digits.{hexadecimal}
 use Rattle.omf_format.specs.Expression.{Tree}
 use Rattle.list_meaning.specs.Listed.{FormulaIs, Wanted, None', Number, Banks, Label, Moved, said_text, with_leading_space, formula_text, number_text, sign_text, wanted_text}
 use Rattle.list_meaning.specs.Listing.{is_short}
-use Rattle.list_lines.specs.declared.output.Output.{Output}
+use Rattle.list_lines.specs.declared.output.ListingText.{ListingText}
 use Rattle.list_lines.specs.Kept.{with_line}
 use Rattle.list_lines.specs.LineView.{Wrote, has_no_text}
 use Rattle.list_lines.specs.OutputView.{finished_lines, open_line}
@@ -92,7 +92,7 @@ sum_same count a b less =
     omega (arith, length-append (front ++ a) (codes "'"), length-append front a, length-append (front ++ b) (codes "'"), length-append front b)
 
 -- a short line has the whole formula
-pub sum_wrote : (count : ℕ) (t : Tree) (formula : List ℕ) (a b c : Output) → formula ≡ take 256 (formula_text t) → open_line b ≡ sum_line count formula → finished_lines b ≡ finished_lines a → finished_lines c ≡ with_line (open_line b) (finished_lines b)
+pub sum_wrote : (count : ℕ) (t : Tree) (formula : List ℕ) (a b c : ListingText) → formula ≡ take 256 (formula_text t) → open_line b ≡ sum_line count formula → finished_lines b ≡ finished_lines a → finished_lines c ≡ with_line (open_line b) (finished_lines b)
     → open_line c ≡ [] → length (open_line b) ≤ 255 → Wrote (FormulaIs count t) a c
 sum_wrote count t formula a b c is line same whole end short =
     let few : length formula ≤ 255 = omega (arith, sum_size count formula, ap length line, short) in
@@ -100,13 +100,13 @@ sum_wrote count t formula a b c is line same whole end short =
     wrote_of (FormulaIs count t) a b c (line ∙ ap (sum_line count) (is ∙ all) ∙ sym (sum_text count t)) same whole end short
 
 -- and a long line is long with the whole formula
-pub sum_long : (count : ℕ) (t : Tree) (formula : List ℕ) (b : Output) → formula ≡ take 256 (formula_text t) → open_line b ≡ sum_line count formula → 255 < length (open_line b) → is_short (FormulaIs count t) ≡ false
+pub sum_long : (count : ℕ) (t : Tree) (formula : List ℕ) (b : ListingText) → formula ≡ take 256 (formula_text t) → open_line b ≡ sum_line count formula → 255 < length (open_line b) → is_short (FormulaIs count t) ≡ false
 sum_long count t formula b is line long =
     let size : length formula ≤ length (formula_text t) = omega (arith, ap length is, length-take 256 (formula_text t)) in
     lt-leb (length (said_text (FormulaIs count t))) 255 (omega (arith, ap length (sum_text count t), sum_same count formula (formula_text t) size, ap length line, long))
 
 -- the same of an answer
-pub sum_answer : {U E : Type 0} (r : Result U E) (count : ℕ) (formula : List ℕ) (a b c : Output) → open_line b ≡ sum_line count formula → finished_lines b ≡ finished_lines a → OnOk r (finished_lines c ≡ with_line (open_line b) (finished_lines b)) → OnOk r (open_line c ≡ [])
+pub sum_answer : {U E : Type 0} (r : Result U E) (count : ℕ) (formula : List ℕ) (a b c : ListingText) → open_line b ≡ sum_line count formula → finished_lines b ≡ finished_lines a → OnOk r (finished_lines c ≡ with_line (open_line b) (finished_lines b)) → OnOk r (open_line c ≡ [])
     → OnOk r (length (open_line b) ≤ 255) → OnOk r ((t : Tree) → formula ≡ take 256 (formula_text t) → Wrote (FormulaIs count t) a c)
 sum_answer (Ok u) count formula a b c line same whole end short = λ t is. sum_wrote count t formula a b c is line same whole end short
 sum_answer (Err e) count formula a b c line same whole end short = tt

@@ -6,12 +6,12 @@ use Rattle.list_meaning.specs.Listed.{ListedStatement, said_text}
 use Rattle.list_meaning.specs.Listing.{is_short}
 use Rattle.list_lines.specs.declared.lines.Wanted.{Wanted}
 use Rattle.list_lines.specs.declared.lines.Wanted.TheVariants as wanted
-use Rattle.list_lines.specs.declared.output.Output.{Output}
+use Rattle.list_lines.specs.declared.output.ListingText.{ListingText}
 use Rattle.list_lines.specs.Kept.{with_line, with_lines}
 use Rattle.list_lines.specs.OutputView.{finished_lines, open_line}
 
 -- the line was written, and is no longer than 255 bytes
-pub record Wrote (said : ListedStatement) (old new : Output) : Type 0 where
+pub record Wrote (said : ListedStatement) (old new : ListingText) : Type 0 where
   pub whole : finished_lines new ≡ with_line (said_text said) (finished_lines old)
   pub line : open_line new ≡ []
   pub short : is_short said ≡ true
@@ -41,7 +41,7 @@ has_no_text (listed.Label name) = is_nothing name
 has_no_text _ = false
 
 -- these lines were written, and are no longer than 255 bytes
-pub record WroteAll (lines : List ListedStatement) (old new : Output) : Type 0 where
+pub record WroteAll (lines : List ListedStatement) (old new : ListingText) : Type 0 where
   pub whole : finished_lines new ≡ with_lines lines (finished_lines old)
   pub line : open_line new ≡ []
   pub short : list_all is_short lines ≡ true

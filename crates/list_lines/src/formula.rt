@@ -21,7 +21,7 @@ const MAX_TEXT: usize = 256;
 
 /// What is known of the terms of a formula.
 #[derive(Clone, Copy, Debug, PartialEq, Eq)]
-pub struct Facts {
+pub struct FormulaFacts {
     /// Its names can be listed, and none is an equate of the segment.
     pub named: bool,
     /// It has names, numbers, `*` and operators that are written in a formula, and no other terms.
@@ -64,12 +64,12 @@ fn is_open(term: Term) -> bool
 }
 
 /// The same with one term more.
-fn with_term(known: Facts, term: Term, equates: &Names) -> Facts
+fn with_term(known: FormulaFacts, term: Term, equates: &Names) -> FormulaFacts
     ensures named { (all : List (List ℕ)) → AreNames equates.now all → result.named ≡ (known.named && term_listable all (view term.entry)) }
     ensures written { result.written ≡ (known.written && term_may_stand (view term.entry)) }
     ensures varies { result.varies ≡ (known.varies || is_open (view term.entry)) }
 {
-    Facts {
+    FormulaFacts {
         named: known.named && is_named(term, equates),
         written: known.written && is_written(term),
         varies: known.varies || is_open(term),
@@ -78,12 +78,12 @@ fn with_term(known: Facts, term: Term, equates: &Names) -> Facts
 
 /// What is known of all terms.
 #[tactic(auto, using(crate::proofs::TermLaws::all_end, crate::proofs::TermLaws::any_end))]
-pub fn facts_of(expr: &Expr, equates: &Names) -> Facts
+pub fn facts_of(expr: &Expr, equates: &Names) -> FormulaFacts
     ensures named { (all : List (List ℕ)) → AreNames equates.now all → result.named ≡ all_terms (term_listable all) (terms_in expr.now.lab_len 0 expr.now.text) }
     ensures written { result.written ≡ all_terms term_may_stand (terms_in expr.now.lab_len 0 expr.now.text) }
     ensures varies { result.varies ≡ any_term is_open (terms_in expr.now.lab_len 0 expr.now.text) }
 {
-    let mut known = Facts {
+    let mut known = FormulaFacts {
         named: true,
         written: true,
         varies: false,

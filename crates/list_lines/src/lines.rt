@@ -8,7 +8,7 @@ ghost use Rattle.list_meaning.specs.Listing.{is_short};
 ghost use Rattle.list_lines.specs.LineView.{Wrote, HasSize, has_no_text, operand_view};
 ghost use Rattle.list_lines.specs.OutputView.{finished_lines, open_line};
 
-use crate::output::Output;
+use crate::output::ListingText;
 use crate::spellings::{shape, spelling};
 use crate::stop::LineStop;
 use asm_meaning::Switch;
@@ -31,7 +31,7 @@ pub enum Wanted<'a> {
 }
 
 /// Writes a label and an operation.
-fn statement(out: &mut Output, label: &[u8], operation: &str) -> Result<(), LineFault>
+fn statement(out: &mut ListingText, label: &[u8], operation: &str) -> Result<(), LineFault>
     requires { open_line out.old ≡ [] }
     ensures line { OnOk result (open_line out.new ≡ label.now ++ (0x20 ∷ operation.now)) }
     ensures kept { OnOk result (finished_lines out.new ≡ finished_lines out.old) }
@@ -42,7 +42,7 @@ fn statement(out: &mut Output, label: &[u8], operation: &str) -> Result<(), Line
 }
 
 /// Writes an operand behind a space, or nothing where there is none.
-fn operand(out: &mut Output, text: &[u8]) -> Result<(), LineFault>
+fn operand(out: &mut ListingText, text: &[u8]) -> Result<(), LineFault>
     ensures line { OnOk result (open_line out.new ≡ open_line out.old ++ with_leading_space text.now) }
     ensures kept { OnOk result (finished_lines out.new ≡ finished_lines out.old) }
 {
@@ -54,7 +54,7 @@ fn operand(out: &mut Output, text: &[u8]) -> Result<(), LineFault>
 }
 
 /// Writes `$` and a given number of digits.
-fn number(out: &mut Output, n: u32, digits: u32) -> Result<(), LineFault>
+fn number(out: &mut ListingText, n: u32, digits: u32) -> Result<(), LineFault>
     requires { digits ≤ 8 }
     ensures line { OnOk result (open_line out.new ≡ open_line out.old ++ number_text digits n) }
     ensures kept { OnOk result (finished_lines out.new ≡ finished_lines out.old) }
@@ -65,7 +65,7 @@ fn number(out: &mut Output, n: u32, digits: u32) -> Result<(), LineFault>
 
 /// ALIGN before START.
 #[tactic(auto, using(crate::proofs::Written::wrote_of, crate::proofs::Written::long_of), unfolding(list_meaning::specs::Listed::said_text))]
-pub fn put_next_align(out: &mut Output, n: u32) -> Result<(), LineStop>
+pub fn put_next_align(out: &mut ListingText, n: u32) -> Result<(), LineStop>
     requires { open_line out.old ≡ [] }
     ensures wrote { OnOk result (Wrote (NextAlignIs n) out.old out.new) }
     ensures long { IsErrOf result LineStop.NotListable → is_short (NextAlignIs n) ≡ false }
@@ -77,7 +77,7 @@ pub fn put_next_align(out: &mut Output, n: u32) -> Result<(), LineStop>
 
 /// ORG before START.
 #[tactic(auto, using(crate::proofs::Written::wrote_of, crate::proofs::Written::long_of), unfolding(list_meaning::specs::Listed::said_text))]
-pub fn put_next_org(out: &mut Output, n: u32) -> Result<(), LineStop>
+pub fn put_next_org(out: &mut ListingText, n: u32) -> Result<(), LineStop>
     requires { open_line out.old ≡ [] }
     ensures wrote { OnOk result (Wrote (NextOrg n) out.old out.new) }
     ensures long { IsErrOf result LineStop.NotListable → is_short (NextOrg n) ≡ false }
@@ -90,7 +90,7 @@ pub fn put_next_org(out: &mut Output, n: u32) -> Result<(), LineStop>
 /// START, or DATA where the segment may cross banks.
 #[tactic(auto, using(crate::proofs::Written::wrote_of, crate::proofs::Written::long_of), unfolding(list_meaning::specs::Listed::said_text))]
 pub fn put_start(
-    out: &mut Output,
+    out: &mut ListingText,
     crosses: bool,
     name: &[u8],
     load_name: &[u8],
@@ -106,7 +106,7 @@ pub fn put_start(
 
 /// KIND.
 #[tactic(auto, using(crate::proofs::Written::wrote_of, crate::proofs::Written::long_of), unfolding(list_meaning::specs::Listed::said_text))]
-pub fn put_kind(out: &mut Output, n: u16) -> Result<(), LineStop>
+pub fn put_kind(out: &mut ListingText, n: u16) -> Result<(), LineStop>
     requires { open_line out.old ≡ [] }
     ensures wrote { OnOk result (Wrote (KindIs n) out.old out.new) }
     ensures long { IsErrOf result LineStop.NotListable → is_short (KindIs n) ≡ false }
@@ -129,7 +129,7 @@ fn switch_word(switch: Switch) -> &'static str
 
 /// LONGA or LONGI.
 #[tactic(auto, using(crate::proofs::Written::wrote_of, crate::proofs::Written::long_of), unfolding(list_meaning::specs::Listed::said_text))]
-pub fn put_switch(out: &mut Output, switch: Switch, on: bool) -> Result<(), LineStop>
+pub fn put_switch(out: &mut ListingText, switch: Switch, on: bool) -> Result<(), LineStop>
     requires { open_line out.old ≡ [] }
     ensures wrote { OnOk result (Wrote (SwitchIs switch on) out.old out.new) }
     ensures long { IsErrOf result LineStop.NotListable → is_short (SwitchIs switch on) ≡ false }
@@ -141,7 +141,7 @@ pub fn put_switch(out: &mut Output, switch: Switch, on: bool) -> Result<(), Line
 
 /// DS.
 #[tactic(auto, using(crate::proofs::Written::wrote_of, crate::proofs::Written::long_of), unfolding(list_meaning::specs::Listed::said_text))]
-pub fn put_ds(out: &mut Output, n: u32) -> Result<(), LineStop>
+pub fn put_ds(out: &mut ListingText, n: u32) -> Result<(), LineStop>
     requires { open_line out.old ≡ [] }
     ensures wrote { OnOk result (Wrote (Ds n) out.old out.new) }
     ensures long { IsErrOf result LineStop.NotListable → is_short (Ds n) ≡ false }
@@ -153,7 +153,7 @@ pub fn put_ds(out: &mut Output, n: u32) -> Result<(), LineStop>
 
 /// ALIGN in a segment.
 #[tactic(auto, using(crate::proofs::Written::wrote_of, crate::proofs::Written::long_of), unfolding(list_meaning::specs::Listed::said_text))]
-pub fn put_align(out: &mut Output, n: u32) -> Result<(), LineStop>
+pub fn put_align(out: &mut ListingText, n: u32) -> Result<(), LineStop>
     requires { open_line out.old ≡ [] }
     ensures wrote { OnOk result (Wrote (Aligns n) out.old out.new) }
     ensures long { IsErrOf result LineStop.NotListable → is_short (Aligns n) ≡ false }
@@ -165,7 +165,7 @@ pub fn put_align(out: &mut Output, n: u32) -> Result<(), LineStop>
 
 /// ORG in a segment.
 #[tactic(auto, using(crate::proofs::Written::wrote_of, crate::proofs::Written::long_of), unfolding(list_meaning::specs::Listed::said_text))]
-pub fn put_org(out: &mut Output, n: u32) -> Result<(), LineStop>
+pub fn put_org(out: &mut ListingText, n: u32) -> Result<(), LineStop>
     requires { open_line out.old ≡ [] }
     ensures wrote { OnOk result (Wrote (OrgIs n) out.old out.new) }
     ensures long { IsErrOf result LineStop.NotListable → is_short (OrgIs n) ≡ false }
@@ -177,7 +177,7 @@ pub fn put_org(out: &mut Output, n: u32) -> Result<(), LineStop>
 
 /// USING.
 #[tactic(auto, using(crate::proofs::Written::wrote_of, crate::proofs::Written::long_of), unfolding(list_meaning::specs::Listed::said_text))]
-pub fn put_using(out: &mut Output, name: &[u8]) -> Result<(), LineStop>
+pub fn put_using(out: &mut ListingText, name: &[u8]) -> Result<(), LineStop>
     requires { open_line out.old ≡ [] }
     ensures wrote { OnOk result (Wrote (UsingIs name.now) out.old out.new) }
     ensures long { IsErrOf result LineStop.NotListable → is_short (UsingIs name.now) ≡ false }
@@ -189,7 +189,7 @@ pub fn put_using(out: &mut Output, name: &[u8]) -> Result<(), LineStop>
 
 /// DC R.
 #[tactic(auto, using(crate::proofs::Written::wrote_of, crate::proofs::Written::long_of), unfolding(list_meaning::specs::Listed::said_text))]
-pub fn put_dc_strong(out: &mut Output, name: &[u8]) -> Result<(), LineStop>
+pub fn put_dc_strong(out: &mut ListingText, name: &[u8]) -> Result<(), LineStop>
     requires { open_line out.old ≡ [] }
     ensures wrote { OnOk result (Wrote (StrongIs name.now) out.old out.new) }
     ensures long { IsErrOf result LineStop.NotListable → is_short (StrongIs name.now) ≡ false }
@@ -202,7 +202,7 @@ pub fn put_dc_strong(out: &mut Output, name: &[u8]) -> Result<(), LineStop>
 
 /// ENTRY or ANOP.
 #[tactic(auto, using(crate::proofs::Written::wrote_of, crate::proofs::Written::long_of), unfolding(list_meaning::specs::Listed::said_text))]
-pub fn put_label(out: &mut Output, global: bool, name: &[u8]) -> Result<(), LineStop>
+pub fn put_label(out: &mut ListingText, global: bool, name: &[u8]) -> Result<(), LineStop>
     requires { open_line out.old ≡ [] }
     ensures wrote { OnOk result (Wrote (Labels global name.now) out.old out.new) }
     ensures long { IsErrOf result LineStop.NotListable → is_short (Labels global name.now) ≡ false }
@@ -213,7 +213,7 @@ pub fn put_label(out: &mut Output, global: bool, name: &[u8]) -> Result<(), Line
 
 /// GEQU or EQU.
 #[tactic(auto, using(crate::proofs::Written::wrote_of, crate::proofs::Written::long_of), unfolding(list_meaning::specs::Listed::said_text))]
-pub fn put_equate(out: &mut Output, global: bool, name: &[u8], n: u32) -> Result<(), LineStop>
+pub fn put_equate(out: &mut ListingText, global: bool, name: &[u8], n: u32) -> Result<(), LineStop>
     requires { open_line out.old ≡ [] }
     ensures wrote { OnOk result (Wrote (Equates global name.now n) out.old out.new) }
     ensures long { IsErrOf result LineStop.NotListable → is_short (Equates global name.now n) ≡ false }
@@ -224,7 +224,7 @@ pub fn put_equate(out: &mut Output, global: bool, name: &[u8], n: u32) -> Result
 }
 
 /// The formula of an operand.
-fn formula(out: &mut Output, wanted: Wanted) -> Result<(), LineFault>
+fn formula(out: &mut ListingText, wanted: Wanted) -> Result<(), LineFault>
     requires { HasSize (operand_view wanted) }
     ensures line { OnOk result (open_line out.new ≡ open_line out.old ++ wanted_text (operand_view wanted.entry)) }
     ensures kept { OnOk result (finished_lines out.new ≡ finished_lines out.old) }
@@ -258,7 +258,12 @@ fn is_nothing(wanted: Wanted) -> bool
 }
 
 /// Writes an operand with what stands before and behind its formula.
-fn whole_operand(out: &mut Output, front: &str, wanted: Wanted, back: &str) -> Result<(), LineFault>
+fn whole_operand(
+    out: &mut ListingText,
+    front: &str,
+    wanted: Wanted,
+    back: &str,
+) -> Result<(), LineFault>
     requires { HasSize (operand_view wanted) }
     ensures line { OnOk result (open_line out.new ≡ open_line out.old ++ (front.now ++ (wanted_text (operand_view wanted.entry) ++ back.now))) }
     ensures kept { OnOk result (finished_lines out.new ≡ finished_lines out.old) }
@@ -271,7 +276,7 @@ fn whole_operand(out: &mut Output, front: &str, wanted: Wanted, back: &str) -> R
 /// Writes the operand of an instruction behind a space, or nothing where there is none.
 #[tactic(auto, using(crate::proofs::Formulas::spaced_none, crate::proofs::Formulas::spaced_some))]
 fn spaced_operand(
-    out: &mut Output,
+    out: &mut ListingText,
     front: &str,
     wanted: Wanted,
     back: &str,
@@ -290,7 +295,7 @@ fn spaced_operand(
 /// An instruction.
 #[tactic(auto, using(crate::proofs::Written::wrote_of, crate::proofs::Written::long_of), unfolding(list_meaning::specs::Listed::said_text))]
 pub fn put_instruction(
-    out: &mut Output,
+    out: &mut ListingText,
     mnemonic: Mnemonic,
     mode: Mode,
     wanted: Wanted,
@@ -308,7 +313,7 @@ pub fn put_instruction(
 
 /// DC H.
 #[tactic(auto, using(crate::proofs::Written::wrote_of, crate::proofs::Written::long_of), unfolding(list_meaning::specs::Listed::said_text))]
-pub fn put_dc_bytes(out: &mut Output, bytes: &[u8]) -> Result<(), LineStop>
+pub fn put_dc_bytes(out: &mut ListingText, bytes: &[u8]) -> Result<(), LineStop>
     requires { open_line out.old ≡ [] }
     ensures wrote { OnOk result (Wrote (Bytes put_dc_bytes.now) out.old out.new) }
     ensures long { IsErrOf result LineStop.NotListable → is_short (Bytes put_dc_bytes.now) ≡ false }
@@ -323,7 +328,7 @@ pub fn put_dc_bytes(out: &mut Output, bytes: &[u8]) -> Result<(), LineStop>
 
 /// DC A with a formula, of which the first 256 bytes are enough.
 #[tactic(auto, using(crate::proofs::Formulas::sum_wrote, crate::proofs::Formulas::sum_long))]
-pub fn put_dc_formula(out: &mut Output, count: u32, formula: &[u8]) -> Result<(), LineStop>
+pub fn put_dc_formula(out: &mut ListingText, count: u32, formula: &[u8]) -> Result<(), LineStop>
     requires { open_line out.old ≡ [] }
     ensures wrote { OnOk result ((tree : Tree) → formula.now ≡ take 256 (formula_text tree) → Wrote (FormulaIs count tree) out.old out.new) }
     ensures long { IsErrOf result LineStop.NotListable → (tree : Tree) → formula.now ≡ take 256 (formula_text tree) → is_short (FormulaIs count tree) ≡ false }
@@ -338,7 +343,7 @@ pub fn put_dc_formula(out: &mut Output, count: u32, formula: &[u8]) -> Result<()
 
 /// DC S.
 #[tactic(auto, using(crate::proofs::Written::wrote_of, crate::proofs::Written::long_of), unfolding(list_meaning::specs::Listed::said_text))]
-pub fn put_dc_weak(out: &mut Output, name: &[u8]) -> Result<(), LineStop>
+pub fn put_dc_weak(out: &mut ListingText, name: &[u8]) -> Result<(), LineStop>
     requires { open_line out.old ≡ [] }
     ensures wrote { OnOk result (Wrote (WeakIs name.now) out.old out.new) }
     ensures long { IsErrOf result LineStop.NotListable → is_short (WeakIs name.now) ≡ false }
@@ -351,7 +356,7 @@ pub fn put_dc_weak(out: &mut Output, name: &[u8]) -> Result<(), LineStop>
 
 /// END.
 #[tactic(auto, using(crate::proofs::Written::wrote_of, crate::proofs::Written::long_of), unfolding(list_meaning::specs::Listed::said_text))]
-pub fn put_end(out: &mut Output) -> Result<(), LineStop>
+pub fn put_end(out: &mut ListingText) -> Result<(), LineStop>
     requires { open_line out.old ≡ [] }
     ensures wrote { OnOk result (Wrote EndIs out.old out.new) }
     ensures long { IsErrOf result LineStop.NotListable → is_short EndIs ≡ false }

@@ -16,7 +16,7 @@ const MAX_LINE: usize = 255;
 
 /// The lines so far, as long as they aren't too many, and after them the line that is being written.
 #[derive(Drop)]
-pub struct Output {
+pub struct ListingText {
     pub(crate) text: Line,
     /// Where the open line starts.
     pub(crate) start: usize,
@@ -29,18 +29,18 @@ pub struct Output {
     ghost few: { lines ≤ 65536 },
 }
 
-impl Output {
+impl ListingText {
     ghost use Rattle.std.specs.Prelude.{◌≡◌, ◌++◌, [], ◌<◌, Some, None, option_map, OnOk, IsErrOf};
     ghost use Rattle.omf_base.specs.Digits.{hexadecimal};
     ghost use Rattle.list_lines.specs.Kept.{with_line};
     ghost use Rattle.list_lines.specs.OutputView.{has_room, finished_lines, open_line};
 
     /// Nothing.
-    pub fn new(alloc: Global) -> Output
+    pub fn new(alloc: Global) -> ListingText
         ensures kept { finished_lines result ≡ Some ([], 0) }
         ensures line { open_line result ≡ [] }
     {
-        Output {
+        ListingText {
             text: Line::new(alloc),
             start: 0,
             lines: 0,

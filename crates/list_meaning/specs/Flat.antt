@@ -70,7 +70,7 @@ flat s = places_from s.fields.lab_len 0 (contents_of s) ++ zeros s.fields.res_sp
 -- ---- definitions and uses
 
 -- a definition without its attributes and its displacement in the file: the name, who sees it, its place, and an equate's expression
-pub record Defined : Type 0 where
+pub record FlatDefinition : Type 0 where
   pub name : List ℕ
   pub scope : Scope
   pub place : ℕ
@@ -82,11 +82,11 @@ value_in lab_len None = None
 value_in lab_len (Some expr) = tree_in lab_len expr
 
 -- a definition as it is compared
-abbrev pub comparable_definition : ℕ → Definition → Defined
+abbrev pub comparable_definition : ℕ → Definition → FlatDefinition
 comparable_definition lab_len d = record { name = d.name; scope = d.scope; place = d.place; value = value_in lab_len d.expr }
 
 -- what the linker finds defined in the segment, its SEGNAME first
-abbrev pub definitions : Segment → List Defined
+abbrev pub definitions : Segment → List FlatDefinition
 definitions s = map (comparable_definition s.fields.lab_len) (defined_in s)
 
 -- the name that a USING names

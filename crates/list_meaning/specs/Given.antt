@@ -4,7 +4,7 @@ use Rattle.byteorder.specs.Endian.{little_bytes}
 use Rattle.omf_format.specs.Ascii as ascii
 use Rattle.omf_format.specs.Expression as expression
 use Rattle.omf_format.specs.Expression.{Tree, Leaf, Binary}
-use Rattle.omf_format.specs.Header.{Fields}
+use Rattle.omf_format.specs.Header.{HeaderFields}
 use Rattle.omf_format.specs.Record as records
 use Rattle.omf_format.specs.Record.{Record, End, Const, Align, Org, Space, Using, Strong, Equate, Formula}
 use Rattle.macro_meaning.specs.Symbol.{with_name}
@@ -15,7 +15,7 @@ use Rattle.asm_meaning.specs.declared.directives.Switch.TheVariants.{LongA, Long
 use Rattle.asm_meaning.specs.Formulas.{expression_text}
 use Rattle.asm_meaning.specs.Instruction.{Widths, kind_of, operand_bytes, operand_record, opcode_in}
 use Rattle.asm_meaning.specs.Pieces.{place_after}
-use Rattle.asm_meaning.specs.State.{State, Segment, Names, no_names}
+use Rattle.asm_meaning.specs.State.{State, StartedSegment, Names, no_names}
 use Rattle.list_meaning.specs.Listed.{ListedStatement, NextAlignIs, NextOrg, StartIs, KindIs, SwitchIs, Ds, Aligns, OrgIs, UsingIs, StrongIs, Labels, Equates, Instructs, Bytes, WeakIs, FormulaIs, EndIs, Wanted, None', Number, Banks, Label, Moved}
 
 -- ---- records
@@ -88,15 +88,15 @@ widths_said (SwitchIs switch on) w = with_width_set switch on w
 widths_said _ w = w
 
 -- KIND sets the header's
-abbrev pub header_said : ListedStatement → Fields → Fields
+abbrev pub header_said : ListedStatement → HeaderFields → HeaderFields
 header_said (KindIs n) header = record header { kind = n }
 header_said _ header = header
 
 -- ---- what a line inside a segment leaves
 
 -- the open segment has its records, its name and its header's field, and nothing else is changed but the widths
-pub record Leaves (said : ListedStatement) (state : State) (s : Segment) (next : State) : Type 0 where
-  pub after : Segment
+pub record Leaves (said : ListedStatement) (state : State) (s : StartedSegment) (next : State) : Type 0 where
+  pub after : StartedSegment
   pub here : next.segment ≡ Some after
   pub start_line : after.start_line ≡ s.start_line
   pub class : after.class ≡ s.class
@@ -114,7 +114,7 @@ pub record Leaves (said : ListedStatement) (state : State) (s : Segment) (next :
 
 -- START or DATA opens a segment with this name and this LOADNAME, and with the ORG and the ALIGN that wait for it
 pub record Opens (crosses : Bool) (name load_name : List ℕ) (state next : State) : Type 0 where
-  pub after : Segment
+  pub after : StartedSegment
   pub was : state.segment ≡ None
   pub here : next.segment ≡ Some after
   pub name_is : after.header.name ≡ name
@@ -128,7 +128,7 @@ pub record Opens (crosses : Bool) (name load_name : List ℕ) (state next : Stat
 
 -- END ends it, and LENGTH is the number of its cells
 pub record Closes (state next : State) : Type 0 where
-  pub s : Segment
+  pub s : StartedSegment
   pub was : state.segment ≡ Some s
   pub here : next.segment ≡ None
   pub ended : next.ended ≡ state.ended ++ record { header = record s.header { length = place_after 0 (s.body ++ End ∷ []) }; body = s.body ++ End ∷ [] } ∷ []
@@ -139,4 +139,4 @@ IsLeft (NextAlignIs n) state next = next ≡ record state { align = n }
 IsLeft (NextOrg n) state next = next ≡ record state { org = n }
 IsLeft (StartIs crosses name load_name) state next = Opens crosses name load_name state next
 IsLeft EndIs state next = Closes state next
-IsLeft said state next = (s : Segment) × (state.segment ≡ Some s) × Leaves said state s next
+IsLeft said state next = (s : StartedSegment) × (state.segment ≡ Some s) × Leaves said state s next

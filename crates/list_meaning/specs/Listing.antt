@@ -7,7 +7,7 @@ use Rattle.omf_format.specs.Ascii as ascii
 use Rattle.omf_format.specs.Field.{◌>>=◌}
 use Rattle.omf_format.specs.Expression.{Tree, Leaf, Binary, Term, Operator, Location, Constant, Named, Offset, terms_of}
 use Rattle.omf_format.specs.File.{Segment}
-use Rattle.omf_format.specs.Header.{Fields, form_of, alignment_of}
+use Rattle.omf_format.specs.Header.{HeaderFields, form_of, alignment_of}
 use Rattle.omf_format.specs.Record.{Record, End, Const, LongConst, Align, Org, Space, Using, Strong, Label, Equate, Formula}
 use Rattle.object_meaning.specs.Sizes.{records_with_offsets, body_size}
 use Rattle.object_meaning.specs.Terms.{tree_in}
@@ -18,7 +18,7 @@ use Rattle.orca_meaning.specs.declared.modes.Mode.TheVariants.{Signature}
 use Rattle.orca_meaning.specs.Characters.{is_name, folded}
 use Rattle.orca_meaning.specs.Matrix.{matrix, Instruction}
 use Rattle.asm_meaning.specs.declared.directives.Switch.TheVariants.{LongA, LongI}
-use Rattle.asm_meaning.specs.Instruction.{Widths, Kind, Missing, Value, Address, Distance, Banks, Sign, kind_of, operand_bytes, address_code}
+use Rattle.asm_meaning.specs.Instruction.{Widths, OperandKind, Missing, Value, Address, Distance, Banks, Sign, kind_of, operand_bytes, address_code}
 use Rattle.list_meaning.specs.Listed.{ListedStatement, NextAlignIs, NextOrg, StartIs, KindIs, SwitchIs, Ds, Aligns, OrgIs, UsingIs, StrongIs, Labels, Equates, Instructs, Bytes, WeakIs, FormulaIs, EndIs, Wanted, None', Number, Moved, said_text, listing_text}
 use Rattle.list_meaning.specs.Listed as listed
 
@@ -72,7 +72,7 @@ abbrev pub unless_zero : (ℕ → ListedStatement) → ℕ → List ListedStatem
 unless_zero said n = if n == 0 then [] else said n ∷ []
 
 -- the lines before those of the records
-unfoldable pub front_of : Fields → List ListedStatement
+unfoldable pub front_of : HeaderFields → List ListedStatement
 front_of f =
     unless_zero NextAlignIs f.align
     ++ (unless_zero NextOrg f.org ++ StartIs (f.bank_size == 0) f.name (without_padding f.load_name) ∷ KindIs f.kind ∷ SwitchIs LongA true ∷ SwitchIs LongI true ∷ [])
@@ -117,7 +117,7 @@ turns_between w v =
     ++ (if same_bool w.long_i v.long_i then [] else SwitchIs LongI v.long_i ∷ [])
 
 -- the operand of an instruction by its bytes; None for a branch
-abbrev pub operand_by : Kind → List ℕ → Option Wanted
+abbrev pub operand_by : OperandKind → List ℕ → Option Wanted
 operand_by Missing bytes = Some None'
 operand_by Value bytes = Some (Number (length bytes) (little_number (length bytes) bytes))
 operand_by (Address n) bytes = Some (Number (length bytes) (little_number (length bytes) bytes))
@@ -174,7 +174,7 @@ weak_of (Leaf (Named code name)) = if code == 0x82 then Some name else None
 weak_of _ = None
 
 -- the code, the count and the n of the record of an operand that is no constant, where the instruction has one such record
-unfoldable pub record_by : Mnemonic → Kind → ℕ → Option (ℕ × ℕ × ℕ)
+unfoldable pub record_by : Mnemonic → OperandKind → ℕ → Option (ℕ × ℕ × ℕ)
 record_by mnemonic Missing bytes = None
 record_by mnemonic Value bytes = Some (0xEB, bytes, 0)
 record_by mnemonic (Address n) bytes = Some (address_code mnemonic n, bytes, 0)
@@ -336,7 +336,7 @@ on_tree None f = None
 on_tree (Some tree) f = f tree
 
 -- the lines of a record where it can be listed, and what it leaves; what is before ALIGN is in the header
-unfoldable pub given_by : Fields → List (List ℕ) → PendingRun → Record → Option Given
+unfoldable pub given_by : HeaderFields → List (List ℕ) → PendingRun → Record → Option Given
 given_by f equates b End = if_short true (then_said (unless_zero Ds f.res_spc ++ EndIs ∷ []) (with_run_written b))
 given_by f equates b (Const bytes) = Some ([], record b { run = b.run ++ bytes })
 given_by f equates b (LongConst bytes) = Some ([], record b { run = b.run ++ bytes })
@@ -370,13 +370,13 @@ or_record at None = Err at
 or_record at (Some a) = Ok a
 
 -- the lines of records after these lines, or the place of the first that can't be listed
-unfoldable pub said_from : Fields → List (List ℕ) → PendingRun → List (ℕ × Record) → Result (List ListedStatement) ℕ
+unfoldable pub said_from : HeaderFields → List (List ℕ) → PendingRun → List (ℕ × Record) → Result (List ListedStatement) ℕ
 said_from f equates b [] = Ok []
 said_from f equates b (found ∷ founds) =
     or_record found.0 (given_by f equates b found.1) >>= λ given. said_from f equates given.1 founds >>= λ more. Ok (given.0 ++ more)
 
 -- before the first record: both registers have 16 bits, and SEGNAME is defined
-abbrev pub at_front : Fields → PendingRun
+abbrev pub at_front : HeaderFields → PendingRun
 at_front f = record { widths = both_long; run = []; names = f.name ∷ [] }
 
 -- the lines of a segment, or the place where it can't be listed: its start, or a record

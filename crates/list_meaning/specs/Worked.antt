@@ -1,13 +1,13 @@
 -- Listings that were worked out by hand: what the definitions make of three segments.
 use Rattle.std.specs.Prelude.{◌≡◌, ℕ, List, [], ◌∷◌, codes, replicate, Ok, Err, Result}
 use Rattle.omf_format.specs.File.{Segment}
-use Rattle.omf_format.specs.Header.{Fields}
+use Rattle.omf_format.specs.Header.{HeaderFields}
 use Rattle.omf_format.specs.Record.{Formula, End, Const, Space}
 use Rattle.list_meaning.specs.Listed.{ListedStatement, listing_text}
 use Rattle.list_meaning.specs.Listing.{listing_of}
 
 -- a header of a code segment `A` with this LENGTH
-abbrev pub fields : ℕ → Fields
+abbrev pub fields : ℕ → HeaderFields
 fields length = record {
   byte_count = 0x42;
   res_spc = 0;

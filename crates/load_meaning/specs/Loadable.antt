@@ -11,7 +11,7 @@ use Rattle.load_meaning.specs.declared.load.LoadCause.{LoadCause}
 use Rattle.load_meaning.specs.declared.load.LoadCause.TheVariants.{NotLoadFile, Truncated, BadHeader, Unsupported, BadRecord, Sequence, DataTooLong, PatchOutside, NoSuchTarget, DynamicTarget, BadTable, Memory}
 use Rattle.load_meaning.specs.declared.load.LoadFault.{LoadFault}
 use Rattle.load_meaning.specs.declared.table.Target.{Target}
-use Rattle.omf_format.specs.Header.{Fields, fields_of, version_of, header_fault, form_of, is_dynamic, is_skipped, first_of}
+use Rattle.omf_format.specs.Header.{HeaderFields, fields_of, version_of, header_fault, form_of, is_dynamic, is_skipped, first_of}
 use Rattle.omf_format.specs.Record.{Record, Align, Org, Using, Strong, Label, Equate, Formula, Entry}
 use Rattle.omf_format.specs.Reading.{Reader, next_answer, HandsOut}
 use Rattle.omf_format.specs.File.{Segment, body_reader, IsHeader, AreSegments, IsFile, segment_at, FaultAt, to_file_header_fault, to_file_record_fault}
@@ -36,7 +36,7 @@ is_express name = bytes_eq name express_name || bytes_eq name (126 ∷ express_n
 
 -- why a load file can't have a segment of this name and type, the name first: a segment for the Express Loader isn't read, and a library
 -- dictionary belongs to a library
-unfoldable pub segment_refusal : Fields → Option LoadCause
+unfoldable pub segment_refusal : HeaderFields → Option LoadCause
 segment_refusal f = first_of (
     (is_express f.name, Unsupported)
     ∷ (form_of f.kind == 0x08, NotLoadFile)
@@ -85,7 +85,7 @@ pub record IsLoadSegment (s : Segment) : Type 0 where
 -- the first fault of the segment that starts there: of its front, or else of the first record that has one
 pub data HasReadFault (start : ℕ) (file : List ℕ) (fault : Fault) : Type 0 where
   OfFront : front_fault start file ≡ Some fault → HasReadFault start file fault
-  OfRecord : (f : Fields) (before : List (ℕ × Record)) (reader : Reader) → IsHeader start f file → segment_refusal f ≡ None
+  OfRecord : (f : HeaderFields) (before : List (ℕ × Record)) (reader : Reader) → IsHeader start f file → segment_refusal f ≡ None
       → HandsOut (body_reader start f file) before reader → AllByRecursion (λ found. record_refusal found.1 ≡ None) before
       → answer_fault (next_answer reader) ≡ Some fault → HasReadFault start file fault
 

@@ -3,7 +3,7 @@
 use Rattle.std.specs.Prelude.{◌≡◌, ◌<◌, ◌≤◌, ◌^◌, ℕ, List, [], ◌∷◌, ◌++◌, length, map, replicate, codes, Bool, true, false, if◌then◌else◌}
 use Rattle.std.specs.List.{flat_map, AllByRecursion}
 use Rattle.omf_format.specs.Field.{written_layout}
-use Rattle.omf_format.specs.Header.{Fields, written_fields, header_bytes, IsWritable}
+use Rattle.omf_format.specs.Header.{HeaderFields, written_fields, header_bytes, IsWritable}
 use Rattle.omf_format.specs.WrittenHeader.{FitsWritten}
 use Rattle.omf_format.specs.Record.{Record, End, Entry as Exported, IsRecord, spelling}
 use Rattle.omf_format.specs.File.{Segment, IsFile}
@@ -16,7 +16,7 @@ use Rattle.load_meaning.specs.WrittenBody.{AreWritten, zeros_after, written_cell
 -- a load segment that is to be written: its header's fields, its content, the patches over it, and its ENTRY records; where it is whole,
 -- as a list of pathnames, its zeros at the end are written too
 pub record Image : Type 0 where
-  pub fields : Fields
+  pub fields : HeaderFields
   pub content : List ℕ
   pub patches : List Patch
   pub exports : List Record
@@ -31,7 +31,7 @@ unfoldable pub image_body : Image → List ℕ
 image_body image = flat_map (spelling written_layout) (image_records image) ++ spelling written_layout End
 
 -- the fields that are written: RESSPC is the number of zeros that the body leaves out
-abbrev pub image_fields : Image → Fields
+abbrev pub image_fields : Image → HeaderFields
 image_fields image = record image.fields { res_spc = if image.whole then 0 else zeros_after (written_cells image.content image.patches) }
 
 -- an ENTRY record that can be written
@@ -74,7 +74,7 @@ AreReadAs (image ∷ images) (s ∷ segments) = IsReadAs image s × AreReadAs im
 
 -- the header's fields of a jump table with this number and so many bytes: it is static and lies in one bank, no place is
 -- asked for, and its name is ~JumpTable
-unfoldable pub table_fields : ℕ → ℕ → Fields
+unfoldable pub table_fields : ℕ → ℕ → HeaderFields
 table_fields number size = record {
   byte_count = 0;
   res_spc = 0;
@@ -100,7 +100,7 @@ table_image number entries = record { fields = table_fields number (length (tabl
 -- ---- the pathnames
 
 -- the header's fields of a pathname segment with this number and so many bytes: those of a table, with its own type and name
-unfoldable pub pathnames_fields : ℕ → ℕ → Fields
+unfoldable pub pathnames_fields : ℕ → ℕ → HeaderFields
 pathnames_fields number size = record (table_fields number size) { kind = 0x0004; name = codes "~Pathnames" }
 
 -- the segment of the pathnames of these files

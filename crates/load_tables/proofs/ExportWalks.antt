@@ -4,7 +4,7 @@ use Rattle.std.specs.List.{flat_map}
 use Rattle.std.proofs.lemmas.List.{append-nil, length-drop, length-take}
 use Rattle.std.proofs.lemmas.List.Concat.{flat_map-cons}
 use Rattle.omf_format.specs.declared.fault.RecordFault.{RecordFault}
-use Rattle.omf_format.specs.Header.{Fields}
+use Rattle.omf_format.specs.Header.{HeaderFields}
 use Rattle.omf_format.specs.Record.{Record}
 use Rattle.omf_format.specs.Reading.{Reader, next_answer, after_next, HandsOut, records_of, IsBody}
 use Rattle.omf_format.specs.File.{Segment, body_reader}
@@ -105,7 +105,7 @@ exports_are segments none = numbered 1 segments (later_none segments none).0
 -- ---- how many
 
 -- the body has no more bytes than the segment
-pub body_short : (start : ℕ) (f : Fields) (file : List ℕ) → length (body_reader start f file).left ≤ f.byte_count
+pub body_short : (start : ℕ) (f : HeaderFields) (file : List ℕ) → length (body_reader start f file).left ≤ f.byte_count
 unfolding body_reader
 body_short start f file =
     omega (arith, length-drop (start + f.disp_data) (take (start + f.byte_count) file), length-take (start + f.byte_count) file)

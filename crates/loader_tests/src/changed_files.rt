@@ -88,9 +88,9 @@ fn start(alloc: Global, loader: &mut Loader, files: &mut MemoryFiles) -> Result<
 }
 
 /// What is answered for the dynamic segment: where it comes, and its two bytes.
-type Answer = Result<(u32, [u8; 2]), LoaderFault>;
+type ReadAnswer = Result<(u32, [u8; 2]), LoaderFault>;
 
-fn answered(loader: &mut Loader, files: &mut MemoryFiles) -> Answer {
+fn answered(loader: &mut Loader, files: &mut MemoryFiles) -> ReadAnswer {
     let place = comes(loader, files)?;
     match loader.bytes(0x1001, 2, 0, 2)? {
         [first, second] => Ok((place, [*first, *second])),
@@ -104,24 +104,24 @@ fn answered_later(
     loader: &mut Loader,
     files: &mut MemoryFiles,
     later: &[u8],
-) -> Result<Answer, Fail> {
+) -> Result<ReadAnswer, Fail> {
     start(alloc, loader, files)?;
     put(files, later)?;
     Ok(answered(loader, files))
 }
 
-fn answer_of(alloc: Global, loader: &mut Loader, later: &[u8]) -> Result<Answer, Fail> {
+fn answer_of(alloc: Global, loader: &mut Loader, later: &[u8]) -> Result<ReadAnswer, Fail> {
     let mut files = files_of(alloc, Vec::new(alloc));
     answered_later(alloc, loader, &mut files, later)
 }
 
-fn answer(alloc: Global, later: &[u8]) -> Result<Answer, Fail> {
+fn answer(alloc: Global, later: &[u8]) -> Result<ReadAnswer, Fail> {
     let mut loader = loader_of(alloc)?;
     answer_of(alloc, &mut loader, later)
 }
 
 /// The same where the program's bytes are changed.
-fn answer_to(alloc: Global, changes: &[(usize, u8)]) -> Result<Answer, Fail> {
+fn answer_to(alloc: Global, changes: &[(usize, u8)]) -> Result<ReadAnswer, Fail> {
     answer(alloc, program(alloc, changes)?.as_slice())
 }
 
@@ -130,7 +130,7 @@ fn answers(
     rt: &(impl Alloc<A = Global> + Abort),
     n: usize,
     changes: &[(usize, u8)],
-    want: Answer,
+    want: ReadAnswer,
 ) -> Result<(), Fail> {
     same(rt, n, answer_to(rt.alloc(), changes)?, want);
     Ok(())
@@ -142,7 +142,7 @@ fn answers_to(
     n: usize,
     segments: &[&[u8]],
     changes: &[(usize, u8)],
-    want: Answer,
+    want: ReadAnswer,
 ) -> Result<(), Fail> {
     let alloc = rt.alloc();
     let later = changed(alloc, segments, changes)?;
@@ -151,7 +151,7 @@ fn answers_to(
 }
 
 /// The file is refused with these facts.
-fn is_changed(kept: Facts, found: Facts) -> Answer {
+fn is_changed(kept: Facts, found: Facts) -> ReadAnswer {
     Err(LoaderFault::Changed { kept, found })
 }
 

@@ -10,7 +10,7 @@ use sys_loader::{Info, Loader, LoaderFault};
 
 /// A call that takes memory.
 #[derive(Clone, Copy)]
-enum Call {
+enum LoaderCall {
     Load,
     LoadSegment,
     Jsl,
@@ -35,12 +35,16 @@ fn restart(loader: &mut Loader, files: &mut MemoryFiles) -> Result<u32, LoaderFa
 }
 
 /// Makes a call, and tells the address that it answers.
-fn made(loader: &mut Loader, files: &mut MemoryFiles, call: Call) -> Result<u32, LoaderFault> {
+fn made(
+    loader: &mut Loader,
+    files: &mut MemoryFiles,
+    call: LoaderCall,
+) -> Result<u32, LoaderFault> {
     match call {
-        Call::Load => load(loader, files),
-        Call::LoadSegment => load_segment(loader, files),
-        Call::Jsl => jsl(loader, files),
-        Call::Restart => restart(loader, files),
+        LoaderCall::Load => load(loader, files),
+        LoaderCall::LoadSegment => load_segment(loader, files),
+        LoaderCall::Jsl => jsl(loader, files),
+        LoaderCall::Restart => restart(loader, files),
     }
 }
 
@@ -83,7 +87,7 @@ fn all_seen(loader: &Loader) -> (Seen, Seen, Seen, u32) {
 fn answer(
     loader: &mut Loader,
     files: &mut MemoryFiles,
-    call: Call,
+    call: LoaderCall,
 ) -> Option<Result<u32, LoaderFault>> {
     let before = all_seen(loader);
     let answer = made(loader, files, call);
@@ -131,16 +135,26 @@ fn shut_down(loader: &mut Loader) -> Result<(), LoaderFault> {
 // The code, and after it the table; the dynamic segment comes after both, is entered at its second byte, and comes again where it was
 // purged.
 fn starts(rt: &impl Abort, loader: &mut Loader, files: &mut MemoryFiles) {
-    same(rt, 0, answer(loader, files, Call::Load), Some(Ok(0x800)));
+    same(
+        rt,
+        0,
+        answer(loader, files, LoaderCall::Load),
+        Some(Ok(0x800)),
+    );
     same(
         rt,
         1,
-        answer(loader, files, Call::LoadSegment),
+        answer(loader, files, LoaderCall::LoadSegment),
         Some(Ok(0x81E)),
     );
     same(rt, 2, is_let_go(loader), true);
     same(rt, 3, purged(loader), Ok(1));
-    same(rt, 4, answer(loader, files, Call::Jsl), Some(Ok(0x81F)));
+    same(
+        rt,
+        4,
+        answer(loader, files, LoaderCall::Jsl),
+        Some(Ok(0x81F)),
+    );
     same(rt, 5, sum(loader, 2, 2), Some(0xEA * 2 + 0x6B));
 }
 
@@ -148,7 +162,12 @@ fn starts(rt: &impl Abort, loader: &mut Loader, files: &mut MemoryFiles) {
 fn starts_anew(rt: &impl Abort, loader: &mut Loader, files: &mut MemoryFiles) {
     same(rt, 6, shut_down(loader), Ok(()));
     same(rt, 7, purged(loader), Ok(3));
-    same(rt, 8, answer(loader, files, Call::Restart), Some(Ok(0x800)));
+    same(
+        rt,
+        8,
+        answer(loader, files, LoaderCall::Restart),
+        Some(Ok(0x800)),
+    );
     same(
         rt,
         9,

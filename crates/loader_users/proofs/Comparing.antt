@@ -3,29 +3,29 @@ use Rattle.std.proofs.Common.{◌≡◌, ◌≢◌, ◌⊎◌, inl, inr, ℕ, ze
 use Rattle.std.specs.Prelude.{slice_get, IsSomeAnd, option_map}
 use Rattle.std.proofs.lemmas.Option.{same_Some, slice_get_within, slice_get-map, slice_get-get_or}
 use Rattle.std.proofs.lemmas.List.{take_all}
-use Rattle.omf_format.specs.Header.{Fields}
+use Rattle.omf_format.specs.Header.{HeaderFields}
 use Rattle.omf_format.specs.File.{Segment}
 use Rattle.load_meaning.specs.laws.LayingLaws.{get-take}
 use Rattle.omf_cells.specs.Load.{HasFields}
 use Rattle.loader_machine.specs.declared.seen.SegmentHead.{SegmentHead}
 use Rattle.loader_machine.specs.Heads.{head_of, at_number}
-use Rattle.loader_users.specs.declared.user.Segment as users
+use Rattle.loader_users.specs.declared.user.UserSegment as users
 use Rattle.loader_users.specs.Filling.{head_in}
 use Rattle.loader_users.specs.Changed.{AreSameBelow, DiffersAt}
 use Rattle.loader_users.proofs.Written.{heads_of}
 
 -- ---- headers at a place
 
-pub head_get : (segments : List users.Segment) (k : ℕ) (s : users.Segment) → k < length segments → s ≡ get_or segments k s → slice_get (heads_of segments) k ≡ Some s.head
+pub head_get : (segments : List users.UserSegment) (k : ℕ) (s : users.UserSegment) → k < length segments → s ≡ get_or segments k s → slice_get (heads_of segments) k ≡ Some s.head
 head_get segments k s inside is =
-    slice_get-map (λ (x : users.Segment). x.head) segments k ∙ ap (option_map (λ (x : users.Segment). x.head)) (slice_get-get_or segments k s inside) ∙ ap (λ (x : users.Segment). Some x.head) (sym is)
+    slice_get-map (λ (x : users.UserSegment). x.head) segments k ∙ ap (option_map (λ (x : users.UserSegment). x.head)) (slice_get-get_or segments k s inside) ∙ ap (λ (x : users.UserSegment). Some x.head) (sym is)
 
-pub fields_get : (load : List Segment) (k : ℕ) (f : Fields) → HasFields load (k + 1) f → slice_get (map head_of load) k ≡ Some (head_in f)
+pub fields_get : (load : List Segment) (k : ℕ) (f : HeaderFields) → HasFields load (k + 1) f → slice_get (map head_of load) k ≡ Some (head_in f)
 fields_get load k f has = let more : k + 1 ≡ suc k = omega arith in slice_get-map head_of load k ∙ go (slice_get load k) refl (Rattle.std.proofs.Common.subst (λ (n : ℕ). HasFields load n f) more has)
   where
     go : (o : Option Segment) → slice_get load k ≡ o → IsSomeAnd o (λ s. s.fields ≡ f) → option_map head_of (slice_get load k) ≡ Some (head_in f)
     go None e is = absurd is
-    go (Some s) e is = ap (option_map head_of) e ∙ ap (λ (g : Fields). Some (head_in g)) is
+    go (Some s) e is = ap (option_map head_of) e ∙ ap (λ (g : HeaderFields). Some (head_in g)) is
 
 -- ---- the first so many are the same
 

@@ -22,12 +22,12 @@ use Rattle.loader_agrees.specs.laws.Seeing.{made_at, its_block}
 use Rattle.iigs_places.specs.Holder.{Has, IsHolder}
 use Rattle.loader_users.specs.View.{kept, loaded}
 use Rattle.loader_users.specs.declared.user.User.{User}
-use Rattle.loader_users.specs.declared.user.Segment.{Segment}
+use Rattle.loader_users.specs.declared.user.UserSegment.{UserSegment}
 use Rattle.loader_users.specs.Lying.{LiesAt, LiesInNone, IsSomewhereOf, IsNowhereFor, IsSomewhere}
 
-module _ (slots : Slots) (segments xs : List Segment) (h : Handle) (place address : ℕ) (d : Segment) (same : xs ≡ segments) (inside : place < length xs) where
+module _ (slots : Slots) (segments xs : List UserSegment) (h : Handle) (place address : ℕ) (d : UserSegment) (same : xs ≡ segments) (inside : place < length xs) where
   here : slice_get segments place ≡ Some (get_or xs place d)
-  here = ap (λ (l : List Segment). slice_get l place) (sym same) ∙ slice_get-get_or xs place d inside
+  here = ap (λ (l : List UserSegment). slice_get l place) (sym same) ∙ slice_get-get_or xs place d inside
 
   pub none_more : LiesInNone slots segments place h address → ((offset : ℕ) → ¬ LiesAt slots (get_or xs place d) h address offset) → LiesInNone slots segments (place + 1) h address
   none_more none not k t offset less found = elim (cases_lt k place) [
@@ -35,7 +35,7 @@ module _ (slots : Slots) (segments xs : List Segment) (h : Handle) (place addres
     | inr after ↦ λ lies.
         let at : k ≡ place = omega (arith, after, less) in
         let it : t ≡ get_or xs place d = same_Some t (get_or xs place d) (sym found ∙ ap (slice_get segments) at ∙ here) in
-        not offset (subst (λ (x : Segment). LiesAt slots x h address offset) it lies)
+        not offset (subst (λ (x : UserSegment). LiesAt slots x h address offset) it lies)
   ]
 
 -- ---- users
@@ -74,8 +74,8 @@ lies_block loader sound address id number offset lies =
       rw own.live (own.user ∙ id_is),
     )
 
-handle_is : (segments : List Segment) (number : ℕ) (s : Segment) → at_number segments number ≡ Some s → handle_at (map (λ (x : Segment). x.handle) segments) number ≡ s.handle
-handle_is segments number s is = ap (option_and_then (λ (o : Option Handle). o)) (number_map (λ (x : Segment). x.handle) segments number ∙ ap (option_map (λ (x : Segment). x.handle)) is)
+handle_is : (segments : List UserSegment) (number : ℕ) (s : UserSegment) → at_number segments number ≡ Some s → handle_at (map (λ (x : UserSegment). x.handle) segments) number ≡ s.handle
+handle_is segments number s is = ap (option_and_then (λ (o : Option Handle). o)) (number_map (λ (x : UserSegment). x.handle) segments number ∙ ap (option_map (λ (x : UserSegment). x.handle)) is)
 
 module _ (memory : Memory) (items : List (Option User)) where
   abbrev loader : Loaded
@@ -101,7 +101,7 @@ module _ (memory : Memory) (items : List (Option User)) where
           made = ap (user_of (map (option_map kept) items)) e ∙ user_at k user is;
           runs = somewhere.0;
           head = s.head;
-          head' = number_map (λ (x : Segment). x.head) user.segments.items number ∙ ap (option_map (λ (x : Segment). x.head)) somewhere.1.1;
+          head' = number_map (λ (x : UserSegment). x.head) user.segments.items number ∙ ap (option_map (λ (x : UserSegment). x.head)) somewhere.1.1;
           handle = handle_is user.segments.items number s somewhere.1.1 ∙ handle;
           address = at.first;
           active = ap (presence memory.slots) (sym handle) ∙ at.active;
@@ -118,14 +118,14 @@ module _ (memory : Memory) (items : List (Option User)) where
       go (Some None) e f = absurd cc
       go (Some (Some user)) e f = (user, e, same_Some (kept user) one (same_Some (Some (kept user)) (Some one) f))
 
-  numbered : (segments : List Segment) (number : ℕ) (head : SegmentHead) → at_number (map (λ (x : Segment). x.head) segments) number ≡ Some head → (s : Segment) × (at_number segments number ≡ Some s) × (s.head ≡ head)
-  numbered segments number head is = go (at_number segments number) refl (sym (number_map (λ (x : Segment). x.head) segments number) ∙ is)
+  numbered : (segments : List UserSegment) (number : ℕ) (head : SegmentHead) → at_number (map (λ (x : UserSegment). x.head) segments) number ≡ Some head → (s : UserSegment) × (at_number segments number ≡ Some s) × (s.head ≡ head)
+  numbered segments number head is = go (at_number segments number) refl (sym (number_map (λ (x : UserSegment). x.head) segments number) ∙ is)
     where
-      go : (o : Option Segment) → at_number segments number ≡ o → option_map (λ (x : Segment). x.head) o ≡ Some head → (s : Segment) × (at_number segments number ≡ Some s) × (s.head ≡ head)
+      go : (o : Option UserSegment) → at_number segments number ≡ o → option_map (λ (x : UserSegment). x.head) o ≡ Some head → (s : UserSegment) × (at_number segments number ≡ Some s) × (s.head ≡ head)
       go None e f = absurd cc
       go (Some s) e f = (s, e, same_Some s.head head f)
 
-  at_place : (segments : List Segment) (number : ℕ) (s : Segment) → at_number segments number ≡ Some s → (k : ℕ) × (slice_get segments k ≡ Some s) × (k < length segments)
+  at_place : (segments : List UserSegment) (number : ℕ) (s : UserSegment) → at_number segments number ≡ Some s → (k : ℕ) × (slice_get segments k ≡ Some s) × (k < length segments)
   at_place segments zero s is = absurd cc
   at_place segments (suc k) s is = (k, is, slice_get_within segments k s is)
 
@@ -167,4 +167,4 @@ module _ (memory : Memory) (items : List (Option User)) where
   pub short_users : IsSound memory (map (option_map kept) items) → (k : ℕ) (one : User) → slice_get items k ≡ Some (Some one) → length one.segments.items < 2 ^ 16
   short_users sound k one is =
       let made : slice_get (map (option_map kept) items) k ≡ Some (Some (kept one)) = slice_get-map (option_map kept) items k ∙ ap (option_map (option_map kept)) is in
-      omega (arith, sound.short k (kept one) made, length-map one.segments.items (λ (x : Segment). x.head))
+      omega (arith, sound.short k (kept one) made, length-map one.segments.items (λ (x : UserSegment). x.head))

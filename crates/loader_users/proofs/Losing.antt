@@ -5,7 +5,7 @@ use Rattle.std.specs.Option.{option_map, option_map_or, option_and_then}
 use Rattle.std.proofs.lemmas.Bool.Decides.{nat_tests}
 use Rattle.std.proofs.lemmas.Option.{slice_get-map, same_Some}
 use Rattle.omf_io.specs.Files.{FileMap}
-use Rattle.omf_format.specs.Header.{Fields}
+use Rattle.omf_format.specs.Header.{HeaderFields}
 use Rattle.omf_format.specs.File.{Segment, segment_at}
 use Rattle.load_meaning.specs.declared.load.LoadFault.{LoadFault}
 use Rattle.load_meaning.specs.declared.table.Target.{Target}
@@ -21,14 +21,14 @@ use Rattle.loader_agrees.specs.Agrees.{LoadedUser, outline, AreAttached, LeadsFa
 use Rattle.loader_agrees.specs.laws.RowUsers.{user_there}
 use Rattle.loader_agrees.specs.laws.Seeing.{user_is}
 use Rattle.loader_agrees.specs.laws.EntryReads.{targets_count, number_within}
-use Rattle.loader_users.specs.declared.user.Segment as users
+use Rattle.loader_users.specs.declared.user.UserSegment as users
 use Rattle.loader_users.specs.Users.{lost_entry, heads_in, kept_heads}
 use Rattle.loader_users.proofs.Families.{drop_at, drop_past}
 
 -- the header of the segment with a number
-pub head_number : (items : List users.Segment) (n : ℕ) → at_number (map (λ (s : users.Segment). s.head) items) n ≡ option_map (λ (s : users.Segment). s.head) (at_number items n)
+pub head_number : (items : List users.UserSegment) (n : ℕ) → at_number (map (λ (s : users.UserSegment). s.head) items) n ≡ option_map (λ (s : users.UserSegment). s.head) (at_number items n)
 head_number items zero = refl
-head_number items (suc k) = slice_get-map (λ (s : users.Segment). s.head) items k
+head_number items (suc k) = slice_get-map (λ (s : users.UserSegment). s.head) items k
 
 module _ (heads : List (List SegmentHead)) (ts : List Target) where
   pub lost_here : (k : ℕ) (t : Target) → slice_get ts k ≡ Some t → is_reached heads t ≡ false → lost_from heads k (drop k ts) ≡ Some k
@@ -63,12 +63,12 @@ refusal_of heads load o is = ap (option_map BadFile) (sym is)
 
 -- how many entries a file's table has, by its length
 module _ (load : List Segment) (number : ℕ) where
-  pub length_is : (f : Fields) (n : ℕ) → n ≡ f.length → HasFields load number f → HasLength load number n
+  pub length_is : (f : HeaderFields) (n : ℕ) → n ≡ f.length → HasFields load number f → HasLength load number n
   length_is f n is has = go (segment_at load number) has
     where
       go : (o : Option Segment) → IsSomeAnd o (λ s. s.fields ≡ f) → IsSomeAnd o (λ s. s.fields.length ≡ n)
       go None e = e
-      go (Some s) e = ap (λ (x : Fields). x.length) e ∙ sym is
+      go (Some s) e = ap (λ (x : HeaderFields). x.length) e ∙ sym is
 
   pub entry_inside : (size k : ℕ) → table_of load ≡ Some number → IsOutside load number ⊎ HasLength load number size → k < length (table_targets load) → k < entry_count size
   entry_inside size k is known inside = go (segment_at load number) refl known

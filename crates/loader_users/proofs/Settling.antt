@@ -31,7 +31,7 @@ use Rattle.loader_machine.specs.Steps.{held_of_heads}
 use Rattle.loader_agrees.specs.laws.Begun.{decide}
 use Rattle.loader_agrees.specs.laws.Filled.{plain_stands}
 use Rattle.loader_agrees.specs.laws.Lists.{number_map}
-use Rattle.loader_users.specs.declared.user.Segment as users
+use Rattle.loader_users.specs.declared.user.UserSegment as users
 use Rattle.loader_users.specs.Planned.{spread_handles}
 use Rattle.loader_users.specs.Filling.{own_entry, AreSound, HasHead, IsSetting, IsFilled}
 use Rattle.loader_users.proofs.Written.{handles_of}
@@ -118,14 +118,14 @@ module _ (segments : List Segment) (number : ℕ) (head : SegmentHead) (has : Ha
 
 -- ---- where the segments lie
 
-abbrev pub addresses : Slots → List users.Segment → List (Option ℕ)
+abbrev pub addresses : Slots → List users.UserSegment → List (Option ℕ)
 addresses slots segments = map (λ s. there_at (presence slots s.handle)) segments
 
-pub address_is : (slots : Slots) (segments : List users.Segment) (n : ℕ) → address_in (addresses slots segments) n ≡ machine.place_in slots (handles_of segments) n
+pub address_is : (slots : Slots) (segments : List users.UserSegment) (n : ℕ) → address_in (addresses slots segments) n ≡ machine.place_in slots (handles_of segments) n
 address_is slots segments zero = refl
 address_is slots segments (suc k) = go segments k
   where
-    go : (xs : List users.Segment) (i : ℕ) → unwrap_or (option_and_then (λ (a : Option ℕ). a) (slice_get (addresses slots xs) i)) 0
+    go : (xs : List users.UserSegment) (i : ℕ) → unwrap_or (option_and_then (λ (a : Option ℕ). a) (slice_get (addresses slots xs) i)) 0
         ≡ unwrap_or (there_at (presence slots (option_and_then (λ (o : Option Handle). o) (slice_get (handles_of xs) i)))) 0
     go [] i = refl
     go (x ∷ xs) zero = refl
@@ -167,7 +167,7 @@ module _ (file : List ℕ) (segments : List Segment) (taken : IsLoadable file se
   all_none (t ∷ ts) all = (none_active t all.0, all_none ts all.1)
 
   -- the setting of a program whose static segments have these handles
-  pub is_setting : (kept : List users.Segment) → handles_of kept ≡ spread_handles segments hs → IsSetting segments user (addresses slots kept) (setting user slots (spread_handles segments hs))
+  pub is_setting : (kept : List users.UserSegment) → handles_of kept ≡ spread_handles segments hs → IsSetting segments user (addresses slots kept) (setting user slots (spread_handles segments hs))
   is_setting kept same = record {
     id = refl;
     place = λ n. address_is slots kept n ∙ ap (λ (handles : List (Option Handle)). machine.place_in slots handles n) same;

@@ -16,29 +16,29 @@ use Rattle.loader_machine.specs.Heads.{head_of, at_number}
 use Rattle.loader_machine.specs.Presences.{handle_at}
 use Rattle.loader_agrees.specs.laws.Lists.{number_map}
 use Rattle.loader_agrees.specs.laws.Reads.{headed}
-use Rattle.loader_users.specs.declared.user.Segment as users
+use Rattle.loader_users.specs.declared.user.UserSegment as users
 use Rattle.loader_users.specs.Filling.{HasHead, IsFilled, IsWritten, IsReady, AreReady, AreFilled}
 
-abbrev pub heads_of : List users.Segment → List SegmentHead
+abbrev pub heads_of : List users.UserSegment → List SegmentHead
 heads_of segments = map (λ s. s.head) segments
 
-abbrev pub handles_of : List users.Segment → List (Option Handle)
+abbrev pub handles_of : List users.UserSegment → List (Option Handle)
 handles_of segments = map (λ s. s.handle) segments
 
 -- the header and the handle of the segment after so many
-pub head_here : (segments : List users.Segment) (place : ℕ) (s : users.Segment) → place < length segments → s ≡ get_or segments place s → at_number (heads_of segments) (place + 1) ≡ Some s.head
+pub head_here : (segments : List users.UserSegment) (place : ℕ) (s : users.UserSegment) → place < length segments → s ≡ get_or segments place s → at_number (heads_of segments) (place + 1) ≡ Some s.head
 head_here segments place s inside is =
     let more : place + 1 ≡ suc place = omega arith in
-    ap (at_number (heads_of segments)) more ∙ number_map (λ (x : users.Segment). x.head) segments (suc place)
-    ∙ ap (option_map (λ (x : users.Segment). x.head)) (slice_get-get_or segments place s inside) ∙ ap (λ (x : users.Segment). Some x.head) (sym is)
+    ap (at_number (heads_of segments)) more ∙ number_map (λ (x : users.UserSegment). x.head) segments (suc place)
+    ∙ ap (option_map (λ (x : users.UserSegment). x.head)) (slice_get-get_or segments place s inside) ∙ ap (λ (x : users.UserSegment). Some x.head) (sym is)
 
-pub handle_here : (segments : List users.Segment) (place : ℕ) (s : users.Segment) → place < length segments → s ≡ get_or segments place s → handle_at (handles_of segments) (place + 1) ≡ s.handle
+pub handle_here : (segments : List users.UserSegment) (place : ℕ) (s : users.UserSegment) → place < length segments → s ≡ get_or segments place s → handle_at (handles_of segments) (place + 1) ≡ s.handle
 handle_here segments place s inside is =
     let more : place + 1 ≡ suc place = omega arith in
-    ap (handle_at (handles_of segments)) more ∙ ap (option_and_then (λ (o : Option Handle). o)) (number_map (λ (x : users.Segment). x.handle) segments (suc place)
-    ∙ ap (option_map (λ (x : users.Segment). x.handle)) (slice_get-get_or segments place s inside)) ∙ ap (λ (x : users.Segment). x.handle) (sym is)
+    ap (handle_at (handles_of segments)) more ∙ ap (option_and_then (λ (o : Option Handle). o)) (number_map (λ (x : users.UserSegment). x.handle) segments (suc place)
+    ∙ ap (option_map (λ (x : users.UserSegment). x.handle)) (slice_get-get_or segments place s inside)) ∙ ap (λ (x : users.UserSegment). x.handle) (sym is)
 
-pub has_head : (load : List Segment) (segments : List users.Segment) (place : ℕ) (s : users.Segment) → heads_of segments ≡ map head_of load → place < length segments → s ≡ get_or segments place s
+pub has_head : (load : List Segment) (segments : List users.UserSegment) (place : ℕ) (s : users.UserSegment) → heads_of segments ≡ map head_of load → place < length segments → s ≡ get_or segments place s
     → HasHead load (place + 1) s.head
 has_head load segments place s same inside is =
     let found = headed load (place + 1) s.head (ap (λ (hs : List SegmentHead). at_number hs (place + 1)) (sym same) ∙ head_here segments place s inside is) in

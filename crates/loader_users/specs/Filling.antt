@@ -1,7 +1,7 @@
 -- Segments that are written into their blocks. No public clause cites this module.
 use Rattle.std.specs.Prelude.{◌≡◌, ℕ, ◌≤◌, true, List, length, Option, Some, None, IsSome, IsSomeAnd, slice_set}
 use Rattle.std.specs.List.{AllByRecursion}
-use Rattle.omf_format.specs.Header.{Fields}
+use Rattle.omf_format.specs.Header.{HeaderFields}
 use Rattle.omf_format.specs.File.{Segment, segment_at}
 use Rattle.omf_io.specs.Counts.{IsFront}
 use Rattle.load_meaning.specs.declared.table.Target.{Target}
@@ -19,7 +19,7 @@ use Rattle.loader_machine.specs.Presences.{handle_at}
 use Rattle.loader_machine.specs.Stands.{AddressSetting, stands}
 
 -- what is kept of a header with these fields
-abbrev pub head_in : Fields → SegmentHead
+abbrev pub head_in : HeaderFields → SegmentHead
 head_in f = record {
   length = f.length;
   kind = f.kind;

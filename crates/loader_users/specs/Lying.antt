@@ -7,23 +7,23 @@ use Rattle.loader_machine.specs.declared.seen.Presence.TheVariants.{Active}
 use Rattle.loader_machine.specs.Heads.{at_number}
 use Rattle.loader_machine.specs.State.{first_id}
 use Rattle.loader_machine.specs.Presences.{presence}
-use Rattle.loader_users.specs.declared.user.Segment.{Segment}
+use Rattle.loader_users.specs.declared.user.UserSegment.{UserSegment}
 use Rattle.loader_users.specs.declared.user.User.{User}
 
 -- the segment is active under a handle, and the address lies among its LENGTH bytes, at an offset
-pub record LiesAt (slots : Slots) (s : Segment) (h : Handle) (address offset : ℕ) : Type 0 where
+pub record LiesAt (slots : Slots) (s : UserSegment) (h : Handle) (address offset : ℕ) : Type 0 where
   pub first : ℕ
   pub active : presence slots s.handle ≡ Active h first
   pub sum : first + offset ≡ address
   pub inside : offset < s.head.length
 
 -- the address lies in none of so many first segments under a handle
-abbrev pub LiesInNone : Slots → List Segment → ℕ → Handle → ℕ → Type 0
-LiesInNone slots segments count h address = (k : ℕ) (s : Segment) (offset : ℕ) → k < count → slice_get segments k ≡ Some s → ¬ LiesAt slots s h address offset
+abbrev pub LiesInNone : Slots → List UserSegment → ℕ → Handle → ℕ → Type 0
+LiesInNone slots segments count h address = (k : ℕ) (s : UserSegment) (offset : ℕ) → k < count → slice_get segments k ≡ Some s → ¬ LiesAt slots s h address offset
 
 -- it lies in the segment with a number, at an offset
-abbrev pub LiesInOne : Slots → List Segment → Handle → ℕ → ℕ → ℕ → Type 0
-LiesInOne slots segments h address number offset = (s : Segment) × (at_number segments number ≡ Some s) × LiesAt slots s h address offset
+abbrev pub LiesInOne : Slots → List UserSegment → Handle → ℕ → ℕ → ℕ → Type 0
+LiesInOne slots segments h address number offset = (s : UserSegment) × (at_number segments number ≡ Some s) × LiesAt slots s h address offset
 
 -- a user runs, and the address lies in none of its segments under a handle
 abbrev pub IsNowhereOf : Slots → Option User → Handle → ℕ → Type 0

@@ -7,7 +7,7 @@ ghost use Rattle.loader_users.specs.Changed as activating;
 ghost use Rattle.loader_users.specs.Changed.{IsChanged};
 
 use crate::file::head_from;
-use crate::user::Segment;
+use crate::user::UserSegment;
 use loader_machine::{Facts, LoaderFault, SegmentHead};
 use omf_cells::LoadFile;
 
@@ -57,7 +57,7 @@ fn is_same(one: &SegmentHead, other: &SegmentHead) -> bool
 }
 
 /// Compares a load file with what is kept of the one that was loaded, segment by segment and then by their number.
-pub fn compare(load: &LoadFile<'_>, segments: &Vec<Segment>) -> Result<(), LoaderFault>
+pub fn compare(load: &LoadFile<'_>, segments: &Vec<UserSegment>) -> Result<(), LoaderFault>
     requires taken { (file : List ℕ) × IsLoadable file load.now }
     requires kept { length segments.now.items < 2 ^ 16 }
     ensures same { IfOk result (λ _. map head_of load.now ≡ map (λ s. s.head) segments.now.items) }

@@ -98,7 +98,7 @@ pub fn fill_block(
 pub fn fill_all(
     banks: &mut CompactBanks,
     load: &LoadFile<'_>,
-    segments: &Vec<user::Segment>,
+    segments: &Vec<user::UserSegment>,
     places: &Places,
     user: u16,
 )

@@ -29,7 +29,7 @@ pub use place::{assign_handles, entry_of, number_of, place_of, set_places};
 pub use plan::{LoadPlan, plan_of};
 pub use reading::{load_of, read_file, runtime_load};
 pub use renew::{address_in, relink_tables};
-pub use user::{FIRST_ID, Segment, User};
+pub use user::{FIRST_ID, User, UserSegment};
 pub use users::{
     attached_count, attached_in, holder_of, remove, set_handle, set_life, set_lives, set_segments,
     user_in,

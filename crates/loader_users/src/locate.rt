@@ -7,13 +7,13 @@ ghost use Rattle.std.specs.Prelude.{Some, slice_get, IfSome, IsSome, IsSomeAnd};
 ghost use Rattle.loader_users.specs.declared.user.User as declared;
 
 use crate::memory::presence;
-use crate::user::{FIRST_ID, Segment, User};
+use crate::user::{FIRST_ID, User, UserSegment};
 use iigs_compact_memory::CompactBanks;
 use iigs_meaning::{BlockFault, Handle};
 use loader_machine::{Life, Presence};
 
 /// The offset at which an address lies in a segment, where that is active under a handle.
-fn offset_in(banks: &CompactBanks, segment: &Segment, h: Handle, address: u32) -> Option<u32>
+fn offset_in(banks: &CompactBanks, segment: &UserSegment, h: Handle, address: u32) -> Option<u32>
     ensures { MatchOption result ((offset : ℕ) → ¬ LiesAt banks.now.slots segment.now h address offset) (LiesAt banks.now.slots segment.now h address) }
 {
     let Some(own) = segment.handle else {
@@ -39,7 +39,7 @@ fn offset_in(banks: &CompactBanks, segment: &Segment, h: Handle, address: u32) -
 /// The offset at which an address lies in the segment with a number, from 1, where there is one that is active under a handle.
 fn offset_there(
     banks: &CompactBanks,
-    segments: &Vec<Segment>,
+    segments: &Vec<UserSegment>,
     h: Handle,
     number: u16,
     address: u32,
@@ -59,7 +59,7 @@ fn offset_there(
 /// `first` is asked before all.
 pub fn search(
     banks: &CompactBanks,
-    segments: &Vec<Segment>,
+    segments: &Vec<UserSegment>,
     h: Handle,
     first: u16,
     address: u32,

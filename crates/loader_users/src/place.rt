@@ -9,7 +9,7 @@ ghost use Rattle.loader_machine.specs.Steps.{held_of_heads};
 
 use crate::head::{is_code, is_static, want_of};
 use crate::memory::presence;
-use crate::user::Segment;
+use crate::user::UserSegment;
 use iigs_compact_memory::CompactBanks;
 use iigs_meaning::{Handle, Want};
 use loader_machine::Presence;
@@ -17,7 +17,7 @@ use omf_cells::Places;
 use std::alloc::{AllocError, Global};
 
 /// What the static segments ask of their places, in order.
-pub fn wants_of(alloc: Global, segments: &Vec<Segment>) -> Result<Vec<Want>, AllocError>
+pub fn wants_of(alloc: Global, segments: &Vec<UserSegment>) -> Result<Vec<Want>, AllocError>
     ensures wants { IfOk result (λ wants. wants.items ≡ heads.wants_of (map (λ s. s.head) segments.now.items)) }
     ensures are { IfOk result (λ wants. All IsWant wants.items) }
 {
@@ -31,7 +31,7 @@ pub fn wants_of(alloc: Global, segments: &Vec<Segment>) -> Result<Vec<Want>, All
 }
 
 /// Gives the static segments these handles, in order, and the others none.
-pub fn assign_handles(segments: &mut Vec<Segment>, handles: &[Handle])
+pub fn assign_handles(segments: &mut Vec<UserSegment>, handles: &[Handle])
     requires { length handles.now ≡ length (heads.wants_of (map (λ s. s.head) segments.old.items)) }
     ensures heads { map (λ s. s.head) segments.new.items ≡ map (λ s. s.head) segments.old.items }
     ensures handles { map (λ s. s.handle) segments.new.items ≡ map (λ held. held.handle) (held_of_heads (map (λ s. s.head) segments.old.items) handles.now) }
@@ -41,19 +41,19 @@ pub fn assign_handles(segments: &mut Vec<Segment>, handles: &[Handle])
     'places: for place in 0..count {
         let head = segments[place].head;
         if is_static(&head) {
-            segments[place] = Segment {
+            segments[place] = UserSegment {
                 handle: Some(handles[next]),
                 head,
             };
             next += 1;
         } else {
-            segments[place] = Segment { handle: None, head };
+            segments[place] = UserSegment { handle: None, head };
         }
     }
 }
 
 /// The number of the static segment at a place among the static ones, from 0.
-pub fn number_of(segments: &Vec<Segment>, place: u32) -> u16
+pub fn number_of(segments: &Vec<UserSegment>, place: u32) -> u16
     requires short { length segments.now.items < 2 ^ 16 }
     requires inside { place < length (heads.wants_of (map (λ s. s.head) segments.now.items)) }
     ensures { result ≡ heads.number_of 1 (map (λ s. s.head) segments.now.items) place }
@@ -85,7 +85,7 @@ fn address_of(banks: &CompactBanks, handle: Option<Handle>) -> Option<u32>
 }
 
 /// Tells where each segment lies.
-pub fn set_places(banks: &CompactBanks, segments: &Vec<Segment>, places: &mut Places)
+pub fn set_places(banks: &CompactBanks, segments: &Vec<UserSegment>, places: &mut Places)
     requires short { length segments.now.items < 2 ^ 16 }
     requires room { length places.old ≡ length segments.now.items }
     ensures { places.new ≡ map (λ s. presences.there_at (presences.presence banks.now.slots s.handle)) segments.now.items }
@@ -107,7 +107,7 @@ pub fn place_of(banks: &CompactBanks, handle: Option<Handle>) -> u32
 }
 
 /// Where a program begins: the place of its first static segment of code plus that one's ENTRY, modulo 2^24.
-pub fn entry_of(banks: &CompactBanks, segments: &Vec<Segment>) -> Option<u32>
+pub fn entry_of(banks: &CompactBanks, segments: &Vec<UserSegment>) -> Option<u32>
     ensures { result ≡ heads.entry_in (map (λ s. s.head) segments.now.items) (place_in banks.now.slots (map (λ s. s.handle) segments.now.items)) 1 }
 {
     'segments: for segment in segments {

@@ -5,7 +5,7 @@ ghost use Rattle.loader_users.specs.Planned.{IsPlan};
 
 use crate::file::segments_of;
 use crate::place::wants_of;
-use crate::user::Segment;
+use crate::user::UserSegment;
 use iigs_meaning::{Handle, Want};
 use omf_cells::{LoadFile, Places, PlacesFault};
 use std::alloc::{AllocError, Global};
@@ -14,7 +14,7 @@ use std::alloc::{AllocError, Global};
 #[derive(Drop)]
 pub struct LoadPlan {
     /// The segments, none of which has a handle.
-    pub segments: Vec<Segment>,
+    pub segments: Vec<UserSegment>,
     /// What the static ones ask of their places, in order.
     pub wants: Vec<Want>,
     /// Room for a handle for each want.

@@ -9,7 +9,7 @@ ghost use Rattle.loader_users.specs.Renewing.{is_chosen, code_for, renewed_at, r
 
 use crate::head::is_table;
 use crate::memory::presence;
-use crate::user::Segment;
+use crate::user::UserSegment;
 use iigs_compact_memory::CompactBanks;
 use iigs_meaning::Handle;
 use jump_table::{entry_count, set_loaded, set_unloaded};
@@ -81,7 +81,7 @@ fn relink_block(
 /// The entries of a table follow, if it is there.
 fn relink_table(
     banks: &mut CompactBanks,
-    table: &Segment,
+    table: &UserSegment,
     only: Option<(u16, u16)>,
     place: Option<u32>,
 )
@@ -102,7 +102,7 @@ fn relink_table(
 /// active.
 pub fn relink_tables(
     banks: &mut CompactBanks,
-    segments: &Vec<Segment>,
+    segments: &Vec<UserSegment>,
     only: Option<(u16, u16)>,
     place: Option<u32>,
 )

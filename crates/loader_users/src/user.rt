@@ -17,7 +17,7 @@ pub const FIRST_ID: u16 = 0x1001;
 
 /// A segment of a user's file.
 #[derive(Clone, Copy, PartialEq, Eq, Debug)]
-pub struct Segment {
+pub struct UserSegment {
     pub handle: Option<Handle>,
     pub head: SegmentHead,
 }
@@ -29,14 +29,14 @@ pub struct User {
     pub path: String,
     pub life: Life,
     /// In the order of the file.
-    pub segments: Vec<Segment>,
+    pub segments: Vec<UserSegment>,
     /// The IDs of the users that are attached to it, in the order of its file's rows.
     pub attached: Vec<u16>,
 }
 
 impl User {
     /// The segment with a number, from 1.
-    pub fn segment(&self, number: u16) -> Option<&Segment>
+    pub fn segment(&self, number: u16) -> Option<&UserSegment>
         ensures { option_map (λ s. s.now) result ≡ at_number self.now.segments.items number }
     {
         if number == 0 {
@@ -46,7 +46,7 @@ impl User {
     }
 
     /// The segment with a number, from 1, if it isn't skipped.
-    pub fn kept_segment(&self, number: u16) -> Result<Segment, LoaderFault>
+    pub fn kept_segment(&self, number: u16) -> Result<UserSegment, LoaderFault>
         ensures ok { IfOk result (λ s. (at_number (kept self.now).heads number ≡ Some s.head) × (handle_at (kept self.now).handles number ≡ s.handle)
             × PassesSegment (seen_in (kept self.now)) number s.head) }
         ensures err { IfErr result (λ fault. StopsSegment (seen_in (kept self.now)) number fault) }
@@ -68,7 +68,7 @@ impl User {
     {
         let place = usize::from(number) - 1;
         let head = self.segments[place].head;
-        self.segments[place] = Segment {
+        self.segments[place] = UserSegment {
             handle: Some(h),
             head,
         };

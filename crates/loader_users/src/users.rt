@@ -10,7 +10,7 @@ ghost use Rattle.loader_users.specs.View.{kept};
 ghost use Rattle.loader_users.specs.Users.{with_handle};
 ghost use Rattle.loader_users.specs.Users.{HasItsUsers, with_life};
 
-use crate::user::{FIRST_ID, Segment, User};
+use crate::user::{FIRST_ID, User, UserSegment};
 use iigs_meaning::Handle;
 use loader_machine::Life;
 
@@ -78,7 +78,7 @@ pub fn remove(users: &mut Vec<Option<User>>, id: u16)
 }
 
 /// The user of an ID, which has one, runs, and its segments are these.
-pub fn set_segments(users: &mut Vec<Option<User>>, id: u16, segments: Vec<Segment>)
+pub fn set_segments(users: &mut Vec<Option<User>>, id: u16, segments: Vec<UserSegment>)
     requires { IsSome (user_of (map (option_map kept) users.old.items) id) }
     ensures set { (k : LoadedUser) → user_of (map (option_map kept) users.old.items) id ≡ Some k
         → map (option_map kept) users.new.items ≡ with_user (map (option_map kept) users.old.items) id (Some (record k {

@@ -4,7 +4,7 @@ use Rattle.omf_format.specs.Ascii as ascii
 use Rattle.macro_meaning.specs.declared.faults.MacroCause.{MacroCause}
 use Rattle.macro_meaning.specs.declared.faults.MacroCause.TheVariants.{Unclosed, BadArguments}
 use Rattle.orca_meaning.specs.Token.{name_at}
-use Rattle.orca_meaning.specs.Line.{Line, Fields, part, is_comment, three_fields}
+use Rattle.orca_meaning.specs.Line.{Line, LineFields, part, is_comment, three_fields}
 use Rattle.macro_meaning.specs.Pieces.{pieces}
 use Rattle.macro_meaning.specs.Statements.{is_operation, whole_match, symbol_name}
 
@@ -68,7 +68,7 @@ model_from (Some name) (Some label) None = None
 model_from (Some name) None parameters = None
 model_from None label parameters = None
 
-abbrev pub model_by : List ℕ → Fields → Option Model
+abbrev pub model_by : List ℕ → LineFields → Option Model
 model_by text fields =
     model_from (whole_match (name_at (part text fields.operation))) (label_of (part text fields.label)) (parameters_of (part text fields.operand))
 

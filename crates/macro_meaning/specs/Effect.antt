@@ -2,7 +2,7 @@
 use Rattle.std.specs.Prelude.{◌≡◌, ℕ, zero, suc, ◌==◌, Bool, true, false, nat_lt, ℤ, pos, negsuc, int_le, List, [], ◌∷◌, length, take, drop, codes, slice_get, Option, Some, None, is_some, Result, Ok, Err, if◌then◌else◌}
 use Rattle.omf_format.specs.Ascii as ascii
 use Rattle.omf_format.specs.Value.{signed}
-use Rattle.orca_meaning.specs.Line.{Line, Fields, part, is_comment, three_fields}
+use Rattle.orca_meaning.specs.Line.{Line, LineFields, part, is_comment, three_fields}
 use Rattle.macro_meaning.specs.declared.faults.MacroCause.{MacroCause}
 use Rattle.macro_meaning.specs.declared.faults.MacroCause.TheVariants.{LineTooLong, TooManyLines, NoSuchSymbol, BadSetting, BadArguments, NoSequenceSymbol, Unclosed, Counter, TooNested, Noted, Memory}
 use Rattle.macro_meaning.specs.declared.statements.Kind.{Kind}
@@ -231,7 +231,7 @@ pub record SymbolSetting : Type 0 where
   pub values : Values
 
 -- a statement, a call of a macro, or a line that is given; a line without operation is read as ANOP
-abbrev pub IsDoneBy : SymbolSetting → List ℕ → Fields → Option Statement → Effect → Type 0
+abbrev pub IsDoneBy : SymbolSetting → List ℕ → LineFields → Option Statement → Effect → Type 0
 IsDoneBy s text fields (Some statement) effect_done = IsDone s.values statement text (part text fields.label) (part text fields.operand) effect_done
 IsDoneBy s text fields None effect_done =
     effect_done ≡ calling_at s.definitions s.root text (first_named (folded (part text fields.operation)) s.definitions) (part text fields.label) (part text fields.operand)
@@ -247,7 +247,7 @@ after_sequence text label = if is_some (sequence_name label) then drop (length l
 unfoldable pub without_sequence_symbol : List ℕ → List ℕ
 without_sequence_symbol text = after_sequence text (part text (three_fields text).label)
 
-abbrev pub IsStatement : SymbolSetting → List ℕ → Fields → Effect → Type 0
+abbrev pub IsStatement : SymbolSetting → List ℕ → LineFields → Effect → Type 0
 IsStatement s text fields effect_done = IsDoneBy s text fields (operation_or_anop (part text fields.operation)) effect_done
 
 abbrev pub IsAfterCut : SymbolSetting → Bool → List ℕ → Effect → Type 0

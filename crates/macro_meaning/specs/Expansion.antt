@@ -8,7 +8,7 @@ use Rattle.macro_meaning.specs.declared.faults.MacroCause.{MacroCause}
 use Rattle.macro_meaning.specs.declared.faults.MacroCause.TheVariants.{LineTooLong, TooManyLines, BadSetting, Memory}
 use Rattle.macro_meaning.specs.declared.faults.MacroFault.{MacroFault}
 use Rattle.macro_meaning.specs.Definition.{DefinitionPart, MacroDefinition, parts_of, definitions_in, source_body, first_part_fault, or_else}
-use Rattle.macro_meaning.specs.Visit.{Program, Visit, Move, Ends, Stops, Follow, first_visit}
+use Rattle.macro_meaning.specs.Visit.{MacroProgram, Visit, Move, Ends, Stops, Follow, first_visit}
 
 -- ---- files
 
@@ -26,7 +26,7 @@ macros_in file [] = []
 macros_in file (bytes ∷ more) = definitions_in false (file_parts file bytes) ++ macros_in (next_file file) more
 
 -- the macro files' definitions come before those of the source
-abbrev pub program_of : List ℕ → List (List ℕ) → Program
+abbrev pub program_of : List ℕ → List (List ℕ) → MacroProgram
 program_of source macros = record {
   source = source_body (file_parts 0 source);
   definitions = macros_in 1 macros ++ definitions_in true (file_parts 0 source);
@@ -76,7 +76,7 @@ pub record AreGoodFiles (source : List ℕ) (macros : List (List ℕ)) : Type 0 
   pub definitions : first_of_files file_part_fault source macros ≡ None
 
 -- a list of visits from the source's first line, which gives these lines, and on whose last visit this follows
-pub record HasVisits (program : Program) (given : List Line) (end : Move) : Type 0 where
+pub record HasVisits (program : MacroProgram) (given : List Line) (end : Move) : Type 0 where
   pub visits : List Visit
   pub follow : Follow program [] first_visit visits given end
 
@@ -86,7 +86,7 @@ pub record IsExpanded (source : List ℕ) (macros : List (List ℕ)) (lines : Li
   pub visited : HasVisits (program_of source macros) lines Ends
 
 -- the visits come to a line with a fault
-pub record StopsAt (program : Program) (line : Line) (cause : MacroCause) : Type 0 where
+pub record StopsAt (program : MacroProgram) (line : Line) (cause : MacroCause) : Type 0 where
   pub given : List Line
   pub visited : HasVisits program given (Stops line cause)
 

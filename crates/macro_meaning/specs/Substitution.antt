@@ -6,7 +6,7 @@ use Rattle.omf_format.specs.Ascii as ascii
 use Rattle.orca_meaning.specs.declared.lines.Span.{Span}
 use Rattle.orca_meaning.specs.Characters.{is_letter, is_name_start, is_name_byte, folded}
 use Rattle.orca_meaning.specs.Quotes.{is_closed, quote_after}
-use Rattle.orca_meaning.specs.Line.{Fields, part}
+use Rattle.orca_meaning.specs.Line.{LineFields, part}
 use Rattle.macro_meaning.specs.declared.statements.Kind.TheVariants.{Number, Flag}
 use Rattle.macro_meaning.specs.declared.statements.Statement.{Statement}
 use Rattle.macro_meaning.specs.declared.statements.Statement.TheVariants.{Declare, Set, Middle, BranchIf, Count, Note}
@@ -57,7 +57,7 @@ declares _ = false
 
 -- In three places `&NAME` isn't replaced: in the operand of a declaration, in the label of a statement that sets it, and
 -- directly behind `L:` or `C:`.
-abbrev pub naming_by : Option Statement → List ℕ → Fields → ℕ → Naming
+abbrev pub naming_by : Option Statement → List ℕ → LineFields → ℕ → Naming
 naming_by None text fields at = Replaced
 naming_by (Some statement) text fields at =
     if declares statement && lies_in fields.operand at then Declared
@@ -66,7 +66,7 @@ naming_by (Some statement) text fields at =
     else Replaced
 
 -- which it is at a place of a line, as it is written
-unfoldable pub naming_at : List ℕ → Fields → ℕ → Naming
+unfoldable pub naming_at : List ℕ → LineFields → ℕ → Naming
 naming_at text fields at = naming_by (statement_of (part text fields.operation)) text fields at
 
 -- ---- the text of a line

@@ -13,7 +13,7 @@ use Rattle.macro_meaning.specs.Statements.{sequence_name}
 use Rattle.macro_meaning.specs.Symbol.{Symbol, Own, Common, Symbols, SharedTexts, with_name, first_text}
 
 -- the lines of the source, and the macros
-pub record Program : Type 0 where
+pub record MacroProgram : Type 0 where
   pub source : Body
   pub definitions : List MacroDefinition
 
@@ -47,11 +47,11 @@ abbrev pub body_from : Option MacroDefinition → Body
 body_from None = no_body
 body_from (Some d) = d.body
 
-abbrev pub body_of : Program → Option ℕ → Body
+abbrev pub body_of : MacroProgram → Option ℕ → Body
 body_of program None = program.source
 body_of program (Some place) = body_from (slice_get program.definitions place)
 
-abbrev pub line_at : Program → Option ℕ → ℕ → Option Line
+abbrev pub line_at : MacroProgram → Option ℕ → ℕ → Option Line
 line_at program macro place = slice_get (body_of program macro).lines place
 
 -- the line of the source at which the outermost expansion of a visit began; for a line of the source that line
@@ -63,7 +63,7 @@ abbrev pub is_source : Option ℕ → Bool
 is_source None = true
 is_source (Some place) = false
 
-abbrev pub setting_of : Program → Visit → ℕ → SymbolSetting
+abbrev pub setting_of : MacroProgram → Visit → ℕ → SymbolSetting
 setting_of program v number = record {
   definitions = program.definitions;
   root = root_by v.caller v.root number;
@@ -103,7 +103,7 @@ abbrev pub visit_after_call : Visit → Visit → Visit
 visit_after_call v last = record v { line = v.line + 1; texts = last.texts; calls = last.calls }
 
 -- behind an expansion: the line behind its call, or behind that of the expansion around it where no line is there
-unfoldable pub move_after_expansion : Program → List Visit → Visit → ℕ → Option ℕ → Move
+unfoldable pub move_after_expansion : MacroProgram → List Visit → Visit → ℕ → Option ℕ → Move
 move_after_expansion program before last zero caller = Ends
 move_after_expansion program before last (suc depth) None = Ends
 move_after_expansion program before last (suc depth) (Some place) = elim (slice_get before place) [
@@ -112,7 +112,7 @@ move_after_expansion program before last (suc depth) (Some place) = elim (slice_
 ]
 
 -- the next line of the body, or what is behind the expansion
-unfoldable pub next_line : Program → List Visit → Visit → Move
+unfoldable pub next_line : MacroProgram → List Visit → Visit → Move
 next_line program before v = if_line (line_at program v.macro (v.line + 1)) (On (next_visit v)) (move_after_expansion program before v v.depth v.caller)
 
 -- the places of the lines that have a sequence symbol, as they are written
@@ -159,7 +159,7 @@ call_of before v line place symbols =
       calls = v.calls + 1;
     })
 
-unfoldable pub move_of : Program → List Visit → Visit → Line → Effect → Move
+unfoldable pub move_of : MacroProgram → List Visit → Visit → Line → Effect → Move
 move_of program before v line NoEffect = next_line program before v
 move_of program before v line (Emit text) = next_line program before v
 move_of program before v line (DeclareSymbol name declaration) = next_line program before (visit_after v (DeclareSymbol name declaration))
@@ -181,21 +181,21 @@ given_by _ _ = []
 abbrev pub most_visits : ℕ
 most_visits = 1000000
 
-abbrev pub IsVisitOf : Program → List Visit → Visit → Line → Bool → List Line → Move → Type 0
+abbrev pub IsVisitOf : MacroProgram → List Visit → Visit → Line → Bool → List Line → Move → Type 0
 IsVisitOf program before v line true given move = (given ≡ []) × (move ≡ Stops line TooManyLines)
 IsVisitOf program before v line false given move =
     (effect_done : Effect) × IsEffect (setting_of program v line.number) line effect_done × (given ≡ given_by line effect_done) × (move ≡ move_of program before v line effect_done)
 
-abbrev pub IsVisitAt : Program → List Visit → Visit → Option Line → List Line → Move → Type 0
+abbrev pub IsVisitAt : MacroProgram → List Visit → Visit → Option Line → List Line → Move → Type 0
 IsVisitAt program before v None given move = (given ≡ []) × (move ≡ Ends)
 IsVisitAt program before v (Some line) given move = IsVisitOf program before v line (length before == most_visits) given move
 
 -- a visit behind these others gives these lines, and this follows on it
-abbrev pub IsVisit : Program → List Visit → Visit → List Line → Move → Type 0
+abbrev pub IsVisit : MacroProgram → List Visit → Visit → List Line → Move → Type 0
 IsVisit program before v given move = IsVisitAt program before v (line_at program v.macro v.line) given move
 
 -- each of these visits follows on the one before it; together they give these lines, and the last is followed by this
-abbrev pub Follow : Program → List Visit → Visit → List Visit → List Line → Move → Type 0
+abbrev pub Follow : MacroProgram → List Visit → Visit → List Visit → List Line → Move → Type 0
 Follow program before v [] given end = IsVisit program before v given end
 Follow program before v (w ∷ ws) given end =
     (first rest : List Line) × IsVisit program before v first (On w) × (given ≡ first ++ rest) × Follow program (before ++ v ∷ []) w ws rest end

@@ -2,7 +2,7 @@
 use Rattle.std.proofs.Common.{◌≡◌, ℕ, ◌<◌, ◌≤◌, List, ◌++◌, length, map, drop, Option, Some, None, inl, inr, refl, sym, ap, subst, ◌∙◌}
 use Rattle.std.specs.Prelude.{IsSomeAnd}
 use Rattle.std.proofs.lemmas.List.{length-map}
-use Rattle.omf_format.specs.Header.{Fields}
+use Rattle.omf_format.specs.Header.{HeaderFields}
 use Rattle.omf_format.specs.File.{Segment, segment_at}
 use Rattle.load_meaning.specs.Cells.{cells, byte_of, stands}
 use Rattle.load_meaning.specs.Loadable.{IsLoadable}
@@ -28,7 +28,7 @@ module _ (file : List ℕ) (status : ℕ) (old new : OmfFault) where
   unread_handed Gives Misses room (Refuses is short fault first reports) = (Refused new, (short, fault, first, reports), (is, refl, refl))
 
 -- the header that is told is that of the segment
-pub reports_at : (segments : List Segment) (number : ℕ) (header : OmfHeader) (f : Fields) → HasFields segments number f → ReportsFields header f
+pub reports_at : (segments : List Segment) (number : ℕ) (header : OmfHeader) (f : HeaderFields) → HasFields segments number f → ReportsFields header f
     → IsSomeAnd (segment_at segments number) (λ s. ReportsFields header s.fields)
 reports_at segments number header f has reports = go (segment_at segments number) has
   where
@@ -37,17 +37,17 @@ reports_at segments number header f has reports = go (segment_at segments number
     go (Some s) same = subst (ReportsFields header) (sym same) reports
 
 -- LENGTH bytes stand for a segment of a load file
-pub stood_long : (file : List ℕ) (segments : List Segment) (number : ℕ) (places : List (Option ℕ)) (f : Fields) (bytes : List ℕ) → IsLoadable file segments → HasFields segments number f
+pub stood_long : (file : List ℕ) (segments : List Segment) (number : ℕ) (places : List (Option ℕ)) (f : HeaderFields) (bytes : List ℕ) → IsLoadable file segments → HasFields segments number f
     → Stands segments number places bytes → length bytes ≡ f.length
 stood_long file segments number places f bytes is has stood = go (segment_at segments number) refl has stood
   where
     go : (o : Option Segment) → segment_at segments number ≡ o → IsSomeAnd o (λ s. s.fields ≡ f) → IsSomeAnd o (λ s. bytes ≡ stands (address_in places) s) → length bytes ≡ f.length
     go None at has stood = absurd has
     go (Some s) at same stood =
-        ap length stood ∙ length-map (cells s) (byte_of (address_in places)) ∙ length-cells segments number s (loadable_has file segments is number s at) ∙ ap (λ (g : Fields). g.length) same
+        ap length stood ∙ length-map (cells s) (byte_of (address_in places)) ∙ length-cells segments number s (loadable_has file segments is number s at) ∙ ap (λ (g : HeaderFields). g.length) same
 
 -- and some do stand for it
-some_stand : (segments : List Segment) (number : ℕ) (places : List (Option ℕ)) (f : Fields) → HasFields segments number f → (bytes : List ℕ) × Stands segments number places bytes
+some_stand : (segments : List Segment) (number : ℕ) (places : List (Option ℕ)) (f : HeaderFields) → HasFields segments number f → (bytes : List ℕ) × Stands segments number places bytes
 some_stand segments number places f has = go (segment_at segments number) has
   where
     go : (o : Option Segment) → IsSomeAnd o (λ s. s.fields ≡ f) → (bytes : List ℕ) × IsSomeAnd o (λ s. bytes ≡ stands (address_in places) s)
@@ -56,7 +56,7 @@ some_stand segments number places f has = go (segment_at segments number) has
 
 -- a segment that doesn't fit the room: its size is told
 pub small_placed : (file : List ℕ) (segments : List Segment) (number : ℕ) (addresses room : List ℕ) (size size' : ℕ) (fault : OmfFault) → IsLoadable file segments → length segments ≡ length addresses
-    → (f : Fields) → f.length ≡ size' → HasFields segments number f → length room < size'
+    → (f : HeaderFields) → f.length ≡ size' → HasFields segments number f → length room < size'
     → (outcome : CallOutcome (List ℕ)) × Places file number addresses outcome × IsHanded outcome status_small (record { items = room; size = size }) (record { items = room; size = size' }) fault fault
 small_placed file segments number addresses room size size' fault is count f long has less =
     let stood = some_stand segments number (map Some addresses) f has in

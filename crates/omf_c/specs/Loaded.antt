@@ -2,7 +2,7 @@
 use Rattle.std.specs.Prelude.{◌≡◌, ◌≢◌, ◌⊎◌, ℕ, ◌<◌, ◌≤◌, ◌^◌, List, Some, length, map, IsSomeAnd}
 use Rattle.load_meaning.specs.declared.load.LoadFault.{LoadFault}
 use Rattle.load_meaning.specs.declared.table.Target.{Target}
-use Rattle.omf_format.specs.Header.{Fields}
+use Rattle.omf_format.specs.Header.{HeaderFields}
 use Rattle.omf_format.specs.File.{Segment, segment_at}
 use Rattle.load_meaning.specs.Loadable.{IsLoadable, IsFirstLoadFault}
 use Rattle.load_content.specs.Places.{Stands}
@@ -32,7 +32,7 @@ abbrev pub CountsSegments : List ℕ → CallOutcome ℕ → Type 0
 CountsSegments file = Reads file (λ segments count. count ≡ length segments) (λ segments. ⊥)
 
 -- the fields of a header; the name has zeros after it
-pub record ReportsFields (header : OmfHeader) (f : Fields) : Type 0 where
+pub record ReportsFields (header : OmfHeader) (f : HeaderFields) : Type 0 where
   pub byte_count : header.byte_count ≡ f.byte_count
   pub res_spc : header.res_spc ≡ f.res_spc
   pub length' : header.length ≡ f.length

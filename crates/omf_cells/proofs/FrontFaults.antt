@@ -8,7 +8,7 @@ use Rattle.omf_format.specs.declared.fault.RecordFault.TheVariants as record_fau
 use Rattle.load_meaning.specs.declared.load.LoadCause.{LoadCause}
 use Rattle.load_meaning.specs.declared.load.LoadCause.TheVariants.{Memory}
 use Rattle.load_meaning.specs.declared.load.LoadFault.{LoadFault}
-use Rattle.omf_format.specs.Header.{Fields, version_of, fields_of, header_fault}
+use Rattle.omf_format.specs.Header.{HeaderFields, version_of, fields_of, header_fault}
 use Rattle.omf_format.specs.laws.HeaderLaws.{fault_fits}
 use Rattle.omf_format.specs.Reading.{Reader, HandsOut}
 use Rattle.omf_format.specs.File.{body_reader, IsHeader, to_file_header_fault, to_file_record_fault}
@@ -39,7 +39,7 @@ of_header of start bytes file is e =
     subst (λ (b : List ℕ). HasReadFault start file (as_load (to_file_header_fault start (version_of b) of))) (sym is) (header_fault-reported of start file (ap header_fault (sym is) ∙ e))
 
 -- a name or type that is refused
-pub of_kind : (f : Fields) (cause : LoadCause) (start : ℕ) (file : List ℕ) → IsHeader start f file → segment_refusal f ≡ Some cause → HasReadFault start file (cause, start)
+pub of_kind : (f : HeaderFields) (cause : LoadCause) (start : ℕ) (file : List ℕ) → IsHeader start f file → segment_refusal f ≡ Some cause → HasReadFault start file (cause, start)
 unfolding front_fault
 of_kind f cause start file is e =
     let passes' : header_fault (drop start file) ≡ None = is.passes in
@@ -58,7 +58,7 @@ refused_header header.Memory number start bytes file fault is refused says =
     subst (λ (c : LoadCause). UnlessMemory c fault ((fault.segment ≡ number) × HasReadFault start file (fault.cause, fault.at))) (sym says.0) (says.1, says.2)
 
 -- a body's fault
-pub of_body : (start : ℕ) (f : Fields) (file : List ℕ) (reader : Reader) (fault : Fault) → IsHeader start f file → segment_refusal f ≡ None → reader ≡ body_reader start f file → HasBodyFault reader fault → HasReadFault start file fault
+pub of_body : (start : ℕ) (f : HeaderFields) (file : List ℕ) (reader : Reader) (fault : Fault) → IsHeader start f file → segment_refusal f ≡ None → reader ≡ body_reader start f file → HasBodyFault reader fault → HasReadFault start file fault
 of_body start f file reader fault header' front is has =
     OfRecord f has.before has.at header' front (subst (λ (r : Reader). HandsOut r has.before has.at) is has.run) has.pass has.fails
 

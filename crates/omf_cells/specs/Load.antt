@@ -5,7 +5,7 @@ use Rattle.omf_format.specs.declared.fault.HeaderFault.{HeaderFault}
 use Rattle.omf_format.specs.declared.fault.HeaderFault.TheVariants as header
 use Rattle.load_meaning.specs.declared.load.LoadCause.TheVariants.{Memory}
 use Rattle.load_meaning.specs.declared.load.LoadFault.{LoadFault}
-use Rattle.omf_format.specs.Header.{Fields}
+use Rattle.omf_format.specs.Header.{HeaderFields}
 use Rattle.omf_format.specs.File.{Segment, IsHeader, segment_at, to_file_header_fault}
 use Rattle.load_meaning.specs.Cells.{Byte, patches_of, cells}
 use Rattle.load_meaning.specs.Loadable.{segment_refusal, as_load, in_segment, HasReadFault, IsSoundSegment, IsLoadable, IsFirstLoadFault}
@@ -43,7 +43,7 @@ IsHeaderFault (header.BadField field) start version number fault = fault ≡ in_
 IsHeaderFault header.Memory start version number fault = (fault.cause ≡ Memory) × (fault.segment ≡ 0) × (fault.at ≡ 0)
 
 -- a header that phase 1 lets pass stands there
-pub record IsLoadHeader (start : ℕ) (f : Fields) (file : List ℕ) : Type 0 where
+pub record IsLoadHeader (start : ℕ) (f : HeaderFields) (file : List ℕ) : Type 0 where
   pub header : IsHeader start f file
   pub front : segment_refusal f ≡ None
 
@@ -69,7 +69,7 @@ abbrev pub IsOutside : List Segment → ℕ → Type 0
 IsOutside segments number = (number ≡ 0) ⊎ (length segments < number)
 
 -- the segment with this number has these fields
-abbrev pub HasFields : List Segment → ℕ → Fields → Type 0
+abbrev pub HasFields : List Segment → ℕ → HeaderFields → Type 0
 HasFields segments number f = IsSomeAnd (segment_at segments number) (λ s. s.fields ≡ f)
 
 -- there is a segment with this number, and its LENGTH is so many bytes

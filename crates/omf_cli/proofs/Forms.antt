@@ -8,7 +8,7 @@ use Rattle.std.specs.declared.alloc.Global.{Global}
 use Rattle.std.specs.Cmp.Derive.{both_true}
 use Rattle.std.proofs.lemmas.Bool.{and_parts, leb-true, le-leb, ltb-true}
 use Rattle.std.proofs.lemmas.List.{length-map, length-drop}
-use Rattle.omf_making.specs.Form.{Form, Asm, Link, Dump, Run, Lib, Stress, Rtl, LinkRt, Listing, Compact, form_of, with_output, source_and_output, inputs_only, count_and_seed, last_inputs, output_and_runtimes, input_and_output}
+use Rattle.omf_making.specs.Form.{CommandForm, Asm, Link, Dump, Run, Lib, Stress, Rtl, LinkRt, Listing, Compact, form_of, with_output, source_and_output, inputs_only, count_and_seed, last_inputs, output_and_runtimes, input_and_output}
 use Rattle.omf_making.specs.Words.{is_path, are_paths, are_printing, words_of, number_in, number_between, short_number_between}
 use Rattle.omf_commands.proofs.Libraries.{few_paths}
 
@@ -18,7 +18,7 @@ AreRuntimes runtimes = IsTrue (are_paths 1 16 runtimes) × IsTrue (are_printing 
 
 -- `dump`, `list` and `compact` have one input, the inputs of `link`, `rtl` and `lib` are 1 to 255 paths, those of `linkrt` 2 to 255, of which the last are run-time library files, and the
 -- count of `stress` is 1 to 64
-abbrev HasPaths : Option Form → Type 0
+abbrev HasPaths : Option CommandForm → Type 0
 HasPaths None = Unit {0}
 HasPaths (Some (Asm source output macros)) = Unit {0}
 HasPaths (Some (Link output inputs)) = IsTrue (are_paths 1 255 inputs)
@@ -35,7 +35,7 @@ abbrev ArePaths : Option (List ℕ × List (List ℕ)) → Type 0
 ArePaths None = Unit {0}
 ArePaths (Some w) = IsTrue (are_paths 1 255 w.1)
 
-either : (b : Bool) (x y : Option Form) → HasPaths x → HasPaths y → HasPaths (cond b x y)
+either : (b : Bool) (x y : Option CommandForm) → HasPaths x → HasPaths y → HasPaths (cond b x y)
 either true x y p q = p
 either false x y p q = q
 

@@ -3,7 +3,7 @@ use Rattle.std.proofs.Common.{◌≡◌, ◌⊎◌, inl, inr, ℕ, zero, suc, �
 use Rattle.std.specs.Prelude.{slice_get, option_map}
 use Rattle.std.specs.List.{AllByRecursion}
 use Rattle.std.proofs.lemmas.List.{length-map}
-use Rattle.omf_format.specs.Header.{Fields, form_of}
+use Rattle.omf_format.specs.Header.{HeaderFields, form_of}
 use Rattle.omf_format.specs.File.{Segment, segment_at}
 use Rattle.load_meaning.specs.declared.table.Target.{Target}
 use Rattle.load_meaning.specs.declared.table.Entry.{Entry}
@@ -63,7 +63,7 @@ table_read : (number : ℕ) (entries : List Entry) (s : Segment) → IsWritten (
     → (s.fields.kind ≡ 0x0002) × (segment_bytes s ≡ table_bytes entries) × (s.fields.length ≡ length (table_bytes entries))
 unfolding table_image table_fields
 table_read number entries s is =
-    (ap (λ (f : Fields). f.kind) is.read.fields, bytes_written (table_image number entries) s refl is, length_written (table_image number entries) s is)
+    (ap (λ (f : HeaderFields). f.kind) is.read.fields, bytes_written (table_image number entries) s refl is, length_written (table_image number entries) s is)
 
 -- is read with the targets that were written
 targets_read : (number : ℕ) (ts : List Target) (s : Segment) → ((k : ℕ) (entry : Entry) → slice_get (map file_entry ts) k ≡ Some entry → FitsEntry entry)
@@ -80,7 +80,7 @@ targets_read number ts s fits is =
 -- a segment that was written as the pathnames
 paths_read : (number : ℕ) (paths : List (List ℕ)) (s : Segment) → IsWritten (pathnames_image number paths) s → (s.fields.kind ≡ 0x0004) × (segment_bytes s ≡ rows_text 2 paths)
 unfolding pathnames_image pathnames_fields table_fields paths_text
-paths_read number paths s is = (ap (λ (f : Fields). f.kind) is.read.fields, bytes_whole (pathnames_image number paths) s refl is)
+paths_read number paths s is = (ap (λ (f : HeaderFields). f.kind) is.read.fields, bytes_whole (pathnames_image number paths) s refl is)
 
 -- the paths that are read are those that were written
 rows_read : (more number : ℕ) (runtimes : List RuntimeFile) (segments : List Segment) → more ≡ most_paths → AllByRecursion IsPath (map (λ r. r.path) runtimes) → length runtimes ≤ more
@@ -112,7 +112,7 @@ module _ (given : LinkInput) (list : List Member) (table : List EquateAnswer) (b
   length_fits : (number : ℕ) → length_of (load_headers list) number ≤ 0xFFFFFF
   length_fits number = by_header (load_header (load_headers list) number) refl
     where
-      by_header : (o : Option Fields) → load_header (load_headers list) number ≡ o → elim o as (λ x. ℕ) [ None ↦ 0 | Some f ↦ f.length ] ≤ 0xFFFFFF
+      by_header : (o : Option HeaderFields) → load_header (load_headers list) number ≡ o → elim o as (λ x. ℕ) [ None ↦ 0 | Some f ↦ f.length ] ≤ 0xFFFFFF
       by_header None e = omega arith
       by_header (Some f) e = short_length f (all_at (λ g. is_too_long g ≡ false) (load_headers list) (number - 1) f (short_loads given list is.resolved) e)
 
@@ -155,7 +155,7 @@ module _ (given : LinkInput) (list : List Member) (table : List EquateAnswer) (b
   after_loads number (x ∷ xs) rest [] plain written = absurd written
   after_loads number (x ∷ xs) rest (s ∷ segments) plain written =
       let more = after_loads (number + 1) xs rest segments (λ n y is'. plain n y (inr is')) written.1 in
-      let kind : s.fields.kind ≡ (load_fields list number x).kind = ap (λ (f : Fields). f.kind) written.0.read.fields in
+      let kind : s.fields.kind ≡ (load_fields list number x).kind = ap (λ (f : HeaderFields). f.kind) written.0.read.fields in
       let not_one = plain number x (inl refl) in
       record {
         following = more.following;

@@ -5,7 +5,7 @@ use Rattle.loader_agrees.specs.Agrees.{Loaded}
 use Rattle.omf_making.specs.declared.status.Status.{Status}
 use Rattle.omf_making.specs.declared.status.Status.TheVariants as status
 use Rattle.link_meaning.specs.declared.form.LinkForm.TheVariants.{Program, Runtime}
-use Rattle.omf_making.specs.Form.{Form, Asm, Link, Dump, Run, Lib, Stress, Rtl, LinkRt, Listing, Compact}
+use Rattle.omf_making.specs.Form.{CommandForm, Asm, Link, Dump, Run, Lib, Stress, Rtl, LinkRt, Listing, Compact}
 use Rattle.omf_making.specs.Lines.{usage_line}
 use Rattle.omf_making.specs.Printing.{Ends}
 use Rattle.omf_making.specs.Making.{MakesRun, CanMake}
@@ -24,7 +24,7 @@ UsageRun result o =
     Ends (λ wanted text. (wanted ≡ status.Usage) × (text ≡ usage_line) × (o.new_store ≡ o.store)) ⊥ ⊥ result o.sink o.new_sink
 
 -- a run over words of this form that ends with the status; a loader is handed out by a script and by a workload alone
-abbrev pub HasRun : Status → Option Form → Option Loaded → Outside → Type 0
+abbrev pub HasRun : Status → Option CommandForm → Option Loaded → Outside → Type 0
 HasRun result None last o = UsageRun result o × (last ≡ None)
 HasRun result (Some (Asm source output macros)) last o = MakesRun AsmMakes (Some output) (source ∷ macros) result o × (last ≡ None)
 HasRun result (Some (Link output inputs)) last o = MakesRun (λ files. LinkMakes (given_alone Program files)) (Some output) inputs result o × (last ≡ None)
@@ -38,7 +38,7 @@ HasRun result (Some (Listing output inputs)) last o = MakesRun ListMakes (Some o
 HasRun result (Some (Compact output inputs)) last o = MakesRun CompactMakes (Some output) inputs result o × (last ≡ None)
 
 -- the command can be done: the store tells its inputs, if there are any, they have no fault, and no count rises
-abbrev pub CanSucceed : Option Form → Outside → Type 0
+abbrev pub CanSucceed : Option CommandForm → Outside → Type 0
 CanSucceed None o = ⊥
 CanSucceed (Some (Asm source output macros)) o = CanMake AsmMakes (source ∷ macros) o
 CanSucceed (Some (Link output inputs)) o = CanMake (λ files. LinkMakes (given_alone Program files)) inputs o

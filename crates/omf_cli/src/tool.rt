@@ -13,7 +13,7 @@ use crate::stress::run_stress;
 use link_meaning::LinkForm;
 use omf_commands::{Asm, Compact, Dump, Lib, Listing, inputs_of, run_file};
 use omf_io::{Files, Sink};
-use omf_making::{Form, Status, print, read_form, run_maker, usage_line};
+use omf_making::{CommandForm, Status, print, read_form, run_maker, usage_line};
 use std::alloc::Global;
 use sys_loader::Loader;
 
@@ -74,32 +74,32 @@ pub fn run_tool<F: Files, S: Sink>(
     match read_form(words) {
         None => print(usage_line(alloc), Status::Usage, out),
         Some(
-            Form::Asm {
+            CommandForm::Asm {
                 source,
                 output,
                 macros,
             },
         ) => run_asm(alloc, source, output, macros, files, out),
-        Some(Form::Link { output, inputs }) => {
+        Some(CommandForm::Link { output, inputs }) => {
             let link = Link {
                 form: LinkForm::Program,
             };
             run_maker(alloc, &link, Some(output), inputs, files, out)
         }
-        Some(Form::Dump { inputs }) => run_maker(alloc, &Dump, None, inputs, files, out),
-        Some(Form::Run { inputs }) => run_file(alloc, inputs, files, out, last),
-        Some(Form::Lib { output, inputs }) => {
+        Some(CommandForm::Dump { inputs }) => run_maker(alloc, &Dump, None, inputs, files, out),
+        Some(CommandForm::Run { inputs }) => run_file(alloc, inputs, files, out, last),
+        Some(CommandForm::Lib { output, inputs }) => {
             run_maker(alloc, &Lib { inputs }, Some(output), inputs, files, out)
         }
-        Some(Form::Stress { count, seed }) => run_stress(alloc, count, seed, out, last),
-        Some(Form::Rtl { output, inputs }) => {
+        Some(CommandForm::Stress { count, seed }) => run_stress(alloc, count, seed, out, last),
+        Some(CommandForm::Rtl { output, inputs }) => {
             let link = Link {
                 form: LinkForm::Runtime,
             };
             run_maker(alloc, &link, Some(output), inputs, files, out)
         }
         Some(
-            Form::LinkRt {
+            CommandForm::LinkRt {
                 output,
                 inputs,
                 runtimes,
@@ -112,10 +112,10 @@ pub fn run_tool<F: Files, S: Sink>(
             files,
             out,
         ),
-        Some(Form::Listing { output, inputs }) => {
+        Some(CommandForm::Listing { output, inputs }) => {
             run_maker(alloc, &Listing, Some(output), inputs, files, out)
         }
-        Some(Form::Compact { output, inputs }) => {
+        Some(CommandForm::Compact { output, inputs }) => {
             run_maker(alloc, &Compact, Some(output), inputs, files, out)
         }
     }

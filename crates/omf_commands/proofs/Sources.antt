@@ -9,7 +9,7 @@ use Rattle.std.specs.declared.alloc.Global.{Global}
 use Rattle.std.proofs.lemmas.List.{length-map}
 use Rattle.asm_meaning.specs.declared.faults.AsmFault.{AsmFault}
 use Rattle.asm_meaning.specs.Object.{IsAsmFault, OutOfMemory, First}
-use Rattle.omf_making.specs.Form.{Form, Asm, Link, Dump, Run, Lib, Stress, Rtl, LinkRt, Listing, Compact, form_of, with_output, source_and_output, inputs_only, count_and_seed, output_and_runtimes, input_and_output}
+use Rattle.omf_making.specs.Form.{CommandForm, Asm, Link, Dump, Run, Lib, Stress, Rtl, LinkRt, Listing, Compact, form_of, with_output, source_and_output, inputs_only, count_and_seed, output_and_runtimes, input_and_output}
 use Rattle.omf_making.specs.Words.{is_path, are_paths, words_of}
 use Rattle.omf_making.specs.declared.making.Making.{Making}
 use Rattle.omf_making.specs.Made.{Made, Bytes, Refusal, made_of, first_of}
@@ -19,7 +19,7 @@ use Rattle.omf_commands.specs.Assemble.{AsmMakes, ReportsAsmFault, following_fir
 
 -- ---- how many macro files a form has
 
-abbrev macros_of : Option Form → List (List ℕ)
+abbrev macros_of : Option CommandForm → List (List ℕ)
 macros_of None = []
 macros_of (Some (Asm source output macros)) = macros
 macros_of (Some (Link output inputs)) = []
@@ -32,14 +32,14 @@ macros_of (Some (LinkRt output inputs runtimes)) = []
 macros_of (Some (Listing output inputs)) = []
 macros_of (Some (Compact output inputs)) = []
 
-abbrev HasFew : Option Form → Type 0
+abbrev HasFew : Option CommandForm → Type 0
 HasFew form = length (macros_of form) ≤ 254
 
 abbrev AreFew : Option (List ℕ × List (List ℕ)) → Type 0
 AreFew None = Unit {0}
 AreFew (Some w) = length w.1 ≤ 254
 
-either : (b : Bool) (x y : Option Form) → HasFew x → HasFew y → HasFew (cond b x y)
+either : (b : Bool) (x y : Option CommandForm) → HasFew x → HasFew y → HasFew (cond b x y)
 either true x y p q = p
 either false x y p q = q
 
@@ -116,7 +116,7 @@ few_in (name ∷ words) =
 -- they are 254 at most
 pub few_macros : (words : List (List ℕ)) (source output : List ℕ) (macros : List (String Global)) → Some (Asm source output (words_of macros)) ≡ form_of words → length macros ≤ 254
 few_macros words source output macros is =
-    let same : length (words_of macros) ≡ length (macros_of (form_of words)) = ap (λ (o : Option Form). length (macros_of o)) is in
+    let same : length (words_of macros) ≡ length (macros_of (form_of words)) = ap (λ (o : Option CommandForm). length (macros_of o)) is in
     omega (arith, same, few_in words, length-map macros string_bytes)
 
 -- ---- what is made

@@ -8,7 +8,7 @@ use Rattle.std.proofs.lemmas.List.{append-nil, length-append, length-map, length
 use Rattle.std.proofs.lemmas.List.Concat.{flat_map-cons}
 use Rattle.std.proofs.lemmas.Option.{slice_get_past, slice_get-map}
 use Rattle.omf_format.specs.Field.{written_layout}
-use Rattle.omf_format.specs.Header.{Fields, form_of}
+use Rattle.omf_format.specs.Header.{HeaderFields, form_of}
 use Rattle.omf_format.specs.Record.{Record, LongConst, spelling}
 use Rattle.omf_format.specs.File.{Segment, segment_at}
 use Rattle.load_meaning.specs.Cells.{Cell, Byte, Part, Patch, parts_from, segment_bytes, patches_of, cells}
@@ -205,6 +205,6 @@ module _ (segments : List Segment) (number : ℕ) (s : Segment) (known : IsKnown
   path_zeros = rw path refl
 
 -- what KIND says
-pub kind_is : (s : Segment) (f : Fields) → s.fields ≡ f → is_pathname (plain_of s) ≡ eqb (form_of f.kind) 4
+pub kind_is : (s : Segment) (f : HeaderFields) → s.fields ≡ f → is_pathname (plain_of s) ≡ eqb (form_of f.kind) 4
 unfolding plain_of
-kind_is s f is = ap (λ (g : Fields). eqb (form_of g.kind) 4) is
+kind_is s f is = ap (λ (g : HeaderFields). eqb (form_of g.kind) 4) is

@@ -5,7 +5,7 @@ use Rattle.std.proofs.Math.Seq.{take-append_seam, drop-append_seam}
 use Rattle.std.proofs.lemmas.List.{length-append, length-replicate, append-nil}
 use Rattle.std.proofs.lemmas.Grind.{flat_map-append}
 use Rattle.omf_format.specs.Field.{written_layout}
-use Rattle.omf_format.specs.Header.{Fields, header_bytes}
+use Rattle.omf_format.specs.Header.{HeaderFields, header_bytes}
 use Rattle.omf_format.specs.laws.WrittenHeaderLaws.{length-header}
 use Rattle.omf_format.specs.Record.{spelling}
 use Rattle.omf_format.specs.File.{Segment, segment_at}
@@ -20,12 +20,12 @@ use Rattle.omf_compact.proofs.KnownLaws.{at_some, known_sound}
 
 -- ---- the segment with a number, and its header
 
-pub its_fields : (segments : List Segment) (number : ℕ) (f : Fields) (s : Segment) → HasFields segments number f → segment_at segments number ≡ Some s → s.fields ≡ f
+pub its_fields : (segments : List Segment) (number : ℕ) (f : HeaderFields) (s : Segment) → HasFields segments number f → segment_at segments number ≡ Some s → s.fields ≡ f
 its_fields segments number f s has at = at_some (λ (t : Segment). t.fields ≡ f) segments number s at has
 
-pub own_number : (segments : List Segment) (number : ℕ) (f : Fields) → IsKnown segments → HasSegment segments number → HasFields segments number f → f.seg_num ≡ number
+pub own_number : (segments : List Segment) (number : ℕ) (f : HeaderFields) → IsKnown segments → HasSegment segments number → HasFields segments number f → f.seg_num ≡ number
 own_number segments number f known there has =
-    sym (ap (λ (g : Fields). g.seg_num) (its_fields segments number f there.0 has there.1)) ∙ (known_sound segments number there.0 known there.1).number'
+    sym (ap (λ (g : HeaderFields). g.seg_num) (its_fields segments number f there.0 has there.1)) ∙ (known_sound segments number there.0 known there.1).number'
 
 pub at_own : (segments : List Segment) (own number : ℕ) (s : Segment) → own ≡ number → segment_at segments own ≡ Some s → segment_at segments number ≡ Some s
 at_own segments own number s same at = subst (λ (n : ℕ). segment_at segments n ≡ Some s) same at
@@ -38,11 +38,11 @@ unfolding canon_records first_text first_records entries_text plain_of spelling
 body_of number s = ap (λ (l : List ℕ). l ++ 0 ∷ []) (flat_map-append (spelling written_layout) (first_records number (plain_of s)) (plain_of s).entries)
 
 -- its header's fields
-pub fields_are : (number zeros : ℕ) (s : Segment) (f : Fields) → s.fields ≡ f → f.seg_num ≡ number → zeros ≡ (canon_fields number (plain_of s)).res_spc → fields_with f zeros ≡ canon_fields number (plain_of s)
+pub fields_are : (number zeros : ℕ) (s : Segment) (f : HeaderFields) → s.fields ≡ f → f.seg_num ≡ number → zeros ≡ (canon_fields number (plain_of s)).res_spc → fields_with f zeros ≡ canon_fields number (plain_of s)
 unfolding canon_fields plain_of
-fields_are number zeros s f is own space = subst (λ (g : Fields). fields_with g zeros ≡ canon_fields number (plain_of s)) is (ap (λ (n : ℕ). made n zeros) (ap (λ (g : Fields). g.seg_num) is ∙ own) ∙ ap (λ (z : ℕ). made number z) space)
+fields_are number zeros s f is own space = subst (λ (g : HeaderFields). fields_with g zeros ≡ canon_fields number (plain_of s)) is (ap (λ (n : ℕ). made n zeros) (ap (λ (g : HeaderFields). g.seg_num) is ∙ own) ∙ ap (λ (z : ℕ). made number z) space)
   where
-    made : ℕ → ℕ → Fields
+    made : ℕ → ℕ → HeaderFields
     made n z = record s.fields { byte_count = 0; res_spc = z; lab_len = 0; version = 2; seg_num = n; disp_name = 0; disp_data = 0 }
 
 pub segment_size : (number : ℕ) (s : Segment) → length s.fields.load_name ≡ 10 → length (canon_segment number (plain_of s)) ≡ 0x37 + length s.fields.name + (length (first_text number (plain_of s) ++ entries_text s) + 1)
@@ -93,20 +93,20 @@ pub err_moved : {A B E : Type 0} → (a b : E) → failed {A = A} a ≡ failed b
 err_moved a b e = let same : a ≡ b = cc in ap failed same
 
 -- how long the segment is
-pub long_by : (number n out size : ℕ) (s : Segment) (f : Fields) (body : List ℕ) → s.fields ≡ f → length f.load_name ≡ 10 → body ≡ first_text number (plain_of s) ++ entries_text s → size ≡ length body
+pub long_by : (number n out size : ℕ) (s : Segment) (f : HeaderFields) (body : List ℕ) → s.fields ≡ f → length f.load_name ≡ 10 → body ≡ first_text number (plain_of s) ++ entries_text s → size ≡ length body
     → n < 0x37 + length f.name + (size + 1) → n < out + length (canon_segment number (plain_of s))
 long_by number n out size s f body is ten body_is same long =
-    let name : length s.fields.name ≡ length f.name = ap (λ (g : Fields). length g.name) is in
-    omega (arith, long, segment_size number s (ap (λ (g : Fields). length g.load_name) is ∙ ten), name, same, ap length body_is)
+    let name : length s.fields.name ≡ length f.name = ap (λ (g : HeaderFields). length g.name) is in
+    omega (arith, long, segment_size number s (ap (λ (g : HeaderFields). length g.load_name) is ∙ ten), name, same, ap length body_is)
 
-pub long_all : (number n room : ℕ) (out r3 body : List ℕ) (s : Segment) (f : Fields) → s.fields ≡ f → length f.load_name ≡ 10 → body ≡ first_text number (plain_of s) ++ entries_text s → room ≡ 0x37 + length f.name
+pub long_all : (number n room : ℕ) (out r3 body : List ℕ) (s : Segment) (f : HeaderFields) → s.fields ≡ f → length f.load_name ≡ 10 → body ≡ first_text number (plain_of s) ++ entries_text s → room ≡ 0x37 + length f.name
     → length r3 ≡ length out + room + length body → n < length r3 + 1 → n < length out + length (canon_segment number (plain_of s))
 long_all number n room out r3 body s f is ten body_is head size long =
-    let name : length s.fields.name ≡ length f.name = ap (λ (g : Fields). length g.name) is in
-    omega (arith, long, segment_size number s (ap (λ (g : Fields). length g.load_name) is ∙ ten), name, size, head, ap length body_is)
+    let name : length s.fields.name ≡ length f.name = ap (λ (g : HeaderFields). length g.name) is in
+    omega (arith, long, segment_size number s (ap (λ (g : HeaderFields). length g.load_name) is ∙ ten), name, size, head, ap length body_is)
 
 -- the whole segment
-pub segment_done : (number zeros size start room : ℕ) (s : Segment) (f : Fields) (out r3 front new : List ℕ) → s.fields ≡ f → f.seg_num ≡ number → zeros ≡ (canon_fields number (plain_of s)).res_spc
+pub segment_done : (number zeros size start room : ℕ) (s : Segment) (f : HeaderFields) (out r3 front new : List ℕ) → s.fields ≡ f → f.seg_num ≡ number → zeros ≡ (canon_fields number (plain_of s)).res_spc
     → length f.load_name ≡ 10 → room ≡ 0x37 + length f.name → start ≡ length out → r3 ≡ (out ++ replicate room 0) ++ (first_text number (plain_of s) ++ entries_text s) → size ≡ length r3 - start - room
     → front ≡ header_bytes (fields_with f zeros) (size + 1) → new ≡ take start r3 ++ front ++ drop (start + length front) r3 ++ 0 ∷ [] → new ≡ out ++ canon_segment number (plain_of s)
 segment_done number zeros size start room s f out r3 front new is own space ten head here mid left top done =
@@ -114,7 +114,7 @@ segment_done number zeros size start room s f out r3 front new is own space ten 
     let sizes = after_size out body r3 room mid in
     let long : size ≡ length body = omega (arith, left, here, sizes) in
     let g = fields_are number zeros s f is own space in
-    let top' : front ≡ header_bytes (canon_fields number (plain_of s)) (length body + 1) = top ∙ ap (λ (h : Fields). header_bytes h (size + 1)) g ∙ ap (λ (n : ℕ). header_bytes (canon_fields number (plain_of s)) (n + 1)) long in
+    let top' : front ≡ header_bytes (canon_fields number (plain_of s)) (length body + 1) = top ∙ ap (λ (h : HeaderFields). header_bytes h (size + 1)) g ∙ ap (λ (n : ℕ). header_bytes (canon_fields number (plain_of s)) (n + 1)) long in
     let front_size : length front ≡ room = omega (arith, ap length top, length-header (fields_with f zeros) (size + 1) ten, head) in
     closed out front body r3 new start room here mid front_size done ∙ ap (λ (l : List ℕ). out ++ l) (segment_text number s front body refl top')
 

@@ -3,7 +3,7 @@
 use Rattle.std.specs.Prelude.{ℕ, ◌+◌, ◌==◌, Bool, true, false, List, [], ◌∷◌, ◌++◌, length, map, Option, None, option_map, if◌then◌else◌}
 use Rattle.std.specs.List.{filter, flat_map}
 use Rattle.std.specs.Option.{option_or}
-use Rattle.omf_format.specs.Header.{Fields, form_of, header_bytes}
+use Rattle.omf_format.specs.Header.{HeaderFields, form_of, header_bytes}
 use Rattle.omf_format.specs.Field.{written_layout}
 use Rattle.omf_format.specs.Record.{Record, spelling, End, Const, LongConst, Align, Org, Space, Reloc, InterSeg, ShortReloc, ShortInterSeg, Super, Using, Strong, Label, Equate, Formula, Entry}
 use Rattle.omf_format.specs.File.{Segment}
@@ -82,7 +82,7 @@ canon_records number p =
     (if is_pathname p then LongConst (bytes_in p.cells') ∷ [] else body_records number (bytes_in p.cells') (stretches p.cells')) ++ p.entries
 
 -- RESSPC counts the zeros that the data leave out
-unfoldable pub canon_fields : ℕ → Plain → Fields
+unfoldable pub canon_fields : ℕ → Plain → HeaderFields
 canon_fields number p = record {
   byte_count = 0;
   res_spc = if is_pathname p then 0 else zeros_after p.cells';

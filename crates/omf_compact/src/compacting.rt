@@ -5,7 +5,7 @@ ghost use Rattle.omf_format.specs.Number.{IsBytes};
 ghost use Rattle.omf_compact.specs.Answer.{IsAnswer, IsRefused};
 
 use crate::fault::{CompactCause, CompactFault, of_load};
-use crate::head::WriteFault;
+use crate::head::CompactWriteFault;
 use crate::judge::patches_or_broken_part;
 use crate::segments::put_segments;
 use omf_cells::read_load;
@@ -37,7 +37,7 @@ pub fn canonical(alloc: Global, file: &[u8]) -> Result<Vec<u8>, CompactFault>
     let _ = out.reserve(file.len());
     match put_segments(alloc, &mut out, &load, lists.as_slice()) {
         Ok(()) => Ok(out),
-        Err(WriteFault::TooLong) => Err(CompactFault::of(CompactCause::TooLong)),
-        Err(WriteFault::Memory) => Err(CompactFault::of(CompactCause::Memory)),
+        Err(CompactWriteFault::TooLong) => Err(CompactFault::of(CompactCause::TooLong)),
+        Err(CompactWriteFault::Memory) => Err(CompactFault::of(CompactCause::Memory)),
     }
 }

@@ -8,7 +8,7 @@ ghost use Rattle.omf_cells.specs.Whole.{front_at, data_at};
 ghost use Rattle.omf_compact.specs.Canonical.{plain_of, is_pathname, canon_fields, canon_segment};
 ghost use Rattle.omf_compact.specs.laws.Writing.{IsKnown, HasSegment, HasStretches, first_text};
 
-use crate::head::WriteFault;
+use crate::head::CompactWriteFault;
 use omf_base::first_items;
 use omf_cells::{LoadFile, Patch, put_body};
 use omf_header::Header;
@@ -30,7 +30,7 @@ fn put_cells(
     number: u16,
     content: &[u8],
     patches: &[Patch],
-) -> Result<(), WriteFault>
+) -> Result<(), CompactWriteFault>
     requires known { IsKnown load.now }
     requires whole { (s : Segment) → segment_at load.now number ≡ Some s → HasStretches s (map seen patches.now) }
     requires there { HasSegment load.now number }
@@ -38,7 +38,7 @@ fn put_cells(
     requires small { front_at load.now number ≤ 0xFFFFFF }
     ensures ok { OnOk result ((s : Segment) → segment_at load.now number ≡ Some s → is_pathname (plain_of s) ≡ false
         → out.new.items ≡ out.old.items ++ first_text number (plain_of s)) }
-    ensures memory_alone { IfErr result (λ fault. fault ≡ WriteFault.Memory) }
+    ensures memory_alone { IfErr result (λ fault. fault ≡ CompactWriteFault.Memory) }
 {
     let _zeros = put_body(alloc, out, number, content, patches)?;
     Ok(())
@@ -52,7 +52,7 @@ fn put_plain(
     number: u16,
     size: u32,
     patches: &[Patch],
-) -> Result<(), WriteFault>
+) -> Result<(), CompactWriteFault>
     requires known { IsKnown load.now }
     requires whole { (s : Segment) → segment_at load.now number ≡ Some s → HasStretches s (map seen patches.now) }
     requires there { HasSegment load.now number }
@@ -60,7 +60,7 @@ fn put_plain(
     requires small { size ≤ 0xFFFFFF }
     ensures ok { OnOk result ((s : Segment) → segment_at load.now number ≡ Some s → is_pathname (plain_of s) ≡ false
         → out.new.items ≡ out.old.items ++ first_text number (plain_of s)) }
-    ensures memory_alone { IfErr result (λ fault. fault ≡ WriteFault.Memory) }
+    ensures memory_alone { IfErr result (λ fault. fault ≡ CompactWriteFault.Memory) }
 {
     match load.data(u32::from(number)) {
         Some(bytes) => {
@@ -89,13 +89,13 @@ fn put_pathnames(
     load: &LoadFile,
     number: u16,
     size: u32,
-) -> Result<(), WriteFault>
+) -> Result<(), CompactWriteFault>
     requires known { IsKnown load.now }
     requires there { HasSegment load.now number }
     requires size { (s : Segment) → segment_at load.now number ≡ Some s → size ≡ s.fields.length }
     ensures ok { OnOk result ((s : Segment) → segment_at load.now number ≡ Some s → is_pathname (plain_of s) ≡ true
         → out.new.items ≡ out.old.items ++ first_text number (plain_of s)) }
-    ensures memory_alone { IfErr result (λ fault. fault ≡ WriteFault.Memory) }
+    ensures memory_alone { IfErr result (λ fault. fault ≡ CompactWriteFault.Memory) }
 {
     let mut bytes = Vec::new(alloc);
     load.put_data(u32::from(number), size, &mut bytes)?;
@@ -111,7 +111,7 @@ pub fn put_content(
     load: &LoadFile,
     header: &Header,
     patches: &[Patch],
-) -> Result<u32, WriteFault>
+) -> Result<u32, CompactWriteFault>
     requires known { IsKnown load.now }
     requires whole { (s : Segment) → segment_at load.now (header.now).seg_num ≡ Some s → HasStretches s (map seen patches.now) }
     requires header { (s : Segment) → segment_at load.now (header.now).seg_num ≡ Some s → s.fields ≡ fields header.now }
@@ -120,7 +120,7 @@ pub fn put_content(
         → out.new.items ≡ out.old.items ++ first_text (header.now).seg_num (plain_of s)) }
     ensures zeros { IfOk result (λ zeros. (s : Segment) → segment_at load.now (header.now).seg_num ≡ Some s
         → zeros ≡ (canon_fields (header.now).seg_num (plain_of s)).res_spc) }
-    ensures too_long { IsErrOf result WriteFault.TooLong → (s : Segment) → segment_at load.now (header.now).seg_num ≡ Some s
+    ensures too_long { IsErrOf result CompactWriteFault.TooLong → (s : Segment) → segment_at load.now (header.now).seg_num ≡ Some s
         → 0x1000000 < length (canon_segment (header.now).seg_num (plain_of s)) }
 {
     let number = header.seg_num;
@@ -130,7 +130,7 @@ pub fn put_content(
     }
     let size = load.front(u32::from(number));
     if size > MOST_DATA {
-        return Err(WriteFault::TooLong);
+        return Err(CompactWriteFault::TooLong);
     }
     put_plain(alloc, out, load, number, size, patches)?;
     Ok(header.length.saturating_sub(size))

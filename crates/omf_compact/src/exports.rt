@@ -4,7 +4,7 @@ ghost use Rattle.std.specs.Prelude.{◌≡◌, ◌+◌, ◌++◌, Some, IfOk, If
 ghost use Rattle.omf_format.specs.File.{Segment, segment_at};
 ghost use Rattle.omf_compact.specs.laws.Writing.{IsKnown, HasSegment, AtExports, entries_text};
 
-use crate::head::WriteFault;
+use crate::head::CompactWriteFault;
 use omf_cells::LoadFile;
 use omf_records::{Rec, put_record};
 
@@ -15,13 +15,13 @@ pub fn put_exports(
     load: &LoadFile,
     number: u16,
     place: u32,
-) -> Result<u32, WriteFault>
+) -> Result<u32, CompactWriteFault>
     requires known { IsKnown load.now }
     requires there { HasSegment load.now number }
     requires at { AtExports load.now number place }
     ensures ok { OnOk result ((s : Segment) → segment_at load.now number ≡ Some s → out.new.items ≡ out.old.items ++ entries_text s) }
     ensures next { IfOk result (λ next. AtExports load.now (number + 1) next) }
-    ensures memory_alone { IfErr result (λ fault. fault ≡ WriteFault.Memory) }
+    ensures memory_alone { IfErr result (λ fault. fault ≡ CompactWriteFault.Memory) }
 {
     let end = load.exports();
     let mut place = place;

@@ -16,64 +16,68 @@ pub const MOST_BYTES: usize = 0x100_0000;
 
 /// Why no segment is written.
 #[derive(Clone, Copy, Debug, PartialEq, Eq)]
-pub enum WriteFault {
+pub enum CompactWriteFault {
     /// The file would exceed 16,777,216 bytes.
     TooLong,
     Memory,
 }
 
-impl From<AllocError> for WriteFault {
+impl From<AllocError> for CompactWriteFault {
     ghost use Rattle.std.specs.Prelude.{◌≡◌};
-    ghost use Rattle.omf_compact.specs.declared.head.WriteFault.TheVariants.{Memory};
+    ghost use Rattle.omf_compact.specs.declared.head.CompactWriteFault.TheVariants.{Memory};
 
     ghost from_gives = { λ _ fault. fault ≡ Memory };
 
-    fn from(_: AllocError) -> WriteFault {
-        WriteFault::Memory
+    fn from(_: AllocError) -> CompactWriteFault {
+        CompactWriteFault::Memory
     }
 }
 
-impl<T: Drop> From<AllocFailed<T>> for WriteFault {
+impl<T: Drop> From<AllocFailed<T>> for CompactWriteFault {
     ghost use Rattle.std.specs.Prelude.{◌≡◌};
-    ghost use Rattle.omf_compact.specs.declared.head.WriteFault.TheVariants.{Memory};
+    ghost use Rattle.omf_compact.specs.declared.head.CompactWriteFault.TheVariants.{Memory};
 
     ghost from_gives = { λ _ fault. fault ≡ Memory };
 
-    fn from(_: AllocFailed<T>) -> WriteFault {
-        WriteFault::Memory
+    fn from(_: AllocFailed<T>) -> CompactWriteFault {
+        CompactWriteFault::Memory
     }
 }
 
-impl From<BodyFault> for WriteFault {
+impl From<BodyFault> for CompactWriteFault {
     ghost use Rattle.std.specs.Prelude.{◌≡◌};
-    ghost use Rattle.omf_compact.specs.declared.head.WriteFault.TheVariants.{Memory};
+    ghost use Rattle.omf_compact.specs.declared.head.CompactWriteFault.TheVariants.{Memory};
 
     ghost from_gives = { λ _ fault. fault ≡ Memory };
 
-    fn from(_: BodyFault) -> WriteFault {
-        WriteFault::Memory
+    fn from(_: BodyFault) -> CompactWriteFault {
+        CompactWriteFault::Memory
     }
 }
 
-impl From<PutFault> for WriteFault {
+impl From<PutFault> for CompactWriteFault {
     ghost use Rattle.std.specs.Prelude.{◌≡◌};
-    ghost use Rattle.omf_compact.specs.declared.head.WriteFault.TheVariants.{Memory};
+    ghost use Rattle.omf_compact.specs.declared.head.CompactWriteFault.TheVariants.{Memory};
 
     ghost from_gives = { λ _ fault. fault ≡ Memory };
 
-    fn from(_: PutFault) -> WriteFault {
-        WriteFault::Memory
+    fn from(_: PutFault) -> CompactWriteFault {
+        CompactWriteFault::Memory
     }
 }
 
 /// The header with so many zeros after the data, without what its writing gives it.
-fn with_reserved_zeros(alloc: Global, header: &Header, zeros: u32) -> Result<Header, WriteFault>
+fn with_reserved_zeros(
+    alloc: Global,
+    header: &Header,
+    zeros: u32,
+) -> Result<Header, CompactWriteFault>
     ensures ok { IfOk result (λ written. fields written ≡ fields_with (fields header.now) zeros) }
-    ensures memory_alone { IfErr result (λ fault. fault ≡ WriteFault.Memory) }
+    ensures memory_alone { IfErr result (λ fault. fault ≡ CompactWriteFault.Memory) }
 {
     let name = match Name::of(alloc, header.name.bytes()) {
         Ok(name) => name,
-        Err(NameFault::Memory) => return Err(WriteFault::Memory),
+        Err(NameFault::Memory) => return Err(CompactWriteFault::Memory),
         Err(NameFault::TooLong) => unreachable!(),
     };
     Ok(Header {
@@ -101,19 +105,19 @@ pub fn front_of(
     header: &Header,
     zeros: u32,
     size: usize,
-) -> Result<Vec<u8>, WriteFault>
+) -> Result<Vec<u8>, CompactWriteFault>
     requires { IsWritable (fields_with (fields header.now) zeros) }
     ensures ok { IfOk result (λ front. front.items ≡ header_bytes (fields_with (fields header.now) zeros) (size + 1)) }
-    ensures too_long { IsErrOf result WriteFault.TooLong → 0x1000000 < 0x37 + length header.now.name + (size + 1) }
+    ensures too_long { IsErrOf result CompactWriteFault.TooLong → 0x1000000 < 0x37 + length header.now.name + (size + 1) }
 {
     if size >= MOST_BYTES {
-        return Err(WriteFault::TooLong);
+        return Err(CompactWriteFault::TooLong);
     }
     let written = with_reserved_zeros(alloc, header, zeros)?;
     match write_header(alloc, &written, size as u32 + 1) {
         Ok(front) => Ok(front),
-        Err(WriteHeaderFault::TooLong) => Err(WriteFault::TooLong),
-        Err(WriteHeaderFault::Memory) => Err(WriteFault::Memory),
+        Err(WriteHeaderFault::TooLong) => Err(CompactWriteFault::TooLong),
+        Err(WriteHeaderFault::Memory) => Err(CompactWriteFault::Memory),
     }
 }
 
@@ -126,10 +130,10 @@ pub fn header_size(header: &Header) -> usize
 }
 
 /// Appends so many zeros.
-pub fn put_room(out: &mut Vec<u8>, room: usize) -> Result<(), WriteFault>
+pub fn put_room(out: &mut Vec<u8>, room: usize) -> Result<(), CompactWriteFault>
     requires { length out.old.items + room < 2 ^ 33 }
     ensures ok { OnOk result (out.new.items ≡ out.old.items ++ replicate room 0) }
-    ensures memory_alone { IfErr result (λ fault. fault ≡ WriteFault.Memory) }
+    ensures memory_alone { IfErr result (λ fault. fault ≡ CompactWriteFault.Memory) }
 {
     let end = out.as_slice().len() + room;
     out.resize(end, 0)?;
@@ -146,14 +150,14 @@ fn put_front(out: &mut [u8], start: usize, front: &[u8])
 
 /// Writes a header into the room before a body, and END behind the body. It is too long where there would be more than
 /// 16,777,216 bytes.
-pub fn close(out: &mut Vec<u8>, start: usize, front: &[u8]) -> Result<(), WriteFault>
+pub fn close(out: &mut Vec<u8>, start: usize, front: &[u8]) -> Result<(), CompactWriteFault>
     requires { start + length front.now ≤ length out.old.items }
     ensures ok { OnOk result (out.new.items ≡ take start out.old.items ++ front.now ++ drop (start + length front.now) out.old.items ++ 0 ∷ []) }
     ensures short { OnOk result (length out.new.items ≤ 0x1000000) }
-    ensures too_long { IsErrOf result WriteFault.TooLong → 0x1000000 < length out.old.items + 1 }
+    ensures too_long { IsErrOf result CompactWriteFault.TooLong → 0x1000000 < length out.old.items + 1 }
 {
     if out.as_slice().len() >= MOST_BYTES {
-        return Err(WriteFault::TooLong);
+        return Err(CompactWriteFault::TooLong);
     }
     put_front(out.as_mut_slice(), start, front);
     out.push(0)?;

@@ -8,7 +8,7 @@ ghost use Rattle.omf_compact.specs.laws.Writing.{IsKnown, HasSegment, HasStretch
 
 use crate::content::put_content;
 use crate::exports::put_exports;
-use crate::head::{WriteFault, close, front_of, header_size, put_room, recall_header_size};
+use crate::head::{CompactWriteFault, close, front_of, header_size, put_room, recall_header_size};
 use omf_cells::{LoadFile, Patch};
 use std::alloc::Global;
 
@@ -21,7 +21,7 @@ fn put_segment(
     number: u32,
     patches: &[Patch],
     place: u32,
-) -> Result<u32, WriteFault>
+) -> Result<u32, CompactWriteFault>
     requires known { IsKnown load.now }
     requires there { HasSegment load.now number }
     requires whole { (s : Segment) → segment_at load.now number ≡ Some s → HasStretches s (map seen patches.now) }
@@ -30,7 +30,7 @@ fn put_segment(
     ensures ok { OnOk result ((s : Segment) → segment_at load.now number ≡ Some s → out.new.items ≡ out.old.items ++ canon_segment number (plain_of s)) }
     ensures next { IfOk result (λ next. AtExports load.now (number + 1) next) }
     ensures short { OnOk result (length out.new.items ≤ 0x1000000) }
-    ensures too_long { IsErrOf result WriteFault.TooLong → (s : Segment) → segment_at load.now number ≡ Some s
+    ensures too_long { IsErrOf result CompactWriteFault.TooLong → (s : Segment) → segment_at load.now number ≡ Some s
         → 0x1000000 < length out.old.items + length (canon_segment number (plain_of s)) }
 {
     let header = match load.header(number) {
@@ -62,13 +62,13 @@ pub fn put_segments(
     out: &mut Vec<u8>,
     load: &LoadFile,
     lists: &[Vec<Patch>],
-) -> Result<(), WriteFault>
+) -> Result<(), CompactWriteFault>
     requires known { IsKnown load.now }
     requires lists { AreStretches load.now lists.now }
     requires empty { out.old.items ≡ [] }
     ensures ok { OnOk result (out.new.items ≡ canon (plain load.now)) }
     ensures short { OnOk result (length out.new.items ≤ 0x1000000) }
-    ensures too_long { IsErrOf result WriteFault.TooLong → 0x1000000 < length (canon (plain load.now)) }
+    ensures too_long { IsErrOf result CompactWriteFault.TooLong → 0x1000000 < length (canon (plain load.now)) }
 {
     let mut place = 0;
     'segments: for index in 0..load.count() {

@@ -7,7 +7,7 @@ use Rattle.omf_format.specs.declared.fault.RecordFault.TheVariants as record_fau
 use Rattle.omf_format.specs.declared.fault.FileCause.{FileCause}
 use Rattle.omf_format.specs.declared.fault.FileCause.TheVariants as cause
 use Rattle.omf_format.specs.declared.fault.FileFault.{FileFault}
-use Rattle.omf_format.specs.Header.{Fields, fields_of, version_of, header_fault, displacement_of}
+use Rattle.omf_format.specs.Header.{HeaderFields, fields_of, version_of, header_fault, displacement_of}
 use Rattle.omf_format.specs.Field.{layout_of}
 use Rattle.omf_format.specs.Record.{Record}
 use Rattle.omf_format.specs.Reading.{Reader, next_answer, HandsOut, records_of}
@@ -15,11 +15,11 @@ use Rattle.omf_format.specs.Reading.{Reader, next_answer, HandsOut, records_of}
 -- a segment of a file: where it starts, its header's fields, and its records with their displacements, END being the last
 pub record Segment : Type 0 where
   pub start : ℕ
-  pub fields : Fields
+  pub fields : HeaderFields
   pub records : List (ℕ × Record)
 
 -- a reader at the body's front: the body begins at DISPDATA and ends with the segment, which has BYTECNT bytes
-unfoldable pub body_reader : ℕ → Fields → List ℕ → Reader
+unfoldable pub body_reader : ℕ → HeaderFields → List ℕ → Reader
 body_reader start f file = record {
   end = start + f.byte_count;
   left = drop (start + f.disp_data) (take (start + f.byte_count) file);
@@ -28,7 +28,7 @@ body_reader start f file = record {
 }
 
 -- the header stands there, and passes its checks
-pub record IsHeader (start : ℕ) (f : Fields) (file : List ℕ) : Type 0 where
+pub record IsHeader (start : ℕ) (f : HeaderFields) (file : List ℕ) : Type 0 where
   pub passes : header_fault (drop start file) ≡ None
   pub fields : f ≡ fields_of (drop start file)
 
@@ -52,7 +52,7 @@ IsFile segments file = AreSegments segments 0 file (length file)
 -- a segment's place in a file, and its header
 pub record Placed : Type 0 where
   pub start : ℕ
-  pub fields : Fields
+  pub fields : HeaderFields
   pub file : List ℕ
 
 -- the segment whose header stands there, with the records that a reader of its body hands out
@@ -86,7 +86,7 @@ to_file_record_fault (record_faults.BadRecord at) = (cause.BadRecord, at)
 -- the first fault of the segment that starts there is this one: its header's, or else that of the first record at fault
 pub data HasFault (start : ℕ) (file : List ℕ) (reported : FaultAt) : Type 0 where
   InHeader : (of : HeaderFault) → header_fault (drop start file) ≡ Some of → reported ≡ to_file_header_fault start (version_of (drop start file)) of → HasFault start file reported
-  InRecord : (f : Fields) (before : List (ℕ × Record)) (reader : Reader) (of : RecordFault) → IsHeader start f file
+  InRecord : (f : HeaderFields) (before : List (ℕ × Record)) (reader : Reader) (of : RecordFault) → IsHeader start f file
       → HandsOut (body_reader start f file) before reader → next_answer reader ≡ Err of → reported ≡ to_file_record_fault of → HasFault start file reported
 
 -- the first fault of a file: the segments before it are sound, and the next one has it

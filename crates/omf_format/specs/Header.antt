@@ -10,7 +10,7 @@ use Rattle.omf_format.specs.Number.{number_at}
 use Rattle.omf_format.specs.Name.{name_at, name_size}
 
 -- the fields of a header
-pub record Fields : Type 0 where
+pub record HeaderFields : Type 0 where
   pub byte_count : ℕ
   pub res_spc : ℕ
   pub length : ℕ
@@ -44,7 +44,7 @@ unfoldable pub kind_of : List ℕ → ℕ
 kind_of bytes = if version_of bytes == 1 then kind_of_byte (number_at 1 0x0C bytes) else number_at 2 0x14 bytes
 
 -- each field is at its displacement, and at DISPNAME stand the load name of ten bytes and the segment's name
-unfoldable pub fields_of : List ℕ → Fields
+unfoldable pub fields_of : List ℕ → HeaderFields
 fields_of bytes = record {
   byte_count = byte_count_of bytes;
   res_spc = number_at 4 0x04 bytes;
@@ -124,7 +124,7 @@ abbrev pub is_read_version : ℕ → Bool
 is_read_version version = version == 1 || version == 2
 
 -- the checks of a header in their order, each with the refusal where it holds; the bytes are those from the segment's start to the file's end
-abbrev pub checks_of : Fields → List ℕ → List (Bool × HeaderFault)
+abbrev pub checks_of : HeaderFields → List ℕ → List (Bool × HeaderFault)
 checks_of f bytes =
     (nat_lt (length bytes) 44, Truncated (length bytes))
     ∷ (not (number_at 1 0x0E bytes == 4), Unsupported NumLen)
@@ -169,7 +169,7 @@ laid_out [] = []
 laid_out (field ∷ fields) = little_bytes field.0 field.1 ++ laid_out fields
 
 -- the fields of a written header: LABLEN 0, VERSION 2, DISPNAME $2C, and DISPDATA and BYTECNT by the name's and the body's length
-abbrev pub written_fields : Fields → ℕ → Fields
+abbrev pub written_fields : HeaderFields → ℕ → HeaderFields
 written_fields f body_length = record f {
   byte_count = 0x37 + length f.name + body_length;
   lab_len = 0;
@@ -179,19 +179,19 @@ written_fields f body_length = record f {
 }
 
 -- the widths and values of the written header's numbers, in order
-unfoldable pub written_numbers : Fields → List (ℕ × ℕ)
+unfoldable pub written_numbers : HeaderFields → List (ℕ × ℕ)
 written_numbers f =
     (4, f.byte_count) ∷ (4, f.res_spc) ∷ (4, f.length) ∷ (1, 0) ∷ (1, f.lab_len) ∷ (1, 4) ∷ (1, f.version)
     ∷ (4, f.bank_size) ∷ (2, f.kind) ∷ (2, 0) ∷ (4, f.org) ∷ (4, f.align) ∷ (1, 0) ∷ (1, 0)
     ∷ (2, f.seg_num) ∷ (4, f.entry) ∷ (2, f.disp_name) ∷ (2, f.disp_data) ∷ []
 
 -- a written header: its numbers, the load name, and the segment's name behind its length
-unfoldable pub header_bytes : Fields → ℕ → List ℕ
+unfoldable pub header_bytes : HeaderFields → ℕ → List ℕ
 header_bytes f body_length =
     laid_out (written_numbers (written_fields f body_length)) ++ f.load_name ++ length f.name ∷ f.name
 
 -- which headers may be written: those of version 2 for which the checks of BANKSIZE, KIND and RESSPC don't hold
-pub record IsWritable (f : Fields) : Type 0 where
+pub record IsWritable (f : HeaderFields) : Type 0 where
   pub version : f.version ≡ 2
   pub banks : f.bank_size ≤ 0x10000
   pub listed : is_listed (form_of f.kind) ≡ true

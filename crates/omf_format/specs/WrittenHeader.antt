@@ -1,9 +1,9 @@
 -- Which fields fit into a written header.
 use Rattle.std.proofs.Common.{◌≡◌, ℕ, ◌+◌, ◌^◌, ◌<◌, ◌≤◌, length}
-use Rattle.omf_format.specs.Header.{Fields}
+use Rattle.omf_format.specs.Header.{HeaderFields}
 
 -- a written header: what it says fits, and the segment stays below 2 ^ 32 bytes
-pub record FitsWritten (f : Fields) (n : ℕ) : Type 0 where
+pub record FitsWritten (f : HeaderFields) (n : ℕ) : Type 0 where
   pub res_spc : f.res_spc < 2 ^ 32
   pub length : f.length < 2 ^ 32
   pub bank_size : f.bank_size < 2 ^ 32

@@ -2,11 +2,11 @@
 use Rattle.std.specs.Prelude.{◌≡◌, List, ℕ, Some}
 use Rattle.omf_format.specs.declared.fault.HeaderFault.{HeaderFault}
 use Rattle.omf_format.specs.declared.fault.HeaderFault.TheVariants.{Truncated, Unsupported, BadField, Memory}
-use Rattle.omf_format.specs.Header.{Fields, header_fault}
+use Rattle.omf_format.specs.Header.{HeaderFields, header_fault}
 use Rattle.omf_header.specs.declared.header.Header.{Header}
 
 -- the fields of a header
-abbrev pub fields : Header → Fields
+abbrev pub fields : Header → HeaderFields
 fields h = record {
   byte_count = h.byte_count;
   res_spc = h.res_spc;

@@ -3,20 +3,20 @@ use Rattle.std.specs.Prelude.{ℕ, ◌-◌, ◌&&◌, if◌then◌else◌, List,
 use Rattle.std.specs.Option.{option_map, option_and_then}
 use Rattle.std.specs.Str.{bytes_eq}
 use Rattle.omf_making.specs.Words.{is_path, are_paths, are_printing, words_of, number_between, short_number_between}
-use Rattle.omf_making.specs.declared.form.Form.{Form as Words}
-use Rattle.omf_making.specs.declared.form.Form.TheVariants as words
+use Rattle.omf_making.specs.declared.form.CommandForm.{CommandForm as Words}
+use Rattle.omf_making.specs.declared.form.CommandForm.TheVariants as words
 
-pub data Form : Type 0 where
-  Asm : (source output : List ℕ) (macros : List (List ℕ)) → Form
-  Link : (output : List ℕ) (inputs : List (List ℕ)) → Form
-  Dump : (inputs : List (List ℕ)) → Form
-  Run : (inputs : List (List ℕ)) → Form
-  Lib : (output : List ℕ) (inputs : List (List ℕ)) → Form
-  Stress : (count seed : ℕ) → Form
-  Rtl : (output : List ℕ) (inputs : List (List ℕ)) → Form
-  LinkRt : (output : List ℕ) (inputs runtimes : List (List ℕ)) → Form
-  Listing : (output : List ℕ) (inputs : List (List ℕ)) → Form
-  Compact : (output : List ℕ) (inputs : List (List ℕ)) → Form
+pub data CommandForm : Type 0 where
+  Asm : (source output : List ℕ) (macros : List (List ℕ)) → CommandForm
+  Link : (output : List ℕ) (inputs : List (List ℕ)) → CommandForm
+  Dump : (inputs : List (List ℕ)) → CommandForm
+  Run : (inputs : List (List ℕ)) → CommandForm
+  Lib : (output : List ℕ) (inputs : List (List ℕ)) → CommandForm
+  Stress : (count seed : ℕ) → CommandForm
+  Rtl : (output : List ℕ) (inputs : List (List ℕ)) → CommandForm
+  LinkRt : (output : List ℕ) (inputs runtimes : List (List ℕ)) → CommandForm
+  Listing : (output : List ℕ) (inputs : List (List ℕ)) → CommandForm
+  Compact : (output : List ℕ) (inputs : List (List ℕ)) → CommandForm
 
 -- an output, and so many inputs behind it
 abbrev pub with_output : ℕ → ℕ → List (List ℕ) → Option (List ℕ × List (List ℕ))
@@ -57,7 +57,7 @@ input_and_output (input ∷ output ∷ []) = if is_path input && is_path output 
 input_and_output _ = None
 
 -- behind `rtl`, `linkrt`, `list` and `compact`
-abbrev pub later_form : List ℕ → List (List ℕ) → Option Form
+abbrev pub later_form : List ℕ → List (List ℕ) → Option CommandForm
 later_form name words =
     if bytes_eq name (codes "rtl") then option_map (λ w. Rtl w.0 w.1) (with_output 1 255 words)
     else (if bytes_eq name (codes "linkrt") then option_map (λ w. LinkRt w.0 w.1 w.2) (output_and_runtimes words)
@@ -66,7 +66,7 @@ later_form name words =
 
 -- `asm SRC OBJ MACROS..`, `link OUT FILE..`, `dump FILE`, `run SCRIPT`, `lib OUT OBJ..`, `stress N SEED`, `rtl OUT FILE..`,
 -- `linkrt OUT K FILE..`, `list OBJ SRC`, `compact IN OUT`; other words have no form
-abbrev pub form_of : List (List ℕ) → Option Form
+abbrev pub form_of : List (List ℕ) → Option CommandForm
 form_of [] = None
 form_of (name ∷ words) =
     if bytes_eq name (codes "asm") then option_map (λ w. Asm w.0 w.1 w.2) (source_and_output words)
@@ -78,7 +78,7 @@ form_of (name ∷ words) =
     else later_form name words)))))
 
 -- a form as it was read from words
-abbrev pub form_of_words : Words → Form
+abbrev pub form_of_words : Words → CommandForm
 form_of_words (words.Asm source output macros) = Asm source.now output.now (words_of macros.now)
 form_of_words (words.Link output inputs) = Link output.now (words_of inputs.now)
 form_of_words (words.Dump inputs) = Dump (words_of inputs.now)

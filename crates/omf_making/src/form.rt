@@ -6,7 +6,7 @@ ghost use Rattle.omf_making.specs.Words.{is_path, are_paths, is_printing, are_pr
 ghost use Rattle.omf_making.specs.Form.{with_output, source_and_output, inputs_only, input_and_output, count_and_seed, last_inputs, output_and_runtimes, later_form, form_of, form_of_words};
 
 /// A command with its paths.
-pub enum Form<'a> {
+pub enum CommandForm<'a> {
     Asm {
         source: &'a str,
         output: &'a str,
@@ -217,17 +217,17 @@ fn input_and_output(words: &[String]) -> Option<(&str, &[String])>
 }
 
 /// The form behind a name that was added later: run-time library files, the lister, and canonical load files.
-fn later_form<'a>(name: &str, words: &'a [String]) -> Option<Form<'a>>
+fn later_form<'a>(name: &str, words: &'a [String]) -> Option<CommandForm<'a>>
     ensures { option_map form_of_words result ≡ later_form name.now (words_of words.now) }
 {
     match name {
         "rtl" => {
             let (output, inputs) = with_output(1, 255, words)?;
-            Some(Form::Rtl { output, inputs })
+            Some(CommandForm::Rtl { output, inputs })
         }
         "linkrt" => {
             let (output, inputs, runtimes) = output_and_runtimes(words)?;
-            Some(Form::LinkRt {
+            Some(CommandForm::LinkRt {
                 output,
                 inputs,
                 runtimes,
@@ -235,18 +235,18 @@ fn later_form<'a>(name: &str, words: &'a [String]) -> Option<Form<'a>>
         }
         "list" => {
             let (output, inputs) = input_and_output(words)?;
-            Some(Form::Listing { output, inputs })
+            Some(CommandForm::Listing { output, inputs })
         }
         "compact" => {
             let (output, inputs) = input_and_output(words)?;
-            Some(Form::Compact { output, inputs })
+            Some(CommandForm::Compact { output, inputs })
         }
         _ => None,
     }
 }
 
 /// The form of the words, or None where they have none.
-pub fn read_form(words: &[String]) -> Option<Form<'_>>
+pub fn read_form(words: &[String]) -> Option<CommandForm<'_>>
     ensures { option_map form_of_words result ≡ form_of (words_of words.now) }
 {
     let (name, words) = words.split_first()?;
@@ -254,7 +254,7 @@ pub fn read_form(words: &[String]) -> Option<Form<'_>>
     match name {
         "asm" => {
             let (source, output, macros) = source_and_output(words)?;
-            Some(Form::Asm {
+            Some(CommandForm::Asm {
                 source,
                 output,
                 macros,
@@ -262,23 +262,23 @@ pub fn read_form(words: &[String]) -> Option<Form<'_>>
         }
         "link" => {
             let (output, inputs) = with_output(1, 255, words)?;
-            Some(Form::Link { output, inputs })
+            Some(CommandForm::Link { output, inputs })
         }
         "dump" => {
             let inputs = inputs_only(1, 1, words)?;
-            Some(Form::Dump { inputs })
+            Some(CommandForm::Dump { inputs })
         }
         "run" => {
             let inputs = inputs_only(1, 1, words)?;
-            Some(Form::Run { inputs })
+            Some(CommandForm::Run { inputs })
         }
         "lib" => {
             let (output, inputs) = with_output(1, 255, words)?;
-            Some(Form::Lib { output, inputs })
+            Some(CommandForm::Lib { output, inputs })
         }
         "stress" => {
             let (count, seed) = count_and_seed(words)?;
-            Some(Form::Stress { count, seed })
+            Some(CommandForm::Stress { count, seed })
         }
         _ => later_form(name, words),
     }

@@ -7,7 +7,7 @@ mod printing;
 mod reading;
 mod status;
 
-pub use form::{Form, are_paths, read_form};
+pub use form::{CommandForm, are_paths, read_form};
 pub use making::{Maker, Making, first_of, run_maker};
 pub use printing::{
     cause_name, line_fault_line, path_line, print, refused_line, script_cause_name, script_line,

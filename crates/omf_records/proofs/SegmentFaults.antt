@@ -6,7 +6,7 @@ use Rattle.omf_format.specs.declared.fault.HeaderFault.TheVariants.{Truncated, U
 use Rattle.omf_format.specs.declared.fault.FileCause.{FileCause}
 use Rattle.omf_format.specs.declared.fault.FileCause.TheVariants as cause
 use Rattle.omf_format.specs.declared.fault.FileFault.{FileFault}
-use Rattle.omf_format.specs.Header.{Fields, version_of, header_fault}
+use Rattle.omf_format.specs.Header.{HeaderFields, version_of, header_fault}
 use Rattle.omf_format.specs.laws.HeaderLaws.{fault_fits}
 use Rattle.omf_format.specs.Reading.{Reader, HandsOut}
 use Rattle.omf_format.specs.File.{body_reader, IsHeader, FaultAt, to_file_header_fault, HasFault, InHeader, InRecord}
@@ -56,7 +56,7 @@ segment_fault Memory number start bytes file fault is refused reported =
     subst (λ (c : FileCause). UnlessMemory c fault ((fault.segment ≡ number) × HasFault start file (fault.cause, fault.at))) (sym reported.cause) reported.place
 
 -- and so is a record's
-pub record_segment_fault : (f : Fields) (number start : ℕ) (file : List ℕ) (reader : Reader) (reported : FaultAt) (fault : FileFault) → IsHeader start f file → reader ≡ body_reader start f file
+pub record_segment_fault : (f : HeaderFields) (number start : ℕ) (file : List ℕ) (reader : Reader) (reported : FaultAt) (fault : FileFault) → IsHeader start f file → reader ≡ body_reader start f file
     → HasRecordFault reader reported → IsReported reported number fault → IsSegmentFault fault number start file
 record_segment_fault f number start file reader reported fault is at has says =
     let here : HandsOut (body_reader start f file) has.before has.at = subst (λ (r : Reader). HandsOut r has.before has.at) at has.run in

@@ -12,7 +12,7 @@ use Rattle.asm_meaning.specs.declared.faults.AsmCause.{AsmCause}
 use Rattle.asm_meaning.specs.declared.faults.AsmCause.TheVariants.{Memory, Unclosed}
 use Rattle.asm_meaning.specs.declared.faults.AsmFault.{AsmFault}
 use Rattle.asm_meaning.specs.Object.{HasLines, cause_of, IsFirstFault, InExpansion, InLine, InSegment, InLength, IsAsmFault, OutOfMemory, First}
-use Rattle.asm_meaning.specs.State.{Segment}
+use Rattle.asm_meaning.specs.State.{StartedSegment}
 use Rattle.orca_object.specs.AssembleView.{IsLastFault, IsAssembled}
 
 -- ---- the object, or the first fault
@@ -25,7 +25,7 @@ fault_is source macros lines fault expanded (inr l) = First (by_segment l.last.s
     has : HasLines source macros l.last
     has = record { lines = lines; expanded = expanded; steps = l.steps }
 
-    by_segment : (found : Option Segment) → l.last.segment ≡ found → IsLastFault found l.last fault → IsFirstFault source macros fault
+    by_segment : (found : Option StartedSegment) → l.last.segment ≡ found → IsLastFault found l.last fault → IsFirstFault source macros fault
     by_segment None none is = InLength l.last has none is.0 is.1
     by_segment (Some s) some is = InSegment l.last s has some is
 

@@ -2,7 +2,7 @@
 use Rattle.std.proofs.Common.{◌≡◌, ℕ, Bool, false, true, eqb, List, [], ◌∷◌, length, Option, Some, None, refl, sym, ap, subst, ◌∙◌}
 use Rattle.std.specs.Prelude.{Result, Ok, Err, IfOk, nat_lt, is_some}
 use Rattle.std.proofs.lemmas.Bool.{eqb-true}
-use Rattle.orca_meaning.specs.Line.{Fields, Line, part, three_fields, is_comment}
+use Rattle.orca_meaning.specs.Line.{LineFields, Line, part, three_fields, is_comment}
 use Rattle.macro_meaning.specs.Symbol.{text_of, Values}
 use Rattle.macro_meaning.specs.Condition.{Answer, IsCondition}
 use Rattle.macro_meaning.specs.Pieces.{pieces}
@@ -29,16 +29,16 @@ some_operation [] some = absurd cc
 some_operation (byte ∷ following) some = refl
 
 -- a line with a statement
-pub statement_is : (s : SymbolSetting) (text : List ℕ) (fields : Fields) (operation label operand : List ℕ) (found : Statement) (d : meaning.Effect) → fields ≡ three_fields text
+pub statement_is : (s : SymbolSetting) (text : List ℕ) (fields : LineFields) (operation label operand : List ℕ) (found : Statement) (d : meaning.Effect) → fields ≡ three_fields text
     → operation ≡ part text fields.operation → label ≡ part text fields.label → operand ≡ part text fields.operand → eqb (length operation) 0 ≡ false → Some found ≡ statement_of operation
     → IsDone s.values found text label operand d → IsStatement s text (three_fields text) d
 statement_is s text fields operation label operand found d fields_are operation_is label_is operand_is some is done =
     let by_operand : IsDone s.values found text label (part text fields.operand) d = subst (λ (o : List ℕ). IsDone s.values found text label o d) operand_is done in
     let by_label : IsDone s.values found text (part text fields.label) (part text fields.operand) d = subst (λ (l : List ℕ). IsDone s.values found text l (part text fields.operand) d) label_is by_operand in
     let which : operation_or_anop (part text fields.operation) ≡ Some found = ap operation_or_anop (sym operation_is) ∙ some_operation operation some ∙ sym is in
-    subst (λ (f : Fields). IsStatement s text f d) fields_are (subst (λ (o : Option Statement). IsDoneBy s text fields o d) (sym which) by_label)
+    subst (λ (f : LineFields). IsStatement s text f d) fields_are (subst (λ (o : Option Statement). IsDoneBy s text fields o d) (sym which) by_label)
 
-pub statement_ok : {E : Type 0} (s : SymbolSetting) (text : List ℕ) (fields : Fields) (operation label operand : List ℕ) (found : Statement) (r : Result Effect E) → fields ≡ three_fields text
+pub statement_ok : {E : Type 0} (s : SymbolSetting) (text : List ℕ) (fields : LineFields) (operation label operand : List ℕ) (found : Statement) (r : Result Effect E) → fields ≡ three_fields text
     → operation ≡ part text fields.operation → label ≡ part text fields.label → operand ≡ part text fields.operand → eqb (length operation) 0 ≡ false → Some found ≡ statement_of operation
     → IfOk r (λ (d : Effect). IsDone s.values found text label operand (effect_view d)) → IfOk r (λ (d : Effect). IsStatement s text (three_fields text) (effect_view d))
 statement_ok s text fields operation label operand found (Ok d) fields_are operation_is label_is operand_is some is done =

@@ -8,7 +8,7 @@ use Rattle.omf_format.specs.declared.value.ValueFault.{ValueFault}
 use Rattle.omf_format.specs.Expression.{Tree, terms_of, depth}
 use Rattle.omf_format.specs.Value.{value, signed}
 use Rattle.orca_meaning.specs.Formula.{has_large}
-use Rattle.orca_meaning.specs.Line.{Line, Fields, part, is_comment, three_fields}
+use Rattle.orca_meaning.specs.Line.{Line, LineFields, part, is_comment, three_fields}
 use Rattle.orca_meaning.specs.Characters.{folded}
 use Rattle.macro_meaning.specs.declared.faults.MacroCause.{MacroCause}
 use Rattle.macro_meaning.specs.declared.faults.MacroCause.TheVariants.{LineTooLong, TooManyLines, NoSuchSymbol, BadSetting, BadArguments, NoSequenceSymbol, Unclosed, Counter, TooNested, Noted, Memory}
@@ -27,7 +27,7 @@ use Rattle.macro_meaning.specs.Expansion.{line_fault_of, file_parts, file_part_f
 use Rattle.macro_meaning.specs.Pieces.{pieces, unquoted_text, joined_texts}
 use Rattle.macro_meaning.specs.Statements.{symbol_name, target_name}
 use Rattle.macro_meaning.specs.Symbol.{Symbol, Symbols, Values, is_count, kind_of, declaration_of, is_kind, is_declaration}
-use Rattle.macro_meaning.specs.Visit.{Program, Visit, Move, On, Ends, Stops, IsVisitOf, IsVisitAt, IsVisit, Follow, line_at, if_line, next_visit, visit_after_call, move_after_expansion, next_line, branch_to, target_of, body_of, call_of, move_of, visit_after, setting_of, most_visits, first_visit}
+use Rattle.macro_meaning.specs.Visit.{MacroProgram, Visit, Move, On, Ends, Stops, IsVisitOf, IsVisitAt, IsVisit, Follow, line_at, if_line, next_visit, visit_after_call, move_after_expansion, next_line, branch_to, target_of, body_of, call_of, move_of, visit_after, setting_of, most_visits, first_visit}
 
 unfoldable pub is_memory : MacroCause → Bool
 is_memory LineTooLong = false
@@ -259,7 +259,7 @@ long_free = refl
 effect_free : (s : SymbolSetting) (line : Line) (d : Effect) → IsEffect s line d → EffectFree d
 effect_free s line d p = by_comment (is_comment line.text) p
   where
-    by_statement : (text : List ℕ) (fields : Fields) (o : Option Statement) → IsDoneBy s text fields o d → EffectFree d
+    by_statement : (text : List ℕ) (fields : LineFields) (o : Option Statement) → IsDoneBy s text fields o d → EffectFree d
     by_statement text fields None p = effect_as d _ p (calling_free s.definitions s.root text (first_named (folded (part text fields.operation)) s.definitions) (part text fields.label) (part text fields.operand))
     by_statement text fields (Some statement) p = done_free s.values statement text (part text fields.label) (part text fields.operand) d p
 
@@ -294,7 +294,7 @@ if_line_free : (o : Option Line) (a b : Move) → MoveFree a → MoveFree b → 
 if_line_free None a b p q = q
 if_line_free (Some line) a b p q = p
 
-returned_free : (program : Program) (before : List Visit) (last : Visit) (depth : ℕ) (caller : Option ℕ) → MoveFree (move_after_expansion program before last depth caller)
+returned_free : (program : MacroProgram) (before : List Visit) (last : Visit) (depth : ℕ) (caller : Option ℕ) → MoveFree (move_after_expansion program before last depth caller)
 unfolding move_after_expansion
 returned_free program before last zero caller = tt
 returned_free program before last (suc depth) None = tt
@@ -305,7 +305,7 @@ returned_free program before last (suc depth) (Some place) = by_visit (slice_get
     by_visit None more = tt
     by_visit (Some v) more = if_line_free (line_at program v.macro (v.line + 1)) (On (visit_after_call v last)) (move_after_expansion program before last depth v.caller) tt (more v.caller)
 
-next_free : (program : Program) (before : List Visit) (v : Visit) → MoveFree (next_line program before v)
+next_free : (program : MacroProgram) (before : List Visit) (v : Visit) → MoveFree (next_line program before v)
 unfolding next_line
 next_free program before v = if_line_free (line_at program v.macro (v.line + 1)) (On (next_visit v)) (move_after_expansion program before v v.depth v.caller) tt (returned_free program before v v.depth v.caller)
 
@@ -322,7 +322,7 @@ call_free : (before : List Visit) (v : Visit) (line : Line) (place : ℕ) (symbo
 unfolding is_memory
 call_free before v line place symbols = cond_move (eqb v.depth 32) _ _ refl tt
 
-move_free : (program : Program) (before : List Visit) (v : Visit) (line : Line) (d : Effect) → EffectFree d → MoveFree (move_of program before v line d)
+move_free : (program : MacroProgram) (before : List Visit) (v : Visit) (line : Line) (d : Effect) → EffectFree d → MoveFree (move_of program before v line d)
 unfolding move_of
 move_free program before v line NoEffect p = next_free program before v
 move_free program before v line (Emit text) p = next_free program before v
@@ -338,7 +338,7 @@ many_free : is_memory TooManyLines ≡ false
 unfolding is_memory
 many_free = refl
 
-visit_free : (program : Program) (before : List Visit) (v : Visit) (given : List Line) (move : Move) → IsVisit program before v given move → MoveFree move
+visit_free : (program : MacroProgram) (before : List Visit) (v : Visit) (given : List Line) (move : Move) → IsVisit program before v given move → MoveFree move
 visit_free program before v given move p = by_line (line_at program v.macro v.line) p
   where
     by_count : (line : Line) (b : Bool) → IsVisitOf program before v line b given move → MoveFree move
@@ -349,11 +349,11 @@ visit_free program before v given move p = by_line (line_at program v.macro v.li
     by_line None p = subst MoveFree (sym p.1) tt
     by_line (Some line) p = by_count line (eqb (length before) most_visits) p
 
-follow_free : (program : Program) (before : List Visit) (v : Visit) (ws : List Visit) (given : List Line) (end : Move) → Follow program before v ws given end → MoveFree end
+follow_free : (program : MacroProgram) (before : List Visit) (v : Visit) (ws : List Visit) (given : List Line) (end : Move) → Follow program before v ws given end → MoveFree end
 follow_free program before v [] given end p = visit_free program before v given end p
 follow_free program before v (w ∷ ws) given end p = follow_free program (before ++ v ∷ []) w ws p.1 end p.4
 
-pub stops_free : (program : Program) (line : Line) (cause : MacroCause) → StopsAt program line cause → is_memory cause ≡ false
+pub stops_free : (program : MacroProgram) (line : Line) (cause : MacroCause) → StopsAt program line cause → is_memory cause ≡ false
 stops_free program line cause stops = follow_free program [] first_visit stops.visited.visits stops.given (Stops line cause) stops.visited.follow
 
 -- ---- definitions

@@ -2,14 +2,14 @@
 use Rattle.std.proofs.Common.{◌≡◌, ◌≤◌, ℕ, Bool, true, false, eqb, List, [], ◌∷◌, ◌++◌, length, Option, Some, None, refl, sym, ap, subst, ◌∙◌}
 use Rattle.std.specs.Prelude.{codes, not}
 use Rattle.orca_meaning.specs.Characters.{folded}
-use Rattle.orca_meaning.specs.Line.{Fields, Line, part, three_fields, fields_of, is_comment}
+use Rattle.orca_meaning.specs.Line.{LineFields, Line, part, three_fields, fields_of, is_comment}
 use Rattle.macro_meaning.specs.Effect as meaning
 use Rattle.macro_meaning.specs.Effect.{SymbolSetting, IsAfterCut, IsEffect, IsDoneBy, IsStatement, calling_at, without_sequence_symbol, operation_or_anop, resting}
 use Rattle.macro_meaning.specs.Definition.{MacroDefinition, operation_is, first_named}
 use Rattle.macro_meaning.specs.Statements.{is_operation}
 use Rattle.macro_meaning.specs.Substitution.{first_passes}
 use Rattle.macro_meaning.specs.Symbol.{SharedTexts}
-use Rattle.macro_meaning.specs.Visit.{Program, Visit, given_by, move_of, next_line}
+use Rattle.macro_meaning.specs.Visit.{MacroProgram, Visit, given_by, move_of, next_line}
 use Rattle.macro_meaning.specs.declared.statements.Statement.{Statement}
 use Rattle.macro_meaning.specs.declared.statements.Statement.TheVariants.{Nothing}
 use Rattle.orca_symbols.specs.Plain.{plain_len}
@@ -48,7 +48,7 @@ none_there text comment = rw comment refl
 -- so nothing is asked of it
 pub comment_untouched : (l : Line) → l.fields ≡ fields_of l.text → is_comment l.text ≡ true → IsUntouched l
 comment_untouched l own comment = record {
-  begins_none = ap (λ (o : List ℕ). is_operation (codes "MACRO") o) (ap (λ (f : Fields). part l.text f.operation) own ∙ ap (part l.text) (none_there l.text comment));
+  begins_none = ap (λ (o : List ℕ). is_operation (codes "MACRO") o) (ap (λ (f : LineFields). part l.text f.operation) own ∙ ap (part l.text) (none_there l.text comment));
   given = λ other definitions unnamed. let both : true ≡ false = sym comment ∙ other in absurd cc;
 }
 
@@ -68,11 +68,11 @@ module _ (l : Line) (text : List ℕ) (w : IsWrittenOut l text) where
   -- its fields
   operation_is_second : is_comment text ≡ false → part text (three_fields text).operation ≡ part l.text l.fields.operation
   operation_is_second other =
-      ap (part text) (sym (operation_same text other)) ∙ ap (λ (t : List ℕ). part t (fields_of t).operation) w.same ∙ ap (λ (f : Fields). part l.text f.operation) (sym w.own)
+      ap (part text) (sym (operation_same text other)) ∙ ap (λ (t : List ℕ). part t (fields_of t).operation) w.same ∙ ap (λ (f : LineFields). part l.text f.operation) (sym w.own)
 
   label_is_first : is_comment text ≡ false → part text (three_fields text).label ≡ part l.text l.fields.label
   label_is_first other =
-      ap (part text) (sym (label_same text other)) ∙ ap (λ (t : List ℕ). part t (fields_of t).label) w.same ∙ ap (λ (f : Fields). part l.text f.label) (sym w.own)
+      ap (part text) (sym (label_same text other)) ∙ ap (λ (t : List ℕ). part t (fields_of t).label) w.same ∙ ap (λ (f : LineFields). part l.text f.label) (sym w.own)
 
   -- what its statement does it does
   whole : (s : SymbolSetting) → is_comment text ≡ false → IsStatement s text (three_fields text) (meaning.Emit text) → IsEffect s l (meaning.Emit l.text)
@@ -121,10 +121,10 @@ given_unnamed definitions l text operation same other stays operation_is unnamed
 
 -- a line that is given is the line itself
 pub given_line : (l : Line) (old new : List Line) → l.fields ≡ fields_of l.text → new ≡ old ++ l ∷ [] → new ≡ old ++ given_by l (meaning.Emit l.text)
-given_line l old new own is = is ∙ ap (λ (f : Fields). old ++ record { file = l.file; number = l.number; text = l.text; fields = f } ∷ []) own
+given_line l old new own is = is ∙ ap (λ (f : LineFields). old ++ record { file = l.file; number = l.number; text = l.text; fields = f } ∷ []) own
 
 -- what follows on a line that is given
-pub moves_on : (program : Program) (before : List Visit) (v : Visit) (l : Line) (outcome : Flow) (f : Frame) (fs : List Frame) (texts : SharedTexts) (calls : ℕ)
+pub moves_on : (program : MacroProgram) (before : List Visit) (v : Visit) (l : Line) (outcome : Flow) (f : Frame) (fs : List Frame) (texts : SharedTexts) (calls : ℕ)
     → MovesTo (next_line program before v) (before ++ v ∷ []) l outcome f fs texts calls → MovesTo (move_of program before v l (meaning.Emit l.text)) (before ++ v ∷ []) l outcome f fs texts calls
 unfolding move_of
 moves_on program before v l outcome f fs texts calls moves = moves

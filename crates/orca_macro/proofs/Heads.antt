@@ -8,7 +8,7 @@ use Rattle.std.proofs.lemmas.List.Folds.{prefix_len-append, list_all-append}
 use Rattle.std.proofs.lemmas.List.Sums.{prefix_len-le-length}
 use Rattle.orca_meaning.specs.declared.lines.Span.{Span}
 use Rattle.orca_meaning.specs.Characters.{is_blank, folded}
-use Rattle.orca_meaning.specs.Line.{Fields, Line, part, three_fields, is_comment, is_ink, next_blank, next_ink, span}
+use Rattle.orca_meaning.specs.Line.{LineFields, Line, part, three_fields, is_comment, is_ink, next_blank, next_ink, span}
 use Rattle.macro_meaning.specs.declared.statements.Statement.{Statement}
 use Rattle.macro_meaning.specs.Effect.{SymbolSetting, without_sequence_symbol, operation_or_anop, IsDone, IsDoneBy, IsStatement, IsAfterCut, IsAfterText, IsShort, begins_definition, calling_at}
 use Rattle.macro_meaning.specs.Definition.{first_named}
@@ -168,13 +168,13 @@ fields_after h rest ys within some label_is end_is operation_is statement_is =
     label_take : (t : List ℕ) (s : Span) → s.from ≡ 0 → part t s ≡ take s.to t
     label_take t s from = rw from (ap (λ (n : ℕ). take n t) (minus_zero s.to))
 
-pub head_is : (h : LineHead) (front rest : List ℕ) (fields : Fields) (operation : List ℕ) → rest ≡ without_sequence_symbol front → is_comment rest ≡ false → fields ≡ three_fields rest → operation ≡ part rest fields.operation
+pub head_is : (h : LineHead) (front rest : List ℕ) (fields : LineFields) (operation : List ℕ) → rest ≡ without_sequence_symbol front → is_comment rest ≡ false → fields ≡ three_fields rest → operation ≡ part rest fields.operation
     → fields.operation.to < length rest → eqb (length operation) 0 ≡ false → h.sequence ≡ length front - length rest → h.label ≡ fields.label.to → h.end ≡ fields.operation.to → h.operation ≡ folded operation
     → h.statement ≡ statement_of operation → IsHead h front
 head_is h front rest fields operation rest_is other fields_are operation_is within some sequence_is label_is end_is folded_is statement_is =
-    let ends : (three_fields rest).operation.to < length rest = subst (λ (f : Fields). f.operation.to < length rest) fields_are within in
+    let ends : (three_fields rest).operation.to < length rest = subst (λ (f : LineFields). f.operation.to < length rest) fields_are within in
     let c : Cuts front rest h.sequence = cuts_here front rest h.sequence (label_ends front rest rest_is ends) rest_is sequence_is in
-    let part_is : operation ≡ part rest (three_fields rest).operation = operation_is ∙ ap (λ (f : Fields). part rest f.operation) fields_are in
+    let part_is : operation ≡ part rest (three_fields rest).operation = operation_is ∙ ap (λ (f : LineFields). part rest f.operation) fields_are in
     let following : (ys : List ℕ) → drop h.sequence (front ++ ys) ≡ rest ++ ys = λ ys. drop-append-le h.sequence front ys c.within ∙ ap (λ (t : List ℕ). t ++ ys) c.front in
     record {
       is = λ ys. record {
@@ -182,8 +182,8 @@ head_is h front rest fields operation rest_is other fields_are operation_is with
         cuts = c.all ys;
         other = ap is_comment (following ys) ∙ no_comment rest ys other;
         fields = subst (HasFields h) (sym (following ys))
-            (fields_after h rest ys ends (subst (λ (o : List ℕ). eqb (length o) 0 ≡ false) part_is some) (label_is ∙ ap (λ (f : Fields). f.label.to) fields_are)
-            (end_is ∙ ap (λ (f : Fields). f.operation.to) fields_are) (folded_is ∙ ap folded part_is) (statement_is ∙ ap statement_of part_is));
+            (fields_after h rest ys ends (subst (λ (o : List ℕ). eqb (length o) 0 ≡ false) part_is some) (label_is ∙ ap (λ (f : LineFields). f.label.to) fields_are)
+            (end_is ∙ ap (λ (f : LineFields). f.operation.to) fields_are) (folded_is ∙ ap folded part_is) (statement_is ∙ ap statement_of part_is));
       };
     }
 

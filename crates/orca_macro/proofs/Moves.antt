@@ -9,7 +9,7 @@ use Rattle.macro_meaning.specs.declared.statements.Declaration.{Declaration}
 use Rattle.macro_meaning.specs.declared.statements.Declaration.TheVariants.{Local, Shared}
 use Rattle.macro_meaning.specs.Effect as effects
 use Rattle.macro_meaning.specs.Symbol.{Symbol, Own, Common, Symbols, SharedTexts, with_name, first_text}
-use Rattle.macro_meaning.specs.Visit.{Program, Visit, Move, On, Stops, line_at, body_of, target_of, if_line, next_visit, visit_after, move_after_expansion, next_line, branch_to, call_of, move_of, root_by, shared_first, set_by}
+use Rattle.macro_meaning.specs.Visit.{MacroProgram, Visit, Move, On, Stops, line_at, body_of, target_of, if_line, next_visit, visit_after, move_after_expansion, next_line, branch_to, call_of, move_of, root_by, shared_first, set_by}
 use Rattle.orca_macro.specs.declared.visits.Flow.{Flow}
 use Rattle.orca_macro.specs.declared.visits.Flow.TheVariants as outcomes
 use Rattle.orca_symbols.specs.Changes.{IsDeclared, IsAssigned}
@@ -67,12 +67,12 @@ left_goes before v last w line move f f' fs fs' texts calls s is back = (
 -- ---- the next line
 
 -- the line behind a visit, by the code's place
-line_after : (program : Program) (before : List Visit) (v : Visit) (f : Frame) (fs : List Frame) (texts : SharedTexts) (calls : ℕ) → Stands before v f fs texts calls
+line_after : (program : MacroProgram) (before : List Visit) (v : Visit) (f : Frame) (fs : List Frame) (texts : SharedTexts) (calls : ℕ) → Stands before v f fs texts calls
     → line_at program v.macro (v.line + 1) ≡ line_at program f.macro (f.line + 1)
 line_after program before v f fs texts calls s =
     ap (λ (m : Option ℕ). line_at program m (v.line + 1)) s.macro ∙ ap (λ (k : ℕ). line_at program f.macro (k + 1)) s.line
 
-pub onward_goes : (program : Program) (before : List Visit) (v last : Visit) (line found : Line) (f : Frame) (fs : List Frame) (texts : SharedTexts) (calls : ℕ) → Stands before v f fs texts calls
+pub onward_goes : (program : MacroProgram) (before : List Visit) (v last : Visit) (line found : Line) (f : Frame) (fs : List Frame) (texts : SharedTexts) (calls : ℕ) → Stands before v f fs texts calls
     → line_at program f.macro (f.line + 1) ≡ Some found
     → MovesTo (next_line program before v) (before ++ last ∷ []) line outcomes.Goes (record f { line = f.line + 1 }) fs texts calls
 unfolding next_line
@@ -93,7 +93,7 @@ onward_goes program before v last line found f fs texts calls s is =
       },
     )
 
-pub onward_ends : (program : Program) (before : List Visit) (v : Visit) (f : Frame) (fs : List Frame) (texts : SharedTexts) (calls : ℕ) → Stands before v f fs texts calls
+pub onward_ends : (program : MacroProgram) (before : List Visit) (v : Visit) (f : Frame) (fs : List Frame) (texts : SharedTexts) (calls : ℕ) → Stands before v f fs texts calls
     → line_at program f.macro (f.line + 1) ≡ None → move_after_expansion program before v v.depth v.caller ≡ next_line program before v
 unfolding next_line
 onward_ends program before v f fs texts calls s is =
@@ -101,11 +101,11 @@ onward_ends program before v f fs texts calls s is =
 
 -- ---- branches
 
-target_by : (program : Program) (before : List Visit) (v : Visit) (name : List ℕ) (f : Frame) (fs : List Frame) (texts : SharedTexts) (calls : ℕ) (found : Option ℕ) → Stands before v f fs texts calls
+target_by : (program : MacroProgram) (before : List Visit) (v : Visit) (name : List ℕ) (f : Frame) (fs : List Frame) (texts : SharedTexts) (calls : ℕ) (found : Option ℕ) → Stands before v f fs texts calls
     → found ≡ target_of (body_of program f.macro) name → target_of (body_of program v.macro) name ≡ found
 target_by program before v name f fs texts calls found s is = ap (λ (m : Option ℕ). target_of (body_of program m) name) s.macro ∙ sym is
 
-pub branch_goes : (program : Program) (before : List Visit) (v : Visit) (line : Line) (name : List ℕ) (f : Frame) (fs : List Frame) (texts : SharedTexts) (calls place : ℕ) → Stands before v f fs texts calls
+pub branch_goes : (program : MacroProgram) (before : List Visit) (v : Visit) (line : Line) (name : List ℕ) (f : Frame) (fs : List Frame) (texts : SharedTexts) (calls place : ℕ) → Stands before v f fs texts calls
     → Some place ≡ target_of (body_of program f.macro) name → f.counter ≢ 0
     → MovesTo (branch_to v line (target_of (body_of program v.macro) name)) (before ++ v ∷ []) line outcomes.Goes (record f { line = place; counter = f.counter - 1 }) fs texts calls
 branch_goes program before v line name f fs texts calls place s is some =
@@ -250,13 +250,13 @@ counted_stands before v n f fs texts calls s = record {
 }
 
 -- what follows, by what the code has as its effect
-pub at_effect : (program : Program) (before : List Visit) (v : Visit) (line : Line) (d e : effects.Effect) (outcome : Flow) (f : Frame) (fs : List Frame) (texts : SharedTexts) (calls : ℕ) → d ≡ e
+pub at_effect : (program : MacroProgram) (before : List Visit) (v : Visit) (line : Line) (d e : effects.Effect) (outcome : Flow) (f : Frame) (fs : List Frame) (texts : SharedTexts) (calls : ℕ) → d ≡ e
     → MovesTo (move_of program before v line e) (before ++ v ∷ []) line outcome f fs texts calls → MovesTo (move_of program before v line d) (before ++ v ∷ []) line outcome f fs texts calls
 at_effect program before v line d e outcome f fs texts calls is moves =
     subst (λ (x : effects.Effect). MovesTo (move_of program before v line x) (before ++ v ∷ []) line outcome f fs texts calls) (sym is) moves
 
 -- a call, as the code leaves the stack
-pub called : (program : Program) (before : List Visit) (v : Visit) (line : Line) (place : ℕ) (symbols : Symbols) (f f' : Frame) (fs fs' : List Frame) (texts : SharedTexts) (calls calls' root : ℕ) → Stands before v f fs texts calls
+pub called : (program : MacroProgram) (before : List Visit) (v : Visit) (line : Line) (place : ℕ) (symbols : Symbols) (f f' : Frame) (fs fs' : List Frame) (texts : SharedTexts) (calls calls' root : ℕ) → Stands before v f fs texts calls
     → length fs ≢ 32 → root ≡ root_by v.caller v.root line.number → f' ≡ record { macro = Some place; line = 0; root = root; counter = 255; symbols = symbols } → fs' ≡ record f { line = f.line + 1 } ∷ fs → calls' ≡ calls + 1
     → MovesTo (move_of program before v line (effects.CallMacro place symbols)) (before ++ v ∷ []) line outcomes.Goes f' fs' texts calls'
 unfolding move_of

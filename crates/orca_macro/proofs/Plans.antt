@@ -2,14 +2,14 @@
 use Rattle.std.proofs.Common.{◌≡◌, ◌≤◌, ℕ, zero, suc, Bool, true, false, cond, eqb, List, [], ◌∷◌, ◌++◌, length, Option, Some, None, refl, sym, ap, subst, ◌∙◌}
 use Rattle.std.specs.Prelude.{Result, Ok, Err, IfOk, nat_lt, slice_get, codes}
 use Rattle.std.proofs.lemmas.Bool.{le-ltb, eqb-true}
-use Rattle.orca_meaning.specs.Line.{Fields, Line, part, three_fields, is_comment}
+use Rattle.orca_meaning.specs.Line.{LineFields, Line, part, three_fields, is_comment}
 use Rattle.macro_meaning.specs.Effect as meaning
 use Rattle.macro_meaning.specs.Effect.{SymbolSetting, IsStatement, IsEffect, IsShort, IsAfterText, IsAfterCut, IsWritten, IsWithTexts, begins_definition, without_sequence_symbol}
 use Rattle.macro_meaning.specs.Definition.{operation_is}
 use Rattle.macro_meaning.specs.Statements.{statement_of}
 use Rattle.macro_meaning.specs.Substitution.{naming_at, substituted_from}
 use Rattle.macro_meaning.specs.Symbol.{text_of}
-use Rattle.macro_meaning.specs.Visit.{Program, line_at, body_of}
+use Rattle.macro_meaning.specs.Visit.{MacroProgram, line_at, body_of}
 use Rattle.macro_meaning.specs.declared.statements.Statement.{Statement}
 use Rattle.orca_symbols.specs.Plain.{plain_len}
 use Rattle.orca_macro.specs.Plan.{known_effect, FitsDone, FitsStatement, FitsLine, IsAlways, IsPlain, Fits, FitsAt, HavePlans}
@@ -40,12 +40,12 @@ plain_does s l text (Err e) same plain short = short
 plain_does s l text (Ok d) same plain short =
     subst (λ (b : Bool). IsWritten s l b (effect_view d)) (sym plain.0) (subst (λ (o : Option (List ℕ)). IsWithTexts s l o (effect_view d)) (sym (shown_is l.text l.fields plain.1 ∙ ap (λ (t : List ℕ). Some t) (sym same))) short)
   where
-    shown_is : (t : List ℕ) (fields : Fields) → plain_len t ≡ length t → substituted_from (text_of s.values) (naming_at t fields) 0 0 t ≡ Some t
+    shown_is : (t : List ℕ) (fields : LineFields) → plain_len t ≡ length t → substituted_from (text_of s.values) (naming_at t fields) 0 0 t ≡ Some t
     shown_is t fields whole = plain_text (text_of s.values) (naming_at t fields) t whole
 
 -- ---- what is known of a line is right
 
-pub statement_fits : {E : Type 0} (text : List ℕ) (fields : Fields) (operation label operand : List ℕ) (found : Statement) (r : Result KnownHead E) → fields ≡ three_fields text
+pub statement_fits : {E : Type 0} (text : List ℕ) (fields : LineFields) (operation label operand : List ℕ) (found : Statement) (r : Result KnownHead E) → fields ≡ three_fields text
     → operation ≡ part text fields.operation → label ≡ part text fields.label → operand ≡ part text fields.operand → eqb (length operation) 0 ≡ false → Some found ≡ statement_of operation
     → IfOk r (λ (p : KnownHead). FitsDone found text label operand (known_effect p)) → IfOk r (λ (p : KnownHead). FitsStatement text (known_effect p))
 statement_fits text fields operation label operand found (Err e) fields_are operation_is label_is operand_is some is done = done
@@ -126,7 +126,7 @@ more_plans lines old new plan l at size push here fits have = record {
       pushed (FitsAt lines) old plan p k have.at (subst (λ (n : ℕ). FitsAt lines n plan) (sym size) (fits_there lines at l plan here fits)) (subst (λ (ps : List LinePlan). slice_get ps k ≡ Some p) push is);
 }
 
-pub fits_here : (program : Program) (place : Option ℕ) (at : ℕ) (l : Line) (p : LinePlan) → line_at program place at ≡ Some l → FitsAt (body_of program place).lines at p → Fits l p
+pub fits_here : (program : MacroProgram) (place : Option ℕ) (at : ℕ) (l : Line) (p : LinePlan) → line_at program place at ≡ Some l → FitsAt (body_of program place).lines at p → Fits l p
 fits_here program place at l p here fits = fits.is l here
 
 pub plan_there : (lines : List Line) (plans : List LinePlan) (at : ℕ) (p : LinePlan) → HavePlans lines plans → slice_get plans at ≡ Some p → FitsAt lines at p

@@ -2,12 +2,12 @@
 use Rattle.std.proofs.Common.{◌≡◌, ℕ, zero, suc, ◌+◌, List, [], ◌∷◌, Option, Some, None, refl, sym, ap, subst, ◌∙◌}
 use Rattle.std.specs.Prelude.{slice_get}
 use Rattle.orca_meaning.specs.Line.{Line}
-use Rattle.macro_meaning.specs.Visit.{Program, Visit, On, Ends, line_at, visit_after_call, if_line, move_after_expansion}
+use Rattle.macro_meaning.specs.Visit.{MacroProgram, Visit, On, Ends, line_at, visit_after_call, if_line, move_after_expansion}
 use Rattle.orca_symbols.specs.Frame.{Frame}
 use Rattle.orca_macro.specs.Stacks.{Stacks, HasRoot, IsBack}
 
 -- an empty stack is the source's
-pub ended : (program : Program) (before : List Visit) (last : Visit) (depth : ℕ) (caller : Option ℕ) (frames : List Frame) → frames ≡ [] → Stacks before depth caller frames → move_after_expansion program before last depth caller ≡ Ends
+pub ended : (program : MacroProgram) (before : List Visit) (last : Visit) (depth : ℕ) (caller : Option ℕ) (frames : List Frame) → frames ≡ [] → Stacks before depth caller frames → move_after_expansion program before last depth caller ≡ Ends
 unfolding move_after_expansion
 ended program before last zero None [] e is = refl
 ended program before last zero None (frame ∷ frames) e is = absurd is
@@ -17,7 +17,7 @@ ended program before last (suc depth) (Some place) [] e is = absurd is
 ended program before last (suc depth) (Some place) (frame ∷ frames) e is = absurd cc
 
 -- the expansion around it, by the top of the stack
-pub record Around (program : Program) (before : List Visit) (last : Visit) (depth : ℕ) (caller : Option ℕ) (f : Frame) (rest : List Frame) : Type 0 where
+pub record Around (program : MacroProgram) (before : List Visit) (last : Visit) (depth : ℕ) (caller : Option ℕ) (f : Frame) (rest : List Frame) : Type 0 where
   pub v : Visit
   pub macro : v.macro ≡ f.macro
   pub line : v.line + 1 ≡ f.line
@@ -27,7 +27,7 @@ pub record Around (program : Program) (before : List Visit) (last : Visit) (dept
   pub callers : Stacks before v.depth v.caller rest
   pub is : move_after_expansion program before last depth caller ≡ if_line (line_at program f.macro f.line) (On (visit_after_call v last)) (move_after_expansion program before last v.depth v.caller)
 
-pub around : (program : Program) (before : List Visit) (last : Visit) (depth : ℕ) (caller : Option ℕ) (f : Frame) (frames rest : List Frame) → frames ≡ f ∷ rest → Stacks before depth caller frames
+pub around : (program : MacroProgram) (before : List Visit) (last : Visit) (depth : ℕ) (caller : Option ℕ) (f : Frame) (frames rest : List Frame) → frames ≡ f ∷ rest → Stacks before depth caller frames
     → Around program before last depth caller f rest
 unfolding move_after_expansion
 around program before last depth caller f frames rest e is = by_depth depth caller (subst (Stacks before depth caller) e is)
@@ -59,14 +59,14 @@ around program before last depth caller f frames rest e is = by_depth depth call
     by_depth (suc depth) (Some place) s = of depth place s
 
 -- these expansions end as those of this stack do
-pub record ComesTo (program : Program) (before : List Visit) (last : Visit) (depth : ℕ) (caller : Option ℕ) (frames : List Frame) : Type 0 where
+pub record ComesTo (program : MacroProgram) (before : List Visit) (last : Visit) (depth : ℕ) (caller : Option ℕ) (frames : List Frame) : Type 0 where
   pub depth' : ℕ
   pub caller' : Option ℕ
   pub callers : Stacks before depth' caller' frames
   pub same : move_after_expansion program before last depth caller ≡ move_after_expansion program before last depth' caller'
 
 -- a line is there
-pub comes_back : (program : Program) (before : List Visit) (last : Visit) (depth : ℕ) (caller : Option ℕ) (f : Frame) (frames rest : List Frame) (l : Line) → ComesTo program before last depth caller frames
+pub comes_back : (program : MacroProgram) (before : List Visit) (last : Visit) (depth : ℕ) (caller : Option ℕ) (f : Frame) (frames rest : List Frame) (l : Line) → ComesTo program before last depth caller frames
     → frames ≡ f ∷ rest → line_at program f.macro f.line ≡ Some l → (w : Visit) × (move_after_expansion program before last depth caller ≡ On w) × IsBack before last w f rest
 comes_back program before last depth caller f frames rest l come e is =
     let a = around program before last come.depth' come.caller' f frames rest e come.callers in
@@ -77,7 +77,7 @@ comes_back program before last depth caller f frames rest l come e is =
     )
 
 -- no line is there
-pub goes_further : (program : Program) (before : List Visit) (last : Visit) (depth : ℕ) (caller : Option ℕ) (f : Frame) (frames rest : List Frame) → ComesTo program before last depth caller frames
+pub goes_further : (program : MacroProgram) (before : List Visit) (last : Visit) (depth : ℕ) (caller : Option ℕ) (f : Frame) (frames rest : List Frame) → ComesTo program before last depth caller frames
     → frames ≡ f ∷ rest → line_at program f.macro f.line ≡ None → ComesTo program before last depth caller rest
 goes_further program before last depth caller f frames rest come e is =
     let a = around program before last come.depth' come.caller' f frames rest e come.callers in
@@ -85,5 +85,5 @@ goes_further program before last depth caller f frames rest come e is =
     record { depth' = a.v.depth; caller' = a.v.caller; callers = a.callers; same = come.same ∙ a.is ∙ on }
 
 -- the stack is empty
-pub ended_so : (program : Program) (before : List Visit) (last : Visit) (depth : ℕ) (caller : Option ℕ) (frames : List Frame) → ComesTo program before last depth caller frames → frames ≡ [] → move_after_expansion program before last depth caller ≡ Ends
+pub ended_so : (program : MacroProgram) (before : List Visit) (last : Visit) (depth : ℕ) (caller : Option ℕ) (frames : List Frame) → ComesTo program before last depth caller frames → frames ≡ [] → move_after_expansion program before last depth caller ≡ Ends
 ended_so program before last depth caller frames come e = come.same ∙ ended program before last come.depth' come.caller' frames e come.callers

@@ -9,7 +9,7 @@ use Rattle.macro_meaning.specs.declared.faults.MacroFault.{MacroFault}
 use Rattle.macro_meaning.specs.Call.{no_symbols}
 use Rattle.macro_meaning.specs.Effect.{Effect, IsEffect}
 use Rattle.macro_meaning.specs.Expansion.{HasVisits, fault_at}
-use Rattle.macro_meaning.specs.Visit.{Program, Visit, Move, Ends, Stops, line_at, setting_of, given_by, move_of, most_visits, IsVisitOf, IsVisitAt, IsVisit, Follow, no_texts, first_visit}
+use Rattle.macro_meaning.specs.Visit.{MacroProgram, Visit, Move, Ends, Stops, line_at, setting_of, given_by, move_of, most_visits, IsVisitOf, IsVisitAt, IsVisit, Follow, no_texts, first_visit}
 use Rattle.orca_symbols.specs.declared.frames.ExpansionState.{ExpansionState}
 use Rattle.orca_macro.specs.declared.visits.Flow.TheVariants as outcomes
 use Rattle.orca_macro.specs.Files.{IsStopped}
@@ -21,7 +21,7 @@ use Rattle.orca_symbols.specs.View.{texts_of}
 -- ---- where a line stands
 
 -- what a visit gives, and what follows on it
-pub visit_is : (program : Program) (before : List Visit) (v : Visit) (line : Line) (effect_done : Effect) → line_at program v.macro v.line ≡ Some line → (length before == most_visits) ≡ false
+pub visit_is : (program : MacroProgram) (before : List Visit) (v : Visit) (line : Line) (effect_done : Effect) → line_at program v.macro v.line ≡ Some line → (length before == most_visits) ≡ false
     → IsEffect (setting_of program v line.number) line effect_done → IsVisit program before v (given_by line effect_done) (move_of program before v line effect_done)
 visit_is program before v line effect_done here few is =
     subst (λ (o : Option Line). IsVisitAt program before v o (given_by line effect_done) (move_of program before v line effect_done)) (sym here)
@@ -30,7 +30,7 @@ visit_is program before v line effect_done here few is =
 -- ---- the visits so far
 
 -- so many visits gave these lines, and the next one stands where the state says
-pub record UnderWay (program : Program) (s : ExpansionState) (count : ℕ) (out : List Line) : Type 0 where
+pub record UnderWay (program : MacroProgram) (s : ExpansionState) (count : ℕ) (out : List Line) : Type 0 where
   pub before : List Visit
   pub v : Visit
   pub stands : StandsIn before v s
@@ -40,7 +40,7 @@ pub record UnderWay (program : Program) (s : ExpansionState) (count : ℕ) (out 
   pub short : length out ≤ count
   pub goes_on : (ws : List Visit) (rest : List Line) (end : Move) → Follow program before v ws rest end → HasVisits program (out ++ rest) end
 
-pub starts : (program : Program) (s : ExpansionState) (out : List Line) → frame s.scope ≡ record { macro = None; line = 0; root = 0; counter = 255; symbols = no_symbols } → stack_of s.frames ≡ [] → texts_of s.texts ≡ no_texts → s.calls ≡ 0 → out ≡ []
+pub starts : (program : MacroProgram) (s : ExpansionState) (out : List Line) → frame s.scope ≡ record { macro = None; line = 0; root = 0; counter = 255; symbols = no_symbols } → stack_of s.frames ≡ [] → texts_of s.texts ≡ no_texts → s.calls ≡ 0 → out ≡ []
     → UnderWay program s 0 out
 starts program s out now none texts calls empty = record {
   before = [];
@@ -62,23 +62,23 @@ starts program s out now none texts calls empty = record {
   goes_on = λ ws rest end follow. subst (λ (o : List Line). HasVisits program (o ++ rest) end) (sym empty) (record { visits = ws; follow = follow });
 }
 
-here : (program : Program) (s : ExpansionState) (count : ℕ) (out : List Line) (u : UnderWay program s count out) (o : Option Line) → line_at program s.scope.place s.scope.line ≡ o → line_at program u.v.macro u.v.line ≡ o
+here : (program : MacroProgram) (s : ExpansionState) (count : ℕ) (out : List Line) (u : UnderWay program s count out) (o : Option Line) → line_at program s.scope.place s.scope.line ≡ o → line_at program u.v.macro u.v.line ≡ o
 here program s count out u o is = ap (λ (m : Option ℕ). line_at program m u.v.line) u.stands.macro ∙ ap (λ (k : ℕ). line_at program s.scope.place k) u.stands.line ∙ is
 
-pub here_line : (program : Program) (s : ExpansionState) (count : ℕ) (out : List Line) (u : UnderWay program s count out) (l : Line) → line_at program s.scope.place s.scope.line ≡ Some l → line_at program u.v.macro u.v.line ≡ Some l
+pub here_line : (program : MacroProgram) (s : ExpansionState) (count : ℕ) (out : List Line) (u : UnderWay program s count out) (l : Line) → line_at program s.scope.place s.scope.line ≡ Some l → line_at program u.v.macro u.v.line ≡ Some l
 here_line program s count out u l is = here program s count out u (Some l) is
 
-pub not_full : (program : Program) (s : ExpansionState) (count : ℕ) (out : List Line) (u : UnderWay program s count out) → count ≢ 1000000 → (length u.before == most_visits) ≡ false
+pub not_full : (program : MacroProgram) (s : ExpansionState) (count : ℕ) (out : List Line) (u : UnderWay program s count out) → count ≢ 1000000 → (length u.before == most_visits) ≡ false
 not_full program s count out u few = ap (λ (k : ℕ). eqb k 1000000) (sym u.count_is) ∙ ne_eqb count 1000000 few
 
 -- no line is there
-pub finished : (program : Program) (s : ExpansionState) (count : ℕ) (out : List Line) → UnderWay program s count out → line_at program s.scope.place s.scope.line ≡ None → HasVisits program out Ends
+pub finished : (program : MacroProgram) (s : ExpansionState) (count : ℕ) (out : List Line) → UnderWay program s count out → line_at program s.scope.place s.scope.line ≡ None → HasVisits program out Ends
 finished program s count out u is =
     subst (λ (o : List Line). HasVisits program o Ends) (append-nil out)
     (u.goes_on [] [] Ends (subst (λ (o : Option Line). IsVisitAt program u.before u.v o [] Ends) (sym (here program s count out u None is)) (refl, refl)))
 
 -- one visit too many
-pub full : (program : Program) (s : ExpansionState) (count : ℕ) (out : List Line) (l : Line) (fault : MacroFault) → UnderWay program s count out → line_at program s.scope.place s.scope.line ≡ Some l → count ≡ 1000000
+pub full : (program : MacroProgram) (s : ExpansionState) (count : ℕ) (out : List Line) (l : Line) (fault : MacroFault) → UnderWay program s count out → line_at program s.scope.place s.scope.line ≡ Some l → count ≡ 1000000
     → fault ≡ fault_at l TooManyLines → IsStopped program fault
 full program s count out l fault u is all fault_is =
     let spent : (length u.before == most_visits) ≡ true = ap (λ (k : ℕ). eqb k 1000000) (sym u.count_is) ∙ eq-eqb count 1000000 all in
@@ -88,7 +88,7 @@ full program s count out l fault u is all fault_is =
     record { line = l; cause = TooManyLines; stops = record { given = out ++ []; visited = u.goes_on [] [] (Stops l TooManyLines) visit }; is = fault_is }
 
 -- the visits go on
-pub goes : (program : Program) (s s' : ExpansionState) (count : ℕ) (out out' : List Line) (l : Line) (u : UnderWay program s count out) → count ≢ 1000000 → s'.calls ≤ s.calls + 1 → length out' ≤ length out + 1
+pub goes : (program : MacroProgram) (s s' : ExpansionState) (count : ℕ) (out out' : List Line) (l : Line) (u : UnderWay program s count out) → count ≢ 1000000 → s'.calls ≤ s.calls + 1 → length out' ≤ length out + 1
     → Visited program u.before u.v l outcomes.Goes s' out out' → UnderWay program s' (count + 1) out'
 goes program s s' count out out' l u few calls short vd =
     let w = vd.moves.0 in
@@ -106,12 +106,12 @@ goes program s s' count out out' l u few calls short vd =
     }
 
 -- they end
-pub ended : (program : Program) (s s' : ExpansionState) (count : ℕ) (out out' : List Line) (l : Line) (u : UnderWay program s count out) → Visited program u.before u.v l outcomes.Ends s' out out' → HasVisits program out' Ends
+pub ended : (program : MacroProgram) (s s' : ExpansionState) (count : ℕ) (out out' : List Line) (l : Line) (u : UnderWay program s count out) → Visited program u.before u.v l outcomes.Ends s' out out' → HasVisits program out' Ends
 ended program s s' count out out' l u vd =
     subst (λ (o : List Line). HasVisits program o Ends) (sym vd.new_is) (u.goes_on [] vd.given Ends (subst (λ (m : Move). IsVisit program u.before u.v vd.given m) vd.moves vd.is))
 
 -- a line has a fault
-pub stopped : (program : Program) (s s' : ExpansionState) (count : ℕ) (out out' : List Line) (l : Line) (cause : MacroCause) (fault : MacroFault) (u : UnderWay program s count out)
+pub stopped : (program : MacroProgram) (s s' : ExpansionState) (count : ℕ) (out out' : List Line) (l : Line) (cause : MacroCause) (fault : MacroFault) (u : UnderWay program s count out)
     → Visited program u.before u.v l (outcomes.Stops cause) s' out out' → fault ≡ fault_at l cause → IsStopped program fault
 stopped program s s' count out out' l cause fault u vd fault_is = record {
   line = l;

@@ -6,12 +6,12 @@ use Rattle.std.specs.Global.{Vec}
 use Rattle.std.specs.List.{list_any, filter}
 use Rattle.omf_format.specs.Lines.{lines_of}
 use Rattle.orca_meaning.specs.Characters.{folded}
-use Rattle.orca_meaning.specs.Line.{Fields, Line, part, numbered_lines, is_comment}
+use Rattle.orca_meaning.specs.Line.{LineFields, Line, part, numbered_lines, is_comment}
 use Rattle.macro_meaning.specs.Call.{no_symbols}
 use Rattle.macro_meaning.specs.Effect as meaning
 use Rattle.macro_meaning.specs.Definition.{operation_is, first_named}
 use Rattle.macro_meaning.specs.Expansion.{HasVisits, IsExpanded, file_text_fault, first_in}
-use Rattle.macro_meaning.specs.Visit.{Program, Visit, Move, On, Ends, given_by, move_of, next_line, move_after_expansion, if_line, most_visits, setting_of, IsVisit, IsVisitAt, Follow, no_texts}
+use Rattle.macro_meaning.specs.Visit.{MacroProgram, Visit, Move, On, Ends, given_by, move_of, next_line, move_after_expansion, if_line, most_visits, setting_of, IsVisit, IsVisitAt, Follow, no_texts}
 use Rattle.orca_macro.specs.Files.{texts_of_files, lines_from, first_part_in, definitions_of, IsProgram}
 use Rattle.orca_macro.specs.Parts.{HaveOwn}
 use Rattle.orca_macro.specs.Untouched.{IsUntouched, AreUntouched}
@@ -21,7 +21,7 @@ use Rattle.orca_macro.proofs.Scans.{none_scanned}
 use Rattle.orca_macro.proofs.Whole.{own_lines, program_good, visits_expand}
 
 -- the program of these lines, without macros
-pub plain : List Line → Program
+pub plain : List Line → MacroProgram
 plain lines = record { source = record { lines = lines; reach = length lines }; definitions = [] }
 
 -- the visit of the line at a place
@@ -61,7 +61,7 @@ module _ (lines : List Line) (own : HaveOwn lines) (are : AreUntouched lines) wh
       free = ap (λ (k : ℕ). eqb k 1000000) count ∙ ne_eqb place 1000000 (λ e. omega (arith, e, few))
 
       line_is : given_by l (meaning.Emit l.text) ≡ l ∷ []
-      line_is = ap (λ (f : Fields). record { file = l.file; number = l.number; text = l.text; fields = f } ∷ []) (sym (own place l here))
+      line_is = ap (λ (f : LineFields). record { file = l.file; number = l.number; text = l.text; fields = f } ∷ []) (sym (own place l here))
 
       by : (b : Bool) → is_comment l.text ≡ b → IsVisit (plain lines) before (at place) (if_statement b l) (next_line (plain lines) before (at place))
       by true comment = visit_is (plain lines) before (at place) l meaning.NoEffect here free (comment_rests (setting_of (plain lines) (at place) l.number) l comment)

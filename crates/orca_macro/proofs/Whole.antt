@@ -10,7 +10,7 @@ use Rattle.macro_meaning.specs.declared.faults.MacroCause.TheVariants.{LineTooLo
 use Rattle.macro_meaning.specs.declared.faults.MacroFault.{MacroFault}
 use Rattle.macro_meaning.specs.Definition.{MacroDefinition, DefinitionPart, parts_of, definitions_in, source_body, source_line, first_part_fault, or_else}
 use Rattle.macro_meaning.specs.Expansion.{line_fault_of, next_file, HasVisits, StopsAt, file_text_fault, file_part_fault, first_in, macros_in, program_of, first_of_files, IsExpanded, IsFirstFault, InDefinition, InVisit, IsFaultFor, IsMacroFault, AreGoodFiles}
-use Rattle.macro_meaning.specs.Visit.{Program, Ends}
+use Rattle.macro_meaning.specs.Visit.{MacroProgram, Ends}
 use Rattle.orca_macro.specs.Parts.{HaveOwn}
 use Rattle.orca_macro.proofs.Free.{is_memory, parts_free, stops_free}
 use Rattle.orca_meaning.specs.declared.lines.TextCause.{TextCause}
@@ -126,13 +126,13 @@ scan_all_good macros i whole end so = sym so ∙ ap first_part_in (drop_all macr
 
 -- ---- the program
 
-pub program_good : (source : List Line) (macros : List (List Line)) (plain : List Line) (old new : List MacroDefinition) (program : Program) → first_part_in macros ≡ None → old ≡ definitions_of macros
+pub program_good : (source : List Line) (macros : List (List Line)) (plain : List Line) (old new : List MacroDefinition) (program : MacroProgram) → first_part_in macros ≡ None → old ≡ definitions_of macros
     → first_part_fault (parts_of None source) ≡ None → plain ≡ map source_line (parts_of None source) → new ≡ old ++ definitions_in true (parts_of None source)
     → program ≡ record { source = record { lines = plain; reach = length plain }; definitions = new } → IsProgram source macros (Ok program)
 program_good source macros plain old new program good old_is source_good plain_is new_is is =
     (good, ap line_fault_of source_good, is ∙ same)
   where
-    of_lines : List Line → ℕ → List MacroDefinition → Program
+    of_lines : List Line → ℕ → List MacroDefinition → MacroProgram
     of_lines lines reach definitions = record { source = record { lines = lines; reach = reach }; definitions = definitions }
 
     same : of_lines plain (length plain) new ≡ of_lines (map source_line (parts_of None source)) (length (parts_of None source)) (definitions_of macros ++ definitions_in true (parts_of None source))
@@ -166,17 +166,17 @@ module _ (source : List ℕ) (macros : List (List ℕ)) (lines : List Line) (fil
       ∙ ap (λ (l : List Line). or_else (first_part_in (lines_from 1 macros)) (line_fault_of (first_part_fault (parts_of None l)))) lines_are
       ∙ ap (λ (o : Option MacroFault). or_else o (file_part_fault 0 source)) (parts_as_files 1 macros)
 
-  good_parts : (program : Program) → IsProgram lines files (Ok program) → first_of_files file_part_fault source macros ≡ None
+  good_parts : (program : MacroProgram) → IsProgram lines files (Ok program) → first_of_files file_part_fault source macros ≡ None
   good_parts program is = sym faults_are ∙ ap (λ (o : Option MacroFault). or_else o (line_fault_of (first_part_fault (parts_of None lines)))) is.0 ∙ is.1
 
-  program_is : (program : Program) → IsProgram lines files (Ok program) → program ≡ program_of source macros
+  program_is : (program : MacroProgram) → IsProgram lines files (Ok program) → program ≡ program_of source macros
   program_is program is =
       is.2
       ∙ ap (λ (l : List Line). of_parts (parts_of None l) (definitions_of files)) lines_are
       ∙ ap (λ (f : List (List Line)). of_parts (parts_of None (numbered_lines 0 1 (lines_of source))) (definitions_of f)) files_are
       ∙ ap (of_parts (parts_of None (numbered_lines 0 1 (lines_of source)))) (macros_as_files 1 macros)
     where
-      of_parts : List DefinitionPart → List MacroDefinition → Program
+      of_parts : List DefinitionPart → List MacroDefinition → MacroProgram
       of_parts ps definitions = record { source = source_body ps; definitions = definitions ++ definitions_in true ps }
 
 -- no fault of reading
@@ -210,16 +210,16 @@ parts_refused source macros lines files fault lines_are files_are good source_go
 
 -- the visits
 module _ (source : List ℕ) (macros : List (List ℕ)) (lines : List Line) (files : List (List Line)) (lines_are : lines ≡ numbered_lines 0 1 (lines_of source)) (files_are : files ≡ lines_from 1 macros)
-    (good : first_in file_text_fault 1 macros ≡ None) (source_good : file_text_fault 0 source ≡ None) (program : Program) (is : IsProgram lines files (Ok program)) where
+    (good : first_in file_text_fault 1 macros ≡ None) (source_good : file_text_fault 0 source ≡ None) (program : MacroProgram) (is : IsProgram lines files (Ok program)) where
   good_files : AreGoodFiles source macros
   good_files = record { texts = texts_good source macros good source_good; definitions = good_parts source macros lines files lines_are files_are program is }
 
   pub visits_expand : (found : List Line) → HasVisited program (Ok found) → IsExpanded source macros found
-  visits_expand found has = record { good = good_files; visited = subst (λ (p : Program). HasVisits p found Ends) (program_is source macros lines files lines_are files_are program is) has }
+  visits_expand found has = record { good = good_files; visited = subst (λ (p : MacroProgram). HasVisits p found Ends) (program_is source macros lines files lines_are files_are program is) has }
 
   pub visits_refused : (fault : MacroFault) → HasVisited program (Err fault) → IsMacroFault source macros fault
   visits_refused fault has =
-      let stops : StopsAt (program_of source macros) has.line has.cause = subst (λ (p : Program). StopsAt p has.line has.cause) (program_is source macros lines files lines_are files_are program is) has.stops in
+      let stops : StopsAt (program_of source macros) has.line has.cause = subst (λ (p : MacroProgram). StopsAt p has.line has.cause) (program_is source macros lines files lines_are files_are program is) has.stops in
       first_is source macros fault.cause fault (ap (λ (f : MacroFault). is_memory f.cause) has.is ∙ stops_free (program_of source macros) has.line has.cause stops)
       (InVisit good_files has.line has.cause stops has.is)
 

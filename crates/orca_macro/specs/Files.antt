@@ -10,7 +10,7 @@ use Rattle.macro_meaning.specs.declared.faults.MacroCause.TheVariants.{LineTooLo
 use Rattle.macro_meaning.specs.declared.faults.MacroFault.{MacroFault}
 use Rattle.macro_meaning.specs.Definition.{MacroDefinition, parts_of, definitions_in, source_body, first_part_fault, or_else}
 use Rattle.macro_meaning.specs.Expansion.{line_fault_of, next_file, fault_at, HasVisits, StopsAt}
-use Rattle.macro_meaning.specs.Visit.{Program, Ends}
+use Rattle.macro_meaning.specs.Visit.{MacroProgram, Ends}
 use Rattle.orca_macro.specs.Parts.{HaveOwn}
 
 -- the bytes of files
@@ -55,20 +55,20 @@ definitions_of [] = []
 definitions_of (lines ∷ more) = definitions_in false (parts_of None lines) ++ definitions_of more
 
 -- the program of a source and macro files with these lines, or the first fault of their definitions
-abbrev pub IsProgram : List Line → List (List Line) → Result Program MacroFault → Type 0
+abbrev pub IsProgram : List Line → List (List Line) → Result MacroProgram MacroFault → Type 0
 IsProgram source macros (Ok program) =
     (first_part_in macros ≡ None) × (line_fault_of (first_part_fault (parts_of None source)) ≡ None)
     × (program ≡ record { source = source_body (parts_of None source); definitions = definitions_of macros ++ definitions_in true (parts_of None source) })
 IsProgram source macros (Err fault) = or_else (first_part_in macros) (line_fault_of (first_part_fault (parts_of None source))) ≡ Some fault
 
 -- the visits of a program come to this fault
-pub record IsStopped (program : Program) (fault : MacroFault) : Type 0 where
+pub record IsStopped (program : MacroProgram) (fault : MacroFault) : Type 0 where
   pub line : Line
   pub cause : MacroCause
   pub stops : StopsAt program line cause
   pub is : fault ≡ fault_at line cause
 
 -- the lines that its visits give, or the fault of the first that has one
-abbrev pub HasVisited : Program → Result (List Line) MacroFault → Type 0
+abbrev pub HasVisited : MacroProgram → Result (List Line) MacroFault → Type 0
 HasVisited program (Ok lines) = HasVisits program lines Ends
 HasVisited program (Err fault) = IsStopped program fault

@@ -1,6 +1,6 @@
 -- Where the expansion stands.
 use Rattle.std.specs.Prelude.{◌≡◌, List, [], ◌∷◌, ◌++◌}
-use Rattle.macro_meaning.specs.Visit.{Program, Visit, Move, IsVisit}
+use Rattle.macro_meaning.specs.Visit.{MacroProgram, Visit, Move, IsVisit}
 use Rattle.orca_meaning.specs.Line.{Line}
 use Rattle.orca_symbols.specs.declared.frames.ExpansionState.{ExpansionState}
 use Rattle.orca_macro.specs.declared.visits.Flow.{Flow}
@@ -16,7 +16,7 @@ abbrev pub MovesIn : Move → List Visit → Line → Flow → ExpansionState �
 MovesIn move before line outcome s = MovesTo move before line outcome (frame s.scope) (stack_of s.frames) (texts_of s.texts) s.calls
 
 -- a visit gave these lines, and what follows on it is where the state stands
-pub record Visited (program : Program) (before : List Visit) (v : Visit) (line : Line) (outcome : Flow) (s : ExpansionState) (old new : List Line) : Type 0 where
+pub record Visited (program : MacroProgram) (before : List Visit) (v : Visit) (line : Line) (outcome : Flow) (s : ExpansionState) (old new : List Line) : Type 0 where
   pub given : List Line
   pub move : Move
   pub is : IsVisit program before v given move

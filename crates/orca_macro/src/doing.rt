@@ -10,7 +10,7 @@ ghost use Rattle.macro_meaning.specs.Condition.{Answer, IsCondition};
 use crate::effect::Effect;
 use macro_meaning::{Declaration, Kind, MacroCause, Statement};
 use orca_symbols::{
-    OperandPiece, SymbolText, Texts, Values, Word, condition, declaration_of, is_count,
+    OperandPiece, SharedTextTable, SymbolText, Values, Word, condition, declaration_of, is_count,
     is_declaration, is_kind, is_target, join_quoted, kind_of, number, pieces, signed_decimal,
     symbol_word, target_word, two_pieces, unquote,
 };
@@ -58,7 +58,7 @@ fn or_bad<A: Drop>(found: Option<A>) -> Result<A, MacroCause>
 }
 
 /// The first declaration of a name in its expansion.
-fn first_time<'a>(texts: &Texts, declaration: Declaration, name: Word<'a>) -> Effect<'a>
+fn first_time<'a>(texts: &SharedTextTable, declaration: Declaration, name: Word<'a>) -> Effect<'a>
     ensures { effect_view result ≡ first_time name.entry declaration (texts_of texts.now name.entry) }
 {
     match declaration {

@@ -22,7 +22,7 @@ use crate::body::Body;
 use crate::definitions::{MacroDefinition, fault_at, scan_file, scan_source};
 use crate::effect::Effect;
 use crate::plan::LinePlan;
-use crate::program::Program;
+use crate::program::MacroProgram;
 use crate::untouched::are_untouched;
 use crate::visited::{Standing, effect_of, effect_of_template, is_given};
 use crate::visits::{Flow, MOST_VISITS, advance, step};
@@ -124,11 +124,11 @@ fn build_expansion(
     alloc: Global,
     plain: Lines,
     definitions: Vec<MacroDefinition>,
-) -> Result<Program, AllocError>
+) -> Result<MacroProgram, AllocError>
     ensures { IfOk result (λ program. program ≡ record { source = record { lines = plain; reach = length plain }; definitions = map definition definitions.items }) }
 {
     let body = Body::of_source(alloc, plain)?;
-    Program::of(alloc, body, definitions)
+    MacroProgram::of(alloc, body, definitions)
 }
 
 /// The definitions of the macro files and the source, and its lines.
@@ -137,7 +137,7 @@ fn program_of(
     alloc: Global,
     source: Lines,
     macros: &[Lines],
-) -> Result<Result<Program, MacroFault>, AllocError>
+) -> Result<Result<MacroProgram, MacroFault>, AllocError>
     requires source { HaveOwn source }
     requires macros { AllOwn macros.now }
     ensures { IfOk result (λ found. IsProgram source macros.now found) }
@@ -170,7 +170,7 @@ fn root_of(state: &ExpansionState, number: u32) -> u32
 /// What a line does.
 fn effect_at<'a>(
     alloc: Global,
-    program: &Program,
+    program: &MacroProgram,
     state: &ExpansionState,
     root: u32,
     of: &'a SourceLine,
@@ -232,7 +232,7 @@ fn give(
 #[inline(always)]
 fn pass_on(
     alloc: Global,
-    program: &Program,
+    program: &MacroProgram,
     state: &mut ExpansionState,
     of: &SourceLine,
     spare: &mut Symbols,
@@ -254,7 +254,7 @@ fn pass_on(
 /// Does what a visited line says.
 fn carry_out(
     alloc: Global,
-    program: &Program,
+    program: &MacroProgram,
     state: &mut ExpansionState,
     of: &SourceLine,
     plan: Option<&LinePlan>,
@@ -288,7 +288,7 @@ fn carry_out(
 /// Visits a line. Of one of the source no more is looked for than whether it is given as it stands.
 fn visit(
     alloc: Global,
-    program: &Program,
+    program: &MacroProgram,
     state: &mut ExpansionState,
     of: &SourceLine,
     plan: Option<&LinePlan>,
@@ -319,7 +319,7 @@ fn visit(
 #[tactic(auto, using(crate::proofs::Runs::finished, crate::proofs::Runs::full))]
 fn visits(
     alloc: Global,
-    program: &Program,
+    program: &MacroProgram,
     state: &mut ExpansionState,
     buffer: &mut Vec<u8>,
     spare: &mut Symbols,
@@ -351,7 +351,7 @@ fn visits(
 }
 
 /// The lines that the visits give, or the fault of the first that has one.
-fn visit_all(alloc: Global, program: &Program) -> Result<Result<Lines, MacroFault>, AllocError>
+fn visit_all(alloc: Global, program: &MacroProgram) -> Result<Result<Lines, MacroFault>, AllocError>
     ensures { IfOk result (λ found. HasVisited program.now found) }
 {
     let mut state = ExpansionState::new(alloc)?;

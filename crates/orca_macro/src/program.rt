@@ -20,20 +20,20 @@ use std::marker::Model;
 
 /// The lines of the source, and the macros with their names. Contracts see the lines and the macros.
 #[derive(Drop)]
-pub(crate) struct Program {
+pub(crate) struct MacroProgram {
     source: Body,
     definitions: Vec<MacroDefinition>,
     names: IndexMap<Vec<u8>, usize>,
 }
 
-impl Model for Program {
+impl Model for MacroProgram {
     ghost use Rattle.std.specs.Prelude.{◌≡◌, ℕ, List, map};
     ghost use Rattle.macro_meaning.specs.Visit as meaning;
     ghost use Rattle.macro_meaning.specs.Definition.{first_named};
     ghost use Rattle.orca_symbols.specs.Held.{value_of_name};
     ghost use Rattle.orca_macro.specs.Parts.{definition};
 
-    ghost Value = { meaning.Program };
+    ghost Value = { meaning.MacroProgram };
 
     ghost view = { λ program. record { source = program.source; definitions = map definition program.definitions.items } };
 
@@ -82,7 +82,7 @@ fn names_of(
     }
 }
 
-impl Program {
+impl MacroProgram {
     ghost use Rattle.std.specs.Prelude.{◌≡◌, map};
 
     /// These lines and macros.
@@ -90,11 +90,11 @@ impl Program {
         alloc: Global,
         source: Body,
         definitions: Vec<MacroDefinition>,
-    ) -> Result<Program, AllocError>
+    ) -> Result<MacroProgram, AllocError>
         ensures { IfOk result (λ program. program ≡ record { source = source; definitions = map definition definitions.items }) }
     {
         let names = names_of(alloc, definitions.as_slice())?;
-        Ok(Program {
+        Ok(MacroProgram {
             source,
             definitions,
             names,

@@ -19,7 +19,7 @@ use crate::doing::effect_of_statement;
 use crate::effect::Effect;
 use crate::head::LineHead;
 use crate::plan::{KnownHead, LinePlan};
-use crate::program::Program;
+use crate::program::MacroProgram;
 use crate::untouched::is_untouched;
 use macro_meaning::{MacroCause, Statement};
 use orca_symbols::{
@@ -34,7 +34,7 @@ use std::alloc::{AllocError, Global};
 /// Where a line stands.
 #[derive(Clone, Copy)]
 pub(crate) struct Standing<'a> {
-    pub(crate) program: &'a Program,
+    pub(crate) program: &'a MacroProgram,
     /// The line of the source at which its outermost expansion began.
     pub(crate) root: u32,
     /// Whether it is a line of the source itself.
@@ -45,7 +45,7 @@ pub(crate) struct Standing<'a> {
 /// The first macro that an operation names, with its place.
 fn macro_of_operation<'a>(
     alloc: Global,
-    program: &'a Program,
+    program: &'a MacroProgram,
     operation: LinePart<'_>,
 ) -> Result<Option<(usize, &'a MacroDefinition)>, AllocError>
     ensures { IfOk result (λ found. MatchOption found (first_named (folded operation.entry.bytes.now) program.now.definitions ≡ None)
@@ -164,7 +164,7 @@ fn effect_of_text<'a>(
 #[tactic(auto, using(crate::proofs::Given::given_unnamed))]
 pub(crate) fn is_given(
     alloc: Global,
-    program: &Program,
+    program: &MacroProgram,
     of: &SourceLine,
 ) -> Result<bool, AllocError>
     requires fields { HaveFields of.now.text (line of.now).fields }

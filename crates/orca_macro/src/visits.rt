@@ -2,7 +2,7 @@
 
 ghost use Rattle.std.specs.Prelude.{◌≡◌, ◌≤◌, ◌<◌, ◌+◌, ◌^◌, ◌∷◌, ◌++◌, [], List, ℕ, Option, length, Some, None, IfOk, OnOk, IfSome, MatchOption};
 ghost use Rattle.macro_meaning.specs.Symbol.{SharedTexts};
-ghost use Rattle.macro_meaning.specs.Visit.{Visit, On, Ends, Program, move_after_expansion, next_line, line_at, root_by, branch_to, call_of, target_of, body_of, move_of, shared_first};
+ghost use Rattle.macro_meaning.specs.Visit.{Visit, On, Ends, MacroProgram, move_after_expansion, next_line, line_at, root_by, branch_to, call_of, target_of, body_of, move_of, shared_first};
 ghost use Rattle.macro_meaning.specs.Effect as effects;
 ghost use Rattle.orca_meaning.specs.Line as meaning;
 ghost use Rattle.orca_symbols.specs.Changes.{IsDeclared, IsAssigned};
@@ -13,11 +13,11 @@ ghost use Rattle.orca_macro.specs.StateView.{StandsIn, MovesIn};
 ghost use Rattle.orca_symbols.specs.View.{symbols_of, texts_of};
 
 use crate::effect::Effect;
-use crate::program::Program;
+use crate::program::MacroProgram;
 use macro_meaning::{Declaration, Kind, MacroCause};
 use orca_symbols::{
-    CallScope, Calls, ExpansionState, Frames, SharedText, Symbol, SymbolText, Symbols, Texts,
-    first_text,
+    CallCounts, CallScope, ExpansionState, Frames, SharedText, SharedTextTable, Symbol, SymbolText,
+    Symbols, first_text,
 };
 use orca_text::SourceLine;
 use std::alloc::{AllocError, Global};
@@ -40,7 +40,12 @@ const MOST_NESTED: usize = 32;
 const FIRST_COUNTER: u32 = 255;
 
 /// Gives a shared symbol its first text, unless it has one.
-fn share(alloc: Global, texts: &mut Texts, name: &[u8], kind: Kind) -> Result<(), AllocError>
+fn share(
+    alloc: Global,
+    texts: &mut SharedTextTable,
+    name: &[u8],
+    kind: Kind,
+) -> Result<(), AllocError>
     ensures { OnOk result (texts_of texts.new ≡ shared_first name.now kind (texts_of texts.old)) }
 {
     match texts.get(name) {
@@ -56,7 +61,7 @@ fn share(alloc: Global, texts: &mut Texts, name: &[u8], kind: Kind) -> Result<()
 fn declare(
     alloc: Global,
     symbols: &mut Symbols,
-    texts: &mut Texts,
+    texts: &mut SharedTextTable,
     name: &[u8],
     declaration: Declaration,
 ) -> Result<(), AllocError>
@@ -79,7 +84,7 @@ fn declare(
 fn assign(
     alloc: Global,
     symbols: &mut Symbols,
-    texts: &mut Texts,
+    texts: &mut SharedTextTable,
     name: &[u8],
     kind: Kind,
     text: SymbolText,
@@ -94,7 +99,7 @@ fn assign(
 
 /// The line behind the calls that are under way, or none where the source has ended.
 #[tactic(auto, using(crate::proofs::Returns::ended, crate::proofs::Returns::ended_so))]
-fn return_from_calls(program: &Program, frames: &mut Frames) -> Option<CallScope>
+fn return_from_calls(program: &MacroProgram, frames: &mut Frames) -> Option<CallScope>
     ensures { (before : List Visit) (last : Visit) (depth : ℕ) (caller : Option ℕ) → Stacks before depth caller (stack_of frames.old) → MatchOption result
         (move_after_expansion program.now before last depth caller ≡ Ends)
         (λ scope. (w : Visit) × (move_after_expansion program.now before last depth caller ≡ On w) × IsBack before last w (frame scope) (stack_of frames.new)) }
@@ -109,7 +114,12 @@ fn return_from_calls(program: &Program, frames: &mut Frames) -> Option<CallScope
 }
 
 /// What is behind an expansion. Its symbols become the spare ones.
-fn leave(program: &Program, now: &mut CallScope, frames: &mut Frames, spare: &mut Symbols) -> Flow
+fn leave(
+    program: &MacroProgram,
+    now: &mut CallScope,
+    frames: &mut Frames,
+    spare: &mut Symbols,
+) -> Flow
     ensures { (before : List Visit) (v last : Visit) (line : meaning.Line) (texts : SharedTexts) (calls : ℕ) → Stands before v (frame now.old) (stack_of frames.old) texts calls
         → MovesTo (move_after_expansion program.now before v v.depth v.caller) (before ++ last ∷ []) line result (frame now.new) (stack_of frames.new) texts calls }
 {
@@ -125,7 +135,7 @@ fn leave(program: &Program, now: &mut CallScope, frames: &mut Frames, spare: &mu
 
 /// The next line, or what is behind the expansion.
 pub(crate) fn advance(
-    program: &Program,
+    program: &MacroProgram,
     now: &mut CallScope,
     frames: &mut Frames,
     spare: &mut Symbols,
@@ -144,7 +154,7 @@ pub(crate) fn advance(
 }
 
 /// A branch to a sequence symbol.
-fn branch(program: &Program, now: &mut CallScope, name: &[u8]) -> Flow
+fn branch(program: &MacroProgram, now: &mut CallScope, name: &[u8]) -> Flow
     ensures { (before : List Visit) (v : Visit) (line : meaning.Line) (fs : List Frame) (texts : SharedTexts) (calls : ℕ) → Stands before v (frame now.old) fs texts calls
         → MovesTo (branch_to v line (target_of (body_of program.now v.macro) name.now)) (before ++ v ∷ []) line result (frame now.new) fs texts calls }
 {
@@ -172,7 +182,7 @@ fn suspend(frames: &mut Frames, scope: CallScope) -> Result<(), AllocError>
 /// A call of a macro.
 fn call(
     alloc: Global,
-    program: &Program,
+    program: &MacroProgram,
     state: &mut ExpansionState,
     root: u32,
     place: usize,
@@ -203,7 +213,7 @@ fn call(
 /// A declaration, and the next line.
 fn declare_symbol(
     alloc: Global,
-    program: &Program,
+    program: &MacroProgram,
     state: &mut ExpansionState,
     name: &[u8],
     declaration: Declaration,
@@ -227,7 +237,7 @@ fn declare_symbol(
 /// A setting, and the next line.
 fn assign_symbol(
     alloc: Global,
-    program: &Program,
+    program: &MacroProgram,
     state: &mut ExpansionState,
     name: &[u8],
     kind: Kind,
@@ -253,7 +263,7 @@ fn assign_symbol(
 /// Carries out what a line does.
 pub(crate) fn step(
     alloc: Global,
-    program: &Program,
+    program: &MacroProgram,
     state: &mut ExpansionState,
     root: u32,
     of: Effect<'_>,

@@ -23,7 +23,7 @@ is_comment [] = true
 is_comment (first ∷ following) = first == ascii.star || first == ascii.semicolon || first == ascii.exclamation || list_all is_blank (first ∷ following)
 
 -- the places of a line's fields
-pub record Fields : Type 0 where
+pub record LineFields : Type 0 where
   pub label : Span
   pub operation : Span
   pub operand : Span
@@ -48,7 +48,7 @@ next_outside text at = at + outside_from is_blank None (drop at text)
 
 -- The label begins in column 1, and blanks part the fields. The operand is the third field, and ends at the first blank
 -- outside quotes.
-unfoldable pub three_fields : List ℕ → Fields
+unfoldable pub three_fields : List ℕ → LineFields
 three_fields text =
     let label_end = next_blank text 0 in
     let operation = next_ink text label_end in
@@ -63,15 +63,15 @@ operand_span Accumulator text third = if slice_index text third.from == ascii.se
 operand_span Signature text third = if slice_index text third.from == ascii.semicolon then span third.from third.from else third
 operand_span Always text third = third
 
-abbrev pub statement_fields : List ℕ → Fields → Fields
+abbrev pub statement_fields : List ℕ → LineFields → LineFields
 statement_fields text fields =
     record fields { operand = operand_span (operation_use (part text fields.operation)) text fields.operand }
 
 -- a comment has no fields
-abbrev pub no_fields : Fields
+abbrev pub no_fields : LineFields
 no_fields = record { label = span 0 0; operation = span 0 0; operand = span 0 0 }
 
-unfoldable pub fields_of : List ℕ → Fields
+unfoldable pub fields_of : List ℕ → LineFields
 fields_of text = if is_comment text then no_fields else statement_fields text (three_fields text)
 
 -- ---- lines
@@ -81,7 +81,7 @@ pub record Line : Type 0 where
   pub file : ℕ
   pub number : ℕ
   pub text : List ℕ
-  pub fields : Fields
+  pub fields : LineFields
 
 abbrev pub line_of : ℕ → ℕ → List ℕ → Line
 line_of file number text = record { file = file; number = number; text = text; fields = fields_of text }
@@ -111,13 +111,13 @@ first_line_fault number (text ∷ texts) = or_later number (line_fault number te
 abbrev pub LiesIn : List ℕ → Span → Type 0
 LiesIn text s = (s.from ≤ s.to) × (s.to ≤ length text)
 
-pub record HaveFields (text : List ℕ) (fields : Fields) : Type 0 where
+pub record HaveFields (text : List ℕ) (fields : LineFields) : Type 0 where
   pub label : LiesIn text fields.label
   pub operation : LiesIn text fields.operation
   pub operand : LiesIn text fields.operand
 
 -- the line begins with these fields, with blanks between them; label and operation have no blank
-pub record AreParted (text : List ℕ) (fields : Fields) : Type 0 where
+pub record AreParted (text : List ℕ) (fields : LineFields) : Type 0 where
   pub before : List ℕ
   pub between : List ℕ
   pub following : List ℕ

@@ -7,7 +7,7 @@ use Rattle.object_meaning.specs.Sizes.{size_at}
 use Rattle.asm_meaning.specs.Object.{records_text}
 use Rattle.asm_meaning.specs.Pieces.{place_after}
 use Rattle.asm_meaning.specs.laws.PieceLaws.{place_after-append}
-use Rattle.orca_object.specs.declared.state.Body.{Body}
+use Rattle.orca_object.specs.declared.state.SegmentBody.{SegmentBody}
 use Rattle.orca_object.specs.declared.record_bytes.RecordBytes.{RecordBytes}
 use Rattle.orca_object.specs.TextView.{text_within_limit, kept_text}
 use Rattle.orca_object.specs.BodyView.{ShowsBody}
@@ -28,10 +28,10 @@ unfolding place_after
 cells-one at records r = place_after-append at records (r ∷ [])
 
 -- records that give no cells
-pub begins : (b : Body) (text : RecordBytes) (room : ℕ) (records : List Record) → b.writer.text ≡ text → b.cells ≡ 0 → kept_text text ≡ text_within_limit (replicate room 0 ++ records_text records) → place_after 0 records ≡ 0 → ShowsBody room records b
+pub begins : (b : SegmentBody) (text : RecordBytes) (room : ℕ) (records : List Record) → b.writer.text ≡ text → b.cells ≡ 0 → kept_text text ≡ text_within_limit (replicate room 0 ++ records_text records) → place_after 0 records ≡ 0 → ShowsBody room records b
 begins b text room records same cells kept none = record { text = ap kept_text same ∙ kept; cells = cells ∙ sym none }
 
-pub one_more : (old new : Body) (r : Record) → ((text : List ℕ) → kept_text old.writer.text ≡ text_within_limit text → kept_text new.writer.text ≡ text_within_limit (text ++ spelling written_layout r))
+pub one_more : (old new : SegmentBody) (r : Record) → ((text : List ℕ) → kept_text old.writer.text ≡ text_within_limit text → kept_text new.writer.text ≡ text_within_limit (text ++ spelling written_layout r))
     → new.cells ≡ old.cells → size_at old.cells r ≡ 0 → (room : ℕ) (records : List Record) → ShowsBody room records old → ShowsBody room (records ++ r ∷ []) new
 one_more old new r text cells none room records shows =
     let front = replicate room 0 in

@@ -6,7 +6,7 @@ use Rattle.omf_format.specs.Expression.{Leaf, Named, term_text}
 use Rattle.orca_meaning.specs.Token.{digits_at}
 use Rattle.asm_meaning.specs.Answer.{Answer}
 use Rattle.asm_meaning.specs.Constant.{Constants}
-use Rattle.asm_meaning.specs.Elements.{Repeat, Numbers, Fixed, Text, Asked, Weak, Element, Kind, Number, Hexadecimal, Binary, Characters, References, WeakReferences, closed_at, text_at, kind_at, bytes_of_digits, AreNames, IsRepeatAt, IsElementAt, IsValueAt, after_parenthesis, text_byte, strong_piece, weak_piece, element_pieces}
+use Rattle.asm_meaning.specs.Elements.{Repeat, Numbers, Fixed, Text, Asked, Weak, Element, ElementType, Number, Hexadecimal, Binary, Characters, References, WeakReferences, closed_at, text_at, kind_at, bytes_of_digits, AreNames, IsRepeatAt, IsElementAt, IsValueAt, after_parenthesis, text_byte, strong_piece, weak_piece, element_pieces}
 use Rattle.asm_meaning.specs.Formulas.{expression_text}
 use Rattle.asm_meaning.specs.laws.GivenLaws.{IsNameLength, closed-le, names_length, repeat-le, kind_is, IsWidth}
 use Rattle.asm_meaning.specs.Pieces.{Piece, Bytes}
@@ -91,7 +91,7 @@ has_element cs msb text following quote inner rest kind count value part h kind_
   gives = is ∙ ap (λ (n : Answer ℕ). repeated_pieces n value) h.gives ∙ ap (repeated_pieces _) v.gives;
 }
   where
-    found : Kind → List ℕ → Option (Kind × List ℕ)
+    found : ElementType → List ℕ → Option (ElementType × List ℕ)
     found k q = Some (k, q)
 
 pub no_count : (text : List ℕ) → ((repeat : Repeat) (rest : List ℕ) → IsRepeatAt text repeat rest → ⊥) → (element : Element) (rest : List ℕ) → IsElementAt text element rest → ⊥
@@ -105,7 +105,7 @@ no_kind cs text following count h none element rest e =
     let there = sym (ap kind_at (same_front cs text following count element rest h e)) ∙ e.of_kind in
     no_some (e.kind, 0x27 ∷ e.after_quote) (sym none ∙ there)
   where
-    no_some : (x : Kind × List ℕ) → None ≡ Some x → ⊥
+    no_some : (x : ElementType × List ℕ) → None ≡ Some x → ⊥
     no_some x e = cc
 
 pub no_quote : (cs : Constants) (text following quote : List ℕ) (kind : kinds.ElementKind) (count : Answer ℕ) → HasCount cs text count following → kind_at following ≡ Some (element_kind kind, quote) → ((inner : List ℕ) → quote ≢ 0x27 ∷ inner)
@@ -120,7 +120,7 @@ no_value cs text following quote inner kind count h is parts none element rest e
     let there = sym (ap kind_at (same_front cs text following count element rest h e)) ∙ e.of_kind in
     let both = same_found (kind_at following) (element_kind kind) e.kind quote (0x27 ∷ e.after_quote) is there in
     let inner_is : inner ≡ e.after_quote = same_inner inner e.after_quote (sym parts ∙ both.1) in
-    none element.value rest (subst (λ (k : Kind). IsValueAt k inner element.value rest) (sym both.0) (subst (λ (t : List ℕ). IsValueAt e.kind t element.value rest) (sym inner_is) e.value))
+    none element.value rest (subst (λ (k : ElementType). IsValueAt k inner element.value rest) (sym both.0) (subst (λ (t : List ℕ). IsValueAt e.kind t element.value rest) (sym inner_is) e.value))
   where
     same_inner : (a b : List ℕ) → 0x27 ∷ a ≡ 0x27 ∷ b → a ≡ b
     same_inner a b e = cc

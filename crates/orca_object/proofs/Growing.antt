@@ -6,9 +6,9 @@ use Rattle.object_meaning.specs.Sizes.{size_at}
 use Rattle.asm_meaning.specs.laws.LabelProofs.{lengths_add}
 use Rattle.asm_meaning.specs.Object.{records_text}
 use Rattle.asm_meaning.specs.Pieces.{length_at}
-use Rattle.asm_meaning.specs.State.{Segment, cells_of, local_of, with_local_record}
+use Rattle.asm_meaning.specs.State.{StartedSegment, cells_of, local_of, with_local_record}
 use Rattle.orca_object.specs.BodyView.{ShowsBody}
-use Rattle.orca_object.specs.declared.state.Body.{Body}
+use Rattle.orca_object.specs.declared.state.SegmentBody.{SegmentBody}
 use Rattle.orca_object.specs.declared.state.OpenSegment.{OpenSegment}
 use Rattle.orca_object.specs.StateView.{ShowsSegment, with_local_label}
 use Rattle.orca_object.specs.TextView.{text_within_limit, kept_text}
@@ -17,7 +17,7 @@ use Rattle.orca_object.proofs.OpenLaws.{length_at-one}
 use Rattle.orca_object.proofs.Putting.{Grows}
 
 -- a label with its LOCAL, and after it records that give so many cells
-pub marked_grown : (label : List ℕ) (form size : ℕ) (contents : List Record) (s : Segment) (o : OpenSegment) (b : Body) → ShowsSegment (with_local_label label form size s) o → o.body.cells ≡ cells_of s → size ≡ length_at (cells_of s) contents
+pub marked_grown : (label : List ℕ) (form size : ℕ) (contents : List Record) (s : StartedSegment) (o : OpenSegment) (b : SegmentBody) → ShowsSegment (with_local_label label form size s) o → o.body.cells ≡ cells_of s → size ≡ length_at (cells_of s) contents
     → b.cells ≡ o.body.cells + size → Grows (kept_text o.body.writer.text) (kept_text b.writer.text) (records_text contents) → ShowsBody (0x37 + length s.header.name) (with_local_record label form contents s).body b
 marked_grown label form size contents s o b shown cells is more grows =
     let local = local_of label form size in
@@ -32,11 +32,11 @@ marked_grown label form size contents s o b shown cells is more grows =
     }
 
 -- a statement that gives more cells than any segment may have
-pub marked_long : (label : List ℕ) (form size cells : ℕ) (contents : List Record) (s : Segment) → cells ≡ cells_of s → size ≤ length_at (cells_of s) contents → 0xFFFFFF < cells + size → 0xFFFFFF < cells_of (with_local_record label form contents s)
+pub marked_long : (label : List ℕ) (form size cells : ℕ) (contents : List Record) (s : StartedSegment) → cells ≡ cells_of s → size ≤ length_at (cells_of s) contents → 0xFFFFFF < cells + size → 0xFFFFFF < cells_of (with_local_record label form contents s)
 marked_long label form size cells contents s is few many = omega (arith, is, few, many, lengths_add label form contents s)
 
 -- the cells of one record
-pub one_size : (size cells : ℕ) (r : Record) (s : Segment) → size ≡ size_at cells r → cells ≡ cells_of s → size ≡ length_at (cells_of s) (r ∷ [])
+pub one_size : (size cells : ℕ) (r : Record) (s : StartedSegment) → size ≡ size_at cells r → cells ≡ cells_of s → size ≡ length_at (cells_of s) (r ∷ [])
 one_size size cells r s is same = is ∙ ap (λ (k : ℕ). size_at k r) same ∙ sym (length_at-one (cells_of s) r)
 
 -- the text of one record behind those of a text

@@ -6,7 +6,7 @@ use Rattle.orca_meaning.specs.declared.forms.Prefix.{Prefix}
 use Rattle.orca_meaning.specs.declared.mnemonics.Mnemonic.{Mnemonic}
 use Rattle.orca_meaning.specs.declared.modes.Mode.{Mode}
 use Rattle.asm_meaning.specs.Answer.{Answer}
-use Rattle.asm_meaning.specs.Instruction.{Widths, Kind, kind_of, operand_bytes, is_operand_of_width, or_fault, mode_of_number}
+use Rattle.asm_meaning.specs.Instruction.{Widths, OperandKind, kind_of, operand_bytes, is_operand_of_width, or_fault, mode_of_number}
 use Rattle.orca_object.specs.ModeView.{number_test}
 
 same : (x y : Mode) → Some x ≡ Some y → x ≡ y
@@ -32,9 +32,9 @@ abbrev chosen : Mode → Answer Mode
 chosen mode = Ok mode
 
 -- the first mode that is offered holds the number
-pub first_holds : (w : Widths) (m : Mnemonic) (p : Prefix) (n : ℕ) (first : Mode) (modes : List Mode) (k : Kind) (width : ℕ) (b : Bool) → find (λ x. true) modes ≡ Some first → k ≡ kind_of first
+pub first_holds : (w : Widths) (m : Mnemonic) (p : Prefix) (n : ℕ) (first : Mode) (modes : List Mode) (k : OperandKind) (width : ℕ) (b : Bool) → find (λ x. true) modes ≡ Some first → k ≡ kind_of first
     → width ≡ operand_bytes w m first → b ≡ is_operand_of_width p k width n → b ≡ true → chosen first ≡ mode_of_number w m p n modes
 first_holds w m p n first modes k width b found kind_is width_is is passes =
     let test : number_test w m p n first ≡ true =
-    sym (is ∙ ap (λ (x : Kind). is_operand_of_width p x width n) kind_is ∙ ap (λ (x : ℕ). is_operand_of_width p (kind_of first) x n) width_is) ∙ passes in
+    sym (is ∙ ap (λ (x : OperandKind). is_operand_of_width p x width n) kind_is ∙ ap (λ (x : ℕ). is_operand_of_width p (kind_of first) x n) width_is) ∙ passes in
     sym (ap or_fault (first_found (number_test w m p n) first modes found test))

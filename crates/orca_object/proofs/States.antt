@@ -3,13 +3,13 @@ use Rattle.std.proofs.Common.{◌≡◌, ℕ, ◌+◌, subst, List, [], ◌∷�
 use Rattle.std.specs.Prelude.{◌%◌}
 use Rattle.omf_format.specs.Expression.{Leaf, Constant}
 use Rattle.omf_format.specs.Field.{written_layout}
-use Rattle.omf_format.specs.Header.{Fields}
+use Rattle.omf_format.specs.Header.{HeaderFields}
 use Rattle.omf_format.specs.Record.{Equate, spelling}
 use Rattle.asm_meaning.specs.declared.directives.Class.{Class}
 use Rattle.asm_meaning.specs.Formulas.{expression_text}
 use Rattle.asm_meaning.specs.Object.{records_text, object_text}
 use Rattle.asm_meaning.specs.Pieces.{place_after}
-use Rattle.asm_meaning.specs.State.{Segment, Ended, State, start, no_constants, kind_of, bank_size_of, header_of, state_after_end, ended_of, cells_of, in_segment}
+use Rattle.asm_meaning.specs.State.{StartedSegment, FinishedSegment, State, start, no_constants, kind_of, bank_size_of, header_of, state_after_end, ended_of, cells_of, in_segment}
 use Rattle.std.specs.Option.{option_map}
 use Rattle.std.proofs.lemmas.List.{length-append}
 use Rattle.asm_meaning.specs.Statement.{equate}
@@ -23,7 +23,7 @@ use Rattle.orca_object.specs.declared.state.OpenSegment.{OpenSegment}
 use Rattle.orca_object.specs.TextView.{text_within_limit, kept_text}
 use Rattle.orca_object.proofs.Bodies.{records_text-one, cells-one}
 
-abbrev header_with : Class → List ℕ → List ℕ → ℕ → ℕ → ℕ → ℕ → Fields
+abbrev header_with : Class → List ℕ → List ℕ → ℕ → ℕ → ℕ → ℕ → HeaderFields
 header_with class name load_name kind org align number = record {
   byte_count = 0;
   res_spc = 0;
@@ -91,23 +91,23 @@ header_begun state class name load_name kind org align number k o a n =
 
 -- ---- a segment ends
 
-pub ended_shows : (state : State) (change : Segment → Segment) (k : Option OpenSegment) (o last : OpenSegment) (number next : ℕ) (object new text : RecordBytes) (f : Fields) → ShowsOption state.segment k → k ≡ Some o
-    → ((s : Segment) → ShowsSegment s o → ShowsSegment (change s) last) → f ≡ ended_header last → text ≡ last.body.writer.text
-    → ((segments : List Ended) (e : Ended) → e.header ≡ f → kept_text text ≡ text_within_limit (replicate (0x37 + length e.header.name) 0 ++ records_text e.body) → kept_text object ≡ text_within_limit (object_text segments) → kept_text new ≡ text_within_limit (object_text (segments ++ e ∷ [])))
+pub ended_shows : (state : State) (change : StartedSegment → StartedSegment) (k : Option OpenSegment) (o last : OpenSegment) (number next : ℕ) (object new text : RecordBytes) (f : HeaderFields) → ShowsOption state.segment k → k ≡ Some o
+    → ((s : StartedSegment) → ShowsSegment s o → ShowsSegment (change s) last) → f ≡ ended_header last → text ≡ last.body.writer.text
+    → ((segments : List FinishedSegment) (e : FinishedSegment) → e.header ≡ f → kept_text text ≡ text_within_limit (replicate (0x37 + length e.header.name) 0 ++ records_text e.body) → kept_text object ≡ text_within_limit (object_text segments) → kept_text new ≡ text_within_limit (object_text (segments ++ e ∷ [])))
     → kept_text object ≡ text_within_limit (object_text state.ended) → number ≡ (length state.ended + 1) % 0x10000 → next ≡ (number + 1) % 0x10000
     → (next ≡ (length (state_after_end (in_segment change state)).ended + 1) % 0x10000) × (kept_text new ≡ text_within_limit (object_text (state_after_end (in_segment change state)).ended))
 ended_shows state change k o last number next object new text f shown is changes header same put before n m = by_segment state.segment (subst (ShowsOption state.segment) is shown)
   where
-    ended : Segment → Ended
+    ended : StartedSegment → FinishedSegment
     ended s = record { header = record (change s).header { length = cells_of (change s) }; body = (change s).body }
 
-    by_segment : (found : Option Segment) → ShowsOption found (Some o)
+    by_segment : (found : Option StartedSegment) → ShowsOption found (Some o)
         → (next ≡ (length (state.ended ++ ended_of (option_map change found)) + 1) % 0x10000) × (kept_text new ≡ text_within_limit (object_text (state.ended ++ ended_of (option_map change found))))
     by_segment None shows = absurd shows
     by_segment (Some s) shows =
         let then = changes s shows in
         let fields_are : (ended s).header ≡ f =
-        ap (λ (h : Fields). record h { length = cells_of (change s) }) then.header ∙ ap (λ (c : ℕ). record (header_view last) { length = c }) (sym then.body.cells) ∙ sym header in (
+        ap (λ (h : HeaderFields). record h { length = cells_of (change s) }) then.header ∙ ap (λ (c : ℕ). record (header_view last) { length = c }) (sym then.body.cells) ∙ sym header in (
           omega (arith, n, m, length-append state.ended (ended s ∷ [])),
           put state.ended (ended s) fields_are (ap kept_text same ∙ then.body.text) before,
         )

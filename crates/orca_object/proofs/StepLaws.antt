@@ -13,7 +13,7 @@ use Rattle.asm_meaning.specs.declared.directives.Operation.TheVariants.{Instruct
 use Rattle.asm_meaning.specs.declared.faults.AsmCause.{AsmCause}
 use Rattle.asm_meaning.specs.Answer.{Answer}
 use Rattle.asm_meaning.specs.Operations.{operation_of, directives}
-use Rattle.asm_meaning.specs.State.{State, Segment}
+use Rattle.asm_meaning.specs.State.{State, StartedSegment}
 use Rattle.asm_meaning.specs.Statement.{IsDone, IsKnown, IsPlaced, IsStep, label_of, is_misplaced, equating, equating_global}
 use Rattle.orca_object.specs.declared.state.AsmState.{AsmState}
 use Rattle.orca_object.specs.DoingView.{IsEquated, IsConstant}
@@ -26,11 +26,11 @@ pub equ_left : {U : Type 0} (state : State) (line : Line) (label : Answer (List 
 unfolding IsDone
 equ_left state line label text done k is = record { left = equating state false label is.found; is = (is.found, is.formula, refl); leaves = is.leaves }
 
-some_of : (found : Option Segment) (b : Bool) → b ≡ is_some found → b ≡ true → (s : Segment) × (found ≡ Some s)
+some_of : (found : Option StartedSegment) (b : Bool) → b ≡ is_some found → b ≡ true → (s : StartedSegment) × (found ≡ Some s)
 some_of None b is e = absurd cc
 some_of (Some s) b is e = (s, refl)
 
-none_of : (found : Option Segment) (b : Bool) → b ≡ is_some found → b ≡ false → found ≡ None
+none_of : (found : Option StartedSegment) (b : Bool) → b ≡ is_some found → b ≡ false → found ≡ None
 none_of None b is e = refl
 none_of (Some s) b is e = absurd cc
 
@@ -42,7 +42,7 @@ gequ_inside state line label text done k inside test is_in is =
     record {
       left = equating_global state state.segment label is.found;
       is = (is.found, is.formula, refl);
-      leaves = subst (λ (o : Option Segment). Leaves done k (equating_global state o label is.found)) (sym some.1) is.leaves;
+      leaves = subst (λ (o : Option StartedSegment). Leaves done k (equating_global state o label is.found)) (sym some.1) is.leaves;
     }
 
 pub gequ_outside : {U : Type 0} (state : State) (line : Line) (label : Answer (List ℕ)) (text : List ℕ) (done : Result U AsmCause) (k : AsmState) (inside : Bool) → inside ≡ is_some state.segment → inside ≡ false
@@ -51,7 +51,7 @@ unfolding IsDone
 gequ_outside state line label text done k inside test is_out is = record {
   left = equating_global state state.segment label is.found;
   is = (is.found, is.formula, refl);
-  leaves = subst (λ (o : Option Segment). Leaves done k (equating_global state o label is.found)) (sym (none_of state.segment inside test is_out)) is.leaves;
+  leaves = subst (λ (o : Option StartedSegment). Leaves done k (equating_global state o label is.found)) (sym (none_of state.segment inside test is_out)) is.leaves;
 }
 
 -- ---- the mnemonic of an instruction's line

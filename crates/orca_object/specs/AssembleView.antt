@@ -6,7 +6,7 @@ use Rattle.asm_meaning.specs.declared.faults.AsmCause.{AsmCause}
 use Rattle.asm_meaning.specs.declared.faults.AsmFault.{AsmFault}
 use Rattle.asm_meaning.specs.Object.{AreSteps, object_text, most_bytes}
 use Rattle.asm_meaning.specs.declared.faults.AsmCause.TheVariants.{Unclosed, TooLong}
-use Rattle.asm_meaning.specs.State.{State, Segment, start}
+use Rattle.asm_meaning.specs.State.{State, StartedSegment, start}
 use Rattle.asm_meaning.specs.Statement.{IsStep}
 use Rattle.orca_object.specs.declared.state.AsmState.{AsmState}
 use Rattle.orca_object.specs.StateView.{ShowsState}
@@ -34,7 +34,7 @@ HasStepped lines (Ok k) = Ends lines k
 HasStepped lines (Err fault) = Stops lines fault
 
 -- the fault of what is left at the end: a segment without END, or too many bytes
-abbrev pub IsLastFault : Option Segment → State → AsmFault → Type 0
+abbrev pub IsLastFault : Option StartedSegment → State → AsmFault → Type 0
 IsLastFault None state fault = (most_bytes < length (object_text state.ended)) × (fault ≡ record { cause = TooLong; file = 0; line = 0 })
 IsLastFault (Some s) state fault = fault ≡ record { cause = Unclosed; file = s.start_line.file; line = s.start_line.number }
 

@@ -11,7 +11,7 @@ use Rattle.asm_meaning.specs.declared.faults.AsmCause.TheVariants.{BadNumber}
 use Rattle.asm_meaning.specs.Answer.{Answer, pair_or_earlier_fault, earlier, all_of}
 use Rattle.asm_meaning.specs.Constant.{Constants}
 use Rattle.asm_meaning.specs.Elements as meaning
-use Rattle.asm_meaning.specs.Elements.{Repeat, Digits, Value, Element, IsRepeatAt, IsValueAt, IsElementAt, in_range, count_of, piece_of_number, value_pieces, element_pieces}
+use Rattle.asm_meaning.specs.Elements.{Repeat, Digits, ElementValue, Element, IsRepeatAt, IsValueAt, IsElementAt, in_range, count_of, piece_of_number, value_pieces, element_pieces}
 use Rattle.asm_meaning.specs.Formulas.{AreFormulas, number_of}
 use Rattle.asm_meaning.specs.Pieces.{Piece, copies}
 use Rattle.orca_object.specs.declared.encoding.RepeatedPieces.{RepeatedPieces}
@@ -93,13 +93,13 @@ count_by None = Err BadNumber
 
 -- ---- values and elements
 
-pub record HasValue (constants : Constants) (msb : Bool) (kind : meaning.Kind) (text : List ℕ) (answer : Answer (List Piece)) (rest : List ℕ) : Type 0 where
-  pub value : Value
+pub record HasValue (constants : Constants) (msb : Bool) (kind : meaning.ElementType) (text : List ℕ) (answer : Answer (List Piece)) (rest : List ℕ) : Type 0 where
+  pub value : ElementValue
   pub is : IsValueAt kind text value rest
   pub gives : answer ≡ value_pieces constants msb value
 
-abbrev pub HasNoValue : meaning.Kind → List ℕ → Type 0
-HasNoValue kind text = (value : Value) (rest : List ℕ) → IsValueAt kind text value rest → ⊥
+abbrev pub HasNoValue : meaning.ElementType → List ℕ → Type 0
+HasNoValue kind text = (value : ElementValue) (rest : List ℕ) → IsValueAt kind text value rest → ⊥
 
 pub record HasElement (constants : Constants) (msb : Bool) (text : List ℕ) (answer : Answer (List Piece)) (rest : List ℕ) : Type 0 where
   pub element : Element

@@ -5,7 +5,7 @@ use Rattle.asm_meaning.specs.Elements as meaning
 use Rattle.orca_object.specs.declared.element.ElementKind.{ElementKind}
 use Rattle.orca_object.specs.declared.element.ElementKind.TheVariants.{Number, Hexadecimal, Binary, Characters, References, WeakReferences}
 
-abbrev pub element_kind : ElementKind → meaning.Kind
+abbrev pub element_kind : ElementKind → meaning.ElementType
 element_kind (Number width) = meaning.Number width
 element_kind Hexadecimal = meaning.Hexadecimal
 element_kind Binary = meaning.Binary

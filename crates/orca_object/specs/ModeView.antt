@@ -5,14 +5,14 @@ use Rattle.orca_meaning.specs.declared.mnemonics.Mnemonic.{Mnemonic}
 use Rattle.orca_meaning.specs.declared.modes.Mode.{Mode}
 use Rattle.orca_meaning.specs.Operation.{has_mode}
 use Rattle.asm_meaning.specs.Instruction as meaning
-use Rattle.orca_object.specs.declared.mode.Kind.{Kind}
-use Rattle.orca_object.specs.declared.mode.Kind.TheVariants.{Missing, Value, Address, Distance, Banks, Sign}
+use Rattle.orca_object.specs.declared.mode.OperandKind.{OperandKind}
+use Rattle.orca_object.specs.declared.mode.OperandKind.TheVariants.{Missing, Value, Address, Distance, Banks, Sign}
 use Rattle.orca_object.specs.declared.mode.Widths.{Widths}
 
 abbrev pub widths : Widths → meaning.Widths
 widths of = record { long_a = of.long_a; long_i = of.long_i }
 
-abbrev pub kind : Kind → meaning.Kind
+abbrev pub kind : OperandKind → meaning.OperandKind
 kind Missing = meaning.Missing
 kind Value = meaning.Value
 kind (Address bytes) = meaning.Address bytes

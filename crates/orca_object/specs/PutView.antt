@@ -6,7 +6,7 @@ use Rattle.asm_meaning.specs.Pieces.{records_after}
 use Rattle.orca_object.specs.declared.encoding.RepeatedPieces.{RepeatedPieces}
 use Rattle.orca_object.specs.declared.piece.Piece as piece_type
 use Rattle.orca_object.specs.declared.piece.Piece.TheVariants.{Bytes, Formula, Strong}
-use Rattle.orca_object.specs.declared.writer.Writer.{Writer}
+use Rattle.orca_object.specs.declared.writer.RecordWriter.{RecordWriter}
 use Rattle.orca_object.specs.TextView.{text_within_limit, kept_text}
 
 -- how many cells a piece gives
@@ -30,5 +30,5 @@ pub record Wrote (whole : List ℕ) (kept : Option (List ℕ)) (pending : List �
   pub whole_is : text ++ records_text (records_after pending rest) ≡ whole
 
 -- the same of a writer
-abbrev pub HasWritten : List ℕ → Writer → List meaning.Piece → Type 0
+abbrev pub HasWritten : List ℕ → RecordWriter → List meaning.Piece → Type 0
 HasWritten whole w rest = Wrote whole (kept_text w.text) w.waiting.items rest

@@ -1,6 +1,6 @@
 -- How what lines leave is kept: the bytes of records in place of records, and maps in place of the names and constants.
 use Rattle.std.specs.Prelude.{◌≡◌, ℕ, ◌+◌, ◌%◌, ◌<◌, List, ◌++◌, length, Option, Some, None, Result, Ok, Err}
-use Rattle.omf_format.specs.Header.{Fields}
+use Rattle.omf_format.specs.Header.{HeaderFields}
 use Rattle.omf_format.specs.Record.{Record}
 use Rattle.asm_meaning.specs.Answer.{Answer}
 use Rattle.asm_meaning.specs.declared.faults.AsmCause.{AsmCause}
@@ -10,7 +10,7 @@ use Rattle.asm_meaning.specs.Pieces.{place_after}
 use Rattle.omf_format.specs.Field.{◌>>=◌}
 use Rattle.orca_meaning.specs.Line.{Line}
 use Rattle.asm_meaning.specs.declared.directives.Operation.{Operation}
-use Rattle.asm_meaning.specs.State.{Segment, State, bank_size_of, cells_of, with_label, local_of, within_length}
+use Rattle.asm_meaning.specs.State.{StartedSegment, State, bank_size_of, cells_of, with_label, local_of, within_length}
 use Rattle.asm_meaning.specs.Statement.{IsDone}
 use Rattle.orca_object.specs.declared.state.OpenSegment.{OpenSegment}
 use Rattle.orca_object.specs.declared.state.AsmState.{AsmState}
@@ -20,7 +20,7 @@ use Rattle.orca_object.specs.TextView.{text_within_limit, kept_text}
 use Rattle.orca_object.specs.BodyView.{ShowsBody}
 
 -- the header that a segment has so far
-abbrev pub header_view : OpenSegment → Fields
+abbrev pub header_view : OpenSegment → HeaderFields
 header_view o = record {
   byte_count = 0;
   res_spc = 0;
@@ -40,7 +40,7 @@ header_view o = record {
 }
 
 -- a segment that hasn't ended is kept so
-pub record ShowsSegment (s : Segment) (o : OpenSegment) : Type 0 where
+pub record ShowsSegment (s : StartedSegment) (o : OpenSegment) : Type 0 where
   pub file : o.file ≡ s.start_line.file
   pub line : o.line ≡ s.start_line.number
   pub class : o.class ≡ s.class
@@ -48,7 +48,7 @@ pub record ShowsSegment (s : Segment) (o : OpenSegment) : Type 0 where
   pub names : names_of o.names ≡ s.names
   pub body : ShowsBody (0x37 + length s.header.name) s.body o.body
 
-abbrev pub ShowsOption : Option Segment → Option OpenSegment → Type 0
+abbrev pub ShowsOption : Option StartedSegment → Option OpenSegment → Type 0
 ShowsOption None None = Unit {0}
 ShowsOption None (Some o) = ⊥
 ShowsOption (Some s) None = ⊥
@@ -70,21 +70,21 @@ pub record ShowsState (state : State) (k : AsmState) : Type 0 where
 -- ---- changes of a segment
 
 -- one more name
-abbrev pub with_defined_name : List ℕ → Option ℕ → Segment → Segment
+abbrev pub with_defined_name : List ℕ → Option ℕ → StartedSegment → StartedSegment
 with_defined_name label value s = record s { names = with_label label value s.names }
 
 -- more records
-abbrev pub with_records : List Record → Segment → Segment
+abbrev pub with_records : List Record → StartedSegment → StartedSegment
 with_records contents s = record s { body = s.body ++ contents }
 
 -- a label, with its LOCAL
-abbrev pub with_local_label : List ℕ → ℕ → ℕ → Segment → Segment
+abbrev pub with_local_label : List ℕ → ℕ → ℕ → StartedSegment → StartedSegment
 with_local_label label form size s = with_records (local_of label form size) (with_defined_name label None s)
 
 -- ---- answers
 
 -- a segment is kept so, or is longer than a segment of any class may be
-abbrev pub ShowsGrown : {U : Type 0} → Result U AsmCause → Segment → OpenSegment → Type 0
+abbrev pub ShowsGrown : {U : Type 0} → Result U AsmCause → StartedSegment → OpenSegment → Type 0
 ShowsGrown (Ok done) s o = ShowsSegment s o
 ShowsGrown (Err cause) s o = (cause ≡ SegmentTooLong) × (0xFFFFFF < cells_of s)
 

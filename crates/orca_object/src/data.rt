@@ -28,7 +28,7 @@ impl OpenSegment {
     ghost use Rattle.std.specs.Prelude.{◌≡◌, ℕ, min, IfOk};
     ghost use Rattle.orca_object.specs.GivenView.{given_pieces, given_records};
     ghost use Rattle.asm_meaning.specs.laws.PieceLaws.{ArePlainPieces};
-    ghost use Rattle.asm_meaning.specs.State.{Segment, with_local_record};
+    ghost use Rattle.asm_meaning.specs.State.{StartedSegment, with_local_record};
     ghost use Rattle.orca_object.specs.StateView.{ShowsSegment, ShowsGrown};
 
     /// The records of a statement with its label.
@@ -40,7 +40,7 @@ impl OpenSegment {
         given: &Encoding,
     ) -> Result<Result<(), AsmCause>, AllocError>
         requires plain { ArePlainPieces (given_pieces given.now) }
-        ensures { IfOk result (λ done. (s : Segment) → ShowsSegment s self.old → ShowsGrown done (with_local_record label.now form (given_records given.now) s) self.new) }
+        ensures { IfOk result (λ done. (s : StartedSegment) → ShowsSegment s self.old → ShowsGrown done (with_local_record label.now form (given_records given.now) s) self.new) }
     {
         let size = u64::from(given.cells());
         self.mark(alloc, label, form, size)?;

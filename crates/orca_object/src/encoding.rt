@@ -14,7 +14,7 @@ ghost use Rattle.orca_object.specs.OperandView.{name_answer};
 use crate::causes::earlier;
 use crate::piece::Piece;
 use crate::short_bytes::ShortBytes;
-use crate::writer::Writer;
+use crate::writer::RecordWriter;
 use asm_meaning::AsmCause;
 use omf_base::Name;
 use std::alloc::{AllocError, Global};
@@ -140,7 +140,7 @@ impl Encoding {
     }
 
     /// Appends its records.
-    pub(crate) fn put(&self, out: &mut Writer) -> Result<(), AllocError>
+    pub(crate) fn put(&self, out: &mut RecordWriter) -> Result<(), AllocError>
         requires { ArePlainPieces (given_pieces self.now) }
         ensures { OnOk result ((text : List ℕ) → kept_text out.old.text ≡ text_within_limit text → kept_text out.new.text ≡ text_within_limit (text ++ records_text (given_records self.now))) }
     {

@@ -26,8 +26,8 @@ use crate::amount::{Amount, amount_of};
 use crate::causes::earlier;
 use crate::encoding::{Encoding, given_once};
 use crate::mode::{
-    Kind, Widths, first_mode, is_distance, kind_of, mode_of_number, mode_of_tree, operand_bytes,
-    shift_in,
+    OperandKind, Widths, first_mode, is_distance, kind_of, mode_of_number, mode_of_tree,
+    operand_bytes, shift_in,
 };
 use crate::names::KnownConstants;
 use crate::piece::{Piece, number_text, shift_and_end};
@@ -78,31 +78,38 @@ fn address_code(mnemonic: Mnemonic, bytes: u8) -> u8
 
 /// An opcode, and the record of an operand of a given number of bytes with this expression.
 #[inline(always)]
-fn with_record(opcode: u8, mnemonic: Mnemonic, of: Kind, width: u8, expr: Vec<u8>) -> Encoding
+fn with_record(
+    opcode: u8,
+    mnemonic: Mnemonic,
+    of: OperandKind,
+    width: u8,
+    expr: Vec<u8>,
+) -> Encoding
     ensures { (tree : Tree) → expr.items ≡ expression_text tree → given_pieces result ≡ Bytes (opcode ∷ []) ∷ Whole (operand_record mnemonic (kind of) width tree) ∷ [] }
 {
     match of {
-        Kind::Address(bytes) => Encoding::Operand {
+        OperandKind::Address(bytes) => Encoding::Operand {
             opcode,
             code: address_code(mnemonic, bytes),
             count: width,
             n: 0,
             expr,
         },
-        Kind::Distance(_) => Encoding::Operand {
+        OperandKind::Distance(_) => Encoding::Operand {
             opcode,
             code: 0xEE,
             count: width,
             n: u32::from(width),
             expr,
         },
-        Kind::Missing | Kind::Value | Kind::Banks | Kind::Sign => Encoding::Operand {
-            opcode,
-            code: 0xEB,
-            count: width,
-            n: 0,
-            expr,
-        },
+        OperandKind::Missing | OperandKind::Value | OperandKind::Banks | OperandKind::Sign =>
+            Encoding::Operand {
+                opcode,
+                code: 0xEB,
+                count: width,
+                n: 0,
+                expr,
+            },
     }
 }
 

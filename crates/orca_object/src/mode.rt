@@ -20,7 +20,7 @@ pub(crate) struct Widths {
 
 /// What an operand is in the instruction.
 #[derive(Clone, Copy)]
-pub(crate) enum Kind {
+pub(crate) enum OperandKind {
     /// Nothing.
     Missing,
     /// A value.
@@ -124,12 +124,12 @@ fn modes_of(form: Form) -> &'static [Mode]
 /// What an operand in a mode is.
 #[tactic(auto, unfolding(asm_meaning::specs::Instruction::kind_of))]
 #[inline(always)]
-pub(crate) fn kind_of(mode: Mode) -> Kind
+pub(crate) fn kind_of(mode: Mode) -> OperandKind
     ensures { kind result ≡ kind_of mode }
 {
     match mode {
-        Mode::Implied | Mode::Accumulator => Kind::Missing,
-        Mode::Immediate => Kind::Value,
+        Mode::Implied | Mode::Accumulator => OperandKind::Missing,
+        Mode::Immediate => OperandKind::Value,
         Mode::Direct
         | Mode::DirectX
         | Mode::DirectY
@@ -139,57 +139,69 @@ pub(crate) fn kind_of(mode: Mode) -> Kind
         | Mode::DirectLong
         | Mode::DirectLongY
         | Mode::Stack
-        | Mode::StackIndirectY => Kind::Address(1),
+        | Mode::StackIndirectY => OperandKind::Address(1),
         Mode::Absolute
         | Mode::AbsoluteX
         | Mode::AbsoluteY
         | Mode::AbsoluteIndirect
         | Mode::AbsoluteXIndirect
-        | Mode::AbsoluteLongIndirect => Kind::Address(2),
-        Mode::Long | Mode::LongX => Kind::Address(3),
-        Mode::Relative8 => Kind::Distance(1),
-        Mode::Relative16 => Kind::Distance(2),
-        Mode::Move => Kind::Banks,
-        Mode::Signature => Kind::Sign,
+        | Mode::AbsoluteLongIndirect => OperandKind::Address(2),
+        Mode::Long | Mode::LongX => OperandKind::Address(3),
+        Mode::Relative8 => OperandKind::Distance(1),
+        Mode::Relative16 => OperandKind::Distance(2),
+        Mode::Move => OperandKind::Banks,
+        Mode::Signature => OperandKind::Sign,
     }
 }
 
 /// Whether the operand is an address of a given number of bytes.
 #[inline(always)]
-fn is_address(of: Kind, bytes: u8) -> bool
+fn is_address(of: OperandKind, bytes: u8) -> bool
     ensures { result ≡ is_address bytes (kind of) }
 {
     match of {
-        Kind::Address(n) => n == bytes,
-        Kind::Missing | Kind::Value | Kind::Distance(_) | Kind::Banks | Kind::Sign => false,
+        OperandKind::Address(n) => n == bytes,
+        OperandKind::Missing
+        | OperandKind::Value
+        | OperandKind::Distance(_)
+        | OperandKind::Banks
+        | OperandKind::Sign => false,
     }
 }
 
 /// Whether the operand is a value.
 #[inline(always)]
-fn is_value(of: Kind) -> bool
+fn is_value(of: OperandKind) -> bool
     ensures { result ≡ is_value (kind of) }
 {
     match of {
-        Kind::Value => true,
-        Kind::Missing | Kind::Address(_) | Kind::Distance(_) | Kind::Banks | Kind::Sign => false,
+        OperandKind::Value => true,
+        OperandKind::Missing
+        | OperandKind::Address(_)
+        | OperandKind::Distance(_)
+        | OperandKind::Banks
+        | OperandKind::Sign => false,
     }
 }
 
 /// Whether the operand is the distance of a branch.
 #[inline(always)]
-pub(crate) fn is_distance(of: Kind) -> bool
+pub(crate) fn is_distance(of: OperandKind) -> bool
     ensures { result ≡ is_distance (kind of) }
 {
     match of {
-        Kind::Distance(_) => true,
-        Kind::Missing | Kind::Value | Kind::Address(_) | Kind::Banks | Kind::Sign => false,
+        OperandKind::Distance(_) => true,
+        OperandKind::Missing
+        | OperandKind::Value
+        | OperandKind::Address(_)
+        | OperandKind::Banks
+        | OperandKind::Sign => false,
     }
 }
 
 /// Whether a prefix lets such an operand stand.
 #[inline(always)]
-fn is_asked(prefix: Prefix, of: Kind) -> bool
+fn is_asked(prefix: Prefix, of: OperandKind) -> bool
     ensures { result ≡ is_asked prefix (kind of) }
 {
     match prefix {
@@ -226,13 +238,17 @@ fn value_shift(prefix: Prefix) -> u8
 
 /// By how much an operand is shifted to the right: a value alone is.
 #[inline(always)]
-pub(crate) fn shift_in(of: Kind, prefix: Prefix) -> u8
+pub(crate) fn shift_in(of: OperandKind, prefix: Prefix) -> u8
     ensures value { result ≡ shift_in (kind of) prefix }
     ensures few { result ≤ 16 }
 {
     match of {
-        Kind::Value => value_shift(prefix),
-        Kind::Missing | Kind::Address(_) | Kind::Distance(_) | Kind::Banks | Kind::Sign => 0,
+        OperandKind::Value => value_shift(prefix),
+        OperandKind::Missing
+        | OperandKind::Address(_)
+        | OperandKind::Distance(_)
+        | OperandKind::Banks
+        | OperandKind::Sign => 0,
     }
 }
 
@@ -290,17 +306,17 @@ fn fits_value(prefix: Prefix, width: u8, n: u32) -> bool
 
 /// Whether the operand can be this number in a given number of bytes.
 #[inline(always)]
-fn is_operand_of_width(prefix: Prefix, of: Kind, width: u8, n: u32) -> bool
+fn is_operand_of_width(prefix: Prefix, of: OperandKind, width: u8, n: u32) -> bool
     requires { width ≤ 3 }
     ensures { result ≡ is_operand_of_width prefix (kind of) width n }
 {
     match of {
-        Kind::Missing => false,
-        Kind::Value => fits_value(prefix, width, n),
-        Kind::Address(_) => fits_width(n, width),
-        Kind::Distance(_) => true,
-        Kind::Banks => n < 256,
-        Kind::Sign => fits_width(n, width),
+        OperandKind::Missing => false,
+        OperandKind::Value => fits_value(prefix, width, n),
+        OperandKind::Address(_) => fits_width(n, width),
+        OperandKind::Distance(_) => true,
+        OperandKind::Banks => n < 256,
+        OperandKind::Sign => fits_width(n, width),
     }
 }
 

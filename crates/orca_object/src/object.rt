@@ -3,7 +3,7 @@
 ghost use Rattle.std.specs.Prelude.{◌≡◌, ◌≤◌, ◌+◌, ◌++◌, ◌∷◌, [], List, length, drop, replicate, OnOk};
 ghost use Rattle.omf_format.specs.Header.{IsWritable};
 ghost use Rattle.omf_header.specs.View.{fields};
-ghost use Rattle.asm_meaning.specs.State.{Ended};
+ghost use Rattle.asm_meaning.specs.State.{FinishedSegment};
 ghost use Rattle.asm_meaning.specs.Object.{records_text, segment_text, object_text};
 ghost use Rattle.orca_object.specs.TextView.{text_within_limit, kept_text};
 
@@ -36,7 +36,7 @@ fn put_front(text: &mut [u8], front: &[u8])
 /// Writes its header into the room before the records of a segment.
 fn close(alloc: Global, header: &Header, segment: &mut RecordBytes) -> Result<(), AllocError>
     requires { IsWritable (fields header.now) }
-    ensures { OnOk result ((e : Ended) → e.header ≡ fields header.now → kept_text segment.old ≡ text_within_limit (replicate (0x37 + length e.header.name) 0 ++ records_text e.body)
+    ensures { OnOk result ((e : FinishedSegment) → e.header ≡ fields header.now → kept_text segment.old ≡ text_within_limit (replicate (0x37 + length e.header.name) 0 ++ records_text e.body)
         → kept_text segment.new ≡ text_within_limit (segment_text e)) }
 {
     recall_header_size(&header.load_name);
@@ -71,7 +71,7 @@ pub(crate) fn put_segment(
     segment: RecordBytes,
 ) -> Result<(), AllocError>
     requires { IsWritable (fields header.now) }
-    ensures { OnOk result ((segments : List Ended) (e : Ended) → e.header ≡ fields header.now → kept_text segment ≡ text_within_limit (replicate (0x37 + length e.header.name) 0 ++ records_text e.body)
+    ensures { OnOk result ((segments : List FinishedSegment) (e : FinishedSegment) → e.header ≡ fields header.now → kept_text segment ≡ text_within_limit (replicate (0x37 + length e.header.name) 0 ++ records_text e.body)
         → kept_text object.old ≡ text_within_limit (object_text segments) → kept_text object.new ≡ text_within_limit (object_text (segments ++ e ∷ []))) }
 {
     let mut segment = segment;

@@ -21,7 +21,7 @@ use crate::names::DefinedNames;
 use crate::object::{header_size, put_segment};
 use crate::operand::{is_name, name_of};
 use crate::record_bytes::RecordBytes;
-use crate::state::{AsmState, Body, OpenSegment};
+use crate::state::{AsmState, OpenSegment, SegmentBody};
 use asm_meaning::{AsmCause, Class};
 use omf_base::Name;
 use omf_header::{Header, Kind};
@@ -170,7 +170,7 @@ impl AsmState {
             load_name,
             name,
             names,
-            body: Body::new(alloc, text),
+            body: SegmentBody::new(alloc, text),
         };
         self.segment = Some(open);
         self.org = 0;

@@ -8,7 +8,7 @@ ghost use Rattle.asm_meaning.specs.State.{greatest_length};
 use crate::mode::Widths;
 use crate::names::{DefinedNames, KnownConstants, OutsideConstants};
 use crate::record_bytes::RecordBytes;
-use crate::writer::Writer;
+use crate::writer::RecordWriter;
 use asm_meaning::{AsmCause, Class};
 use omf_base::Name;
 use omf_records::Rec;
@@ -19,8 +19,8 @@ const MOST_CELLS: u64 = 0xFF_FFFF;
 
 /// Room for a segment's header, its records, and how many cells they give, which are no more than a segment may have.
 #[derive(Drop)]
-pub(crate) struct Body {
-    pub(crate) writer: Writer,
+pub(crate) struct SegmentBody {
+    pub(crate) writer: RecordWriter,
     pub(crate) cells: u64,
     ghost short: { cells ≤ 0xFFFFFF },
 }
@@ -42,7 +42,7 @@ pub(crate) struct OpenSegment {
     pub(crate) name: Name,
     /// The names that it defines.
     pub(crate) names: DefinedNames,
-    pub(crate) body: Body,
+    pub(crate) body: SegmentBody,
     ghost listed: { is_listed (form_of kind) ≡ true },
 }
 
@@ -73,7 +73,7 @@ fn greatest_length(class: Class) -> u64
     }
 }
 
-impl Body {
+impl SegmentBody {
     ghost use Rattle.std.specs.Prelude.{◌≡◌, ◌+◌, ◌<◌, ◌++◌, ◌∷◌, [], List, ℕ, replicate, OnOk, OnErr, IfErr};
     ghost use Rattle.omf_format.specs.Field.{written_layout};
     ghost use Rattle.omf_format.specs.Record.{Record, IsRecord};
@@ -87,11 +87,11 @@ impl Body {
 
     /// Records that give no cells, behind room for a header.
     #[tactic(auto, using(crate::proofs::Bodies::begins))]
-    pub(crate) fn new(alloc: Global, text: RecordBytes) -> Body
+    pub(crate) fn new(alloc: Global, text: RecordBytes) -> SegmentBody
         ensures { (room : ℕ) (records : List Record) → kept_text text ≡ text_within_limit (replicate room 0 ++ records_text records) → place_after 0 records ≡ 0 → ShowsBody room records result }
     {
-        Body {
-            writer: Writer::new(alloc, text),
+        SegmentBody {
+            writer: RecordWriter::new(alloc, text),
             cells: 0,
         }
     }
@@ -127,12 +127,12 @@ impl OpenSegment {
     ghost use Rattle.omf_format.specs.Record.{IsRecord};
     ghost use Rattle.omf_records.specs.View.{view};
     ghost use Rattle.object_meaning.specs.Sizes.{size_at};
-    ghost use Rattle.asm_meaning.specs.State.{Segment, local_of, with_local_record};
+    ghost use Rattle.asm_meaning.specs.State.{StartedSegment, local_of, with_local_record};
     ghost use Rattle.orca_object.specs.StateView.{ShowsSegment, ShowsGrown, with_defined_name, with_records, with_local_label};
 
     /// One more name, where the statement has a label.
     fn define(&mut self, alloc: Global, label: &Name, value: Option<u32>) -> Result<(), AllocError>
-        ensures segment { OnOk result ((s : Segment) → ShowsSegment s self.old → ShowsSegment (with_defined_name label.now value s) self.new) }
+        ensures segment { OnOk result ((s : StartedSegment) → ShowsSegment s self.old → ShowsSegment (with_defined_name label.now value s) self.new) }
         ensures cells { self.new.body.cells ≡ self.old.body.cells }
     {
         let name = label.bytes();
@@ -146,7 +146,7 @@ impl OpenSegment {
     fn put(&mut self, rec: &Rec) -> Result<(), AllocError>
         requires record { IsRecord written_layout (view rec.now) }
         requires none { size_at self.old.body.cells (view rec.now) ≡ 0 }
-        ensures segment { OnOk result ((s : Segment) → ShowsSegment s self.old → ShowsSegment (with_records (view rec.now ∷ []) s) self.new) }
+        ensures segment { OnOk result ((s : StartedSegment) → ShowsSegment s self.old → ShowsSegment (with_records (view rec.now ∷ []) s) self.new) }
         ensures cells { OnOk result (self.new.body.cells ≡ self.old.body.cells) }
     {
         self.body.put(rec)
@@ -162,7 +162,7 @@ impl OpenSegment {
     ) -> Result<(), AllocError>
         requires record { IsRecord written_layout (view rec.now) }
         requires none { size_at self.old.body.cells (view rec.now) ≡ 0 }
-        ensures segment { OnOk result ((s : Segment) → ShowsSegment s self.old → ShowsSegment (with_records (view rec.now ∷ []) (with_defined_name label.now value s)) self.new) }
+        ensures segment { OnOk result ((s : StartedSegment) → ShowsSegment s self.old → ShowsSegment (with_records (view rec.now ∷ []) (with_defined_name label.now value s)) self.new) }
     {
         self.define(alloc, label, value)?;
         self.put(rec)
@@ -170,7 +170,7 @@ impl OpenSegment {
 
     /// LOCAL of a label, where the statement has one: its length, as far as two bytes hold it, and its type.
     fn put_local(&mut self, label: &Name, form: u8, size: u64) -> Result<(), AllocError>
-        ensures segment { OnOk result ((s : Segment) → ShowsSegment s self.old → ShowsSegment (with_records (local_of label.now form size) s) self.new) }
+        ensures segment { OnOk result ((s : StartedSegment) → ShowsSegment s self.old → ShowsSegment (with_records (local_of label.now form size) s) self.new) }
         ensures cells { OnOk result (self.new.body.cells ≡ self.old.body.cells) }
     {
         let name = label.bytes();
@@ -195,7 +195,7 @@ impl OpenSegment {
         form: u8,
         size: u64,
     ) -> Result<(), AllocError>
-        ensures segment { OnOk result ((s : Segment) → ShowsSegment s self.old → ShowsSegment (with_local_label label.now form size s) self.new) }
+        ensures segment { OnOk result ((s : StartedSegment) → ShowsSegment s self.old → ShowsSegment (with_local_label label.now form size s) self.new) }
         ensures cells { OnOk result (self.new.body.cells ≡ self.old.body.cells) }
     {
         self.define(alloc, label, None)?;
@@ -204,7 +204,7 @@ impl OpenSegment {
 
     /// The label of a directive that gives no records.
     pub(crate) fn mark_alone(&mut self, alloc: Global, label: &Name) -> Result<(), AllocError>
-        ensures { OnOk result ((s : Segment) → ShowsSegment s self.old → ShowsSegment (with_local_record label.now 0x4E [] s) self.new) }
+        ensures { OnOk result ((s : StartedSegment) → ShowsSegment s self.old → ShowsSegment (with_local_record label.now 0x4E [] s) self.new) }
     {
         self.mark(alloc, label, 0x4E, 0)
     }
@@ -218,7 +218,7 @@ impl OpenSegment {
     ) -> Result<(), AllocError>
         requires record { IsRecord written_layout (view rec.now) }
         requires none { size_at self.old.body.cells (view rec.now) ≡ 0 }
-        ensures { OnOk result ((s : Segment) → ShowsSegment s self.old → ShowsSegment (with_local_record label.now 0x4E (view rec.now ∷ []) s) self.new) }
+        ensures { OnOk result ((s : StartedSegment) → ShowsSegment s self.old → ShowsSegment (with_local_record label.now 0x4E (view rec.now ∷ []) s) self.new) }
     {
         self.mark(alloc, label, 0x4E, 0)?;
         self.put(rec)
@@ -234,7 +234,7 @@ impl OpenSegment {
     ) -> Result<Result<(), AsmCause>, AllocError>
         requires record { IsRecord written_layout (view rec.now) }
         requires size { size ≡ size_at self.old.body.cells (view rec.now) }
-        ensures { IfOk result (λ done. (s : Segment) → ShowsSegment s self.old → ShowsGrown done (with_local_record label.now 0x4E (view rec.now ∷ []) s) self.new) }
+        ensures { IfOk result (λ done. (s : StartedSegment) → ShowsSegment s self.old → ShowsGrown done (with_local_record label.now 0x4E (view rec.now ∷ []) s) self.new) }
     {
         self.mark(alloc, label, 0x4E, size)?;
         match self.body.grow(size) {

@@ -14,7 +14,7 @@ use std::alloc::{AllocError, Global};
 /// The bytes of records, and the constant bytes of one statement that wait for their record. Between statements these say
 /// nothing: their memory is kept for the next.
 #[derive(Drop)]
-pub(crate) struct Writer {
+pub(crate) struct RecordWriter {
     pub(crate) text: RecordBytes,
     pub(crate) waiting: Vec<u8>,
 }
@@ -57,7 +57,7 @@ fn only_bytes(pieces: &[Piece]) -> Option<&[u8]>
     }
 }
 
-impl Writer {
+impl RecordWriter {
     ghost use Rattle.std.specs.Prelude.{◌≡◌, ◌++◌, ◌∷◌, [], List, ℕ, map, OnOk};
     ghost use Rattle.asm_meaning.specs.Object.{records_text};
     ghost use Rattle.asm_meaning.specs.Pieces as meaning;
@@ -70,10 +70,10 @@ impl Writer {
     ghost use Rattle.orca_object.specs.TextView.{text_within_limit, kept_text};
 
     /// Records so far, behind which no bytes wait.
-    pub(crate) fn new(alloc: Global, text: RecordBytes) -> Writer
+    pub(crate) fn new(alloc: Global, text: RecordBytes) -> RecordWriter
         ensures { result.text ≡ text }
     {
-        Writer {
+        RecordWriter {
             text,
             waiting: Vec::new(alloc),
         }

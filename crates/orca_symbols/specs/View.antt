@@ -10,7 +10,7 @@ use Rattle.orca_symbols.specs.declared.symbols.Symbol.{Symbol}
 use Rattle.orca_symbols.specs.declared.symbols.Symbol.TheVariants.{Own, Common}
 use Rattle.orca_symbols.specs.declared.symbols.SharedText.{SharedText}
 use Rattle.orca_symbols.specs.declared.symbols.Symbols.{Symbols}
-use Rattle.orca_symbols.specs.declared.symbols.Texts.{Texts}
+use Rattle.orca_symbols.specs.declared.symbols.SharedTextTable.{SharedTextTable}
 use Rattle.orca_symbols.specs.declared.symbols.Values.{Values}
 use Rattle.orca_symbols.specs.Held.{value_of_name}
 
@@ -24,7 +24,7 @@ shared_text shared = (shared.kind, shared.text)
 abbrev pub symbols_of : Symbols → meaning.Symbols
 symbols_of symbols name = option_map symbol (value_of_name symbols.map name)
 
-abbrev pub texts_of : Texts → meaning.SharedTexts
+abbrev pub texts_of : SharedTextTable → meaning.SharedTexts
 texts_of texts name = option_map shared_text (value_of_name texts.map name)
 
 abbrev pub values : Values → meaning.Values

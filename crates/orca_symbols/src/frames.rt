@@ -6,7 +6,7 @@ ghost use Rattle.orca_symbols.specs.View.{symbols_of, texts_of};
 ghost use Rattle.macro_meaning.specs.Call.{no_symbols};
 ghost use Rattle.macro_meaning.specs.Visit.{no_texts};
 
-use crate::symbols::{Calls, Symbols, Texts};
+use crate::symbols::{CallCounts, SharedTextTable, Symbols};
 use std::alloc::{AllocError, Global};
 
 /// An expansion, or the source, at one of its lines.
@@ -68,8 +68,8 @@ impl Frames {
 pub struct ExpansionState {
     pub scope: CallScope,
     pub frames: Frames,
-    pub texts: Texts,
-    pub calls: Calls,
+    pub texts: SharedTextTable,
+    pub calls: CallCounts,
 }
 
 /// The source at its first line.
@@ -93,11 +93,11 @@ impl ExpansionState {
         ensures texts { IfOk result (λ s. texts_of s.texts ≡ no_texts) }
         ensures calls { IfOk result (λ s. s.calls ≡ 0) }
     {
-        let calls = Calls::none(alloc)?;
+        let calls = CallCounts::none(alloc)?;
         Ok(ExpansionState {
             scope: source(alloc),
             frames: Frames::new(alloc),
-            texts: Texts::new(alloc),
+            texts: SharedTextTable::new(alloc),
             calls,
         })
     }

@@ -26,8 +26,8 @@ pub use operands::{OperandPiece, join_quoted, pieces, two_pieces, unquote};
 pub use sequence::{begins_dot, skip_sequence_symbol};
 pub use substitution::{is_folded, is_plain, substitute};
 pub use symbols::{
-    Calls, SharedText, Symbol, Symbols, Texts, Values, declaration_of, first_text, is_count,
-    is_declaration, is_kind, kind_of, signed_decimal,
+    CallCounts, SharedText, SharedTextTable, Symbol, Symbols, Values, declaration_of, first_text,
+    is_count, is_declaration, is_kind, kind_of, signed_decimal,
 };
 pub use template::{TemplatePart, instantiate, parts_of, plain_front};
 pub use text::SymbolText;

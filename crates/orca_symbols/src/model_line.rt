@@ -9,7 +9,7 @@ ghost use Rattle.orca_meaning.specs.Line.{HaveFields};
 use crate::names::{symbol_name, whole_match};
 use crate::operands::{OperandPiece, piece_at, pieces};
 use omf_base::Name;
-use orca_text::{Fields, LinePart, is_comment, name_at, part, three_fields};
+use orca_text::{LineFields, LinePart, is_comment, name_at, part, three_fields};
 use std::alloc::{AllocError, Global};
 
 /// What a model line says, with all names in upper case.
@@ -67,7 +67,11 @@ fn label_of(alloc: Global, label: LinePart<'_>) -> Result<Option<Option<Name>>, 
 }
 
 /// The model line with these fields.
-fn model_by(alloc: Global, text: LinePart<'_>, at: Fields) -> Result<Option<ModelLine>, AllocError>
+fn model_by(
+    alloc: Global,
+    text: LinePart<'_>,
+    at: LineFields,
+) -> Result<Option<ModelLine>, AllocError>
     requires { HaveFields text.bytes.now (fields at) }
     ensures { IfOk result (λ found. MatchOption found (model_by text.entry.bytes.now (fields at) ≡ None) (λ m. model_by text.entry.bytes.now (fields at) ≡ Some (model m))) }
 {

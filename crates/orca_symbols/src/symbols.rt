@@ -41,18 +41,18 @@ pub struct Symbols {
 
 /// The texts of the shared symbols by name.
 #[derive(Drop)]
-pub struct Texts {
+pub struct SharedTextTable {
     pub map: IndexMap<Vec<u8>, SharedText>,
 }
 
 /// How many macros were called, with its digits. Contracts see the number.
 #[derive(Drop)]
-pub struct Calls {
+pub struct CallCounts {
     count: u32,
     digits: SymbolText,
 }
 
-impl Model for Calls {
+impl Model for CallCounts {
     ghost use Rattle.std.specs.Prelude.{◌≡◌, ℕ};
     ghost use Rattle.macro_meaning.specs.Symbol.{decimal};
 
@@ -86,19 +86,19 @@ pub fn signed_decimal(alloc: Global, z: i32) -> Result<SymbolText, AllocError>
     SymbolText::of(alloc, digits)
 }
 
-impl Calls {
+impl CallCounts {
     /// None.
-    pub fn none(alloc: Global) -> Result<Calls, AllocError>
+    pub fn none(alloc: Global) -> Result<CallCounts, AllocError>
         ensures { IfOk result (λ calls. calls ≡ 0) }
     {
-        Calls::of(alloc, 0)
+        CallCounts::of(alloc, 0)
     }
 
-    fn of(alloc: Global, count: u32) -> Result<Calls, AllocError>
+    fn of(alloc: Global, count: u32) -> Result<CallCounts, AllocError>
         ensures { IfOk result (λ calls. calls ≡ count) }
     {
         let digits = decimal(alloc, count)?;
-        Ok(Calls { count, digits })
+        Ok(CallCounts { count, digits })
     }
 
     /// One more.
@@ -106,7 +106,7 @@ impl Calls {
         requires { self.old + 1 < 2 ^ 32 }
         ensures { OnOk result (self.new ≡ self.old + 1) }
     {
-        *self = Calls::of(alloc, self.count + 1)?;
+        *self = CallCounts::of(alloc, self.count + 1)?;
         Ok(())
     }
 
@@ -123,8 +123,8 @@ impl Calls {
 #[derive(Clone, Copy)]
 pub struct Values<'a> {
     pub symbols: &'a Symbols,
-    pub texts: &'a Texts,
-    pub calls: &'a Calls,
+    pub texts: &'a SharedTextTable,
+    pub calls: &'a CallCounts,
 }
 
 /// Whether a name is SYSCNT.
@@ -205,12 +205,12 @@ impl Symbols {
     }
 }
 
-impl Texts {
+impl SharedTextTable {
     /// None.
-    pub fn new(alloc: Global) -> Texts
+    pub fn new(alloc: Global) -> SharedTextTable
         ensures { texts_of result ≡ no_texts }
     {
-        Texts {
+        SharedTextTable {
             map: IndexMap::new(alloc),
         }
     }
@@ -234,7 +234,7 @@ impl Texts {
 }
 
 /// The text of a shared symbol.
-fn common_text<'a>(texts: &'a Texts, name: &[u8]) -> Option<&'a [u8]>
+fn common_text<'a>(texts: &'a SharedTextTable, name: &[u8]) -> Option<&'a [u8]>
     ensures short { IfSome result (λ t. length t.now ≤ 255) }
     ensures text { MatchOption result (Rattle.macro_meaning.specs.Symbol.shared_text (texts_of texts.now name.now) ≡ None)
         (λ t. Rattle.macro_meaning.specs.Symbol.shared_text (texts_of texts.now name.now) ≡ Some t.now) }

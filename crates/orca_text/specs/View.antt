@@ -1,12 +1,12 @@
 -- How the fields of a line, lines and terms are seen.
 use Rattle.orca_meaning.specs.Line as meaning
 use Rattle.omf_format.specs.Expression as expression
-use Rattle.orca_text.specs.declared.fields.Fields.{Fields}
+use Rattle.orca_text.specs.declared.fields.LineFields.{LineFields}
 use Rattle.orca_text.specs.declared.formula_term.FormulaTerm.{FormulaTerm}
 use Rattle.orca_text.specs.declared.formula_term.FormulaTerm.TheVariants.{Operator, Location, Constant, Named, Offset}
 use Rattle.orca_text.specs.declared.line.SourceLine.{SourceLine}
 
-abbrev pub fields : Fields → meaning.Fields
+abbrev pub fields : LineFields → meaning.LineFields
 fields f = record { label = f.label; operation = f.operation; operand = f.operand }
 
 abbrev pub line : SourceLine → meaning.Line

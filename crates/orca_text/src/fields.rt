@@ -13,7 +13,7 @@ use orca_meaning::{OperandUse, Span};
 
 /// The places of a line's fields.
 #[derive(Clone, Copy)]
-pub struct Fields {
+pub struct LineFields {
     /// What begins in column 1.
     pub label: Span,
     /// The next field.
@@ -133,7 +133,7 @@ fn blank_outside(rest: &[u8]) -> usize
 
 /// The label, the operation, and the third field of a line, whatever the operation does with it.
 #[tactic(auto, unfolding(orca_meaning::specs::Line::three_fields))]
-pub fn three_fields(text: LinePart<'_>) -> Fields
+pub fn three_fields(text: LinePart<'_>) -> LineFields
     ensures value { fields result ≡ three_fields text.entry.bytes.now }
     ensures within { HaveFields text.entry.bytes.now (fields result) }
 {
@@ -142,7 +142,7 @@ pub fn three_fields(text: LinePart<'_>) -> Fields
     let operation_end = operation + blank_in(from(text.bytes, operation as usize)) as u32;
     let operand = operation_end + ink_in(from(text.bytes, operation_end as usize)) as u32;
     let operand_end = operand + blank_outside(from(text.bytes, operand as usize)) as u32;
-    Fields {
+    LineFields {
         label: Span {
             from: 0,
             to: label_end,
@@ -238,13 +238,13 @@ fn operand_span(text: &[u8], third: Span, operand_use: OperandUse) -> Span
 
 /// The fields of a line that isn't a comment.
 #[inline(always)]
-fn statement_fields(text: LinePart<'_>) -> Fields
+fn statement_fields(text: LinePart<'_>) -> LineFields
     ensures value { fields result ≡ statement_fields text.entry.bytes.now (three_fields text.entry.bytes.now) }
     ensures within { HaveFields text.entry.bytes.now (fields result) }
 {
     let three = three_fields(text);
     let operand_use = operation_use(part(text, three.operation).bytes);
-    Fields {
+    LineFields {
         label: three.label,
         operation: three.operation,
         operand: operand_span(text.bytes, three.operand, operand_use),
@@ -253,13 +253,13 @@ fn statement_fields(text: LinePart<'_>) -> Fields
 
 /// The fields of a line. A comment has none.
 #[tactic(auto, unfolding(orca_meaning::specs::Line::fields_of))]
-pub(crate) fn fields_of(text: LinePart<'_>) -> Fields
+pub(crate) fn fields_of(text: LinePart<'_>) -> LineFields
     ensures value { fields result ≡ fields_of text.entry.bytes.now }
     ensures within { HaveFields text.entry.bytes.now (fields result) }
 {
     if is_comment(text.bytes) {
         let nothing = Span { from: 0, to: 0 };
-        return Fields {
+        return LineFields {
             label: nothing,
             operation: nothing,
             operand: nothing,

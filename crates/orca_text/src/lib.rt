@@ -17,7 +17,7 @@ mod tokens;
 mod waiting;
 
 pub use fields::{
-    Fields, is_comment, label_in, operand_after, part, quote_following, three_fields,
+    LineFields, is_comment, label_in, operand_after, part, quote_following, three_fields,
 };
 pub use formula::{FormulaAt, formula_at};
 pub use formula_term::{Formula, FormulaTerm};

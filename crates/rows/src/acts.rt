@@ -10,7 +10,7 @@ use crate::pieces::{
     displacement, hex, number, put_again, put_at, put_hex, put_series, put_text, text_of,
 };
 use crate::running::{run, words_of};
-use crate::shelf::{Held, Shelf};
+use crate::shelf::{Shelf, ShelfFile};
 use crate::telling::{report_bytes, report_run, report_text, reveal};
 use std::alloc::{AllocError, Global};
 
@@ -185,7 +185,7 @@ fn run_one(
     alloc: Global,
     bench: &mut Fixture,
     words: &str,
-    file: Held,
+    file: ShelfFile,
     part: (&str, &str),
 ) -> Result<(), AllocError> {
     let mut row = Vec::new(alloc);
@@ -200,9 +200,9 @@ fn run_one(
 }
 
 /// A file at a path.
-fn held(alloc: Global, path: &str, bytes: Vec<u8>) -> Result<Held, AllocError> {
+fn held(alloc: Global, path: &str, bytes: Vec<u8>) -> Result<ShelfFile, AllocError> {
     let path = String::from_str(alloc, path)?;
-    Ok(Held { path, bytes })
+    Ok(ShelfFile { path, bytes })
 }
 
 /// A text between two files.

@@ -1,13 +1,13 @@
 //! Sources that are expanded.
 
-use crate::shelf::Held;
+use crate::shelf::ShelfFile;
 use crate::telling::reveal;
 use orca_macro::expand;
 use orca_text::Lines;
 use std::alloc::{AllocError, Global};
 
 /// The row's files but the one at `src`.
-fn macros_of(alloc: Global, row: &[Held]) -> Result<Vec<Vec<u8>>, AllocError> {
+fn macros_of(alloc: Global, row: &[ShelfFile]) -> Result<Vec<Vec<u8>>, AllocError> {
     let mut macros = Vec::new(alloc);
     for held in row {
         if held.path.as_str() != "src" {
@@ -60,7 +60,7 @@ pub fn report_expanded(
     out: &mut Vec<u8>,
     word: &str,
     source: &[u8],
-    row: &[Held],
+    row: &[ShelfFile],
 ) -> Result<(), AllocError> {
     let macros = macros_of(alloc, row)?;
     match expand(alloc, source, &macros) {

@@ -2,7 +2,7 @@
 
 use crate::fixture::Fixture;
 use crate::running::{RunOutcome, run, words_of};
-use crate::shelf::Held;
+use crate::shelf::ShelfFile;
 use crate::telling::{report_text, reveal};
 use std::alloc::{AllocError, Global};
 
@@ -40,7 +40,7 @@ fn report_failing(
 fn run_failing(
     alloc: Global,
     words: &Vec<String>,
-    row: &[Held],
+    row: &[ShelfFile],
     of_store: bool,
     call: u32,
 ) -> Result<RunOutcome, AllocError> {
@@ -55,7 +55,7 @@ fn run_failing(
 fn report_all(
     alloc: Global,
     words: &Vec<String>,
-    row: &[Held],
+    row: &[ShelfFile],
     of_store: bool,
 ) -> Result<Vec<u8>, AllocError> {
     let mut reported = Vec::new(alloc);

@@ -3,7 +3,7 @@
 use crate::fixture::Fixture;
 use crate::pieces::put_at;
 use crate::running::{RunOutcome, run, words_of};
-use crate::shelf::Held;
+use crate::shelf::ShelfFile;
 use crate::telling::{report_text, reveal};
 use std::alloc::{AllocError, Global};
 
@@ -11,7 +11,7 @@ use std::alloc::{AllocError, Global};
 fn dump(alloc: Global, bytes: Vec<u8>) -> Result<RunOutcome, AllocError> {
     let mut row = Vec::new(alloc);
     let path = String::from_str(alloc, "obj")?;
-    row.push(Held { path, bytes })?;
+    row.push(ShelfFile { path, bytes })?;
     run(alloc, &words_of(alloc, "dump obj")?, &row, &[], &[])
 }
 

@@ -1,6 +1,6 @@
 //! Runs of the tool over stores and sinks in memory.
 
-use crate::shelf::Held;
+use crate::shelf::ShelfFile;
 use omf_cli::{Status, run_tool};
 use omf_io::{MemoryFiles, MemorySink};
 use std::alloc::{AllocError, Global};
@@ -55,7 +55,7 @@ pub fn words_of(alloc: Global, words: &str) -> Result<Vec<String>, AllocError> {
 }
 
 /// A store that holds these files, and whose calls with these numbers fail.
-fn store_of(alloc: Global, row: &[Held], store: &[u32]) -> Result<MemoryFiles, AllocError> {
+fn store_of(alloc: Global, row: &[ShelfFile], store: &[u32]) -> Result<MemoryFiles, AllocError> {
     let mut files = MemoryFiles::new(alloc, store.to_vec(alloc)?);
     for held in row {
         if files.set(held.path.as_str(), &held.bytes).is_err() {
@@ -66,7 +66,7 @@ fn store_of(alloc: Global, row: &[Held], store: &[u32]) -> Result<MemoryFiles, A
 }
 
 /// Whether a store holds these files.
-fn holds(files: &MemoryFiles, row: &[Held]) -> bool {
+fn holds(files: &MemoryFiles, row: &[ShelfFile]) -> bool {
     for held in row {
         if files.get(held.path.as_str()) != Some(held.bytes.as_slice()) {
             return false;
@@ -89,7 +89,7 @@ fn outcome_of(
     status: Status,
     files: &MemoryFiles,
     text: &MemorySink,
-    row: &[Held],
+    row: &[ShelfFile],
 ) -> Result<RunOutcome, AllocError> {
     Ok(RunOutcome {
         status,
@@ -106,7 +106,7 @@ fn outcome_of(
 pub fn run(
     alloc: Global,
     words: &Vec<String>,
-    row: &[Held],
+    row: &[ShelfFile],
     store: &[u32],
     sink: &[u32],
 ) -> Result<RunOutcome, AllocError> {

@@ -5,7 +5,7 @@ use std::alloc::{AllocError, Global};
 
 /// A file, and its path or the name that it has as a piece of others.
 #[derive(Drop)]
-pub struct Held {
+pub struct ShelfFile {
     pub path: String,
     pub bytes: Vec<u8>,
 }
@@ -13,7 +13,7 @@ pub struct Held {
 /// The files that a row knows: those of all rows, and after them its own.
 #[derive(Drop)]
 pub struct Shelf {
-    files: Vec<Held>,
+    files: Vec<ShelfFile>,
     /// How many are those of all rows.
     common: usize,
     /// Where the segment begins that is changed, in the last file.
@@ -37,7 +37,7 @@ impl Shelf {
     /// Puts a file behind the others, as the last of the row.
     pub fn put(&mut self, alloc: Global, path: &str, bytes: Vec<u8>) -> Result<(), AllocError> {
         let path = String::from_str(alloc, path)?;
-        self.files.push(Held { path, bytes })?;
+        self.files.push(ShelfFile { path, bytes })?;
         self.start = 0;
         Ok(())
     }
@@ -69,7 +69,7 @@ impl Shelf {
     }
 
     /// The row's own files.
-    pub fn row(&self) -> &[Held] {
+    pub fn row(&self) -> &[ShelfFile] {
         match self.files.get(self.common..) {
             Some(row) => row,
             None => &[],

@@ -21,7 +21,7 @@ use Rattle.loader_agrees.specs.Agrees.{LoadedUser, Loaded}
 use Rattle.loader_agrees.specs.Acts.{started_kept}
 use Rattle.loader_agrees.specs.laws.BegunSound.{rest_apart}
 use Rattle.sys_loader.specs.declared.answers.Started.{Started}
-use Rattle.loader_users.specs.declared.user.Segment as users
+use Rattle.loader_users.specs.declared.user.UserSegment as users
 use Rattle.loader_users.specs.Planned.{spread_handles}
 use Rattle.sys_loader.specs.Calls.{IsSettled, IsBeginRefusal}
 use Rattle.loader_users.specs.Users.{with_life}
@@ -38,7 +38,7 @@ placed_freed memory middle id wants hs placed = record {
   kept = record { banks = placed.kept.banks; bytes = placed.kept.bytes };
 }
 
-module _ (old : Loaded) (middle new : Memory) (items : List users.Segment) (load : List Segment) (k : LoadedUser) (wants : List Want) (hs given : List Handle) (id : ℕ) (entry : Option ℕ) (short : length load < 2 ^ 16)
+module _ (old : Loaded) (middle new : Memory) (items : List users.UserSegment) (load : List Segment) (k : LoadedUser) (wants : List Want) (hs given : List Handle) (id : ℕ) (entry : Option ℕ) (short : length load < 2 ^ 16)
     (placed : AreAllPlaced RoomRule old.memory id true wants given middle) (wants_are : wants ≡ wants_of (map head_of load)) (hs_are : hs ≡ given) (is_settled : IsSettled load id hs middle new)
     (same : heads_of items ≡ map head_of load) (handles : handles_of items ≡ spread_handles load hs)
     (entry_is : entry ≡ entry_in (heads_of items) (place_in new.slots (handles_of items)) 1) where

@@ -27,7 +27,7 @@ use Rattle.loader_agrees.specs.Acts.{HasPlaced, HasBegun, started_kept, joined_k
 use Rattle.loader_agrees.specs.laws.Begun.{all_placed, all_length, decide}
 use Rattle.loader_agrees.specs.laws.BegunSound.{AreDistinct, rest_apart, all_distinct, spread_want, spread_index, spread_once, want_size}
 use Rattle.loader_agrees.specs.laws.BegunMore.{sound_begun}
-use Rattle.loader_users.specs.declared.user.Segment as users
+use Rattle.loader_users.specs.declared.user.UserSegment as users
 use Rattle.loader_users.specs.declared.user.User.{User}
 use Rattle.loader_users.specs.View.{kept, loaded}
 use Rattle.loader_users.specs.Filling.{IsReady, AreReady, AreFilled}
@@ -74,7 +74,7 @@ module _ (before memory : Memory) (load : List Segment) (hs : List Handle) (user
   once (suc m) (suc n) h k is is' same =
       ap suc (spread_once heads hs distinct m n h k (has_handle (spread_handles load hs) m h is) (has_handle (spread_handles load hs) n k is') same)
 
-  pub all_ready : (kept : List users.Segment) → heads_of kept ≡ heads → handles_of kept ≡ spread_handles load hs → AreReady memory (heads_of kept) (handles_of kept)
+  pub all_ready : (kept : List users.UserSegment) → heads_of kept ≡ heads → handles_of kept ≡ spread_handles load hs → AreReady memory (heads_of kept) (handles_of kept)
   all_ready kept same handles =
       subst (λ (gs : List SegmentHead). AreReady memory gs (handles_of kept)) (sym same)
       (subst (λ (os : List (Option Handle)). AreReady memory heads os) (sym handles) (record { each = one_ready; once = once }))
@@ -85,10 +85,10 @@ number_within : (load : List Segment) (n : ℕ) (s : Segment) → segment_at loa
 number_within load zero s is = omega arith
 number_within load (suc k) s is = omega (arith, slice_get_within load k s is)
 
-pub same_count : (load : List Segment) (kept : List users.Segment) → heads_of kept ≡ map head_of load → length kept ≡ length load
-same_count load kept same = sym (length-map kept (λ (s : users.Segment). s.head)) ∙ ap length same ∙ length-map load head_of
+pub same_count : (load : List Segment) (kept : List users.UserSegment) → heads_of kept ≡ map head_of load → length kept ≡ length load
+same_count load kept same = sym (length-map kept (λ (s : users.UserSegment). s.head)) ∙ ap length same ∙ length-map load head_of
 
-pub settled : (file : List ℕ) (load : List Segment) (hs : List Handle) (user : ℕ) (kept : List users.Segment) (old new : Memory) → IsLoadable file load → heads_of kept ≡ map head_of load
+pub settled : (file : List ℕ) (load : List Segment) (hs : List Handle) (user : ℕ) (kept : List users.UserSegment) (old new : Memory) → IsLoadable file load → heads_of kept ≡ map head_of load
     → handles_of kept ≡ spread_handles load hs → AreFilled load (handles_of kept) user (addresses old.slots kept) old new (length kept) → IsSettled load user hs old new
 settled file load hs user kept old new taken same handles filled = record {
   banks = filled.banks;

@@ -32,7 +32,7 @@ use Rattle.loader_agrees.specs.laws.Keeping.{of_kept}
 use Rattle.loader_agrees.specs.laws.Lists.{set_map}
 use Rattle.loader_agrees.specs.laws.Reads.{head_at, headed}
 use Rattle.loader_agrees.specs.laws.Seeing.{made_at, has_any}
-use Rattle.loader_users.specs.declared.user.Segment as users
+use Rattle.loader_users.specs.declared.user.UserSegment as users
 use Rattle.loader_users.specs.Renewing.{AreRoomy, AreRenewed}
 use Rattle.loader_users.specs.Bytes.{with_bytes}
 use Rattle.loader_users.specs.Filling.{HasHead, IsSetting, IsFilled, IsWritten}
@@ -90,17 +90,17 @@ module _ (old : Loaded) (id number : ℕ) (sound : IsSound old.memory old.users)
 
   -- ---- the places
 
-  module _ (items : List users.Segment) (same_handles : handles_of items ≡ can.kept.handles) where
-    abbrev one : users.Segment
+  module _ (items : List users.UserSegment) (same_handles : handles_of items ≡ can.kept.handles) where
+    abbrev one : users.UserSegment
     one = record { handle = Some h; head = head }
 
     places_are : slice_set (addresses placed.slots items) (number - 1) (Some address) ≡ addresses placed.slots (slice_set items (number - 1) one)
     places_are =
         ap (λ (o : Option ℕ). slice_set (addresses placed.slots items) (number - 1) o) (sym there_address)
-        ∙ sym (set_map (λ (s : users.Segment). there_at (presence placed.slots s.handle)) items (number - 1) one)
+        ∙ sym (set_map (λ (s : users.UserSegment). there_at (presence placed.slots s.handle)) items (number - 1) one)
 
     handles_are : handles_of (slice_set items (number - 1) one) ≡ (with_handle can.kept number h).handles
-    handles_are = set_map (λ (s : users.Segment). s.handle) items (number - 1) one ∙ ap (λ (hs : List (Option Handle)). slice_set hs (number - 1) (Some h)) same_handles
+    handles_are = set_map (λ (s : users.UserSegment). s.handle) items (number - 1) one ∙ ap (λ (hs : List (Option Handle)). slice_set hs (number - 1) (Some h)) same_handles
 
     place_is : (n : ℕ) → address_in (slice_set (addresses placed.slots items) (number - 1) (Some address)) n ≡ machine.place_in placed.slots (with_handle can.kept number h).handles n
     place_is n =
@@ -198,7 +198,7 @@ module _ (old : Loaded) (id number : ℕ) (sound : IsSound old.memory old.users)
     roomy_filled load places filled written owner lead lead_made =
         subst (λ (m : Memory). AreRoomy m lead.heads lead.handles) (sym written.new_is) (roomy_now written.content written.same owner lead lead_made)
 
-    come_at : (last : Loaded) (items : List users.Segment) (file : List ℕ) (load : List Segment) (places : List (Option ℕ)) (filled new : Memory) (count : ℕ) (lead : LoadedUser)
+    come_at : (last : Loaded) (items : List users.UserSegment) (file : List ℕ) (load : List Segment) (places : List (Option ℕ)) (filled new : Memory) (count : ℕ) (lead : LoadedUser)
         → user_of old.users (led_by (kept_outlines old.users) id).0 ≡ Some lead → handles_of items ≡ k.handles → IsLoadable file load
         → map head_of load ≡ k.heads → count ≡ length lead.heads → places ≡ slice_set (addresses placed.slots items) (number - 1) (Some address) → IsWritten load number id places placed h filled
         → AreRenewed lead.heads lead.handles (Some ((led_by (kept_outlines old.users) id).1, number)) (Some address) filled new count → last.memory ≡ new → last.users ≡ with_user old.users id (Some (with_handle k number h))
@@ -228,7 +228,7 @@ module _ (old : Loaded) (id number : ℕ) (sound : IsSound old.memory old.users)
   brought_there : IsBrought old.memory id head handle h address placed
   brought_there = subst (λ (a : ℕ). IsBrought old.memory id head handle h a placed) (address_of old id number sound head handle can h brought.0 placed brought.1 address looked) brought.1
 
-  pub has_come : (k : LoadedUser) → user_of old.users id ≡ Some k → (last : Loaded) (items : List users.Segment) (file : List ℕ) (load : List Segment) (others places : List (Option ℕ)) (m n : ℕ) (filled new : Memory) (count : ℕ) (lead : LoadedUser)
+  pub has_come : (k : LoadedUser) → user_of old.users id ≡ Some k → (last : Loaded) (items : List users.UserSegment) (file : List ℕ) (load : List Segment) (others places : List (Option ℕ)) (m n : ℕ) (filled new : Memory) (count : ℕ) (lead : LoadedUser)
       → user_of old.users (led_by (kept_outlines old.users) id).0 ≡ Some lead → count ≡ length lead.heads → handles_of items ≡ k.handles → IsLoadable file load → map head_of load ≡ k.heads → others ≡ addresses placed.slots items → m ≡ number → places ≡ slice_set others (m - 1) (Some address)
       → n ≡ number → IsWritten load n id places placed h filled → AreRenewed lead.heads lead.handles (Some ((led_by (kept_outlines old.users) id).1, number)) (Some address) filled new count → last.memory ≡ new
       → last.users ≡ with_user old.users id (Some (with_handle k number h)) → HasCome old id number k head handle load address last

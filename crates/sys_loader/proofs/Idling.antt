@@ -18,7 +18,7 @@ use Rattle.loader_machine.specs.Steps.{with_block_changed, changed_all, let_go, 
 use Rattle.loader_machine.specs.State.{user_of, family, handles_of_all}
 use Rattle.loader_agrees.specs.Agrees.{LoadedUser, kept_outlines}
 use Rattle.loader_agrees.specs.laws.Slotted.{slot_set, live_block}
-use Rattle.loader_users.specs.declared.user.Segment as users
+use Rattle.loader_users.specs.declared.user.UserSegment as users
 use Rattle.sys_loader.specs.Lives.{AreIdled}
 use Rattle.loader_users.proofs.Families.{take_past}
 use Rattle.sys_loader.proofs.Together.{its_handles, more_handles}
@@ -27,9 +27,9 @@ use Rattle.loader_users.proofs.Renewing.{same_active}
 use Rattle.loader_users.proofs.Shifting.{set_is}
 use Rattle.sys_loader.proofs.ChangedAll.{all_more, all_none, all_kept, all_join, let_go_again, let_go_at, let_go_active, let_go_idle, let_go_empty}
 
-pub handle_get : (segments : List users.Segment) (k : ℕ) (s : users.Segment) → k < length segments → s ≡ get_or segments k s → slice_get (handles_of segments) k ≡ Some s.handle
+pub handle_get : (segments : List users.UserSegment) (k : ℕ) (s : users.UserSegment) → k < length segments → s ≡ get_or segments k s → slice_get (handles_of segments) k ≡ Some s.handle
 handle_get segments k s inside is =
-    slice_get-map (λ (x : users.Segment). x.handle) segments k ∙ ap (option_map (λ (x : users.Segment). x.handle)) (slice_get-get_or segments k s inside) ∙ ap (λ (x : users.Segment). Some x.handle) (sym is)
+    slice_get-map (λ (x : users.UserSegment). x.handle) segments k ∙ ap (option_map (λ (x : users.UserSegment). x.handle)) (slice_get-get_or segments k s inside) ∙ ap (λ (x : users.UserSegment). Some x.handle) (sym is)
 
 pub take_more : {X : Type 0} (xs : List X) (k : ℕ) (x : X) → slice_get xs k ≡ Some x → take (k + 1) xs ≡ take k xs ++ x ∷ []
 take_more {X} xs k x is = let more : k + 1 ≡ suc k = omega arith in ap (λ (n : ℕ). take n xs) more ∙ go xs k is

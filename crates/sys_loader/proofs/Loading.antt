@@ -20,7 +20,7 @@ use Rattle.loader_agrees.specs.Agrees.{LoadedUser, Loaded}
 use Rattle.loader_agrees.specs.Acts.{HasBegun, joined_kept, joined_kepts}
 use Rattle.loader_agrees.specs.laws.Rows.{few_paths}
 use Rattle.sys_loader.specs.declared.answers.Started.{Started}
-use Rattle.loader_users.specs.declared.user.Segment as users
+use Rattle.loader_users.specs.declared.user.UserSegment as users
 use Rattle.loader_users.specs.declared.user.User.{User}
 use Rattle.loader_users.specs.View.{kept}
 use Rattle.sys_loader.specs.Calls.{IsBeginRefusal, AreRowsRead, IsRowsRefusal, RowStops, IsLost, CantBegin, RowsLackMemory, CantRead, LacksMemory, IsBad, CantStart, HasLoaded, AreJoinedUsers, RowsStop, HasLoadedRows, HasLoadedFile}
@@ -63,7 +63,7 @@ heads_of_kepts (p ∷ paths) (s ∷ all) (k ∷ ks) long is =
 
 new_is : (joined : List User) → new_heads joined ≡ map (λ (k : LoadedUser). k.heads) (map kept joined)
 new_is [] = refl
-new_is (user ∷ joined) = ap (λ (l : List (List SegmentHead)). map (λ (s : users.Segment). s.head) user.segments.items ∷ l) (new_is joined)
+new_is (user ∷ joined) = ap (λ (l : List (List SegmentHead)). map (λ (s : users.UserSegment). s.head) user.segments.items ∷ l) (new_is joined)
 
 -- so what is lost by them is lost
 pub lost_of : (paths : List (List ℕ)) (all : List (List Segment)) (joined : List User) (load : List Segment) (o : Option LoadFault) → AreJoinedUsers paths all (map kept joined)

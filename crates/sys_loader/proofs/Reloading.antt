@@ -35,7 +35,7 @@ use Rattle.loader_agrees.specs.laws.Reads.{headed, head_at}
 use Rattle.loader_agrees.specs.laws.Rows.{IsReached, all_reached}
 use Rattle.loader_agrees.specs.laws.Seeing.{made_at, user_is}
 use Rattle.sys_loader.specs.declared.answers.Started.{Started}
-use Rattle.loader_users.specs.declared.user.Segment as users
+use Rattle.loader_users.specs.declared.user.UserSegment as users
 use Rattle.loader_users.specs.declared.user.User.{User}
 use Rattle.loader_users.specs.View.{kept}
 use Rattle.loader_users.specs.Users.{with_life}
@@ -80,7 +80,7 @@ restart_alone false user none = refl
 pub quiet_same : (memory : Memory) → IsQuiet memory memory
 quiet_same memory = record { banks = refl; slots = refl; sizes = λ slot. refl }
 
-pub has_resumed : (old : Memory) (users' : List (Option LoadedUser)) (id : ℕ) (k : LoadedUser) (items : List users.Segment) (started : Started) (new : Loaded) → heads_of items ≡ k.heads → handles_of items ≡ k.handles → started.user ≡ id
+pub has_resumed : (old : Memory) (users' : List (Option LoadedUser)) (id : ℕ) (k : LoadedUser) (items : List users.UserSegment) (started : Started) (new : Loaded) → heads_of items ≡ k.heads → handles_of items ≡ k.handles → started.user ≡ id
     → AreActivated (map static_handle items) old new.memory → new.users ≡ with_all (with_life Running) (with_user users' id (Some (record k { life = Running }))) k.attached
     → started.entry ≡ entry_in (heads_of items) (place_in new.memory.slots (handles_of items)) 1 → HasResumed old users' id k started new
 has_resumed old users' id k items started new heads handles user activated runs entry = record {
@@ -200,39 +200,39 @@ module _ (old middle : Memory) (users' : List (Option LoadedUser)) (id : ℕ) (k
 
 -- ---- the segments that are read again
 
-again_some : (s : users.Segment) (h : Handle) → again_handle s ≡ Some h → (is_read_again s.head ≡ true) × (s.handle ≡ Some h)
+again_some : (s : users.UserSegment) (h : Handle) → again_handle s ≡ Some h → (is_read_again s.head ≡ true) × (s.handle ≡ Some h)
 again_some s h is = go (is_read_again s.head) refl is
   where
     go : (b : Bool) → is_read_again s.head ≡ b → cond b s.handle None ≡ Some h → (is_read_again s.head ≡ true) × (s.handle ≡ Some h)
     go true e found = (e, found)
     go false e found = absurd cc
 
-pub again_here : (segments : List users.Segment) (k : ℕ) (s : users.Segment) → k < length segments → s ≡ get_or segments k s → handle_at (map again_handle segments) (k + 1) ≡ again_handle s
+pub again_here : (segments : List users.UserSegment) (k : ℕ) (s : users.UserSegment) → k < length segments → s ≡ get_or segments k s → handle_at (map again_handle segments) (k + 1) ≡ again_handle s
 again_here segments k s inside is =
     let more : k + 1 ≡ suc k = omega arith in
     ap (handle_at (map again_handle segments)) more ∙ ap (option_and_then (λ (o : Option Handle). o)) (number_map again_handle segments (suc k)
     ∙ ap (option_map again_handle) (slice_get-get_or segments k s inside)) ∙ ap again_handle (sym is)
 
 -- a handle among them is that of such a segment
-abbrev IsAgain : List users.Segment → ℕ → Handle → Type 0
+abbrev IsAgain : List users.UserSegment → ℕ → Handle → Type 0
 IsAgain items n h = (head : SegmentHead) × (at_number (heads_of items) n ≡ Some head) × (is_read_again head ≡ true) × (handle_at (handles_of items) n ≡ Some h)
 
-again_of : (items : List users.Segment) (n : ℕ) (h : Handle) → handle_at (map again_handle items) n ≡ Some h → IsAgain items n h
+again_of : (items : List users.UserSegment) (n : ℕ) (h : Handle) → handle_at (map again_handle items) n ≡ Some h → IsAgain items n h
 again_of items zero h is = absurd cc
 again_of items (suc k) h is = go items k is
   where
-    go : (xs : List users.Segment) (i : ℕ) → option_and_then (λ (o : Option Handle). o) (slice_get (map again_handle xs) i) ≡ Some h → IsAgain xs (suc i) h
+    go : (xs : List users.UserSegment) (i : ℕ) → option_and_then (λ (o : Option Handle). o) (slice_get (map again_handle xs) i) ≡ Some h → IsAgain xs (suc i) h
     go [] i e = absurd cc
     go (x ∷ xs) zero e = let its = again_some x h e in (x.head, refl, its.0, its.1)
     go (x ∷ xs) (suc i) e = go xs i e
 
 -- and such a segment's handle is among them
-again_at : (items : List users.Segment) (n : ℕ) (head : SegmentHead) (h : Handle) → at_number (heads_of items) n ≡ Some head → is_read_again head ≡ true → handle_at (handles_of items) n ≡ Some h
+again_at : (items : List users.UserSegment) (n : ℕ) (head : SegmentHead) (h : Handle) → at_number (heads_of items) n ≡ Some head → is_read_again head ≡ true → handle_at (handles_of items) n ≡ Some h
     → handle_at (map again_handle items) n ≡ Some h
 again_at items zero head h found again has = absurd cc
 again_at items (suc k) head h found again has = go items k found has
   where
-    go : (xs : List users.Segment) (i : ℕ) → slice_get (heads_of xs) i ≡ Some head → option_and_then (λ (o : Option Handle). o) (slice_get (handles_of xs) i) ≡ Some h
+    go : (xs : List users.UserSegment) (i : ℕ) → slice_get (heads_of xs) i ≡ Some head → option_and_then (λ (o : Option Handle). o) (slice_get (handles_of xs) i) ≡ Some h
         → option_and_then (λ (o : Option Handle). o) (slice_get (map again_handle xs) i) ≡ Some h
     go [] i e e' = absurd cc
     go (x ∷ xs) zero e e' = ap (λ (b : Bool). cond b x.handle None) (ap is_read_again (same_Some x.head head e) ∙ again) ∙ e'
@@ -242,7 +242,7 @@ module _ (old : Loaded) (id : ℕ) (user : User) (sound : IsSound old.memory old
   abbrev place : ℕ
   place = id - first_id
 
-  abbrev items : List users.Segment
+  abbrev items : List users.UserSegment
   items = user.segments.items
 
   its_users : (slice_get old.users place ≡ Some (Some (kept user))) × (first_id + place ≡ id)
@@ -252,7 +252,7 @@ module _ (old : Loaded) (id : ℕ) (user : User) (sound : IsSound old.memory old
   own n head h found has = record { kept = kept user; made = its_users.0; head' = found; handle = has }
 
   pub its_short : length items < 2 ^ 16
-  its_short = omega (arith, sound.short place (kept user) its_users.0, length-map items (λ (s : users.Segment). s.head))
+  its_short = omega (arith, sound.short place (kept user) its_users.0, length-map items (λ (s : users.UserSegment). s.head))
 
   pub again_ready : is_whole old (kept user) ≡ true → AreReady old.memory (heads_of items) (map again_handle items)
   again_ready whole = record {
@@ -312,7 +312,7 @@ module _ (old : Loaded) (id : ℕ) (user : User) (sound : IsSound old.memory old
     slots = filled.slots;
     begins = λ n s h there again has.
         let found : at_number (heads_of items) n ≡ Some (head_of s) = ap (λ (gs : List SegmentHead). at_number gs n) (sym same) ∙ head_at segments n s there in
-        filled.filled n h (omega (arith, at_most (heads_of items) n (head_of s) found, length-map items (λ (x : users.Segment). x.head))) (again_at items n (head_of s) h found again has)
+        filled.filled n h (omega (arith, at_most (heads_of items) n (head_of s) found, length-map items (λ (x : users.UserSegment). x.head))) (again_at items n (head_of s) h found again has)
         (setting id old.memory.slots (handles_of items)) s (its_setting rests segments) there;
     stay = λ slot apart. filled.stay slot (λ n h le is at. let its = again_of items n h is in apart n its.0 h its.1 its.2 its.3 at);
     sizes = filled.sizes;

@@ -19,7 +19,7 @@ use Rattle.loader_machine.specs.Needs.{some_read_again}
 use Rattle.loader_agrees.specs.laws.Begun.{decide}
 use Rattle.loader_agrees.specs.laws.Lists.{number_map}
 use Rattle.loader_agrees.specs.laws.Slotted.{slot_set, live_block}
-use Rattle.loader_users.specs.declared.user.Segment.{Segment}
+use Rattle.loader_users.specs.declared.user.UserSegment.{UserSegment}
 use Rattle.sys_loader.specs.Restarting.{static_handle, AreActivated}
 use Rattle.loader_users.proofs.Written.{heads_of, handles_of}
 use Rattle.loader_users.proofs.Comparing.{head_get}
@@ -31,28 +31,28 @@ use Rattle.sys_loader.proofs.Resuming.{next_number, statics_cons, statics_pass, 
 -- ---- those that are left
 
 -- the first of the segments that are left, and its handle
-first_left : (segments xs : List Segment) (i : ℕ) (d : Segment) → xs ≡ segments → i < length xs → drop i segments ≡ get_or xs i d ∷ drop (i + 1) segments
+first_left : (segments xs : List UserSegment) (i : ℕ) (d : UserSegment) → xs ≡ segments → i < length xs → drop i segments ≡ get_or xs i d ∷ drop (i + 1) segments
 first_left segments xs i d same inside =
     let more : i + 1 ≡ suc i = omega arith in
-    ap (λ (l : List Segment). drop i l) (sym same) ∙ drop-cons xs i d inside ∙ ap (λ (n : ℕ). get_or xs i d ∷ drop n xs) (sym more) ∙ ap (λ (l : List Segment). get_or xs i d ∷ drop (i + 1) l) same
+    ap (λ (l : List UserSegment). drop i l) (sym same) ∙ drop-cons xs i d inside ∙ ap (λ (n : ℕ). get_or xs i d ∷ drop n xs) (sym more) ∙ ap (λ (l : List UserSegment). get_or xs i d ∷ drop (i + 1) l) same
 
-handle_left : (segments xs : List Segment) (i : ℕ) (d : Segment) → xs ≡ segments → i < length xs → handle_at (handles_of segments) (i + 1) ≡ (get_or xs i d).handle
+handle_left : (segments xs : List UserSegment) (i : ℕ) (d : UserSegment) → xs ≡ segments → i < length xs → handle_at (handles_of segments) (i + 1) ≡ (get_or xs i d).handle
 handle_left segments xs i d same inside =
     let more : i + 1 ≡ suc i = omega arith in
-    let at : at_number segments (suc i) ≡ Some (get_or xs i d) = ap (λ (l : List Segment). at_number l (suc i)) (sym same) ∙ slice_get-get_or xs i d inside in
+    let at : at_number segments (suc i) ≡ Some (get_or xs i d) = ap (λ (l : List UserSegment). at_number l (suc i)) (sym same) ∙ slice_get-get_or xs i d inside in
     ap (handle_at (handles_of segments)) more
-    ∙ ap (option_and_then (λ (o : Option Handle). o)) (number_map (λ (s : Segment). s.handle) segments (suc i) ∙ ap (option_map (λ (s : Segment). s.handle)) at)
+    ∙ ap (option_and_then (λ (o : Option Handle). o)) (number_map (λ (s : UserSegment). s.handle) segments (suc i) ∙ ap (option_map (λ (s : UserSegment). s.handle)) at)
 
-none_left : (segments xs : List Segment) (i : ℕ) → xs ≡ segments → length xs ≤ i → drop i segments ≡ []
-none_left segments xs i same past = drop_of_length-le segments {i = i} (omega (arith, past, ap (λ (l : List Segment). length l) same))
+none_left : (segments xs : List UserSegment) (i : ℕ) → xs ≡ segments → length xs ≤ i → drop i segments ≡ []
+none_left segments xs i same past = drop_of_length-le segments {i = i} (omega (arith, past, ap (λ (l : List UserSegment). length l) same))
 
 -- ---- whether they are there
 
 -- what is left of the test whether all are there, and whether one is read again
-abbrev pub AllSought : Slots → List Segment → ℕ → Type 0
+abbrev pub AllSought : Slots → List UserSegment → ℕ → Type 0
 AllSought slots segments i = are_there slots (heads_of (drop i segments)) (handles_of segments) (i + 1) ≡ are_there slots (heads_of segments) (handles_of segments) 1
 
-abbrev pub AgainSought : List Segment → ℕ → Type 0
+abbrev pub AgainSought : List UserSegment → ℕ → Type 0
 AgainSought segments i = some_read_again (heads_of (drop i segments)) ≡ some_read_again (heads_of segments)
 
 missing_none : (static there : Bool) → (static && not there) ≡ false → cond static there true ≡ true
@@ -71,13 +71,13 @@ and_yes a b e = rw e refl
 and_no : (a b : Bool) → a ≡ false → (a && b) ≡ false
 and_no a b e = rw e refl
 
-module _ (slots : Slots) (segments xs : List Segment) (i : ℕ) (d : Segment) (same : xs ≡ segments) (inside : i < length xs) (sought : AllSought slots segments i) where
+module _ (slots : Slots) (segments xs : List UserSegment) (i : ℕ) (d : UserSegment) (same : xs ≡ segments) (inside : i < length xs) (sought : AllSought slots segments i) where
   whole : (cond (is_static (get_or xs i d).head) (is_there (presence slots (get_or xs i d).handle)) true && are_there slots (heads_of (drop (i + 1) segments)) (handles_of segments) (i + 1 + 1))
       ≡ are_there slots (heads_of segments) (handles_of segments) 1
   whole =
       ap (λ (o : Option Handle). cond (is_static (get_or xs i d).head) (is_there (presence slots o)) true && are_there slots (heads_of (drop (i + 1) segments)) (handles_of segments) (i + 1 + 1))
       (sym (handle_left segments xs i d same inside))
-      ∙ ap (λ (l : List Segment). are_there slots (heads_of l) (handles_of segments) (i + 1)) (sym (first_left segments xs i d same inside)) ∙ sought
+      ∙ ap (λ (l : List UserSegment). are_there slots (heads_of l) (handles_of segments) (i + 1)) (sym (first_left segments xs i d same inside)) ∙ sought
 
   pub all_more_sought : (is_static (get_or xs i d).head && not (is_there (presence slots (get_or xs i d).handle))) ≡ false → AllSought slots segments (i + 1)
   all_more_sought none = sym (and_yes _ _ (missing_none (is_static (get_or xs i d).head) (is_there (presence slots (get_or xs i d).handle)) none)) ∙ whole
@@ -85,9 +85,9 @@ module _ (slots : Slots) (segments xs : List Segment) (i : ℕ) (d : Segment) (s
   pub one_missing : (is_static (get_or xs i d).head && not (is_there (presence slots (get_or xs i d).handle))) ≡ true → are_there slots (heads_of segments) (handles_of segments) 1 ≡ false
   one_missing one = sym whole ∙ and_no _ _ (missing_one (is_static (get_or xs i d).head) (is_there (presence slots (get_or xs i d).handle)) one)
 
-pub all_there : (slots : Slots) (segments xs : List Segment) (i : ℕ) → xs ≡ segments → AllSought slots segments i → length xs ≤ i → are_there slots (heads_of segments) (handles_of segments) 1 ≡ true
+pub all_there : (slots : Slots) (segments xs : List UserSegment) (i : ℕ) → xs ≡ segments → AllSought slots segments i → length xs ≤ i → are_there slots (heads_of segments) (handles_of segments) 1 ≡ true
 all_there slots segments xs i same sought past =
-    sym sought ∙ ap (λ (l : List Segment). are_there slots (heads_of l) (handles_of segments) (i + 1)) (none_left segments xs i same past)
+    sym sought ∙ ap (λ (l : List UserSegment). are_there slots (heads_of l) (handles_of segments) (i + 1)) (none_left segments xs i same past)
 
 or_no : (a b : Bool) → a ≡ false → (a || b) ≡ b
 or_no a b e = rw e refl
@@ -95,9 +95,9 @@ or_no a b e = rw e refl
 or_yes : (a b : Bool) → a ≡ true → (a || b) ≡ true
 or_yes a b e = rw e refl
 
-module _ (segments xs : List Segment) (i : ℕ) (d : Segment) (same : xs ≡ segments) (inside : i < length xs) (sought : AgainSought segments i) where
+module _ (segments xs : List UserSegment) (i : ℕ) (d : UserSegment) (same : xs ≡ segments) (inside : i < length xs) (sought : AgainSought segments i) where
   again_whole : (is_read_again (get_or xs i d).head || some_read_again (heads_of (drop (i + 1) segments))) ≡ some_read_again (heads_of segments)
-  again_whole = ap (λ (l : List Segment). some_read_again (heads_of l)) (sym (first_left segments xs i d same inside)) ∙ sought
+  again_whole = ap (λ (l : List UserSegment). some_read_again (heads_of l)) (sym (first_left segments xs i d same inside)) ∙ sought
 
   pub again_more_sought : is_read_again (get_or xs i d).head ≡ false → AgainSought segments (i + 1)
   again_more_sought plain = sym (or_no _ _ plain) ∙ again_whole
@@ -105,8 +105,8 @@ module _ (segments xs : List Segment) (i : ℕ) (d : Segment) (same : xs ≡ seg
   pub one_again : is_read_again (get_or xs i d).head ≡ true → some_read_again (heads_of segments) ≡ true
   one_again again = sym again_whole ∙ or_yes _ _ again
 
-pub none_again_left : (segments xs : List Segment) (i : ℕ) → xs ≡ segments → AgainSought segments i → length xs ≤ i → some_read_again (heads_of segments) ≡ false
-none_again_left segments xs i same sought past = sym sought ∙ ap (λ (l : List Segment). some_read_again (heads_of l)) (none_left segments xs i same past)
+pub none_again_left : (segments xs : List UserSegment) (i : ℕ) → xs ≡ segments → AgainSought segments i → length xs ≤ i → some_read_again (heads_of segments) ≡ false
+none_again_left segments xs i same sought past = sym sought ∙ ap (λ (l : List UserSegment). some_read_again (heads_of l)) (none_left segments xs i same past)
 
 -- ---- made active
 
@@ -125,7 +125,7 @@ module _ (f : Block → Block) (same_at : (b : Block) → (f b).at ≡ b.at) whe
             | inr same ↦ ap address_in same
           ]
 
-static_some : (s : Segment) (h : Handle) → static_handle s ≡ Some h → (is_static s.head ≡ true) × (s.handle ≡ Some h)
+static_some : (s : UserSegment) (h : Handle) → static_handle s ≡ Some h → (is_static s.head ≡ true) × (s.handle ≡ Some h)
 static_some s h is = go (is_static s.head) refl is
   where
     go : (b : Bool) → is_static s.head ≡ b → cond b s.handle None ≡ Some h → (is_static s.head ≡ true) × (s.handle ≡ Some h)
@@ -144,12 +144,12 @@ live_of slots h is = go (get slots h) refl is
     go None e there = absurd cc
     go (Some b) e there = (b, e, some_at b.at b.locked there)
 
-pub static_get : (segments : List Segment) (k : ℕ) (s : Segment) → k < length segments → s ≡ get_or segments k s → slice_get (map static_handle segments) k ≡ Some (static_handle s)
+pub static_get : (segments : List UserSegment) (k : ℕ) (s : UserSegment) → k < length segments → s ≡ get_or segments k s → slice_get (map static_handle segments) k ≡ Some (static_handle s)
 static_get segments k s inside is =
-    slice_get-map static_handle segments k ∙ ap (option_map static_handle) (slice_get-get_or segments k s inside) ∙ ap (λ (x : Segment). Some (static_handle x)) (sym is)
+    slice_get-map static_handle segments k ∙ ap (option_map static_handle) (slice_get-get_or segments k s inside) ∙ ap (λ (x : UserSegment). Some (static_handle x)) (sym is)
 
 -- the next static segment's block is there
-pub activate_there : (segments : List Segment) (k : ℕ) (s : Segment) (h : Handle) (old now : Memory) → are_there old.slots (heads_of segments) (handles_of segments) 1 ≡ true
+pub activate_there : (segments : List UserSegment) (k : ℕ) (s : UserSegment) (h : Handle) (old now : Memory) → are_there old.slots (heads_of segments) (handles_of segments) 1 ≡ true
     → AreActivated (take k (map static_handle segments)) old now → k < length segments → s ≡ get_or segments k s → static_handle s ≡ Some h → IsSomeAnd (get now.slots h) (λ block. IsSome block.at)
 activate_there segments k s h old now all so_far inside is has =
     let its = static_some s h has in
@@ -189,19 +189,19 @@ module _ (handles : List (Option Handle)) (k : ℕ) (o : Option Handle) (found :
       }
 
 -- the handles of the static segments, with none for the others, are those of the static ones
-pub same_changed : (f : Block → Block) (slots : Slots) (segments : List Segment) → changed_all f slots (map static_handle segments) ≡ changed_all f slots (static_handles (heads_of segments) (handles_of segments) 1)
+pub same_changed : (f : Block → Block) (slots : Slots) (segments : List UserSegment) → changed_all f slots (map static_handle segments) ≡ changed_all f slots (static_handles (heads_of segments) (handles_of segments) 1)
 same_changed f slots segments = go segments (handles_of segments) 1 (λ i s is. first i s is) slots
   where
-    first : (i : ℕ) (s : Segment) → slice_get segments i ≡ Some s → handle_at (handles_of segments) (1 + i) ≡ s.handle
+    first : (i : ℕ) (s : UserSegment) → slice_get segments i ≡ Some s → handle_at (handles_of segments) (1 + i) ≡ s.handle
     first i s is =
         let next : 1 + i ≡ suc i = omega arith in
-        ap (handle_at (handles_of segments)) next ∙ ap (option_and_then (λ (o : Option Handle). o)) (slice_get-map (λ (x : Segment). x.handle) segments i ∙ ap (option_map (λ (x : Segment). x.handle)) is)
+        ap (handle_at (handles_of segments)) next ∙ ap (option_and_then (λ (o : Option Handle). o)) (slice_get-map (λ (x : UserSegment). x.handle) segments i ∙ ap (option_map (λ (x : UserSegment). x.handle)) is)
 
     step : (o : Option Handle) (a b : List (Option Handle)) (t : Slots) → ((u : Slots) → changed_all f u a ≡ changed_all f u b) → changed_all f t (o ∷ a) ≡ changed_all f t (o ∷ b)
     step None a b t rest = rest t
     step (Some h) a b t rest = rest (with_block_changed f t h)
 
-    go : (xs : List Segment) (handles : List (Option Handle)) (n : ℕ) → ((i : ℕ) (s : Segment) → slice_get xs i ≡ Some s → handle_at handles (n + i) ≡ s.handle) → (t : Slots)
+    go : (xs : List UserSegment) (handles : List (Option Handle)) (n : ℕ) → ((i : ℕ) (s : UserSegment) → slice_get xs i ≡ Some s → handle_at handles (n + i) ≡ s.handle) → (t : Slots)
         → changed_all f t (map static_handle xs) ≡ changed_all f t (static_handles (heads_of xs) handles n)
     go [] handles n each t = refl
     go (x ∷ xs) handles n each t =

@@ -22,7 +22,7 @@ use Rattle.loader_machine.specs.Needs.{some_read_again}
 use Rattle.loader_agrees.specs.Agrees.{LoadedUser, Loaded, kept_outlines, seen_by}
 use Rattle.loader_agrees.specs.Acts.{HasPlaced, started_kept}
 use Rattle.sys_loader.specs.declared.answers.Started.{Started}
-use Rattle.loader_users.specs.declared.user.Segment as users
+use Rattle.loader_users.specs.declared.user.UserSegment as users
 use Rattle.loader_users.specs.Taken.{IsBadFile}
 use Rattle.sys_loader.specs.Calls.{IsBeginRefusal}
 use Rattle.loader_users.specs.Changed.{IsChanged}
@@ -117,10 +117,10 @@ DidRestart held old id (Err why) new before now = IsRestartRefusal held old id b
 -- ---- on the way; no public clause cites the rest
 
 -- the handle of a static segment, and of one that is read again
-abbrev pub static_handle : users.Segment → Option Handle
+abbrev pub static_handle : users.UserSegment → Option Handle
 static_handle s = if is_static s.head then s.handle else None
 
-abbrev pub again_handle : users.Segment → Option Handle
+abbrev pub again_handle : users.UserSegment → Option Handle
 again_handle s = if is_read_again s.head then s.handle else None
 
 -- the blocks of these handles are active, and nothing is written

@@ -23,8 +23,8 @@ use iigs_compact_memory::CompactBanks;
 use iigs_meaning::{Handle, PlaceFault};
 use loader_machine::{LoaderFault, Presence, SegmentHead};
 use loader_users::{
-    Segment, activate, compare, fill_block, is_dynamic, load_of, place_of, presence, relink_tables,
-    set_handle, set_places, user_in, want_of,
+    UserSegment, activate, compare, fill_block, is_dynamic, load_of, place_of, presence,
+    relink_tables, set_handle, set_places, user_in, want_of,
 };
 use omf_cells::{LoadFile, Places, PlacesFault};
 use omf_io::{Files, ReadFault};
@@ -92,7 +92,7 @@ fn place_segment(
     banks: &mut CompactBanks,
     user: u16,
     number: u16,
-    segment: &Segment,
+    segment: &UserSegment,
 ) -> Result<Handle, LoaderFault>
     requires empty { (k : Handle) → segment.now.handle ≡ Some k → IsSomeAnd (get banks.old.slots k) (λ block. block.at ≡ None) }
     ensures brought { IfOk result (λ h. (address : ℕ) × IsBrought banks.old user segment.now.head segment.now.handle h address banks.new) }
@@ -107,7 +107,7 @@ fn place_segment(
 
 impl Loader {
     // A dynamic segment of a user that runs.
-    fn loadable(&self, id: u16, number: u16) -> Result<Segment, LoaderFault>
+    fn loadable(&self, id: u16, number: u16) -> Result<UserSegment, LoaderFault>
         ensures can { IfOk result (λ s. CanLoad self.now id number s.head s.handle) }
         ensures refused { IfErr result (λ fault. load_segment_refusal (seen_by self.now id) number ≡ Some fault) }
     {
@@ -144,7 +144,7 @@ impl Loader {
         mut places: Places,
         user: u16,
         number: u16,
-        segment: &Segment,
+        segment: &UserSegment,
     ) -> Result<u32, LoaderFault>
         requires taken { (file : List ℕ) × IsLoadable file load.now }
         requires room { length places ≡ length load.now }
@@ -189,7 +189,7 @@ impl Loader {
         file: &[u8],
         user: u16,
         number: u16,
-        segment: &Segment,
+        segment: &UserSegment,
     ) -> Result<u32, LoaderFault>
         requires short { length file.now < 2 ^ 32 }
         requires can { CanLoad self.old user number segment.now.head segment.now.handle }
@@ -214,7 +214,7 @@ impl Loader {
         files: &mut F,
         user: u16,
         number: u16,
-        segment: &Segment,
+        segment: &UserSegment,
     ) -> Result<u32, LoaderFault>
         requires can { CanLoad self.old user number segment.now.head segment.now.handle }
         requires gone { is_read (presences.presence self.old.memory.slots segment.now.handle) ≡ true }

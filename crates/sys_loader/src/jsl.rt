@@ -26,7 +26,7 @@ use iigs_compact_memory::CompactBanks;
 use iigs_meaning::{BlockFault, Handle};
 use jump_table::{entry_at, target_at};
 use loader_machine::LoaderFault;
-use loader_users::{Segment, User, address_in, is_table, user_in};
+use loader_users::{User, UserSegment, address_in, is_table, user_in};
 use omf_base::number;
 use omf_io::Files;
 
@@ -73,7 +73,7 @@ fn block_of(banks: &CompactBanks, handle: Option<Handle>) -> &[u8]
 }
 
 /// A user's segment with a number, from 1.
-fn segment_in(user: &User, number: u16) -> Segment
+fn segment_in(user: &User, number: u16) -> UserSegment
     requires some { 1 ≤ number }
     requires inside { number ≤ length user.now.segments.items }
     ensures head { at_number (kept user.now).heads number ≡ Some result.head }

@@ -28,8 +28,9 @@ use iigs_compact_memory::CompactBanks;
 use iigs_meaning::{Handle, PlaceFault, Want};
 use loader_machine::{Life, LoaderFault};
 use loader_users::{
-    FIRST_ID, LoadPlan, Segment, User, assign_handles, entry_of, fill_all, first_dangling_entry,
-    load_of, number_of, plan_of, read_file, runtime_load, segments_of, set_places,
+    FIRST_ID, LoadPlan, User, UserSegment, assign_handles, entry_of, fill_all,
+    first_dangling_entry, load_of, number_of, plan_of, read_file, runtime_load, segments_of,
+    set_places,
 };
 use omf_cells::{LoadFile, Places};
 use omf_io::Files;
@@ -39,7 +40,7 @@ use std::alloc::{AllocError, Global};
 fn place_all(
     banks: &mut CompactBanks,
     user: u16,
-    segments: &Vec<Segment>,
+    segments: &Vec<UserSegment>,
     wants: &[Want],
     handles: &mut [Handle],
 ) -> Result<(), LoaderFault>
@@ -65,7 +66,7 @@ fn place_all(
 pub fn write_all(
     banks: &mut CompactBanks,
     load: &LoadFile<'_>,
-    segments: &mut Vec<Segment>,
+    segments: &mut Vec<UserSegment>,
     handles: &[Handle],
     places: &mut Places,
     user: u16,

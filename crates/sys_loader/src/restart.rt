@@ -34,7 +34,7 @@ use iigs_compact_memory::CompactBanks;
 use iigs_meaning::{Handle, PlaceFault, Want};
 use loader_machine::{Life, LoaderFault, Presence};
 use loader_users::{
-    LoadPlan, Segment, User, activate, compare, entry_of, fill_block, first_dangling_entry_of,
+    LoadPlan, User, UserSegment, activate, compare, entry_of, fill_block, first_dangling_entry_of,
     is_read_again, is_static, load_of, number_of, plan_of, presence, set_life, set_lives,
     set_places, set_segments, user_in,
 };
@@ -55,14 +55,14 @@ fn is_there(banks: &CompactBanks, handle: Option<Handle>) -> bool
 }
 
 /// Whether a segment is static and isn't there.
-fn is_missing(banks: &CompactBanks, segment: &Segment) -> bool
+fn is_missing(banks: &CompactBanks, segment: &UserSegment) -> bool
     ensures { result ≡ (heads.is_static segment.now.head && not (presences.is_there (presences.presence banks.now.slots segment.now.handle))) }
 {
     is_static(&segment.head) && !is_there(banks, segment.handle)
 }
 
 /// Whether all static segments are there.
-fn are_there(banks: &CompactBanks, segments: &Vec<Segment>) -> bool
+fn are_there(banks: &CompactBanks, segments: &Vec<UserSegment>) -> bool
     ensures { result ≡ steps.are_there banks.now.slots (map (λ s. s.head) segments.now.items) (map (λ s. s.handle) segments.now.items) 1 }
 {
     'segments: for segment in segments {
@@ -74,7 +74,7 @@ fn are_there(banks: &CompactBanks, segments: &Vec<Segment>) -> bool
 }
 
 /// Whether a static segment is read again at each restart.
-fn some_read_again(segments: &Vec<Segment>) -> bool
+fn some_read_again(segments: &Vec<UserSegment>) -> bool
     ensures { result ≡ needs.some_read_again (map (λ s. s.head) segments.now.items) }
 {
     'segments: for segment in segments {
@@ -86,14 +86,14 @@ fn some_read_again(segments: &Vec<Segment>) -> bool
 }
 
 /// Whether the file has to be read for a restart: not in place, or with a segment that is read again.
-fn has_to_read(segments: &Vec<Segment>, in_place: bool) -> bool
+fn has_to_read(segments: &Vec<UserSegment>, in_place: bool) -> bool
     ensures { result ≡ (not in_place || needs.some_read_again (map (λ s. s.head) segments.now.items)) }
 {
     !in_place || some_read_again(segments)
 }
 
 /// The handle of a static segment.
-fn static_handle(segment: &Segment) -> Option<Handle>
+fn static_handle(segment: &UserSegment) -> Option<Handle>
     ensures { result ≡ restarting.static_handle segment.now }
 {
     if is_static(&segment.head) {
@@ -104,7 +104,7 @@ fn static_handle(segment: &Segment) -> Option<Handle>
 }
 
 /// The handle of a segment that is read again.
-fn again_handle(segment: &Segment) -> Option<Handle>
+fn again_handle(segment: &UserSegment) -> Option<Handle>
     ensures { result ≡ restarting.again_handle segment.now }
 {
     if is_read_again(&segment.head) {
@@ -115,7 +115,7 @@ fn again_handle(segment: &Segment) -> Option<Handle>
 }
 
 /// The static segments, all of which are there, become active.
-fn activate_all(banks: &mut CompactBanks, segments: &Vec<Segment>)
+fn activate_all(banks: &mut CompactBanks, segments: &Vec<UserSegment>)
     requires { steps.are_there banks.old.slots (map (λ s. s.head) segments.now.items) (map (λ s. s.handle) segments.now.items) 1 ≡ true }
     ensures { AreActivated (map restarting.static_handle segments.now.items) banks.old banks.new }
 {
@@ -131,7 +131,7 @@ fn activate_all(banks: &mut CompactBanks, segments: &Vec<Segment>)
 fn fill_again(
     banks: &mut CompactBanks,
     load: &LoadFile<'_>,
-    segments: &Vec<Segment>,
+    segments: &Vec<UserSegment>,
     places: &Places,
     user: u16,
 )
@@ -154,7 +154,7 @@ fn fill_again(
 fn place_all_anew(
     banks: &mut CompactBanks,
     user: u16,
-    segments: &Vec<Segment>,
+    segments: &Vec<UserSegment>,
     wants: &[Want],
     handles: &mut [Handle],
 ) -> Result<(), LoaderFault>

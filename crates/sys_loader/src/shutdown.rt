@@ -18,8 +18,8 @@ use iigs_compact_memory::CompactBanks;
 use iigs_meaning::PlaceFault;
 use loader_machine::{Life, LoaderFault, Presence};
 use loader_users::{
-    Segment, User, attached_count, attached_in, idle, presence, relink_tables, remove, set_life,
-    set_lives, user_in,
+    User, UserSegment, attached_count, attached_in, idle, presence, relink_tables, remove,
+    set_life, set_lives, user_in,
 };
 
 /// Releases all handles of a user.
@@ -37,7 +37,7 @@ fn release_all(banks: &mut CompactBanks, user: u16)
 }
 
 /// Lets the active ones of these segments go.
-fn idle_all(banks: &mut CompactBanks, segments: &Vec<Segment>)
+fn idle_all(banks: &mut CompactBanks, segments: &Vec<UserSegment>)
     ensures { AreIdled (map (λ s. s.handle) segments.now.items) banks.old banks.new }
 {
     'places: for k in 0..segments.len() {

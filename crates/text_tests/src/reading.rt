@@ -35,14 +35,14 @@ fn bytes(alloc: Global, byte: u8, count: usize) -> Result<Vec<u8>, AllocError> {
 }
 
 /// Where a field begins and ends.
-type Places = (u32, u32);
+type FieldPlaces = (u32, u32);
 
-fn places(field: Span) -> Places {
+fn places(field: Span) -> FieldPlaces {
     (field.from, field.to)
 }
 
 /// The fields of the only line of file 7, which has these bytes.
-fn fields_of(alloc: Global, text: &[u8]) -> Option<(Places, Places, Places)> {
+fn fields_of(alloc: Global, text: &[u8]) -> Option<(FieldPlaces, FieldPlaces, FieldPlaces)> {
     let lines = read_lines(alloc, 7, text).ok()?;
     let line = lines.get(0)?;
     if (line.file, line.line) != (7, 1) || line.text.bytes() != text {
@@ -56,7 +56,7 @@ fn fields_of(alloc: Global, text: &[u8]) -> Option<(Places, Places, Places)> {
 }
 
 /// Lines, and where their label, operation and operand begin and end.
-static FIELDS: [(&str, Places, Places, Places); 21] = [
+static FIELDS: [(&str, FieldPlaces, FieldPlaces, FieldPlaces); 21] = [
     ("LAB LDA 5 comment", (0, 3), (4, 7), (8, 9)),
     ("LAB", (0, 3), (3, 3), (3, 3)),
     ("\tLDA\t5\tx", (0, 0), (1, 4), (5, 6)),

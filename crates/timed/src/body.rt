@@ -5,7 +5,7 @@ ghost use Rattle.std.specs.Bool.{OnTrue};
 ghost use Rattle.load_meaning.specs.WrittenBody.{AreWritten, IsWrittenPatch};
 ghost use Rattle.load_writer.specs.WrittenParts.{seen};
 
-use crate::ending::{Ended, done};
+use crate::ending::{TaskEnd, done};
 use omf_cells::{Body, BodyFault, Patch, body_of};
 use std::alloc::{AllocError, Global};
 use std::io;
@@ -104,12 +104,12 @@ fn make(rt: &HostRuntime, what: &str, count: u32) -> io::Result<()> {
 }
 
 /// Does what the words say: `input` makes the input alone, and `body` writes the body too.
-pub fn run<'w>(rt: &HostRuntime, words: &'w [String]) -> io::Result<Ended<'w>> {
+pub fn run<'w>(rt: &HostRuntime, words: &'w [String]) -> io::Result<TaskEnd<'w>> {
     let [what, count] = words else {
-        return Ok(Ended::Misused);
+        return Ok(TaskEnd::Misused);
     };
     match count.as_str().parse::<u32>() {
         Ok(count) => done(make(rt, what.as_str(), count)),
-        Err(_) => Ok(Ended::NoNumber(count.as_str())),
+        Err(_) => Ok(TaskEnd::NoNumber(count.as_str())),
     }
 }

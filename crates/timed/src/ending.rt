@@ -5,7 +5,7 @@ use std::process::ExitCode;
 
 /// How a task ended.
 #[derive(Clone, Copy)]
-pub enum Ended<'w> {
+pub enum TaskEnd<'w> {
     /// It printed what it had to tell.
     Done,
     /// The words say no task.
@@ -19,9 +19,9 @@ pub enum Ended<'w> {
 }
 
 /// A task is done once its line is printed.
-pub fn done(printed: io::Result<()>) -> io::Result<Ended<'static>> {
+pub fn done(printed: io::Result<()>) -> io::Result<TaskEnd<'static>> {
     printed?;
-    Ok(Ended::Done)
+    Ok(TaskEnd::Done)
 }
 
 /// The words that the program takes.
@@ -36,12 +36,12 @@ fn refuse(rt: &HostRuntime, status: u8, why: &str, what: &str) -> io::Result<Exi
 }
 
 /// Prints why the tasks weren't done, and answers the program's status.
-pub fn leave(rt: &HostRuntime, ended: Ended) -> io::Result<ExitCode> {
+pub fn leave(rt: &HostRuntime, ended: TaskEnd) -> io::Result<ExitCode> {
     match ended {
-        Ended::Done => Ok(ExitCode::from(0)),
-        Ended::Misused => refuse(rt, 2, "usage:", USAGE),
-        Ended::NoNumber(word) => refuse(rt, 2, "not a number:", word),
-        Ended::Unread(path) => refuse(rt, 3, "cannot read", path),
-        Ended::Memory => Ok(ExitCode::from(6)),
+        TaskEnd::Done => Ok(ExitCode::from(0)),
+        TaskEnd::Misused => refuse(rt, 2, "usage:", USAGE),
+        TaskEnd::NoNumber(word) => refuse(rt, 2, "not a number:", word),
+        TaskEnd::Unread(path) => refuse(rt, 3, "cannot read", path),
+        TaskEnd::Memory => Ok(ExitCode::from(6)),
     }
 }

@@ -1,6 +1,6 @@
 //! `link read|resolve FILE..`: reads files and resolves them as inputs of the linker, for `bench/link`.
 
-use crate::ending::{Ended, done};
+use crate::ending::{TaskEnd, done};
 use crate::files::read_all;
 use link_meaning::{LinkCause, LinkFault};
 use link_resolve::{Program, are_few, resolve};
@@ -76,12 +76,12 @@ fn reveal(rt: &HostRuntime, what: &str, inputs: &Vec<Vec<u8>>) -> io::Result<()>
 }
 
 /// Does what the words say.
-pub fn run<'w>(rt: &HostRuntime, words: &'w [String]) -> io::Result<Ended<'w>> {
+pub fn run<'w>(rt: &HostRuntime, words: &'w [String]) -> io::Result<TaskEnd<'w>> {
     let Some((what, paths)) = words.split_first() else {
-        return Ok(Ended::Misused);
+        return Ok(TaskEnd::Misused);
     };
     match read_all(rt, paths) {
         Ok(inputs) => done(reveal(rt, what.as_str(), &inputs)),
-        Err(path) => Ok(Ended::Unread(path)),
+        Err(path) => Ok(TaskEnd::Unread(path)),
     }
 }

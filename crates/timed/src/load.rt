@@ -1,7 +1,7 @@
 //! `load input|read|patch|cells FILE`: reads a load file, writes what stands in memory for its first segment, or looks up
 //! cells of it, for `bench/load`.
 
-use crate::ending::{Ended, done};
+use crate::ending::{TaskEnd, done};
 use omf_cells::{Cell, LoadCause, LoadFault, LoadFile, Places, PlacesFault, patch_into, read_load};
 use std::alloc::{AllocError, Global};
 use std::io;
@@ -101,9 +101,9 @@ fn reported(alloc: Global, what: &str, file: &[u8]) -> Result<u32, AllocError> {
 }
 
 /// Prints what is reported for the file for a word.
-pub fn reveal(rt: &HostRuntime, what: &str, file: &[u8]) -> io::Result<Ended<'static>> {
+pub fn reveal(rt: &HostRuntime, what: &str, file: &[u8]) -> io::Result<TaskEnd<'static>> {
     match reported(rt.alloc(), what, file) {
         Ok(number) => done(println!(rt; "{what} {number}")),
-        Err(AllocError) => Ok(Ended::Memory),
+        Err(AllocError) => Ok(TaskEnd::Memory),
     }
 }

@@ -12,7 +12,7 @@ mod load;
 mod macros;
 mod text;
 
-use ending::{Ended, done, leave};
+use ending::{TaskEnd, done, leave};
 use files::read;
 use std::process::ExitCode;
 use std::{env, io};
@@ -23,32 +23,32 @@ fn run_on_bytes(
     task: &str,
     words: &[String],
     file: &[u8],
-) -> io::Result<Ended<'static>>
+) -> io::Result<TaskEnd<'static>>
     requires { length file.now < 2 ^ 32 }
 {
     match (task, words) {
         ("library", []) => done(library::report_rows(rt, file)),
         ("load", [what]) => load::reveal(rt, what.as_str(), file),
         ("text", [what]) => done(text::reveal(rt, what.as_str(), file)),
-        _ => Ok(Ended::Misused),
+        _ => Ok(TaskEnd::Misused),
     }
 }
 
 /// Does a task of one file, whose path is the last word.
-fn run_on_file<'w>(rt: &HostRuntime, task: &str, words: &'w [String]) -> io::Result<Ended<'w>> {
+fn run_on_file<'w>(rt: &HostRuntime, task: &str, words: &'w [String]) -> io::Result<TaskEnd<'w>> {
     let Some((path, words)) = words.split_last() else {
-        return Ok(Ended::Misused);
+        return Ok(TaskEnd::Misused);
     };
     match read(rt, path.as_str()) {
         Some(file) => run_on_bytes(rt, task, words, file.as_slice()),
-        None => Ok(Ended::Unread(path.as_str())),
+        None => Ok(TaskEnd::Unread(path.as_str())),
     }
 }
 
 /// Does the task that the words say.
-fn run<'w>(rt: &HostRuntime, words: &'w [String]) -> io::Result<Ended<'w>> {
+fn run<'w>(rt: &HostRuntime, words: &'w [String]) -> io::Result<TaskEnd<'w>> {
     let Some((task, words)) = words.split_first() else {
-        return Ok(Ended::Misused);
+        return Ok(TaskEnd::Misused);
     };
     match task.as_str() {
         "link" => link::run(rt, words),
@@ -59,21 +59,21 @@ fn run<'w>(rt: &HostRuntime, words: &'w [String]) -> io::Result<Ended<'w>> {
 }
 
 /// Does the tasks that the words say one after another, up to the first that isn't done.
-fn run_all<'w>(rt: &HostRuntime, words: &'w [String]) -> io::Result<Ended<'w>> {
+fn run_all<'w>(rt: &HostRuntime, words: &'w [String]) -> io::Result<TaskEnd<'w>> {
     for task in words.split(|word| word.as_str() == ",") {
         match run(rt, task)? {
-            Ended::Done => {}
+            TaskEnd::Done => {}
             other => return Ok(other),
         }
     }
-    Ok(Ended::Done)
+    Ok(TaskEnd::Done)
 }
 
 /// Does the tasks of the words behind the program's name, and answers the program's status.
 fn run_words(rt: &HostRuntime, words: &[String]) -> io::Result<ExitCode> {
     let ended = match words.split_first() {
         Some((_, tasks)) => run_all(rt, tasks)?,
-        None => Ended::Misused,
+        None => TaskEnd::Misused,
     };
     leave(rt, ended)
 }

@@ -3,13 +3,13 @@ use Rattle.std.proofs.Common.{◌≡◌, ℕ, Bool, true, false, cond, List, [],
 use Rattle.std.specs.Prelude.{not, ◌&&◌, ◌||◌, ◌==◌}
 use Rattle.std.specs.List.{list_all, list_any, IsLastAndRest}
 use Rattle.omf_format.specs.Expression.{Tree, terms_of, Spells}
-use Rattle.omf_format.specs.Header.{Fields}
+use Rattle.omf_format.specs.Header.{HeaderFields}
 use Rattle.omf_format.specs.Record as format
 use Rattle.object_meaning.specs.laws.TreeInLaws.{tree_in-again}
 use Rattle.list_meaning.specs.Listed.{ListedStatement, Wanted}
 use Rattle.list_meaning.specs.Listing as listing
 use Rattle.list_meaning.specs.Listing.{Given, are_short, if_short, then_said, with_run_written, split_last, after_byte, is_held, held_back, dc_of_formula, weak_of, simple_of, number_of, formula_given, formula_listable, expr_listable, term_listable, term_may_stand, is_open, is_some_name, is_some_wanted, follows_opcode, equate_given, on_tree, given_by}
-use Rattle.list_lines.specs.declared.output.Output.{Output}
+use Rattle.list_lines.specs.declared.output.ListingText.{ListingText}
 use Rattle.w65_list.specs.declared.records.PendingRun.{PendingRun}
 use Rattle.w65_list.specs.Giving.{Gave, IsGiven, held_by, held_with, equate_by}
 use Rattle.list_lines.specs.LineView.{Wrote, WroteAll}
@@ -32,15 +32,15 @@ none_split (byte ∷ run) none = absurd (omega (arith, none))
 
 -- ---- lines behind a run
 
-pub lines_gave : (g : Given) (more : List ListedStatement) (old mid new : Output) (after : PendingRun) → Gave g old mid after → WroteAll more mid new → Gave (then_said more g) old new after
+pub lines_gave : (g : Given) (more : List ListedStatement) (old mid new : ListingText) (after : PendingRun) → Gave g old mid after → WroteAll more mid new → Gave (then_said more g) old new after
 lines_gave g more old mid new after gave wrote = record { wrote = wrote_both g.0 more old mid new gave.wrote wrote; left = gave.left }
 
-pub line_gave : (g : Given) (said : ListedStatement) (old mid new : Output) (after : PendingRun) → Gave g old mid after → Wrote said mid new → Gave (then_said (said ∷ []) g) old new after
+pub line_gave : (g : Given) (said : ListedStatement) (old mid new : ListingText) (after : PendingRun) → Gave g old mid after → Wrote said mid new → Gave (then_said (said ∷ []) g) old new after
 line_gave g said old mid new after gave wrote = lines_gave g (said ∷ []) old mid new after gave (wrote_one said mid new wrote)
 
 -- ---- what can be listed
 
-pub given_of : (holds : Bool) (given : Given) (old new : Output) (after : PendingRun) → holds ≡ true → Gave given old new after → IsGiven (if_short holds given) old new after
+pub given_of : (holds : Bool) (given : Given) (old new : ListingText) (after : PendingRun) → holds ≡ true → Gave given old new after → IsGiven (if_short holds given) old new after
 given_of holds given old new after e gave = record { all = given; is = rw (e, gave.wrote.short) refl; gave = gave }
 
 pub too_long : (holds : Bool) (given : Given) → are_short given ≡ false → if_short holds given ≡ None
@@ -51,7 +51,7 @@ three_hold : (a b c : Bool) → a ≡ true → (b && c) ≡ true → ((a && b) &
 three_hold a b c p q = ap (λ (x : Bool). (x && b) && c) p ∙ q
 
 -- a label or an equate with a new name
-pub named_given : (may is_new a l n : Bool) (given : Given) (old new : Output) (after : PendingRun) → may ≡ a → may ≡ true → is_new ≡ (l && n) → is_new ≡ true → Gave given old new after → IsGiven (if_short ((a && l) && n) given) old new after
+pub named_given : (may is_new a l n : Bool) (given : Given) (old new : ListingText) (after : PendingRun) → may ≡ a → may ≡ true → is_new ≡ (l && n) → is_new ≡ true → Gave given old new after → IsGiven (if_short ((a && l) && n) given) old new after
 named_given may is_new a l n given old new after p q r s gave = given_of ((a && l) && n) given old new after (three_hold a l n (sym p ∙ q) (sym r ∙ s)) gave
 
 -- ---- an opcode that is held back
@@ -148,14 +148,14 @@ listable_same all b code count n tree named written varies weak simple run p q r
 
 -- ---- an equate
 
-pub equate_is : (f : Fields) (all : List (List ℕ)) (b : listing.PendingRun) (global : Bool) (name : List ℕ) (size form private : ℕ) (expr : List ℕ) (tree : Tree) (number : Option ℕ) → Spells f.lab_len expr tree → number ≡ number_of tree
+pub equate_is : (f : HeaderFields) (all : List (List ℕ)) (b : listing.PendingRun) (global : Bool) (name : List ℕ) (size form private : ℕ) (expr : List ℕ) (tree : Tree) (number : Option ℕ) → Spells f.lab_len expr tree → number ≡ number_of tree
     → given_by f all b (format.Equate global name size form private expr) ≡ equate_by (not global || private == 0) (equate_given b global name number)
 unfolding given_by
 equate_is f all b global name size form private expr tree number spells e =
     ap (λ (t : Option Tree). cond (not global || private == 0) (on_tree t (λ (t : Tree). equate_given b global name (number_of t))) None) (tree_in-again f.lab_len expr tree spells)
     ∙ ap (λ (k : Option ℕ). equate_by (not global || private == 0) (equate_given b global name k)) (sym e)
 
-pub formula_is : (f : Fields) (all : List (List ℕ)) (b : listing.PendingRun) (code count n : ℕ) (expr : List ℕ) (tree : Tree) → Spells f.lab_len expr tree
+pub formula_is : (f : HeaderFields) (all : List (List ℕ)) (b : listing.PendingRun) (code count n : ℕ) (expr : List ℕ) (tree : Tree) → Spells f.lab_len expr tree
     → given_by f all b (format.Formula code count n expr) ≡ if_short (formula_listable all b code count n tree) (formula_given b code count n tree (split_last b.run) (simple_of tree))
 unfolding given_by
 formula_is f all b code count n expr tree spells =

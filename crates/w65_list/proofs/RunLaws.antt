@@ -6,7 +6,7 @@ use Rattle.std.proofs.lemmas.List.Folds.{list_all-append}
 use Rattle.asm_meaning.specs.Instruction.{Widths}
 use Rattle.list_meaning.specs.Listed.{ListedStatement}
 use Rattle.list_meaning.specs.Listing.{is_short, after_opcode, said_instruction, widths_past, said_rest, widths_rest}
-use Rattle.list_lines.specs.declared.output.Output.{Output}
+use Rattle.list_lines.specs.declared.output.ListingText.{ListingText}
 use Rattle.list_lines.specs.Kept.{with_lines}
 use Rattle.list_lines.specs.LineView.{WroteAll}
 use Rattle.list_lines.specs.OutputView.{finished_lines}
@@ -56,7 +56,7 @@ front_is w (opcode ∷ following) front some is =
     (rest_first w opcode following, widths_first w opcode following)
 
 -- the lines of the first instruction were written
-pub on_step : (w : Widths) (run : List ℕ) (old : Output) (v u : Widths) (left front : List ℕ) (a b : Output) → IsOn w run old v left a → 1 ≤ length left → front ≡ take (after_opcode v (get_or left 0 0) + 1) left
+pub on_step : (w : Widths) (run : List ℕ) (old : ListingText) (v u : Widths) (left front : List ℕ) (a b : ListingText) → IsOn w run old v left a → 1 ≤ length left → front ≡ take (after_opcode v (get_or left 0 0) + 1) left
     → WroteAll (said_instruction v (get_or front 0 0) (drop 1 front)) a b → u ≡ widths_past v (get_or front 0 0) (drop 1 front) → IsOn w run old u (drop (length front) left) b
 on_step w run old v u left front a b on some is wrote past =
     let two = front_is v left front some is in
@@ -69,13 +69,13 @@ on_step w run old v u left front a b on some is wrote past =
       widths = sym two.1 ∙ on.widths;
     })
 
-pub on_end : (w : Widths) (run : List ℕ) (old : Output) (v : Widths) (left : List ℕ) (a : Output) → IsOn w run old v left a → length left ≡ 0 → WroteAll (said_rest w 0 run) old a × (v ≡ widths_rest w 0 run)
+pub on_end : (w : Widths) (run : List ℕ) (old : ListingText) (v : Widths) (left : List ℕ) (a : ListingText) → IsOn w run old v left a → length left ≡ 0 → WroteAll (said_rest w 0 run) old a × (v ≡ widths_rest w 0 run)
 unfolding said_rest widths_rest
 on_end w run old v [] a on none = (record { whole = on.whole; line = on.line; short = sym on.short }, on.widths)
 on_end w run old v (byte ∷ left) a on none = absurd (omega (arith, none))
 
 -- a line of the first instruction is too long
-pub on_long : (w : Widths) (run : List ℕ) (old : Output) (v : Widths) (left front : List ℕ) (a : Output) → IsOn w run old v left a → 1 ≤ length left → front ≡ take (after_opcode v (get_or left 0 0) + 1) left
+pub on_long : (w : Widths) (run : List ℕ) (old : ListingText) (v : Widths) (left front : List ℕ) (a : ListingText) → IsOn w run old v left a → 1 ≤ length left → front ≡ take (after_opcode v (get_or left 0 0) + 1) left
     → list_all is_short (said_instruction v (get_or front 0 0) (drop 1 front)) ≡ false → list_all is_short (said_rest w 0 run) ≡ false
 on_long w run old v left front a on some is long =
     let two = front_is v left front some is in

@@ -9,7 +9,7 @@ use Rattle.omf_format.specs.declared.fault.FileCause.TheVariants as files
 use Rattle.omf_format.specs.declared.fault.FileFault.{FileFault}
 use Rattle.omf_format.specs.Field.{Layout, ◌>>=◌}
 use Rattle.omf_format.specs.File.{Segment, IsFile, IsFirstFault}
-use Rattle.omf_format.specs.Header.{Fields}
+use Rattle.omf_format.specs.Header.{HeaderFields}
 use Rattle.omf_format.specs.Reading.{Reader, next_answer, after_next, records_of, IsBody}
 use Rattle.omf_format.specs.Record.{Record, End, Const, LongConst, Align, Org, Space, Reloc, InterSeg, ShortReloc, ShortInterSeg, Super, Using, Strong, Label, Equate, Formula, Entry, IsRecord}
 use Rattle.omf_records.specs.Segments.{IsRefused, UnlessMemory}
@@ -20,7 +20,7 @@ use Rattle.list_meaning.specs.Answer.{IsListing, IsListFault, OutOfMemory, InFil
 use Rattle.list_meaning.specs.Listed.{ListedStatement, listing_text}
 use Rattle.list_meaning.specs.Listing.{PendingRun, Given, is_among, equate_name, equates_of, given_by, or_record, said_from, at_front, front_of, has_listable_header, is_short, listing_of, in_segment, listing_from, is_small}
 use Rattle.list_lines.specs.declared.names.Names.{Names}
-use Rattle.list_lines.specs.declared.output.Output.{Output}
+use Rattle.list_lines.specs.declared.output.ListingText.{ListingText}
 use Rattle.w65_list.specs.declared.records.PendingRun as kept_before
 use Rattle.w65_list.specs.declared.source.Refusal.{Refusal}
 use Rattle.w65_list.specs.declared.source.Refusal.TheVariants as refusals
@@ -86,7 +86,7 @@ expression_of l (Equate global name size form private expr) is = is.2
 expression_of l (Formula code count n expr) is = is.3
 expression_of l (Entry segment offset name) is = tt
 
-pub expression_here : (f : Fields) (names : Names) (start at : Reader) (first before : kept_before.PendingRun) (old now : Output) (r : Record) → RecordsOn f names start at first before old now → start.layout.lab_len ≡ f.lab_len → IsRecord at.layout r
+pub expression_here : (f : HeaderFields) (names : Names) (start at : Reader) (first before : kept_before.PendingRun) (old now : ListingText) (r : Record) → RecordsOn f names start at first before old now → start.layout.lab_len ≡ f.lab_len → IsRecord at.layout r
     → HasExpression f.lab_len r
 expression_here f names start at first before old now r on same is =
     subst (λ (n : ℕ). HasExpression n r) (ap (λ (l : Layout). l.lab_len) (layout_same start on.so_far at on.run) ∙ same) (expression_of at.layout r is)
@@ -96,7 +96,7 @@ then_again : (x : Result (List ListedStatement) ℕ) (a b : List ListedStatement
 then_again (Ok more) a b = ap (λ (l : List ListedStatement). Ok l) (sym (append_assoc a b more))
 then_again (Err e) a b = refl
 
-step_said : (f : Fields) (equates : List (List ℕ)) (b left : PendingRun) (before : List (ℕ × Record)) (found : ℕ × Record) (lines : List ListedStatement) (given : Given) → given_by f equates left found.1 ≡ Some given
+step_said : (f : HeaderFields) (equates : List (List ℕ)) (b left : PendingRun) (before : List (ℕ × Record)) (found : ℕ × Record) (lines : List ListedStatement) (given : Given) → given_by f equates left found.1 ≡ Some given
     → ((rest : List (ℕ × Record)) → said_from f equates b (before ++ rest) ≡ (said_from f equates left rest >>= λ more. Ok (lines ++ more)))
     → (rest : List (ℕ × Record)) → said_from f equates b ((before ++ found ∷ []) ++ rest) ≡ (said_from f equates given.1 rest >>= λ more. Ok ((lines ++ given.0) ++ more))
 unfolding said_from
@@ -105,21 +105,21 @@ step_said f equates b left before found lines given is on rest =
     ∙ ap (λ (g : Option Given). (or_record found.0 g >>= λ given. said_from f equates given.1 rest >>= λ more. Ok (given.0 ++ more)) >>= λ more. Ok (lines ++ more)) is
     ∙ then_again (said_from f equates given.1 rest) lines given.0
 
-stop_said : (f : Fields) (equates : List (List ℕ)) (b left : PendingRun) (before : List (ℕ × Record)) (found : ℕ × Record) (lines : List ListedStatement) → given_by f equates left found.1 ≡ None
+stop_said : (f : HeaderFields) (equates : List (List ℕ)) (b left : PendingRun) (before : List (ℕ × Record)) (found : ℕ × Record) (lines : List ListedStatement) → given_by f equates left found.1 ≡ None
     → ((rest : List (ℕ × Record)) → said_from f equates b (before ++ rest) ≡ (said_from f equates left rest >>= λ more. Ok (lines ++ more)))
     → (rest : List (ℕ × Record)) → said_from f equates b (before ++ found ∷ rest) ≡ Err found.0
 unfolding said_from
 stop_said f equates b left before found lines is on rest =
     on (found ∷ rest) ∙ ap (λ (g : Option Given). (or_record found.0 g >>= λ given. said_from f equates given.1 rest >>= λ more. Ok (given.0 ++ more)) >>= λ more. Ok (lines ++ more)) is
 
-wrote_nothing : (a : Output) → open_line a ≡ [] → WroteAll [] a a
+wrote_nothing : (a : ListingText) → open_line a ≡ [] → WroteAll [] a a
 wrote_nothing a line = record { whole = refl; line = line; short = refl }
 
 same_again : (x : Result (List ListedStatement) ℕ) → x ≡ (x >>= λ more. Ok ([] ++ more))
 same_again (Ok more) = refl
 same_again (Err e) = refl
 
-pub records_begin : (f : Fields) (names : Names) (start : Reader) (first : kept_before.PendingRun) (out : Output) → open_line out ≡ [] → RecordsOn f names start start first first out out
+pub records_begin : (f : HeaderFields) (names : Names) (start : Reader) (first : kept_before.PendingRun) (out : ListingText) → open_line out ≡ [] → RecordsOn f names start start first first out out
 records_begin f names start first out line = record {
   line = line;
   so_far = [];
@@ -127,7 +127,7 @@ records_begin f names start first out line = record {
   each = λ b all is are. record { lines = []; left = b; is = is; wrote = wrote_nothing out line; on = λ rest. same_again (said_from f all b rest) };
 }
 
-pub records_on : (f : Fields) (names : Names) (start at next : Reader) (first before after : kept_before.PendingRun) (old now new : Output) (found : ℕ × Record) → RecordsOn f names start at first before old now → next_answer at ≡ Ok (Some found)
+pub records_on : (f : HeaderFields) (names : Names) (start at next : Reader) (first before after : kept_before.PendingRun) (old now new : ListingText) (found : ℕ × Record) → RecordsOn f names start at first before old now → next_answer at ≡ Ok (Some found)
     → next ≡ after_next at → ((b : PendingRun) (all : List (List ℕ)) → IsBefore before b → AreNames names all → IsGiven (given_by f all b found.1) now new after) → (b : PendingRun) (all : List (List ℕ)) → IsBefore first b → AreNames names all
     → RecordsOn f names start next first after old new
 records_on f names start at next first before after old now new found on e moved gives b all is are = record {
@@ -146,7 +146,7 @@ records_on f names start at next first before after old now new found on e moved
       };
 }
 
-pub records_end : (f : Fields) (names : Names) (start at : Reader) (first before : kept_before.PendingRun) (old now : Output) → IsBody start → RecordsOn f names start at first before old now → next_answer at ≡ Ok None
+pub records_end : (f : HeaderFields) (names : Names) (start at : Reader) (first before : kept_before.PendingRun) (old now : ListingText) → IsBody start → RecordsOn f names start at first before old now → next_answer at ≡ Ok None
     → (b : PendingRun) (all : List (List ℕ)) → IsBefore first b → AreNames names all → WroteRecords f all b (records_of start) old now
 unfolding said_from
 records_end f names start at first before old now body on e b all is are =
@@ -154,7 +154,7 @@ records_end f names start at first before old now body on e b all is are =
     let whole : on.so_far ≡ records_of start = walk_ends start at body.last on.so_far (records_of start) on.run e body.run body.ended in
     record { lines = u.lines; are = ap (said_from f all b) (sym whole ∙ sym (append-nil on.so_far)) ∙ u.on [] ∙ ap (λ (l : List ListedStatement). Ok l) (append-nil u.lines); wrote = u.wrote }
 
-pub records_stop : (f : Fields) (names : Names) (start at : Reader) (first before : kept_before.PendingRun) (old now : Output) (found : ℕ × Record) → IsBody start → RecordsOn f names start at first before old now → next_answer at ≡ Ok (Some found)
+pub records_stop : (f : HeaderFields) (names : Names) (start at : Reader) (first before : kept_before.PendingRun) (old now : ListingText) (found : ℕ × Record) → IsBody start → RecordsOn f names start at first before old now → next_answer at ≡ Ok (Some found)
     → ((b : PendingRun) (all : List (List ℕ)) → IsBefore before b → AreNames names all → given_by f all b found.1 ≡ None)
     → (b : PendingRun) (all : List (List ℕ)) → IsBefore first b → AreNames names all → said_from f all b (records_of start) ≡ Err found.0
 records_stop f names start at first before old now found body on e none b all is are =
@@ -190,7 +190,7 @@ pub segment_stops : (s : Segment) (at : ℕ) → (has_listable_header s && list_
 unfolding listing_of
 segment_stops s at holds are = rw (holds, are) refl
 
-pub segment_wrote : (s : Segment) (old middle new : Output) → (has_listable_header s && list_all is_short (front_of s.fields)) ≡ true → WroteAll (front_of s.fields) old middle
+pub segment_wrote : (s : Segment) (old middle new : ListingText) → (has_listable_header s && list_all is_short (front_of s.fields)) ≡ true → WroteAll (front_of s.fields) old middle
     → WroteRecords s.fields (equates_of s) (at_front s.fields) s.records middle new → WroteSegment s old new
 segment_wrote s old middle new holds front records =
     record { lines = front_of s.fields ++ records.lines; are = segment_lines s records.lines holds records.are; wrote = wrote_both (front_of s.fields) records.lines old middle new front records.wrote }
@@ -226,7 +226,7 @@ parts_at [] place s e = absurd cc
 parts_at (x ∷ segments) zero s e = let same : x ≡ s = cc in record { following = segments; whole = ap (λ (y : Segment). y ∷ segments) same }
 parts_at (x ∷ segments) (suc place) s e = let more = parts_at segments place s e in record { following = more.following; whole = ap (λ (l : List Segment). x ∷ l) more.whole }
 
-pub segments_on : (segments : List Segment) (place : ℕ) (s : Segment) (now new : Output) → SegmentsOn segments place now → slice_get segments place ≡ Some s → WroteSegment s now new → SegmentsOn segments (place + 1) new
+pub segments_on : (segments : List Segment) (place : ℕ) (s : Segment) (now new : ListingText) → SegmentsOn segments place now → slice_get segments place ≡ Some s → WroteSegment s now new → SegmentsOn segments (place + 1) new
 segments_on segments place s now new on found wrote = record {
   line = wrote.wrote.line;
   lines = on.lines ++ wrote.lines;
@@ -238,7 +238,7 @@ segments_on segments place s now new on found wrote = record {
       ∙ file_again (listing_from (1 + place + 1) rest) on.lines wrote.lines ∙ ap (λ (n : ℕ). listing_from n rest >>= λ more. Ok ((on.lines ++ wrote.lines) ++ more)) number;
 }
 
-pub segments_end : (segments : List Segment) (place : ℕ) (out : Output) → SegmentsOn segments place out → length segments ≤ place → WroteFile segments out
+pub segments_end : (segments : List Segment) (place : ℕ) (out : ListingText) → SegmentsOn segments place out → length segments ≤ place → WroteFile segments out
 unfolding listing_from
 segments_end segments place out on all = record {
   lines = on.lines;
@@ -252,7 +252,7 @@ segments_end segments place out on all = record {
     take_all (s ∷ segments) zero all = absurd (omega (arith, all))
     take_all (s ∷ segments) (suc place) all = ap (λ (l : List Segment). s ∷ l) (take_all segments place (omega (arith, all)))
 
-pub segments_stop : (segments : List Segment) (place : ℕ) (s : Segment) (now : Output) (refusal : Refusal) (fault : ListFault) → SegmentsOn segments place now → slice_get segments place ≡ Some s → IsRefusal refusal (λ at. listing_of s ≡ Err at)
+pub segments_stop : (segments : List Segment) (place : ℕ) (s : Segment) (now : ListingText) (refusal : Refusal) (fault : ListFault) → SegmentsOn segments place now → slice_get segments place ≡ Some s → IsRefusal refusal (λ at. listing_of s ≡ Err at)
     → IsReported refusal (place + 1) fault → IsSegmentFault segments fault
 segments_stop segments place s now (refusals.NotListable at) fault on found is reported =
     let parts = parts_at segments place s found in
@@ -281,21 +281,21 @@ pub segment_refused : (file : List ℕ) (segments : List Segment) (fault : ListF
 segment_refused file segments fault is (inl e) = OutOfMemory e
 segment_refused file segments fault is (inr found) = InSegment found.0 found.1 (record { segments = segments; is_file = is; refused = found.2 }) found.3
 
-kept_is : (segments : List Segment) (out : Output) (wrote : WroteFile segments out) → option_map (λ found. found.0) (finished_lines out) ≡ cond (is_small wrote.lines) (Some (listing_text wrote.lines)) None
+kept_is : (segments : List Segment) (out : ListingText) (wrote : WroteFile segments out) → option_map (λ found. found.0) (finished_lines out) ≡ cond (is_small wrote.lines) (Some (listing_text wrote.lines)) None
 kept_is segments out wrote = ap (option_map (λ (found : List ℕ × ℕ). found.0)) (wrote.wrote ∙ kept_all wrote.lines) ∙ by (is_small wrote.lines)
   where
     by : (b : Bool) → option_map (λ (found : List ℕ × ℕ). found.0) (cond b (Some (listing_text wrote.lines, length wrote.lines)) None) ≡ cond b (Some (listing_text wrote.lines)) None
     by true = refl
     by false = refl
 
-pub file_listed : (file : List ℕ) (segments : List Segment) (out : Output) (text : List ℕ) → IsFile segments file → WroteFile segments out → Some text ≡ option_map (λ found. found.0) (finished_lines out) → IsListing file text
+pub file_listed : (file : List ℕ) (segments : List Segment) (out : ListingText) (text : List ℕ) → IsFile segments file → WroteFile segments out → Some text ≡ option_map (λ found. found.0) (finished_lines out) → IsListing file text
 file_listed file segments out text is wrote e = by (is_small wrote.lines) refl (e ∙ kept_is segments out wrote)
   where
     by : (b : Bool) → is_small wrote.lines ≡ b → Some text ≡ cond b (Some (listing_text wrote.lines)) None → IsListing file text
     by true small e = record { segments = segments; is_file = is; all = wrote.lines; lines = wrote.are; small = small; is = cc }
     by false small e = absurd cc
 
-pub file_too_long : (file : List ℕ) (segments : List Segment) (out : Output) → IsFile segments file → WroteFile segments out → None ≡ option_map (λ found. found.0) (finished_lines out)
+pub file_too_long : (file : List ℕ) (segments : List Segment) (out : ListingText) → IsFile segments file → WroteFile segments out → None ≡ option_map (λ found. found.0) (finished_lines out)
     → IsListFault file (record { cause = causes.TooLong; segment = 0; at = 0 })
 file_too_long file segments out is wrote e = by (is_small wrote.lines) refl (e ∙ kept_is segments out wrote)
   where
@@ -307,7 +307,7 @@ file_too_long file segments out is wrote e = by (is_small wrote.lines) refl (e �
 pub names_of : (start : Reader) (s : Segment) (names : Names) → records_of start ≡ s.records → AreNames names (equates_in (records_of start)) → AreNames names (equates_of s)
 names_of start s names same are = subst (λ (l : List (ℕ × Record)). AreNames names (equates_in l)) same are
 
-pub segment_answer : {U E : Type 0} (r : Result U E) (s : Segment) (start : Reader) (names : Names) (first : kept_before.PendingRun) (old middle new : Output) → records_of start ≡ s.records → (has_listable_header s && list_all is_short (front_of s.fields)) ≡ true
+pub segment_answer : {U E : Type 0} (r : Result U E) (s : Segment) (start : Reader) (names : Names) (first : kept_before.PendingRun) (old middle new : ListingText) → records_of start ≡ s.records → (has_listable_header s && list_all is_short (front_of s.fields)) ≡ true
     → WroteAll (front_of s.fields) old middle → IsBefore first (at_front s.fields) → AreNames names (equates_of s)
     → OnOk r ((b : PendingRun) (all : List (List ℕ)) → IsBefore first b → AreNames names all → WroteRecords s.fields all b (records_of start) middle new) → OnOk r (WroteSegment s old new)
 segment_answer (Ok u) s start names first old middle new same holds front is are wrote =

@@ -3,7 +3,7 @@ use Rattle.std.specs.Prelude.{◌≡◌, ◌⊎◌, ℕ, ◌+◌, ◌<◌, ◌�
 use Rattle.std.specs.Int.{is_power_of_two}
 use Rattle.std.specs.List.{list_any}
 use Rattle.omf_format.specs.File.{Segment}
-use Rattle.omf_format.specs.Header.{Fields, form_of}
+use Rattle.omf_format.specs.Header.{HeaderFields, form_of}
 use Rattle.omf_format.specs.Record.{Record}
 use Rattle.omf_format.specs.Reading.{Reader, HandsOut}
 use Rattle.object_meaning.specs.Sizes.{located_from, place_after, body_size}
@@ -14,7 +14,7 @@ abbrev pub can_align : ℕ → Bool
 can_align align = align == 0 || (is_power_of_two align && nat_le align 0x10000)
 
 -- the type, the names, BANKSIZE, ALIGN and ENTRY can be listed
-abbrev pub has_listable_fields : Fields → Bool
+abbrev pub has_listable_fields : HeaderFields → Bool
 has_listable_fields f =
     is_listed_form (form_of f.kind) && is_listable f.name && is_listable_load_name f.load_name
     && (f.bank_size == 0 || f.bank_size == 0x10000) && can_align f.align && f.entry == 0

@@ -5,19 +5,19 @@ use Rattle.omf_format.specs.Record.{Record, Equate, Formula}
 use Rattle.list_meaning.specs.Listed.{Wanted}
 use Rattle.list_meaning.specs.Listing as listing
 use Rattle.list_meaning.specs.Listing.{Given, is_held}
-use Rattle.list_lines.specs.declared.output.Output.{Output}
+use Rattle.list_lines.specs.declared.output.ListingText.{ListingText}
 use Rattle.w65_list.specs.declared.records.PendingRun.{PendingRun}
 use Rattle.w65_list.specs.declared.records.ListedFormula as declared
 use Rattle.w65_list.specs.BeforeView.{IsBefore}
 use Rattle.list_lines.specs.LineView.{WroteAll}
 
 -- these lines were written, and this is left
-pub record Gave (all : Given) (old new : Output) (after : PendingRun) : Type 0 where
+pub record Gave (all : Given) (old new : ListingText) (after : PendingRun) : Type 0 where
   pub wrote : WroteAll all.0 old new
   pub left : IsBefore after all.1
 
 -- it can be listed: its lines were written, and what it leaves is left
-pub record IsGiven (given : Option Given) (old new : Output) (after : PendingRun) : Type 0 where
+pub record IsGiven (given : Option Given) (old new : ListingText) (after : PendingRun) : Type 0 where
   pub all : Given
   pub is : given ≡ Some all
   pub gave : Gave all old new after

@@ -3,7 +3,7 @@ use Rattle.std.specs.Prelude.{◌≡◌, ◌⊎◌, ℕ, ◌+◌, [], ◌++◌, 
 use Rattle.std.specs.List.{flat_map}
 use Rattle.omf_format.specs.Field.{◌>>=◌}
 use Rattle.omf_format.specs.File.{Segment}
-use Rattle.omf_format.specs.Header.{Fields}
+use Rattle.omf_format.specs.Header.{HeaderFields}
 use Rattle.omf_format.specs.Reading.{Reader, HandsOut}
 use Rattle.omf_format.specs.Record.{Record}
 use Rattle.list_meaning.specs.declared.faults.ListCause.TheVariants.{NotListable, Memory}
@@ -11,7 +11,7 @@ use Rattle.list_meaning.specs.declared.faults.ListFault.{ListFault}
 use Rattle.list_meaning.specs.Listed.{ListedStatement}
 use Rattle.list_meaning.specs.Listing.{PendingRun, equate_name, said_from, listing_of, listing_from}
 use Rattle.list_lines.specs.declared.names.Names.{Names}
-use Rattle.list_lines.specs.declared.output.Output.{Output}
+use Rattle.list_lines.specs.declared.output.ListingText.{ListingText}
 use Rattle.w65_list.specs.declared.records.PendingRun as kept_before
 use Rattle.w65_list.specs.declared.source.Refusal.{Refusal}
 use Rattle.w65_list.specs.declared.source.Refusal.TheVariants as refusals
@@ -24,19 +24,19 @@ use Rattle.list_lines.specs.NamesView.{AreNames}
 use Rattle.list_lines.specs.OutputView.{finished_lines, open_line}
 
 -- the lines of these records were written
-pub record WroteRecords (f : Fields) (equates : List (List ℕ)) (b : PendingRun) (founds : List (ℕ × Record)) (old new : Output) : Type 0 where
+pub record WroteRecords (f : HeaderFields) (equates : List (List ℕ)) (b : PendingRun) (founds : List (ℕ × Record)) (old new : ListingText) : Type 0 where
   pub lines : List ListedStatement
   pub are : said_from f equates b founds ≡ Ok lines
   pub wrote : WroteAll lines old new
 
 -- the lines of the segment were written
-pub record WroteSegment (s : Segment) (old new : Output) : Type 0 where
+pub record WroteSegment (s : Segment) (old new : ListingText) : Type 0 where
   pub lines : List ListedStatement
   pub are : listing_of s ≡ Ok lines
   pub wrote : WroteAll lines old new
 
 -- the lines of these segments were written, from nothing on
-pub record WroteFile (segments : List Segment) (out : Output) : Type 0 where
+pub record WroteFile (segments : List Segment) (out : ListingText) : Type 0 where
   pub lines : List ListedStatement
   pub are : listing_from 1 segments ≡ Ok lines
   pub wrote : finished_lines out ≡ with_lines lines (Some ([], 0))
@@ -75,21 +75,21 @@ pub record EquatesOn (start at : Reader) (names : Names) : Type 0 where
   pub are : AreNames names (equates_in before)
 
 -- the lines of the records so far were written, and what is left gives the lines that are left
-pub record LinesOn (f : Fields) (equates : List (List ℕ)) (b : PendingRun) (so_far : List (ℕ × Record)) (old now : Output) (before : kept_before.PendingRun) : Type 0 where
+pub record LinesOn (f : HeaderFields) (equates : List (List ℕ)) (b : PendingRun) (so_far : List (ℕ × Record)) (old now : ListingText) (before : kept_before.PendingRun) : Type 0 where
   pub lines : List ListedStatement
   pub left : PendingRun
   pub is : IsBefore before left
   pub wrote : WroteAll lines old now
   pub on : (rest : List (ℕ × Record)) → said_from f equates b (so_far ++ rest) ≡ (said_from f equates left rest >>= λ more. Ok (lines ++ more))
 
-pub record RecordsOn (f : Fields) (names : Names) (start at : Reader) (first before : kept_before.PendingRun) (old now : Output) : Type 0 where
+pub record RecordsOn (f : HeaderFields) (names : Names) (start at : Reader) (first before : kept_before.PendingRun) (old now : ListingText) : Type 0 where
   pub line : open_line now ≡ []
   pub so_far : List (ℕ × Record)
   pub run : HandsOut start so_far at
   pub each : (b : PendingRun) (all : List (List ℕ)) → IsBefore first b → AreNames names all → LinesOn f all b so_far old now before
 
 -- the lines of the segments before this place were written, and the segments that are left give the lines that are left
-pub record SegmentsOn (segments : List Segment) (place : ℕ) (out : Output) : Type 0 where
+pub record SegmentsOn (segments : List Segment) (place : ℕ) (out : ListingText) : Type 0 where
   pub line : open_line out ≡ []
   pub lines : List ListedStatement
   pub wrote : finished_lines out ≡ with_lines lines (Some ([], 0))

@@ -17,8 +17,8 @@ ghost use Rattle.list_lines.specs.OutputView.{open_line};
 
 use asm_meaning::Switch;
 use list_lines::{
-    LineStop, Output, first_bytes, is_listable, put_kind, put_next_align, put_next_org, put_start,
-    put_switch,
+    LineStop, ListingText, first_bytes, is_listable, put_kind, put_next_align, put_next_org,
+    put_start, put_switch,
 };
 use omf_base::padding;
 use omf_header::Header;
@@ -193,7 +193,7 @@ fn has_listable_fields(header: &Header) -> bool
 
 /// The lines before START.
 #[tactic(auto, using(list_lines::proofs::Written::wrote_one, list_lines::proofs::Written::wrote_none, list_lines::proofs::Written::wrote_both, list_lines::proofs::Written::long_one, list_lines::proofs::Written::long_first, list_lines::proofs::Written::long_second))]
-fn put_align(out: &mut Output, align: u32) -> Result<(), LineStop>
+fn put_align(out: &mut ListingText, align: u32) -> Result<(), LineStop>
     requires { open_line out.old ≡ [] }
     ensures wrote { OnOk result (WroteAll (unless_zero NextAlignIs align) out.old out.new) }
     ensures long { IsErrOf result LineStop.NotListable → list_all is_short (unless_zero NextAlignIs align) ≡ false }
@@ -206,7 +206,7 @@ fn put_align(out: &mut Output, align: u32) -> Result<(), LineStop>
 
 /// The lines before START.
 #[tactic(auto, using(list_lines::proofs::Written::wrote_one, list_lines::proofs::Written::wrote_none, list_lines::proofs::Written::wrote_both, list_lines::proofs::Written::long_one, list_lines::proofs::Written::long_first, list_lines::proofs::Written::long_second))]
-fn put_org(out: &mut Output, org: u32) -> Result<(), LineStop>
+fn put_org(out: &mut ListingText, org: u32) -> Result<(), LineStop>
     requires { open_line out.old ≡ [] }
     ensures wrote { OnOk result (WroteAll (unless_zero NextOrg org) out.old out.new) }
     ensures long { IsErrOf result LineStop.NotListable → list_all is_short (unless_zero NextOrg org) ≡ false }
@@ -219,7 +219,7 @@ fn put_org(out: &mut Output, org: u32) -> Result<(), LineStop>
 
 /// START or DATA, and KIND.
 #[tactic(auto, using(list_lines::proofs::Written::wrote_two, list_lines::proofs::Written::long_front, list_lines::proofs::Written::long_after))]
-fn put_begin(out: &mut Output, header: &Header) -> Result<(), LineStop>
+fn put_begin(out: &mut ListingText, header: &Header) -> Result<(), LineStop>
     requires { open_line out.old ≡ [] }
     ensures wrote { OnOk result (WroteAll (StartIs (header.now.bank_size == 0) header.now.name (without_padding header.now.load_name) ∷ KindIs header.now.kind.bits ∷ []) out.old out.new) }
     ensures long { IsErrOf result LineStop.NotListable → list_all is_short (StartIs (header.now.bank_size == 0) header.now.name (without_padding header.now.load_name) ∷ KindIs header.now.kind.bits ∷ []) ≡ false }
@@ -235,7 +235,7 @@ fn put_begin(out: &mut Output, header: &Header) -> Result<(), LineStop>
 
 /// LONGA and LONGI, which are on.
 #[tactic(auto, using(list_lines::proofs::Written::wrote_two, list_lines::proofs::Written::long_front, list_lines::proofs::Written::long_after))]
-fn put_widths(out: &mut Output) -> Result<(), LineStop>
+fn put_widths(out: &mut ListingText) -> Result<(), LineStop>
     requires { open_line out.old ≡ [] }
     ensures wrote { OnOk result (WroteAll (SwitchIs LongA true ∷ SwitchIs LongI true ∷ []) out.old out.new) }
     ensures long { IsErrOf result LineStop.NotListable → list_all is_short (SwitchIs LongA true ∷ SwitchIs LongI true ∷ []) ≡ false }
@@ -246,7 +246,7 @@ fn put_widths(out: &mut Output) -> Result<(), LineStop>
 
 /// The lines from START or DATA on.
 #[tactic(auto, using(list_lines::proofs::Written::wrote_both, list_lines::proofs::Written::long_first, list_lines::proofs::Written::long_second))]
-fn put_open(out: &mut Output, header: &Header) -> Result<(), LineStop>
+fn put_open(out: &mut ListingText, header: &Header) -> Result<(), LineStop>
     requires { open_line out.old ≡ [] }
     ensures wrote { OnOk result (WroteAll ((StartIs (header.now.bank_size == 0) header.now.name (without_padding header.now.load_name) ∷ KindIs header.now.kind.bits ∷ []) ++ (SwitchIs LongA true ∷ SwitchIs LongI true ∷ [])) out.old out.new) }
     ensures long { IsErrOf result LineStop.NotListable → list_all is_short ((StartIs (header.now.bank_size == 0) header.now.name (without_padding header.now.load_name) ∷ KindIs header.now.kind.bits ∷ []) ++ (SwitchIs LongA true ∷ SwitchIs LongI true ∷ [])) ≡ false }
@@ -257,7 +257,7 @@ fn put_open(out: &mut Output, header: &Header) -> Result<(), LineStop>
 
 /// The lines from ORG on.
 #[tactic(auto, using(list_lines::proofs::Written::wrote_both, list_lines::proofs::Written::long_first, list_lines::proofs::Written::long_second))]
-fn put_from_org(out: &mut Output, header: &Header) -> Result<(), LineStop>
+fn put_from_org(out: &mut ListingText, header: &Header) -> Result<(), LineStop>
     requires { open_line out.old ≡ [] }
     ensures wrote { OnOk result (WroteAll (unless_zero NextOrg header.now.org ++ ((StartIs (header.now.bank_size == 0) header.now.name (without_padding header.now.load_name) ∷ KindIs header.now.kind.bits ∷ []) ++ (SwitchIs LongA true ∷ SwitchIs LongI true ∷ []))) out.old out.new) }
     ensures long { IsErrOf result LineStop.NotListable → list_all is_short (unless_zero NextOrg header.now.org ++ ((StartIs (header.now.bank_size == 0) header.now.name (without_padding header.now.load_name) ∷ KindIs header.now.kind.bits ∷ []) ++ (SwitchIs LongA true ∷ SwitchIs LongI true ∷ []))) ≡ false }
@@ -268,7 +268,7 @@ fn put_from_org(out: &mut Output, header: &Header) -> Result<(), LineStop>
 
 /// The lines before those of the records.
 #[tactic(auto, using(list_lines::proofs::Written::wrote_both, list_lines::proofs::Written::long_first, list_lines::proofs::Written::long_second), unfolding(list_meaning::specs::Listing::front_of))]
-fn put_lines(out: &mut Output, header: &Header) -> Result<(), LineStop>
+fn put_lines(out: &mut ListingText, header: &Header) -> Result<(), LineStop>
     requires { open_line out.old ≡ [] }
     ensures wrote { OnOk result (WroteAll (front_of (fields header.now)) out.old out.new) }
     ensures long { IsErrOf result LineStop.NotListable → list_all is_short (front_of (fields header.now)) ≡ false }
@@ -278,7 +278,7 @@ fn put_lines(out: &mut Output, header: &Header) -> Result<(), LineStop>
 }
 
 /// The lines before those of the records, where the header can be listed.
-pub(crate) fn put_front(out: &mut Output, view: &SegmentView) -> Result<(), LineStop>
+pub(crate) fn put_front(out: &mut ListingText, view: &SegmentView) -> Result<(), LineStop>
     requires line { open_line out.old ≡ [] }
     requires sound { IsSound view.now }
     ensures listable { OnOk result ((has_listable_header (segment_of_view view.now) && list_all is_short (front_of (segment_of_view view.now).fields)) ≡ true) }

@@ -8,5 +8,5 @@ mod run;
 mod source;
 
 pub use list_meaning::{ListCause, ListFault};
-pub use run::{Widths, instruction_of, operand_size, put_rest, widths_following};
+pub use run::{RegisterWidths, instruction_of, operand_size, put_rest, widths_following};
 pub use source::list_source;

@@ -22,11 +22,11 @@ ghost use Rattle.list_lines.specs.NamesView.{AreNames};
 ghost use Rattle.list_lines.specs.OutputView.{open_line};
 ghost use Rattle.w65_list.specs.RunView.{widths_view};
 
-use crate::run::{Widths, instruction_of, operand_size, put_rest, widths_following};
+use crate::run::{RegisterWidths, instruction_of, operand_size, put_rest, widths_following};
 use list_lines::{
-    Facts, Front, LineStop, Names, Output, Wanted, facts_of, first_bytes, front_of, is_listable,
-    put_align, put_dc_formula, put_dc_strong, put_dc_weak, put_ds, put_end, put_equate,
-    put_instruction, put_label, put_org, put_using, text_of,
+    FormulaFacts, Front, LineStop, ListingText, Names, Wanted, facts_of, first_bytes, front_of,
+    is_listable, put_align, put_dc_formula, put_dc_strong, put_dc_weak, put_ds, put_end,
+    put_equate, put_instruction, put_label, put_org, put_using, text_of,
 };
 use omf_expr::Expr;
 use omf_header::Header;
@@ -38,13 +38,13 @@ use std::alloc::{AllocError, Global};
 /// defined.
 #[derive(Drop)]
 pub(crate) struct PendingRun<'a> {
-    widths: Widths,
+    widths: RegisterWidths,
     run: Vec<u8>,
     names: Names<'a>,
 }
 
 /// Both registers have 16 bits.
-const BOTH_LONG: Widths = Widths {
+const BOTH_LONG: RegisterWidths = RegisterWidths {
     long_a: true,
     long_i: true,
 };
@@ -102,7 +102,7 @@ fn record_by(mnemonic: Mnemonic, mode: Mode, bytes: u8) -> Option<ListedFormula>
 }
 
 /// Whether an opcode has this record for its operand, at these widths.
-fn follows(widths: Widths, opcode: u8, formula: ListedFormula) -> bool
+fn follows(widths: RegisterWidths, opcode: u8, formula: ListedFormula) -> bool
     ensures { result ≡ is_record formula.code formula.count formula.n (record_of_opcode (widths_view widths) opcode) }
 {
     let (mnemonic, mode) = instruction_of(opcode);
@@ -117,7 +117,7 @@ fn follows(widths: Widths, opcode: u8, formula: ListedFormula) -> bool
 /// The lines of an EXPR that isn't part of an instruction.
 fn put_apart(
     alloc: Global,
-    out: &mut Output,
+    out: &mut ListingText,
     count: u8,
     expr: &Expr,
     front: Front,
@@ -175,7 +175,7 @@ fn may_stand(global: bool, private: u8) -> bool
 }
 
 /// Whether an EXPR can be listed whose names can: it is a weak name of two bytes, or a formula that is written.
-fn is_listable_expr(known: Facts, count: u8, front: Front) -> bool
+fn is_listable_expr(known: FormulaFacts, count: u8, front: Front) -> bool
     ensures { result ≡ (if is_some_name (weak_two (option_map seen front.entry.first) (option_map seen front.entry.second)) then count == 2 else (known.written && known.varies)) }
 {
     match front.weak() {
@@ -196,7 +196,12 @@ fn is_listable_operand(run: &[u8], formula: ListedFormula, front: Front) -> bool
 }
 
 /// Whether an expression record can be listed whose names can.
-fn is_listable_by_kind(known: Facts, run: &[u8], formula: ListedFormula, front: Front) -> bool
+fn is_listable_by_kind(
+    known: FormulaFacts,
+    run: &[u8],
+    formula: ListedFormula,
+    front: Front,
+) -> bool
     ensures { result ≡ (if formula.code == 0xEB
         then (if is_some_name (weak_two (option_map seen front.entry.first) (option_map seen front.entry.second)) then formula.count == 2 else (known.written && known.varies))
         else (is_some_wanted (simple_four (option_map seen front.entry.first) (option_map seen front.entry.second) (option_map seen front.entry.third) (option_map seen front.entry.fourth))
@@ -227,7 +232,7 @@ fn is_formula_listable(
 
 /// The lines of END, with DS for RESSPC.
 #[tactic(auto, using(list_lines::proofs::Written::wrote_one, list_lines::proofs::Written::wrote_both, list_lines::proofs::Written::long_one, list_lines::proofs::Written::long_first, list_lines::proofs::Written::long_second))]
-fn put_reserved_and_end(out: &mut Output, res_spc: u32) -> Result<(), LineStop>
+fn put_reserved_and_end(out: &mut ListingText, res_spc: u32) -> Result<(), LineStop>
     requires { open_line out.old ≡ [] }
     ensures wrote { OnOk result (WroteAll (unless_zero Ds res_spc ++ EndIs ∷ []) out.old out.new) }
     ensures long { IsErrOf result LineStop.NotListable → list_all is_short (unless_zero Ds res_spc ++ EndIs ∷ []) ≡ false }
@@ -253,7 +258,7 @@ impl<'a> PendingRun<'a> {
     }
 
     /// Writes the run.
-    fn flush(&mut self, out: &mut Output) -> Result<(), LineStop>
+    fn flush(&mut self, out: &mut ListingText) -> Result<(), LineStop>
         requires { open_line out.old ≡ [] }
         ensures gave { OnOk result ((b : listing.PendingRun) → IsBefore self.old b → Gave (with_run_written b) out.old out.new self.new) }
         ensures long { IsErrOf result LineStop.NotListable → (b : listing.PendingRun) → IsBefore self.old b → are_short (with_run_written b) ≡ false }
@@ -286,7 +291,7 @@ impl<'a> PendingRun<'a> {
     }
 
     /// The lines of END, with DS for RESSPC.
-    fn end(&mut self, out: &mut Output, res_spc: u32) -> Result<(), LineStop>
+    fn end(&mut self, out: &mut ListingText, res_spc: u32) -> Result<(), LineStop>
         requires { open_line out.old ≡ [] }
         ensures gave { OnOk result ((b : listing.PendingRun) → IsBefore self.old b → Gave (then_said (unless_zero Ds res_spc ++ EndIs ∷ []) (with_run_written b)) out.old out.new self.new) }
         ensures long { IsErrOf result LineStop.NotListable → (b : listing.PendingRun) → IsBefore self.old b → are_short (then_said (unless_zero Ds res_spc ++ EndIs ∷ []) (with_run_written b)) ≡ false }
@@ -296,7 +301,7 @@ impl<'a> PendingRun<'a> {
     }
 
     /// The line of ALIGN.
-    fn align(&mut self, out: &mut Output, n: u32) -> Result<(), LineStop>
+    fn align(&mut self, out: &mut ListingText, n: u32) -> Result<(), LineStop>
         requires { open_line out.old ≡ [] }
         ensures gave { OnOk result ((b : listing.PendingRun) → IsBefore self.old b → Gave (then_said (Aligns n ∷ []) (with_run_written b)) out.old out.new self.new) }
         ensures long { IsErrOf result LineStop.NotListable → (b : listing.PendingRun) → IsBefore self.old b → are_short (then_said (Aligns n ∷ []) (with_run_written b)) ≡ false }
@@ -306,7 +311,7 @@ impl<'a> PendingRun<'a> {
     }
 
     /// The line of ORG.
-    fn move_on(&mut self, out: &mut Output, n: u32) -> Result<(), LineStop>
+    fn move_on(&mut self, out: &mut ListingText, n: u32) -> Result<(), LineStop>
         requires { open_line out.old ≡ [] }
         ensures gave { OnOk result ((b : listing.PendingRun) → IsBefore self.old b → Gave (then_said (OrgIs n ∷ []) (with_run_written b)) out.old out.new self.new) }
         ensures long { IsErrOf result LineStop.NotListable → (b : listing.PendingRun) → IsBefore self.old b → are_short (then_said (OrgIs n ∷ []) (with_run_written b)) ≡ false }
@@ -316,7 +321,7 @@ impl<'a> PendingRun<'a> {
     }
 
     /// The line of DS.
-    fn space(&mut self, out: &mut Output, n: u32) -> Result<(), LineStop>
+    fn space(&mut self, out: &mut ListingText, n: u32) -> Result<(), LineStop>
         requires { open_line out.old ≡ [] }
         ensures gave { OnOk result ((b : listing.PendingRun) → IsBefore self.old b → Gave (then_said (Ds n ∷ []) (with_run_written b)) out.old out.new self.new) }
         ensures long { IsErrOf result LineStop.NotListable → (b : listing.PendingRun) → IsBefore self.old b → are_short (then_said (Ds n ∷ []) (with_run_written b)) ≡ false }
@@ -326,7 +331,7 @@ impl<'a> PendingRun<'a> {
     }
 
     /// The line of USING.
-    fn using(&mut self, out: &mut Output, name: &[u8]) -> Result<(), LineStop>
+    fn using(&mut self, out: &mut ListingText, name: &[u8]) -> Result<(), LineStop>
         requires { open_line out.old ≡ [] }
         ensures gave { OnOk result ((b : listing.PendingRun) → IsBefore self.old b → Gave (then_said (UsingIs name.now ∷ []) (with_run_written b)) out.old out.new self.new) }
         ensures long { IsErrOf result LineStop.NotListable → (b : listing.PendingRun) → IsBefore self.old b → are_short (then_said (UsingIs name.now ∷ []) (with_run_written b)) ≡ false }
@@ -336,7 +341,7 @@ impl<'a> PendingRun<'a> {
     }
 
     /// The line of STRONG.
-    fn strong(&mut self, out: &mut Output, name: &[u8]) -> Result<(), LineStop>
+    fn strong(&mut self, out: &mut ListingText, name: &[u8]) -> Result<(), LineStop>
         requires { open_line out.old ≡ [] }
         ensures gave { OnOk result ((b : listing.PendingRun) → IsBefore self.old b → Gave (then_said (StrongIs name.now ∷ []) (with_run_written b)) out.old out.new self.new) }
         ensures long { IsErrOf result LineStop.NotListable → (b : listing.PendingRun) → IsBefore self.old b → are_short (then_said (StrongIs name.now ∷ []) (with_run_written b)) ≡ false }
@@ -346,7 +351,7 @@ impl<'a> PendingRun<'a> {
     }
 
     /// The line of GLOBAL or LOCAL.
-    fn label(&mut self, out: &mut Output, global: bool, name: &[u8]) -> Result<(), LineStop>
+    fn label(&mut self, out: &mut ListingText, global: bool, name: &[u8]) -> Result<(), LineStop>
         requires { open_line out.old ≡ [] }
         ensures gave { OnOk result ((b : listing.PendingRun) → IsBefore self.old b → Gave (then_said (Labels global name.now ∷ []) (with_run_written b)) out.old out.new self.new) }
         ensures long { IsErrOf result LineStop.NotListable → (b : listing.PendingRun) → IsBefore self.old b → are_short (then_said (Labels global name.now ∷ []) (with_run_written b)) ≡ false }
@@ -358,7 +363,7 @@ impl<'a> PendingRun<'a> {
     /// The line of GEQU or EQU.
     fn equate(
         &mut self,
-        out: &mut Output,
+        out: &mut ListingText,
         global: bool,
         name: &[u8],
         n: u32,
@@ -403,7 +408,7 @@ impl<'a> PendingRun<'a> {
     }
 
     /// Writes the run without its last byte.
-    fn flush_rest(&mut self, out: &mut Output) -> Result<(), LineStop>
+    fn flush_rest(&mut self, out: &mut ListingText) -> Result<(), LineStop>
         requires { open_line out.old ≡ [] }
         ensures gave { OnOk result ((b : listing.PendingRun) (rest : List ℕ) (opcode : ℕ) → IsBefore self.old b → b.run ≡ rest ++ opcode ∷ [] → Gave (with_run_written (record b { run = rest })) out.old out.new self.new) }
         ensures long { IsErrOf result LineStop.NotListable → (b : listing.PendingRun) (rest : List ℕ) (opcode : ℕ) → IsBefore self.old b → b.run ≡ rest ++ opcode ∷ [] → are_short (with_run_written (record b { run = rest })) ≡ false }
@@ -414,7 +419,12 @@ impl<'a> PendingRun<'a> {
     }
 
     /// The lines of an opcode that is held back and its operand.
-    fn put_held(&mut self, out: &mut Output, opcode: u8, operand: Wanted) -> Result<(), LineStop>
+    fn put_held(
+        &mut self,
+        out: &mut ListingText,
+        opcode: u8,
+        operand: Wanted,
+    ) -> Result<(), LineStop>
         requires line { open_line out.old ≡ [] }
         requires size { HasSize (operand_view operand) }
         ensures gave { OnOk result ((b : listing.PendingRun) (rest : List ℕ) → IsBefore self.old b → b.run ≡ rest ++ opcode ∷ []
@@ -431,7 +441,7 @@ impl<'a> PendingRun<'a> {
     fn put_beside(
         &mut self,
         alloc: Global,
-        out: &mut Output,
+        out: &mut ListingText,
         count: u8,
         expr: &Expr,
         front: Front,
@@ -452,7 +462,7 @@ impl<'a> PendingRun<'a> {
     fn put_formula(
         &mut self,
         alloc: Global,
-        out: &mut Output,
+        out: &mut ListingText,
         formula: ListedFormula,
         expr: &Expr,
         front: Front,
@@ -472,7 +482,7 @@ impl<'a> PendingRun<'a> {
     }
 
     /// END, where its lines are short.
-    fn end_record(&mut self, out: &mut Output, res_spc: u32) -> Result<(), LineStop>
+    fn end_record(&mut self, out: &mut ListingText, res_spc: u32) -> Result<(), LineStop>
         requires { open_line out.old ≡ [] }
         ensures given { OnOk result ((b : listing.PendingRun) → IsBefore self.old b → IsGiven (if_short true (then_said (unless_zero Ds res_spc ++ EndIs ∷ []) (with_run_written b))) out.old out.new self.new) }
         ensures refused { IsErrOf result LineStop.NotListable → (b : listing.PendingRun) → IsBefore self.old b → if_short true (then_said (unless_zero Ds res_spc ++ EndIs ∷ []) (with_run_written b)) ≡ None }
@@ -481,7 +491,12 @@ impl<'a> PendingRun<'a> {
     }
 
     /// ALIGN, where its n is a power of two, at most $10000 and at most the header's alignment.
-    fn align_record(&mut self, out: &mut Output, alignment: u32, n: u32) -> Result<(), LineStop>
+    fn align_record(
+        &mut self,
+        out: &mut ListingText,
+        alignment: u32,
+        n: u32,
+    ) -> Result<(), LineStop>
         requires { open_line out.old ≡ [] }
         ensures given { OnOk result ((b : listing.PendingRun) → IsBefore self.old b → IsGiven (if_short (is_power_of_two n && nat_le n 0x10000 && nat_le n alignment) (then_said (Aligns n ∷ []) (with_run_written b))) out.old out.new self.new) }
         ensures refused { IsErrOf result LineStop.NotListable → (b : listing.PendingRun) → IsBefore self.old b → if_short (is_power_of_two n && nat_le n 0x10000 && nat_le n alignment) (then_said (Aligns n ∷ []) (with_run_written b)) ≡ None }
@@ -493,7 +508,7 @@ impl<'a> PendingRun<'a> {
     }
 
     /// ORG.
-    fn move_record(&mut self, out: &mut Output, n: u32) -> Result<(), LineStop>
+    fn move_record(&mut self, out: &mut ListingText, n: u32) -> Result<(), LineStop>
         requires { open_line out.old ≡ [] }
         ensures given { OnOk result ((b : listing.PendingRun) → IsBefore self.old b → IsGiven (if_short true (then_said (OrgIs n ∷ []) (with_run_written b))) out.old out.new self.new) }
         ensures refused { IsErrOf result LineStop.NotListable → (b : listing.PendingRun) → IsBefore self.old b → if_short true (then_said (OrgIs n ∷ []) (with_run_written b)) ≡ None }
@@ -502,7 +517,7 @@ impl<'a> PendingRun<'a> {
     }
 
     /// DS.
-    fn space_record(&mut self, out: &mut Output, n: u32) -> Result<(), LineStop>
+    fn space_record(&mut self, out: &mut ListingText, n: u32) -> Result<(), LineStop>
         requires { open_line out.old ≡ [] }
         ensures given { OnOk result ((b : listing.PendingRun) → IsBefore self.old b → IsGiven (if_short true (then_said (Ds n ∷ []) (with_run_written b))) out.old out.new self.new) }
         ensures refused { IsErrOf result LineStop.NotListable → (b : listing.PendingRun) → IsBefore self.old b → if_short true (then_said (Ds n ∷ []) (with_run_written b)) ≡ None }
@@ -511,7 +526,7 @@ impl<'a> PendingRun<'a> {
     }
 
     /// USING, where its name can be listed.
-    fn using_record(&mut self, out: &mut Output, name: &[u8]) -> Result<(), LineStop>
+    fn using_record(&mut self, out: &mut ListingText, name: &[u8]) -> Result<(), LineStop>
         requires { open_line out.old ≡ [] }
         ensures given { OnOk result ((b : listing.PendingRun) → IsBefore self.old b → IsGiven (if_short (is_listable name.now) (then_said (UsingIs name.now ∷ []) (with_run_written b))) out.old out.new self.new) }
         ensures refused { IsErrOf result LineStop.NotListable → (b : listing.PendingRun) → IsBefore self.old b → if_short (is_listable name.now) (then_said (UsingIs name.now ∷ []) (with_run_written b)) ≡ None }
@@ -523,7 +538,7 @@ impl<'a> PendingRun<'a> {
     }
 
     /// STRONG, where its name can be listed.
-    fn strong_record(&mut self, out: &mut Output, name: &[u8]) -> Result<(), LineStop>
+    fn strong_record(&mut self, out: &mut ListingText, name: &[u8]) -> Result<(), LineStop>
         requires { open_line out.old ≡ [] }
         ensures given { OnOk result ((b : listing.PendingRun) → IsBefore self.old b → IsGiven (if_short (is_listable name.now) (then_said (StrongIs name.now ∷ []) (with_run_written b))) out.old out.new self.new) }
         ensures refused { IsErrOf result LineStop.NotListable → (b : listing.PendingRun) → IsBefore self.old b → if_short (is_listable name.now) (then_said (StrongIs name.now ∷ []) (with_run_written b)) ≡ None }
@@ -537,7 +552,7 @@ impl<'a> PendingRun<'a> {
     /// GLOBAL or LOCAL, where a GLOBAL isn't private and the name is new.
     fn label_record(
         &mut self,
-        out: &mut Output,
+        out: &mut ListingText,
         global: bool,
         name: &'a [u8],
         private: u8,
@@ -559,7 +574,7 @@ impl<'a> PendingRun<'a> {
     /// GEQU or EQU of a number, where the name is new.
     fn number_record(
         &mut self,
-        out: &mut Output,
+        out: &mut ListingText,
         global: bool,
         name: &'a [u8],
         n: u32,
@@ -578,7 +593,7 @@ impl<'a> PendingRun<'a> {
     /// GEQU or EQU, where a GEQU isn't private and the expression is a number.
     fn equate_record(
         &mut self,
-        out: &mut Output,
+        out: &mut ListingText,
         global: bool,
         name: &'a [u8],
         private: u8,
@@ -601,7 +616,7 @@ impl<'a> PendingRun<'a> {
     fn formula_record(
         &mut self,
         alloc: Global,
-        out: &mut Output,
+        out: &mut ListingText,
         equated: &Names,
         formula: ListedFormula,
         expr: &Expr,
@@ -623,7 +638,7 @@ impl<'a> PendingRun<'a> {
     pub(crate) fn put_record(
         &mut self,
         alloc: Global,
-        out: &mut Output,
+        out: &mut ListingText,
         header: &Header,
         equated: &Names,
         rec: &Rec<'a>,

@@ -12,14 +12,14 @@ ghost use Rattle.list_lines.specs.OutputView.{finished_lines, open_line};
 ghost use Rattle.w65_list.specs.RunView.{turned_between, widths_view};
 
 use asm_meaning::Switch;
-use list_lines::{LineStop, Output, Wanted, put_dc_bytes, put_instruction, put_switch};
+use list_lines::{LineStop, ListingText, Wanted, put_dc_bytes, put_instruction, put_switch};
 use omf_base::items_after;
 use orca_meaning::{Mnemonic, Mode};
 use w65_encode::{decode, length};
 
 /// Whether the accumulator and the index registers have 16 bits.
 #[derive(Clone, Copy, Debug, PartialEq, Eq)]
-pub struct Widths {
+pub struct RegisterWidths {
     /// The accumulator.
     pub long_a: bool,
     /// The index registers.
@@ -27,10 +27,10 @@ pub struct Widths {
 }
 
 /// The widths whose bits are set are these.
-fn with_bits(widths: Widths, bits: u8, on: bool) -> Widths
+fn with_bits(widths: RegisterWidths, bits: u8, on: bool) -> RegisterWidths
     ensures { widths_view result ≡ widths_by on bits (widths_view widths) }
 {
-    Widths {
+    RegisterWidths {
         long_a: if bits & 0x20 == 0 { widths.long_a } else { on },
         long_i: if bits & 0x10 == 0 { widths.long_i } else { on },
     }
@@ -48,7 +48,7 @@ fn first_byte(bytes: &[u8]) -> u8
 
 /// The widths behind an instruction with constant bytes.
 #[tactic(auto, unfolding(list_meaning::specs::Listing::widths_following))]
-fn widths_after(widths: Widths, mnemonic: Mnemonic, operand: &[u8]) -> Widths
+fn widths_after(widths: RegisterWidths, mnemonic: Mnemonic, operand: &[u8]) -> RegisterWidths
     ensures { widths_view result ≡ widths_following mnemonic operand.now (widths_view widths) }
 {
     match mnemonic {
@@ -67,7 +67,7 @@ pub fn instruction_of(opcode: u8) -> (Mnemonic, Mode)
 
 /// How many bytes are after an opcode.
 #[tactic(auto, unfolding(asm_meaning::specs::Instruction::operand_bytes))]
-pub fn operand_size(widths: Widths, opcode: u8) -> usize
+pub fn operand_size(widths: RegisterWidths, opcode: u8) -> usize
     ensures size { result ≡ after_opcode (widths_view widths) opcode }
     ensures few { result ≤ 3 }
 {
@@ -76,7 +76,7 @@ pub fn operand_size(widths: Widths, opcode: u8) -> usize
 
 /// LONGA where its width changed.
 #[tactic(auto, using(list_lines::proofs::Written::wrote_one, list_lines::proofs::Written::wrote_none, list_lines::proofs::Written::long_one))]
-fn put_long_a(out: &mut Output, old: bool, new: bool) -> Result<(), LineStop>
+fn put_long_a(out: &mut ListingText, old: bool, new: bool) -> Result<(), LineStop>
     requires { open_line out.old ≡ [] }
     ensures wrote { OnOk result (WroteAll (turned_between LongA old new) out.old out.new) }
     ensures long { IsErrOf result LineStop.NotListable → list_all is_short (turned_between LongA old new) ≡ false }
@@ -89,7 +89,7 @@ fn put_long_a(out: &mut Output, old: bool, new: bool) -> Result<(), LineStop>
 
 /// LONGI where its width changed.
 #[tactic(auto, using(list_lines::proofs::Written::wrote_one, list_lines::proofs::Written::wrote_none, list_lines::proofs::Written::long_one))]
-fn put_long_i(out: &mut Output, old: bool, new: bool) -> Result<(), LineStop>
+fn put_long_i(out: &mut ListingText, old: bool, new: bool) -> Result<(), LineStop>
     requires { open_line out.old ≡ [] }
     ensures wrote { OnOk result (WroteAll (turned_between LongI old new) out.old out.new) }
     ensures long { IsErrOf result LineStop.NotListable → list_all is_short (turned_between LongI old new) ≡ false }
@@ -102,7 +102,11 @@ fn put_long_i(out: &mut Output, old: bool, new: bool) -> Result<(), LineStop>
 
 /// LONGA and LONGI where a width changed.
 #[tactic(auto, using(list_lines::proofs::Written::wrote_both, list_lines::proofs::Written::long_first, list_lines::proofs::Written::long_second))]
-fn put_turns(out: &mut Output, old: Widths, new: Widths) -> Result<(), LineStop>
+fn put_turns(
+    out: &mut ListingText,
+    old: RegisterWidths,
+    new: RegisterWidths,
+) -> Result<(), LineStop>
     requires { open_line out.old ≡ [] }
     ensures wrote { OnOk result (WroteAll (turns_between (widths_view old) (widths_view new)) out.old out.new) }
     ensures long { IsErrOf result LineStop.NotListable → list_all is_short (turns_between (widths_view old) (widths_view new)) ≡ false }
@@ -152,7 +156,11 @@ fn wanted_operand(mode: Mode, bytes: &[u8]) -> Option<Wanted<'static>>
 
 /// The line of a whole instruction.
 #[tactic(auto, using(list_lines::proofs::Written::wrote_one, list_lines::proofs::Written::long_one))]
-fn put_whole(out: &mut Output, found: (Mnemonic, Mode), instruction: &[u8]) -> Result<(), LineStop>
+fn put_whole(
+    out: &mut ListingText,
+    found: (Mnemonic, Mode),
+    instruction: &[u8],
+) -> Result<(), LineStop>
     requires line { open_line out.old ≡ [] }
     requires some { 1 ≤ length instruction.now }
     requires most { length instruction.now ≤ 4 }
@@ -169,10 +177,10 @@ fn put_whole(out: &mut Output, found: (Mnemonic, Mode), instruction: &[u8]) -> R
 /// The lines of an instruction of the rest of a run, which may be cut, and the widths behind it.
 #[tactic(auto, using(list_lines::proofs::Written::wrote_one, list_lines::proofs::Written::long_one, list_lines::proofs::Written::wrote_both, list_lines::proofs::Written::long_first, list_lines::proofs::Written::long_second), unfolding(list_meaning::specs::Listing::said_instruction))]
 fn list_instruction(
-    out: &mut Output,
-    widths: Widths,
+    out: &mut ListingText,
+    widths: RegisterWidths,
     instruction: &[u8],
-) -> Result<Widths, LineStop>
+) -> Result<RegisterWidths, LineStop>
     requires line { open_line out.old ≡ [] }
     requires some { 1 ≤ length instruction.now }
     requires most { length instruction.now ≤ after_opcode (widths_view widths) (get_or instruction.now 0 0) + 1 }
@@ -194,7 +202,7 @@ fn list_instruction(
 }
 
 /// The instruction at the start of a run, as far as the run has it.
-fn front_of(widths: Widths, run: &[u8]) -> &[u8]
+fn front_of(widths: RegisterWidths, run: &[u8]) -> &[u8]
     requires { 1 ≤ length run.now }
     ensures value { result.now ≡ take (after_opcode (widths_view widths) (get_or run.now 0 0) + 1) run.now }
     ensures some { 1 ≤ length result.now }
@@ -210,7 +218,11 @@ fn front_of(widths: Widths, run: &[u8]) -> &[u8]
 
 /// The lines of the rest of a run, and the widths behind it.
 #[tactic(auto, using(crate::proofs::RunLaws::on_step, crate::proofs::RunLaws::on_end, crate::proofs::RunLaws::on_long))]
-pub fn put_rest(out: &mut Output, widths: Widths, run: &[u8]) -> Result<Widths, LineStop>
+pub fn put_rest(
+    out: &mut ListingText,
+    widths: RegisterWidths,
+    run: &[u8],
+) -> Result<RegisterWidths, LineStop>
     requires { open_line out.old ≡ [] }
     ensures wrote { OnOk result (WroteAll (said_rest (widths_view widths) 0 run.now) out.old out.new) }
     ensures widths { IfOk result (λ w. widths_view w ≡ widths_rest (widths_view widths) 0 run.now) }
@@ -227,7 +239,7 @@ pub fn put_rest(out: &mut Output, widths: Widths, run: &[u8]) -> Result<Widths, 
 }
 
 /// The widths behind an instruction of the rest of a run, which may be cut.
-fn widths_after_front(widths: Widths, instruction: &[u8]) -> Widths
+fn widths_after_front(widths: RegisterWidths, instruction: &[u8]) -> RegisterWidths
     requires some { 1 ≤ length instruction.now }
     requires most { length instruction.now ≤ after_opcode (widths_view widths) (get_or instruction.now 0 0) + 1 }
     ensures { widths_view result ≡ widths_past (widths_view widths) (get_or instruction.now 0 0) (drop 1 instruction.now) }
@@ -241,7 +253,7 @@ fn widths_after_front(widths: Widths, instruction: &[u8]) -> Widths
 
 /// The widths behind the rest of a run.
 #[tactic(auto, using(crate::proofs::RunLaws::widths_on))]
-pub fn widths_following(widths: Widths, run: &[u8]) -> Widths
+pub fn widths_following(widths: RegisterWidths, run: &[u8]) -> RegisterWidths
     ensures { widths_view result ≡ widths_rest (widths_view widths) 0 run.now }
 {
     let mut widths = widths;

@@ -2,7 +2,7 @@
 
 ghost use Rattle.std.specs.Prelude.{◌≡◌, ◌<◌, ◌^◌, ◌∷◌, ◌++◌, [], ℕ, List, Err, Some, length, IfOk, IfErr, OnOk, OnErr, IsErrOf};
 ghost use Rattle.omf_format.specs.declared.fault.FileFault.{FileFault};
-ghost use Rattle.omf_format.specs.Header.{Fields};
+ghost use Rattle.omf_format.specs.Header.{HeaderFields};
 ghost use Rattle.omf_format.specs.Reading.{records_of, IsBody};
 ghost use Rattle.omf_header.specs.View.{fields};
 ghost use Rattle.omf_records.specs.View.{view};
@@ -19,7 +19,7 @@ ghost use Rattle.w65_list.specs.SourceView.{WroteRecords, WroteSegment, WroteFil
 
 use crate::front::put_front;
 use crate::records::PendingRun;
-use list_lines::{LineStop, Names, Output};
+use list_lines::{LineStop, ListingText, Names};
 use list_meaning::{ListCause, ListFault};
 use omf_header::Header;
 use omf_records::{FileCause, FileFault, Rec, Records, SegmentList, SegmentView, segments};
@@ -99,7 +99,7 @@ fn refusal_at(place: u32, stop: LineStop) -> Refusal
 /// The lines of records.
 fn put_records<'a>(
     alloc: Global,
-    out: &mut Output,
+    out: &mut ListingText,
     header: &Header,
     names: &Names,
     before: PendingRun<'a>,
@@ -129,7 +129,7 @@ fn put_records<'a>(
 }
 
 /// The lines of a segment.
-fn put_segment(alloc: Global, out: &mut Output, view: &SegmentView) -> Result<(), Refusal>
+fn put_segment(alloc: Global, out: &mut ListingText, view: &SegmentView) -> Result<(), Refusal>
     requires line { open_line out.old ≡ [] }
     requires sound { IsSound view.now }
     ensures wrote { OnOk result (WroteSegment (segment_of_view view.now) out.old out.new) }
@@ -180,12 +180,12 @@ fn file_fault(fault: FileFault) -> ListFault
 }
 
 /// The lines of all segments.
-fn put_file(alloc: Global, list: &SegmentList) -> Result<Output, ListFault>
+fn put_file(alloc: Global, list: &SegmentList) -> Result<ListingText, ListFault>
     ensures line { IfOk result (λ out. open_line out ≡ []) }
     ensures wrote { IfOk result (λ out. WroteFile list.now out) }
     ensures refused { IfErr result (λ fault. IsSegmentFault list.now fault) }
 {
-    let mut out = Output::new(alloc);
+    let mut out = ListingText::new(alloc);
     'segments: for place in 0..list.count() {
         match list.get(place + 1) {
             Some(view) => match put_segment(alloc, &mut out, view) {

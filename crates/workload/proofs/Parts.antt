@@ -10,7 +10,7 @@ use Rattle.omf_format.specs.Expression.{term_text}
 use Rattle.omf_format.specs.Header.{header_bytes}
 use Rattle.omf_format.specs.laws.WrittenHeaderLaws.{length-header}
 use Rattle.omf_format.specs.Record.{Record, End, Const, LongConst, Formula, spelling}
-use Rattle.asm_meaning.specs.State.{Ended}
+use Rattle.asm_meaning.specs.State.{FinishedSegment}
 use Rattle.asm_meaning.specs.Object.{records_text, segment_text, object_text}
 use Rattle.workload_meaning.specs.Draws.{next, draws, following}
 use Rattle.workload_meaning.specs.Object.{name_of, value_of, calls, main_segment, dynamic_segment, dynamic_segments, object}
@@ -181,7 +181,7 @@ segments_end n seed i x text left done = go left.more left.count left.parts left
 
 -- ---- the object's size
 
-segment_short : (e : Ended) → length e.header.load_name ≡ 10 → length e.header.name ≤ 10 → length (records_text e.body) ≤ 65536 → length (segment_text e) ≤ 65601
+segment_short : (e : FinishedSegment) → length e.header.load_name ≡ 10 → length e.header.name ≤ 10 → length (records_text e.body) ≤ 65536 → length (segment_text e) ≤ 65601
 unfolding segment_text
 segment_short e ten short small =
     let n = length (records_text e.body) in

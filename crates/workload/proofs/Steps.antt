@@ -18,7 +18,7 @@ use Rattle.loader_agrees.specs.Agrees.{Loaded, Agrees, Met, Meets, MeetsReads, R
 use Rattle.workload.specs.declared.rounds.RoundOutcome.{RoundOutcome}
 use Rattle.workload.specs.declared.rounds.RoundOutcome.TheVariants.{Refused as Fails}
 use Rattle.workload.specs.declared.rounds.Counts.{Counts}
-use Rattle.workload.specs.Store.{Held, seen}
+use Rattle.workload.specs.Store.{StoreContent, seen}
 use Rattle.workload_meaning.specs.Draws.{next, draws, following}
 use Rattle.workload.specs.Rounds.{banks, program, round_of, is_entered, is_refused}
 use Rattle.workload.specs.Work.{IsSum, HasWorked}
@@ -57,7 +57,7 @@ quiet_refused command fault E (Err short) old new none is meets = tt
 
 -- ---- a call that may read, over a store that tells its files and never fails
 
-module _ (command : Command) (old new : Loaded) (before now : Held) where
+module _ (command : Command) (old new : Loaded) (before now : StoreContent) where
   -- it is answered as by the machine, and reads what that needs
   abbrev Reading' : Reply → Type 0
   Reading' reply = (held : FileMap) (state : Machine) → (seen before).held ≡ Some held → Agrees held old state

@@ -3,7 +3,7 @@
 ghost use Rattle.std.specs.Prelude.{◌≡◌, ◌≤◌, [], MatchResult, OnOk, OnErr};
 ghost use Rattle.std.specs.FinMap as map;
 ghost use Rattle.omf_io.specs.Files.{HasRead, ReadFailed, HasWritten, WriteFailed};
-ghost use Rattle.workload.specs.Store.{Held, seen};
+ghost use Rattle.workload.specs.Store.{StoreContent, seen};
 
 use omf_io::{Files, MemoryFiles, ReadFault, WriteFault};
 use std::alloc::{AllocError, Global};
@@ -19,9 +19,9 @@ pub struct ReliableFiles {
 
 impl Model for ReliableFiles {
     ghost use Rattle.omf_io.specs.Calls.{IsReliable};
-    ghost use Rattle.workload.specs.Store.{Held, held_code};
+    ghost use Rattle.workload.specs.Store.{StoreContent, held_code};
 
-    ghost Value = { Held };
+    ghost Value = { StoreContent };
 
     ghost coded = { held_code };
 
@@ -33,7 +33,7 @@ impl Model for ReliableFiles {
 impl ReliableFiles {
     /// A store without files.
     pub fn new(alloc: Global) -> ReliableFiles
-        ensures { let made : Held = record { files = map.empty; asked = 0 } in result ≡ made }
+        ensures { let made : StoreContent = record { files = map.empty; asked = 0 } in result ≡ made }
     {
         ReliableFiles {
             files: MemoryFiles::new(alloc, Vec::new(alloc)),

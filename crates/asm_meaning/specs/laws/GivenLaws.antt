@@ -25,7 +25,7 @@ use Rattle.orca_meaning.specs.laws.TokenLaws.{token-shorter}
 use Rattle.asm_meaning.specs.declared.faults.AsmCause.TheVariants.{BadOperand, BadNumber}
 use Rattle.asm_meaning.specs.Answer.{Answer, pair_or_earlier_fault, all_of, with_first}
 use Rattle.asm_meaning.specs.Constant.{Constants, Amount, Known, Written, amount}
-use Rattle.asm_meaning.specs.Elements.{with_byte, text_at, IsList, Repeat, Value, Element, Kind, Number, Hexadecimal, Binary, Characters, References, WeakReferences, closed_at, kind_at, width_at, AreNames, IsValueAt, IsRepeatBy, after_parenthesis, IsElementAt, AreElements, count_of, number_piece, piece_of_number, weak_piece, strong_piece, value_pieces, element_pieces, list_pieces, joined_pieces}
+use Rattle.asm_meaning.specs.Elements.{with_byte, text_at, IsList, Repeat, ElementValue, Element, ElementType, Number, Hexadecimal, Binary, Characters, References, WeakReferences, closed_at, kind_at, width_at, AreNames, IsValueAt, IsRepeatBy, after_parenthesis, IsElementAt, AreElements, count_of, number_piece, piece_of_number, weak_piece, strong_piece, value_pieces, element_pieces, list_pieces, joined_pieces}
 use Rattle.asm_meaning.specs.Formulas.{AreFormulas, checked_formula, expression_text}
 use Rattle.asm_meaning.specs.Instruction.{Widths, modes_of_form, instruction}
 use Rattle.asm_meaning.specs.Pieces.{Piece}
@@ -254,7 +254,7 @@ weak_plain [] are = tt
 weak_plain (name ∷ names) are = (expr_plain 2 (expression_text (Leaf (Named 0x82 name))) refl (is_written (Leaf (Named 0x82 name)) (refl, are.0) (omega arith)), weak_plain names are.1)
 
 -- the width of a type of numbers
-abbrev pub IsWidth : Kind → Type 0
+abbrev pub IsWidth : ElementType → Type 0
 IsWidth (Number width) = IsTrue (is_count width)
 IsWidth Hexadecimal = Unit {0}
 IsWidth Binary = Unit {0}
@@ -262,7 +262,7 @@ IsWidth Characters = Unit {0}
 IsWidth References = Unit {0}
 IsWidth WeakReferences = Unit {0}
 
-abbrev IsWidthAt : Kind × List ℕ → Type 0
+abbrev IsWidthAt : ElementType × List ℕ → Type 0
 IsWidthAt x = IsWidth x.0
 
 width_is : (text : List ℕ) → IsWidthAt (width_at text)
@@ -278,11 +278,11 @@ width_is (digit ∷ following) = by_digit (leb 0x31 digit && leb digit 0x34) ref
     by_digit false is = refl
 
 -- a type that was found, and what stands after it
-abbrev IsFoundKind : ℕ → Found Kind → Type 0
+abbrev IsFoundKind : ℕ → Found ElementType → Type 0
 IsFoundKind size None = Unit {0}
 IsFoundKind size (Some x) = IsWidth x.0 × (length x.1 ≤ size)
 
-if_kind : (size : ℕ) (b : Bool) (x y : Found Kind) → IsFoundKind size x → IsFoundKind size y → IsFoundKind size (cond b x y)
+if_kind : (size : ℕ) (b : Bool) (x y : Found ElementType) → IsFoundKind size x → IsFoundKind size y → IsFoundKind size (cond b x y)
 if_kind size true x y p q = p
 if_kind size false x y p q = q
 
@@ -290,7 +290,7 @@ width-le : (text : List ℕ) → length (width_at text).1 ≤ length text
 width-le [] = omega arith
 width-le (digit ∷ following) = by_digit (leb 0x31 digit && leb digit 0x34)
   where
-    Shorter : Kind × List ℕ → Type 0
+    Shorter : ElementType × List ℕ → Type 0
     Shorter x = length x.1 ≤ length (digit ∷ following)
 
     by_digit : (b : Bool) → Shorter (cond b (Number (digit - 0x30), following) (Number 2, digit ∷ following))
@@ -310,7 +310,7 @@ kind_found (letter ∷ following) =
     if_kind n (eqb capital 0x52) (Some (References, following)) _ (tt, omega arith) (
     if_kind n (eqb capital 0x53) (Some (WeakReferences, following)) None (tt, omega arith) tt)))))
 
-pub kind_is : (text : List ℕ) (kind : Kind) (rest : List ℕ) → kind_at text ≡ Some (kind, rest) → IsWidth kind × (length rest ≤ length text)
+pub kind_is : (text : List ℕ) (kind : ElementType) (rest : List ℕ) → kind_at text ≡ Some (kind, rest) → IsWidth kind × (length rest ≤ length text)
 kind_is text kind rest e = subst (IsFoundKind (length text)) e (kind_found text)
 
 digits-le : (text : List ℕ) (n : ℕ) (rest : List ℕ) → digits_at 10 text ≡ Some (n, rest) → length rest ≤ length text
@@ -370,24 +370,24 @@ repeat-le None None text repeat rest o d is = omega (arith, ap length is.1)
 same_pieces : (a b : List Piece) → list a ≡ list b → a ≡ b
 same_pieces a b e = cc
 
-values_plain : (constants : Constants) (msb : Bool) (kind : Kind) (text : List ℕ) (value : Value) (rest : List ℕ) (pieces : List Piece) → AreSmall constants → length text ≤ 255 → IsWidth kind
+values_plain : (constants : Constants) (msb : Bool) (kind : ElementType) (text : List ℕ) (value : ElementValue) (rest : List ℕ) (pieces : List Piece) → AreSmall constants → length text ≤ 255 → IsWidth kind
     → IsValueAt kind text value rest → value_pieces constants msb value ≡ Ok pieces → ArePlainPieces pieces
 values_plain constants msb (Number width) text value rest pieces small short some is e =
     let inner = closed-le text is.0 rest is.2 in
-    let e' = subst (λ (v : Value). value_pieces constants msb v ≡ Ok pieces) is.4 e in
+    let e' = subst (λ (v : ElementValue). value_pieces constants msb v ≡ Ok pieces) is.4 e in
     all_of-gives IsOf IsPlainPiece (piece_of_number constants width) is.1 pieces (numbered_plain constants width small some) (formulas_of is.0 is.1 (omega (arith, inner, short)) is.3) e'
 values_plain constants msb Hexadecimal text value rest pieces small short some is e =
-    subst ArePlainPieces (same_pieces _ pieces (subst (λ (v : Value). value_pieces constants msb v ≡ Ok pieces) is.4 e)) (tt, tt)
+    subst ArePlainPieces (same_pieces _ pieces (subst (λ (v : ElementValue). value_pieces constants msb v ≡ Ok pieces) is.4 e)) (tt, tt)
 values_plain constants msb Binary text value rest pieces small short some is e =
-    subst ArePlainPieces (same_pieces _ pieces (subst (λ (v : Value). value_pieces constants msb v ≡ Ok pieces) is.4 e)) (tt, tt)
+    subst ArePlainPieces (same_pieces _ pieces (subst (λ (v : ElementValue). value_pieces constants msb v ≡ Ok pieces) is.4 e)) (tt, tt)
 values_plain constants msb Characters text value rest pieces small short some is e =
-    subst ArePlainPieces (same_pieces _ pieces (subst (λ (v : Value). value_pieces constants msb v ≡ Ok pieces) is.2 e)) (tt, tt)
+    subst ArePlainPieces (same_pieces _ pieces (subst (λ (v : ElementValue). value_pieces constants msb v ≡ Ok pieces) is.2 e)) (tt, tt)
 values_plain constants msb References text value rest pieces small short some is e =
     let inner = closed-le text is.0 rest is.2 in
-    subst ArePlainPieces (same_pieces _ pieces (subst (λ (v : Value). value_pieces constants msb v ≡ Ok pieces) is.4 e)) (strong_plain is.1 (names_length is.0 is.1 (omega (arith, inner, short)) is.3))
+    subst ArePlainPieces (same_pieces _ pieces (subst (λ (v : ElementValue). value_pieces constants msb v ≡ Ok pieces) is.4 e)) (strong_plain is.1 (names_length is.0 is.1 (omega (arith, inner, short)) is.3))
 values_plain constants msb WeakReferences text value rest pieces small short some is e =
     let inner = closed-le text is.0 rest is.2 in
-    subst ArePlainPieces (same_pieces _ pieces (subst (λ (v : Value). value_pieces constants msb v ≡ Ok pieces) is.4 e)) (weak_plain is.1 (names_length is.0 is.1 (omega (arith, inner, short)) is.3))
+    subst ArePlainPieces (same_pieces _ pieces (subst (λ (v : ElementValue). value_pieces constants msb v ≡ Ok pieces) is.4 e)) (weak_plain is.1 (names_length is.0 is.1 (omega (arith, inner, short)) is.3))
 
 -- an element of a text of at most 255 bytes
 record IsElementOf (element : Element) : Type 0 where
@@ -455,7 +455,7 @@ text_after (byte ∷ next ∷ following) =
     (after_if n (eqb next 0x27) (with_byte 0x27 (text_at following)) (Some ([], next ∷ following)) (after_more (length following + 1) n (with_byte 0x27 (text_at following)) (omega arith) first) (omega arith))
     (after_more (length (next ∷ following) + 1) n (with_byte byte (text_at (next ∷ following))) (omega arith) other)
 
-pub value-le : (kind : Kind) (text : List ℕ) (value : Value) (rest : List ℕ) → IsValueAt kind text value rest → length rest ≤ length text
+pub value-le : (kind : ElementType) (text : List ℕ) (value : ElementValue) (rest : List ℕ) → IsValueAt kind text value rest → length rest ≤ length text
 value-le (Number width) text value rest is = closed_rest-le text is.0 rest is.2
 value-le Hexadecimal text value rest is = closed_rest-le text is.0 rest is.2
 value-le Binary text value rest is = closed_rest-le text is.0 rest is.2

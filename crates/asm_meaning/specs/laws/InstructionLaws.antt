@@ -25,7 +25,7 @@ use Rattle.asm_meaning.specs.declared.faults.AsmCause.TheVariants.{DoesNotFit}
 use Rattle.asm_meaning.specs.Answer.{Answer, pair_or_earlier_fault}
 use Rattle.asm_meaning.specs.Constant.{Constants, Amount, Known, Written, amount, tree_of_amount}
 use Rattle.asm_meaning.specs.Formulas.{expression_text}
-use Rattle.asm_meaning.specs.Instruction.{Widths, operand_bytes, modes_of, Kind, Missing, Value, Address, Distance, Banks, Sign, kind_of, is_address, modes_of_form, address_code, is_long_jump, operand_record, with_right_shift, shift_in, with_tree, with_number, with_known, with_amount, without_amount, mode_of_number, mode_of_tree, or_fault, or_first, is_operand_of_width, is_distance, bank, bank_record, banks_written, block_move_pieces, given_by, in_modes}
+use Rattle.asm_meaning.specs.Instruction.{Widths, operand_bytes, modes_of, OperandKind, Missing, Value, Address, Distance, Banks, Sign, kind_of, is_address, modes_of_form, address_code, is_long_jump, operand_record, with_right_shift, shift_in, with_tree, with_number, with_known, with_amount, without_amount, mode_of_number, mode_of_tree, or_fault, or_first, is_operand_of_width, is_distance, bank, bank_record, banks_written, block_move_pieces, given_by, in_modes}
 use Rattle.asm_meaning.specs.Pieces.{Piece}
 use Rattle.asm_meaning.specs.laws.AmountLaws.{AreSmall, IsFineAmount, fine_amount, is_written, tree-placed}
 use Rattle.asm_meaning.specs.laws.PieceLaws.{IsPlain, ArePlainPieces}
@@ -182,7 +182,7 @@ address_plain mnemonic bytes count text some is = by_one (eqb bytes 1) (eqb byte
 count-le : (n : ℕ) → IsTrue (is_count n) → n ≤ 4
 count-le n is = leb-true n 4 (and_parts (leb 1 n) (leb n 4) is).1
 
-pub operand_plain : (mnemonic : Mnemonic) (kind : Kind) (width : ℕ) (t : Tree) → IsTrue (is_count width) → IsTree 0 t → depth t ≤ 64 → IsPlain (operand_record mnemonic kind width t)
+pub operand_plain : (mnemonic : Mnemonic) (kind : OperandKind) (width : ℕ) (t : Tree) → IsTrue (is_count width) → IsTree 0 t → depth t ≤ 64 → IsPlain (operand_record mnemonic kind width t)
 operand_plain mnemonic Missing width t some is shallow = expr_plain width (expression_text t) some (expression_fine t is shallow)
 operand_plain mnemonic Value width t some is shallow = expr_plain width (expression_text t) some (expression_fine t is shallow)
 operand_plain mnemonic (Address bytes) width t some is shallow = address_plain mnemonic bytes width (expression_text t) some (expression_fine t is shallow)

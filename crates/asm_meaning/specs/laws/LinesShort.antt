@@ -5,7 +5,7 @@ use Rattle.std.specs.List.{AllByRecursion}
 use Rattle.std.proofs.lemmas.Bool.{ltb-false}
 use Rattle.std.proofs.lemmas.List.{length-drop}
 use Rattle.omf_format.specs.Value.{signed}
-use Rattle.orca_meaning.specs.Line.{Line, Fields, part, is_comment, three_fields}
+use Rattle.orca_meaning.specs.Line.{Line, LineFields, part, is_comment, three_fields}
 use Rattle.macro_meaning.specs.declared.faults.MacroCause.{MacroCause}
 use Rattle.macro_meaning.specs.declared.faults.MacroCause.TheVariants.{BadSetting, LineTooLong, NoSuchSymbol, Noted}
 use Rattle.macro_meaning.specs.declared.statements.Kind.{Kind}
@@ -22,7 +22,7 @@ use Rattle.macro_meaning.specs.Expansion.{IsExpanded, program_of}
 use Rattle.macro_meaning.specs.Pieces.{pieces, unquoted_text}
 use Rattle.macro_meaning.specs.Statements.{sequence_name, symbol_name, target_name}
 use Rattle.macro_meaning.specs.Symbol.{Symbol, Symbols, Values, is_count, is_kind, is_declaration, declaration_of}
-use Rattle.macro_meaning.specs.Visit.{Program, Visit, Move, On, given_by, IsVisitOf, IsVisitAt, IsVisit, Follow, line_at, setting_of, most_visits, first_visit}
+use Rattle.macro_meaning.specs.Visit.{MacroProgram, Visit, Move, On, given_by, IsVisitOf, IsVisitAt, IsVisit, Follow, line_at, setting_of, most_visits, first_visit}
 use Rattle.asm_meaning.specs.laws.PieceLaws.{all-append}
 
 -- an effect gives a line of at most 255 bytes, or none
@@ -150,7 +150,7 @@ cut-le text = by_sequence (is_some (sequence_name label))
 short_effect : (s : SymbolSetting) (line : Line) (d : Effect) → IsEffect s line d → IsShortEffect d
 short_effect s line d is = by_comment (is_comment line.text) is
   where
-    by_statement : (text : List ℕ) (fields : Fields) (o : Option Statement) → length text ≤ 255 → IsDoneBy s text fields o d → IsShortEffect d
+    by_statement : (text : List ℕ) (fields : LineFields) (o : Option Statement) → length text ≤ 255 → IsDoneBy s text fields o d → IsShortEffect d
     by_statement text fields None short is = so d _ is (short_calls s.definitions s.root text _ (part text fields.label) (part text fields.operand) short)
     by_statement text fields (Some statement) short is = short_done s.values statement text (part text fields.label) (part text fields.operand) d short is
 
@@ -188,7 +188,7 @@ given_short line Exit is = tt
 given_short line (CallMacro place symbols) is = tt
 given_short line (Fail cause) is = tt
 
-visit_short : (program : Program) (before : List Visit) (v : Visit) (given : List Line) (move : Move) → IsVisit program before v given move → AreShortLines given
+visit_short : (program : MacroProgram) (before : List Visit) (v : Visit) (given : List Line) (move : Move) → IsVisit program before v given move → AreShortLines given
 visit_short program before v given move is = by_line (line_at program v.macro v.line) is
   where
     by_count : (line : Line) (b : Bool) → IsVisitOf program before v line b given move → AreShortLines given
@@ -199,7 +199,7 @@ visit_short program before v given move is = by_line (line_at program v.macro v.
     by_line None is = subst AreShortLines (sym is.0) tt
     by_line (Some line) is = by_count line (eqb (length before) most_visits) is
 
-follow_short : (program : Program) (before : List Visit) (v : Visit) (ws : List Visit) (given : List Line) (end : Move) → Follow program before v ws given end → AreShortLines given
+follow_short : (program : MacroProgram) (before : List Visit) (v : Visit) (ws : List Visit) (given : List Line) (end : Move) → Follow program before v ws given end → AreShortLines given
 follow_short program before v [] given end is = visit_short program before v given end is
 follow_short program before v (w ∷ ws) given end is =
     subst AreShortLines (sym is.3) (all-append (λ line. length line.text ≤ 255) is.0 is.1 (visit_short program before v is.0 (On w) is.2) (follow_short program (before ++ v ∷ []) w ws is.1 end is.4))

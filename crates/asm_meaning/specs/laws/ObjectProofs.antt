@@ -10,7 +10,7 @@ use Rattle.asm_meaning.specs.declared.faults.AsmCause.TheVariants.{Unclosed}
 use Rattle.asm_meaning.specs.declared.faults.AsmFault.{AsmFault}
 use Rattle.asm_meaning.specs.Answer.{Answer}
 use Rattle.asm_meaning.specs.Object.{object_text, AreSteps, HasLines, cause_of, HasBadLine, InExpansion, InLine, InSegment, InLength}
-use Rattle.asm_meaning.specs.State.{Segment, State, start}
+use Rattle.asm_meaning.specs.State.{StartedSegment, State, start}
 use Rattle.asm_meaning.specs.Statement.{IsStep}
 use Rattle.asm_meaning.specs.laws.StatementLaws.{step_once}
 use Rattle.asm_meaning.specs.ObjectLaws.{OneObject, NoFaultBeside, OneFirstFault}
@@ -110,7 +110,7 @@ no_bad_line source macros last line cause p q =
 pub one_object : OneObject
 one_object source macros a b p q = p.text ∙ ap (λ (s : State). object_text s.ended) (last_once source macros p.last q.last p.has q.has) ∙ sym q.text
 
-open_and_closed : (s : Segment) (o : Option Segment) → o ≡ None → o ≡ Some s → ⊥
+open_and_closed : (s : StartedSegment) (o : Option StartedSegment) → o ≡ None → o ≡ Some s → ⊥
 open_and_closed s o p q = let clash : None ≡ Some s = sym p ∙ q in absurd cc
 
 pub no_fault_beside' : NoFaultBeside
@@ -129,10 +129,10 @@ reported_expansion found = record { cause = cause_of found.cause; file = found.f
 reported_wrong : Wrong → AsmFault
 reported_wrong w = record { cause = w.cause; file = w.line.file; line = w.line.number }
 
-reported_open : Segment → AsmFault
+reported_open : StartedSegment → AsmFault
 reported_open s = record { cause = Unclosed; file = s.start_line.file; line = s.start_line.number }
 
-same_segment : (a b : Segment) (o : Option Segment) → o ≡ Some a → o ≡ Some b → a ≡ b
+same_segment : (a b : StartedSegment) (o : Option StartedSegment) → o ≡ Some a → o ≡ Some b → a ≡ b
 same_segment a b o p q = let both : Some a ≡ Some b = sym p ∙ q in cc
 
 -- lines that have all no fault, and an expansion with a fault

@@ -20,7 +20,7 @@ use Rattle.asm_meaning.specs.Constant.{amount, tree_of_amount}
 use Rattle.asm_meaning.specs.Formulas.{formula_of}
 use Rattle.asm_meaning.specs.Operations.{operation_of}
 use Rattle.asm_meaning.specs.Pieces.{place_after, length_at}
-use Rattle.asm_meaning.specs.State.{Segment, State, start, cells_of, state_after_start, state_after_end, local_of, with_records, with_local_record, in_segment, is_too_long, within_length, with_switch_set}
+use Rattle.asm_meaning.specs.State.{StartedSegment, State, start, cells_of, state_after_start, state_after_end, local_of, with_records, with_local_record, in_segment, is_too_long, within_length, with_switch_set}
 use Rattle.asm_meaning.specs.Statement.{is_misplaced, begins_segment, label_of, load_name_of, switch_of, constants_of, number_in, alignment_in, distance_in, listed_kind, state_after_align, state_after_org, with_kind, equate, with_equate, equating, equating_global, marking, IsDone, IsPlaced, IsKnown, IsStep}
 use Rattle.asm_meaning.specs.Object.{AreSteps}
 use Rattle.asm_meaning.specs.LabelLaws.{HasPut, IsWithin, AreWithin, HaveNoEnd, PlaceIsSum}
@@ -61,25 +61,25 @@ label_no_cells label at = omega arith
 -- ---- what a statement does to the open segment
 
 -- the segment is left open, with this put at its end, and its cells grow by the statement's length
-record WithinAs (Put : List ℕ → Segment → Segment → ℕ → Type 0) (s : Segment) (label : Answer (List ℕ)) (next : State) : Type 0 where
+record WithinAs (Put : List ℕ → StartedSegment → StartedSegment → ℕ → Type 0) (s : StartedSegment) (label : Answer (List ℕ)) (next : State) : Type 0 where
   name : List ℕ
   is_name : label ≡ Ok name
-  t : Segment
+  t : StartedSegment
   open' : next.segment ≡ Some t
   size : ℕ
   puts : Put name s t size
   cells : cells_of t ≡ cells_of s + size
 
 -- what most statements put there
-abbrev Records : List ℕ → Segment → Segment → ℕ → Type 0
+abbrev Records : List ℕ → StartedSegment → StartedSegment → ℕ → Type 0
 Records label s t size =
     (form : ℕ) × (contents : List Record) × (t.body ≡ s.body ++ (local_of label form size ++ contents)) × (size ≡ length_at (cells_of s) contents)
 
-changed_open : (change : Segment → Segment) (state : State) (s : Segment) → state.segment ≡ Some s → (in_segment change state).segment ≡ Some (change s)
+changed_open : (change : StartedSegment → StartedSegment) (state : State) (s : StartedSegment) → state.segment ≡ Some s → (in_segment change state).segment ≡ Some (change s)
 changed_open change state s there = ap (option_map change) there
 
 -- a statement that changes the segment by its label and by what its operand gives
-changed : {A : Type 0} (Put : List ℕ → Segment → Segment → ℕ → Type 0) (state next : State) (s : Segment) (label : Answer (List ℕ)) (given : Answer A) (change : List ℕ → A → Segment → Segment) (size : List ℕ → A → ℕ)
+changed : {A : Type 0} (Put : List ℕ → StartedSegment → StartedSegment → ℕ → Type 0) (state next : State) (s : StartedSegment) (label : Answer (List ℕ)) (given : Answer A) (change : List ℕ → A → StartedSegment → StartedSegment) (size : List ℕ → A → ℕ)
     → state.segment ≡ Some s → ((name : List ℕ) (a : A) → Put name s (change name a s) (size name a)) → ((name : List ℕ) (a : A) → cells_of (change name a s) ≡ cells_of s + size name a)
     → (pair_or_earlier_fault label given >>= λ (name, a). okay (in_segment (change name a) state)) ≡ Ok next → WithinAs Put s label next
 changed Put state next s label given change size there puts cells e =
@@ -97,18 +97,18 @@ changed Put state next s label given change size there puts cells e =
     }
 
 -- one that has records
-recorded : (form : ℕ) (contents : List Record) (s : Segment) (name : List ℕ) → Records name s (with_local_record name form contents s) (length_at (cells_of s) contents)
+recorded : (form : ℕ) (contents : List Record) (s : StartedSegment) (name : List ℕ) → Records name s (with_local_record name form contents s) (length_at (cells_of s) contents)
 recorded form contents s name = (form, contents, refl, refl)
 
-marks : (state next : State) (s : Segment) (form : ℕ) (label : Answer (List ℕ)) (contents : Answer (List Record)) → state.segment ≡ Some s → marking state form label contents ≡ Ok next
+marks : (state next : State) (s : StartedSegment) (form : ℕ) (label : Answer (List ℕ)) (contents : Answer (List Record)) → state.segment ≡ Some s → marking state form label contents ≡ Ok next
     → WithinAs Records s label next
 marks state next s form label contents there e =
     changed Records state next s label contents (λ name found. with_local_record name form found) (λ name found. length_at (cells_of s) found) there
     (λ name found. recorded form found s name) (λ name found. lengths_add name form found s) e
 
 -- EQU and GEQU
-equates : (Put : List ℕ → Segment → Segment → ℕ → Type 0) (state next : State) (s : Segment) (global : Bool) (label : Answer (List ℕ)) (found : Option Tree) → state.segment ≡ Some s
-    → ((name : List ℕ) (t : Segment) (tree : Tree) → t.body ≡ s.body ++ equate global name tree ∷ [] → Put name s t 0)
+equates : (Put : List ℕ → StartedSegment → StartedSegment → ℕ → Type 0) (state next : State) (s : StartedSegment) (global : Bool) (label : Answer (List ℕ)) (found : Option Tree) → state.segment ≡ Some s
+    → ((name : List ℕ) (t : StartedSegment) (tree : Tree) → t.body ≡ s.body ++ equate global name tree ∷ [] → Put name s t 0)
     → equating state global label found ≡ Ok next → WithinAs Put s label next
 equates Put state next s global label found there puts e =
     changed Put state next s label (formula_of found >>= amount (constants_of state)) (λ name a. with_equate global name a) (λ name a. 0) there
@@ -120,10 +120,10 @@ turned_open LongA on state = refl
 turned_open LongI on state = refl
 turned_open Msb on state = refl
 
-abbrev Within : Operation → Segment → Answer (List ℕ) → State → Type 0
+abbrev Within : Operation → StartedSegment → Answer (List ℕ) → State → Type 0
 Within operation s label next = WithinAs (HasPut operation) s label next
 
-done_within : (state next : State) (s : Segment) (line : Line) (operation : Operation) (label : Answer (List ℕ)) (text : List ℕ) → state.segment ≡ Some s → begins_segment operation ≡ false
+done_within : (state next : State) (s : StartedSegment) (line : Line) (operation : Operation) (label : Answer (List ℕ)) (text : List ℕ) → state.segment ≡ Some s → begins_segment operation ≡ false
     → (operation ≡ Direct directives.End → ⊥) → IsDone state line operation label text (Ok next) → Within operation s label next
 unfolding IsDone
 done_within state next s line (Instruct m) label text there inside goes done = marks state next s 0x4D label _ there (sym done.2)
@@ -131,7 +131,7 @@ done_within state next s line (Direct (directives.Begin class)) label text there
 done_within state next s line (Direct directives.End) label text there inside goes done = absurd (goes refl)
 done_within state next s line (Direct directives.Entry) label text there inside goes done =
     let all = bind_ok label (λ name. okay (in_segment (with_records name None (Label true name 0 0x4E 0 ∷ []) []) state)) next (sym done) in
-    let change : Segment → Segment = with_records all.0 None (Label true all.0 0 0x4E 0 ∷ []) [] in
+    let change : StartedSegment → StartedSegment = with_records all.0 None (Label true all.0 0 0x4E 0 ∷ []) [] in
     record {
       name = all.0;
       is_name = all.1;
@@ -146,7 +146,7 @@ done_within state next s line (Direct directives.Equ) label text there inside go
     equates (HasPut (Direct directives.Equ)) state next s false label done.0 there (λ name t tree e. (tree, e, refl)) (sym done.2)
 done_within state next s line (Direct directives.Gequ) label text there inside goes done =
     equates (HasPut (Direct directives.Gequ)) state next s true label done.0 there (λ name t tree e. (tree, e, refl))
-    (subst (λ (o : Option Segment). equating_global state o label done.0 ≡ Ok next) there (sym done.2))
+    (subst (λ (o : Option StartedSegment). equating_global state o label done.0 ≡ Ok next) there (sym done.2))
 done_within state next s line (Direct directives.Constants) label text there inside goes done = marks state next s 0x4E label _ there (sym done.2)
 done_within state next s line (Direct directives.Space) label text there inside goes done =
     changed Records state next s label (number_in state done.0) (λ name n. with_local_record name 0x4E (Space n ∷ [])) (λ name n. length_at (cells_of s) (Space n ∷ [])) there
@@ -154,18 +154,18 @@ done_within state next s line (Direct directives.Space) label text there inside 
 done_within state next s line (Direct directives.Align) label text there inside goes done =
     changed Records state next s label (number_in state done.0 >>= alignment_in state) (λ name n. with_local_record name 0x4E (Align n ∷ [])) (λ name n. length_at (cells_of s) (Align n ∷ [])) there
     (λ name n. recorded 0x4E (Align n ∷ []) s name) (λ name n. lengths_add name 0x4E (Align n ∷ []) s)
-    (subst (λ (o : Option Segment). (pair_or_earlier_fault label (number_in state done.0 >>= alignment_in state) >>= λ (name, n). okay (state_after_align state o name n)) ≡ Ok next) there (sym done.2))
+    (subst (λ (o : Option StartedSegment). (pair_or_earlier_fault label (number_in state done.0 >>= alignment_in state) >>= λ (name, n). okay (state_after_align state o name n)) ≡ Ok next) there (sym done.2))
 done_within state next s line (Direct directives.Org) label text there inside goes done =
     changed Records state next s label (number_in state done.0 >>= distance_in state.segment) (λ name n. with_local_record name 0x4E (Org n ∷ [])) (λ name n. length_at (cells_of s) (Org n ∷ [])) there
     (λ name n. recorded 0x4E (Org n ∷ []) s name) (λ name n. lengths_add name 0x4E (Org n ∷ []) s)
-    (subst (λ (o : Option Segment). (pair_or_earlier_fault label (number_in state done.0 >>= distance_in state.segment) >>= λ (name, n). okay (state_after_org state o name n)) ≡ Ok next) there (sym done.2))
+    (subst (λ (o : Option StartedSegment). (pair_or_earlier_fault label (number_in state done.0 >>= distance_in state.segment) >>= λ (name, n). okay (state_after_org state o name n)) ≡ Ok next) there (sym done.2))
 done_within state next s line (Direct directives.Kind) label text there inside goes done =
     changed Records state next s label (number_in state done.0 >>= listed_kind) (λ name n. λ x. with_kind n (with_local_record name 0x4E [] x)) (λ name n. length_at (cells_of s) []) there
     (λ name n. (0x4E, [], refl, refl)) (λ name n. lengths_add name 0x4E [] s) (sym done.2)
 done_within state next s line (Direct (directives.Turn switch)) label text there inside goes done =
     let all = bind_ok (pair_or_earlier_fault label (switch_of text)) _ next (sym done) in
     let parts = both_ok label (switch_of text) all.0 all.1 in
-    let change : Segment → Segment = with_local_record all.0.0 0x4E [] in
+    let change : StartedSegment → StartedSegment = with_local_record all.0.0 0x4E [] in
     let same : with_switch_set switch all.0.1 (in_segment change state) ≡ next = same_okay _ next all.2 in
     record {
       name = all.0.0;
@@ -180,8 +180,8 @@ done_within state next s line (Direct directives.Nothing) label text there insid
 done_within state next s line (Direct directives.Ignored) label text there inside goes done = marks state next s 0x4E label (okay []) there (sym done)
 
 -- a line in an open segment that isn't END
-step_within : (state next : State) (s : Segment) (line : Line) → state.segment ≡ Some s → (operation_of (part line.text line.fields.operation) ≢ Some (Direct directives.End)) → IsStep state line (Ok next)
-    → (n : ℕ) × (t : Segment) × IsWithin state s line n next t × (cells_of t ≡ cells_of s + n)
+step_within : (state next : State) (s : StartedSegment) (line : Line) → state.segment ≡ Some s → (operation_of (part line.text line.fields.operation) ≢ Some (Direct directives.End)) → IsStep state line (Ok next)
+    → (n : ℕ) × (t : StartedSegment) × IsWithin state s line n next t × (cells_of t ≡ cells_of s + n)
 step_within state next s line there goes step = by_operation (operation_of (part line.text line.fields.operation)) refl step
   where
     label : List ℕ
@@ -191,7 +191,7 @@ step_within state next s line there goes step = by_operation (operation_of (part
     operand = part line.text line.fields.operand
 
     by_place : (operation : Operation) (misplaced : Bool) → operation_of (part line.text line.fields.operation) ≡ Some operation → begins_segment operation ≡ misplaced
-        → IsPlaced state line operation label operand misplaced (Ok next) → (n : ℕ) × (t : Segment) × IsWithin state s line n next t × (cells_of t ≡ cells_of s + n)
+        → IsPlaced state line operation label operand misplaced (Ok next) → (n : ℕ) × (t : StartedSegment) × IsWithin state s line n next t × (cells_of t ≡ cells_of s + n)
     by_place operation true is_operation misplaced is = absurd cc
     by_place operation false is_operation misplaced is =
         let left = bind_ok is.0 within_length next (sym is.2) in
@@ -202,21 +202,21 @@ step_within state next s line there goes step = by_operation (operation_of (part
         (w.size, w.t, record { step = step; operation = operation; is_operation = is_operation; label = w.name; is_label = w.is_name; open' = w.open'; puts = w.puts }, w.cells)
 
     by_operation : (o : Option Operation) → operation_of (part line.text line.fields.operation) ≡ o → IsKnown state line o label operand (Ok next)
-        → (n : ℕ) × (t : Segment) × IsWithin state s line n next t × (cells_of t ≡ cells_of s + n)
+        → (n : ℕ) × (t : StartedSegment) × IsWithin state s line n next t × (cells_of t ≡ cells_of s + n)
     by_operation None is_operation is = absurd cc
     by_operation (Some operation) is_operation is =
         by_place operation (begins_segment operation) is_operation refl
-        (subst (λ (o : Option Segment). IsPlaced state line operation label operand (is_misplaced o operation label operand) (Ok next)) there is)
+        (subst (λ (o : Option StartedSegment). IsPlaced state line operation label operand (is_misplaced o operation label operand) (Ok next)) there is)
 
 -- what lines of one segment leave, with their lengths
-record Added (state : State) (s : Segment) (lines : List Line) (last : State) : Type 0 where
+record Added (state : State) (s : StartedSegment) (lines : List Line) (last : State) : Type 0 where
   sizes : List ℕ
-  t : Segment
+  t : StartedSegment
   within : AreWithin state s lines sizes last t
   open' : last.segment ≡ Some t
   cells : cells_of t ≡ cells_of s + sum sizes
 
-lines_within : (state last : State) (s : Segment) (lines : List Line) → state.segment ≡ Some s → AreSteps state lines last → HaveNoEnd lines → Added state s lines last
+lines_within : (state last : State) (s : StartedSegment) (lines : List Line) → state.segment ≡ Some s → AreSteps state lines last → HaveNoEnd lines → Added state s lines last
 lines_within state last s [] there steps go =
     record { sizes = []; t = s; within = (steps, refl); open' = sym (ap (λ (x : State). x.segment) steps) ∙ there; cells = omega arith }
 lines_within state last s (line ∷ lines) there steps go =
@@ -245,11 +245,11 @@ begun_none : (state : State) (line : Line) (class : Class) (name load_name : Lis
 unfolding place_after
 begun_none state line class name load_name = refl
 
-aligned_none : (state : State) (o : Option Segment) (name : List ℕ) (n : ℕ) → NoCells state → NoCells (state_after_align state o name n)
+aligned_none : (state : State) (o : Option StartedSegment) (name : List ℕ) (n : ℕ) → NoCells state → NoCells (state_after_align state o name n)
 aligned_none state None name n none = none
 aligned_none state (Some s) name n none = none
 
-moved_none : (state : State) (o : Option Segment) (name : List ℕ) (n : ℕ) → NoCells state → NoCells (state_after_org state o name n)
+moved_none : (state : State) (o : Option StartedSegment) (name : List ℕ) (n : ℕ) → NoCells state → NoCells (state_after_org state o name n)
 moved_none state None name n none = none
 moved_none state (Some s) name n none = none
 
@@ -262,7 +262,7 @@ equating_none : (state next : State) (global : Bool) (label : Answer (List ℕ))
 equating_none state next global label found none e =
     made_none next label (formula_of found >>= amount (constants_of state)) (λ name a. in_segment (with_equate global name a) state) (λ name a. none) e
 
-global_none : (state next : State) (o : Option Segment) (label : Answer (List ℕ)) (found : Option Tree) → NoCells state → equating_global state o label found ≡ Ok next → NoCells next
+global_none : (state next : State) (o : Option StartedSegment) (label : Answer (List ℕ)) (found : Option Tree) → NoCells state → equating_global state o label found ≡ Ok next → NoCells next
 global_none state next None label found none e =
     made_none next label (number_in state found) _
     (λ name n. no_cells state.front (equate true name (Leaf (Constant n))) (equate_no_cells true name (Leaf (Constant n))) ∙ none) e
@@ -340,7 +340,7 @@ same_operation a b e = cc
 
 -- a segment begins without cells
 begins_empty : (state next : State) (line : Line) (class : Class) → NoCells state → operation_of (part line.text line.fields.operation) ≡ Some (Direct (directives.Begin class)) → IsStep state line (Ok next)
-    → (s : Segment) × (next.segment ≡ Some s) × (cells_of s ≡ 0)
+    → (s : StartedSegment) × (next.segment ≡ Some s) × (cells_of s ≡ 0)
 unfolding IsDone
 begins_empty state next line class none opens step =
     let done = done_of state next line step in
@@ -351,7 +351,7 @@ begins_empty state next line class none opens step =
     let all = bind_ok (pair_or_earlier_fault (label_of state (Direct (directives.Begin class)) label) (load_name_of operand)) _ next (sym begins) in
     (made state.front all.0.0 all.0.1, sym (ap (λ (x : State). x.segment) (same_okay (state_after_start state line class all.0.0 all.0.1) next all.2)), none)
   where
-    made : List Record → List ℕ → List ℕ → Segment
+    made : List Record → List ℕ → List ℕ → StartedSegment
     made front name load_name = record {
       start_line = line;
       class = class;

@@ -4,7 +4,7 @@ use Rattle.std.proofs.Common.{◌≡◌, ℕ, ◌+◌, ◌^◌, ◌<◌, ◌≤�
 use Rattle.std.specs.Prelude.{bytes_eq}
 use Rattle.std.specs.List.{AllByRecursion}
 use Rattle.std.specs.Option.{option_map}
-use Rattle.omf_format.specs.Header.{Fields, is_listed, form_of}
+use Rattle.omf_format.specs.Header.{HeaderFields, is_listed, form_of}
 use Rattle.omf_format.specs.Record.{Record, End, Label}
 use Rattle.orca_meaning.specs.Line.{Line}
 use Rattle.macro_meaning.specs.Symbol.{with_name}
@@ -13,7 +13,7 @@ use Rattle.asm_meaning.specs.declared.directives.Class.TheVariants.{Code, Privat
 use Rattle.asm_meaning.specs.declared.directives.Switch.{Switch}
 use Rattle.asm_meaning.specs.declared.directives.Switch.TheVariants.{LongA, LongI, Msb}
 use Rattle.asm_meaning.specs.Pieces.{place_after, length_at}
-use Rattle.asm_meaning.specs.State.{Names, Segment, Ended, State, start, no_names, cells_of, kind_of, bank_size_of, header_of, state_after_start, ended_of, state_after_end, with_label, local_of, with_records, with_local_record, in_segment, with_switch_set}
+use Rattle.asm_meaning.specs.State.{Names, StartedSegment, FinishedSegment, State, start, no_names, cells_of, kind_of, bank_size_of, header_of, state_after_start, ended_of, state_after_end, with_label, local_of, with_records, with_local_record, in_segment, with_switch_set}
 use Rattle.asm_meaning.specs.laws.AmountLaws.{AreSmall}
 use Rattle.asm_meaning.specs.laws.PieceLaws.{IsPlain, ArePlain, all-append, place_after-append}
 use Rattle.asm_meaning.specs.laws.GivenLaws.{IsNameLength}
@@ -21,7 +21,7 @@ use Rattle.asm_meaning.specs.laws.GivenLaws.{IsNameLength}
 -- ---- what is sound
 
 -- a header's fields, as they are before its END
-pub record IsSoundHeader (f : Fields) : Type 0 where
+pub record IsSoundHeader (f : HeaderFields) : Type 0 where
   pub version : f.version ≡ 2
   pub res_spc : f.res_spc ≡ 0
   pub entry : f.entry ≡ 0
@@ -38,13 +38,13 @@ pub record IsSoundHeader (f : Fields) : Type 0 where
 abbrev pub HaveSmall : Names → Type 0
 HaveSmall names = (name : List ℕ) (n : ℕ) → names name ≡ Some (Some n) → n < 2 ^ 32
 
-pub record IsSoundSegment (s : Segment) : Type 0 where
+pub record IsSoundSegment (s : StartedSegment) : Type 0 where
   pub header : IsSoundHeader s.header
   pub names : HaveSmall s.names
   pub body : ArePlain s.body
 
 -- its records are plain up to END, LENGTH is the number of its cells, and it isn't too long
-pub record IsSoundEnded (e : Ended) : Type 0 where
+pub record IsSoundEnded (e : FinishedSegment) : Type 0 where
   pub header : IsSoundHeader e.header
   pub inner : List Record
   pub body : e.body ≡ inner ++ End ∷ []
@@ -52,7 +52,7 @@ pub record IsSoundEnded (e : Ended) : Type 0 where
   pub length' : e.header.length ≡ place_after 0 e.body
   pub short : e.header.length ≤ 0xFFFFFF
 
-abbrev pub InSegment : (Segment → Type 0) → Option Segment → Type 0
+abbrev pub InSegment : (StartedSegment → Type 0) → Option StartedSegment → Type 0
 InSegment P None = Unit {0}
 InSegment P (Some s) = P s
 
@@ -109,7 +109,7 @@ no_number = None
 no_value : (n : ℕ) → no_number ≡ Some n → n < 2 ^ 32
 no_value n e = absurd cc
 
-pub grown_sound : (label : List ℕ) (value : Option ℕ) (front contents : List Record) (s : Segment) → IsSoundSegment s → ((n : ℕ) → value ≡ Some n → n < 2 ^ 32) → ArePlain front → ArePlain contents
+pub grown_sound : (label : List ℕ) (value : Option ℕ) (front contents : List Record) (s : StartedSegment) → IsSoundSegment s → ((n : ℕ) → value ≡ Some n → n < 2 ^ 32) → ArePlain front → ArePlain contents
     → IsSoundSegment (with_records label value front contents s)
 grown_sound label value front contents s sound fits p q = record {
   header = sound.header;
@@ -117,12 +117,12 @@ grown_sound label value front contents s sound fits p q = record {
   body = all-append IsPlain s.body (front ++ contents) sound.body (all-append IsPlain front contents p q);
 }
 
-pub marked_sound : (label : List ℕ) (form : ℕ) (contents : List Record) (s : Segment) → IsSoundSegment s → IsLabelText label → form < 2 ^ 8 → ArePlain contents → IsSoundSegment (with_local_record label form contents s)
+pub marked_sound : (label : List ℕ) (form : ℕ) (contents : List Record) (s : StartedSegment) → IsSoundSegment s → IsLabelText label → form < 2 ^ 8 → ArePlain contents → IsSoundSegment (with_local_record label form contents s)
 marked_sound label form contents s sound is fits plain =
     grown_sound label None (local_of label form (length_at (cells_of s) contents)) contents s sound no_value (local_plain label form (length_at (cells_of s) contents) is fits) plain
 
 -- a change of the open segment
-pub change_sound : (change : Segment → Segment) (state : State) → IsSound state → ((s : Segment) → IsSoundSegment s → IsSoundSegment (change s)) → IsSound (in_segment change state)
+pub change_sound : (change : StartedSegment → StartedSegment) (state : State) → IsSound state → ((s : StartedSegment) → IsSoundSegment s → IsSoundSegment (change s)) → IsSound (in_segment change state)
 change_sound change state sound keeps = record {
   outside = sound.outside;
   org = sound.org;
@@ -132,7 +132,7 @@ change_sound change state sound keeps = record {
   ended = sound.ended;
 }
   where
-    by_segment : (o : Option Segment) → InSegment IsSoundSegment o → InSegment IsSoundSegment (option_map change o)
+    by_segment : (o : Option StartedSegment) → InSegment IsSoundSegment o → InSegment IsSoundSegment (option_map change o)
     by_segment None is = tt
     by_segment (Some s) is = keeps s is
 
@@ -215,7 +215,7 @@ ends_sound label state sound short is = record {
   ended = all-append IsSoundEnded state.ended (ended_of (option_map (with_local_record label 0x4E (End ∷ [])) state.segment)) sound.ended (by_segment state.segment sound.segment short);
 }
   where
-    by_segment : (o : Option Segment) → InSegment IsSoundSegment o → InSegment (λ s. cells_of s ≤ 0xFFFFFF) o → AllByRecursion IsSoundEnded (ended_of (option_map (with_local_record label 0x4E (End ∷ [])) o))
+    by_segment : (o : Option StartedSegment) → InSegment IsSoundSegment o → InSegment (λ s. cells_of s ≤ 0xFFFFFF) o → AllByRecursion IsSoundEnded (ended_of (option_map (with_local_record label 0x4E (End ∷ [])) o))
     by_segment None p q = tt
     by_segment (Some s) p q =
         let local = local_of label 0x4E (length_at (cells_of s) (End ∷ [])) in

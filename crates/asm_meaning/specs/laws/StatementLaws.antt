@@ -12,14 +12,14 @@ use Rattle.orca_meaning.specs.laws.OperandLaws.{one_operand}
 use Rattle.orca_meaning.specs.Token.{digits_at, name_at, Found}
 use Rattle.asm_meaning.specs.declared.directives.Directive.TheVariants as directives
 use Rattle.asm_meaning.specs.Answer.{Answer}
-use Rattle.asm_meaning.specs.Elements.{Repeat, Computed, Value, Numbers, Fixed, Text, Asked, Weak, Element, Kind, Number, Hexadecimal, Binary, Characters, References, WeakReferences, closed_at, text_at, bytes_of_digits, kind_at, AreNames, IsValueAt, after_parenthesis, IsRepeatBy, IsElementAt, AreElements, IsList, list_pieces}
+use Rattle.asm_meaning.specs.Elements.{Repeat, Computed, ElementValue, Numbers, Fixed, Text, Asked, Weak, Element, ElementType, Number, Hexadecimal, Binary, Characters, References, WeakReferences, closed_at, text_at, bytes_of_digits, kind_at, AreNames, IsValueAt, after_parenthesis, IsRepeatBy, IsElementAt, AreElements, IsList, list_pieces}
 use Rattle.asm_meaning.specs.Formulas.{IsFormula, AreFormulas}
 use Rattle.asm_meaning.specs.Instruction.{instruction}
 use Rattle.asm_meaning.specs.declared.directives.Operation.{Operation}
 use Rattle.asm_meaning.specs.declared.directives.Operation.TheVariants.{Instruct, Direct}
 use Rattle.asm_meaning.specs.Operations.{operation_of}
 use Rattle.asm_meaning.specs.Pieces.{records_of}
-use Rattle.asm_meaning.specs.State.{Segment, State, within_length}
+use Rattle.asm_meaning.specs.State.{StartedSegment, State, within_length}
 use Rattle.asm_meaning.specs.Statement.{following_here, IsOperandOf, Good, Bad, Large, constants_of, IsMoveText, IsMove, marking, equating, equating_global, spacing, align_state, moving, kinding, IsDone, IsPlaced, IsKnown, IsStep, label_of, is_misplaced}
 
 -- ---- found at a front
@@ -99,10 +99,10 @@ names_once text (x ∷ z ∷ xs) (y ∷ w ∷ ys) p q =
     ap (λ (n : List ℕ). n ∷ (z ∷ xs)) first.0 ∙ ap (λ (ns : List (List ℕ)). y ∷ ns) rest
 
 -- a value of one type, and what stands after it
-abbrev pub SameValue : Value → Value → List ℕ → List ℕ → Type 0
+abbrev pub SameValue : ElementValue → ElementValue → List ℕ → List ℕ → Type 0
 SameValue v w r s = (v ≡ w) × (r ≡ s)
 
-pub value_once : (kind : Kind) (text : List ℕ) (v w : Value) (r s : List ℕ) → IsValueAt kind text v r → IsValueAt kind text w s → SameValue v w r s
+pub value_once : (kind : ElementType) (text : List ℕ) (v w : ElementValue) (r s : List ℕ) → IsValueAt kind text v r → IsValueAt kind text w s → SameValue v w r s
 value_once (Number width) text v w r s p q =
     let inner = same_found (closed_at text) p.0 q.0 r s p.2 q.2 in
     let trees = formulas_once p.0 p.1 q.1 p.3 (subst (λ (t : List ℕ). AreFormulas t q.1) (sym inner.0) q.3) in
@@ -137,7 +137,7 @@ repeat_once (Some following) digits text v w r s p q =
 repeat_once None (Some found) text v w r s p q = (p.0 ∙ sym q.0, p.1 ∙ sym q.1)
 repeat_once None None text v w r s p q = (p.0 ∙ sym q.0, p.1 ∙ sym q.1)
 
-made : Repeat → Value → Element
+made : Repeat → ElementValue → Element
 made repeat value = record { repeat = repeat; value = value }
 
 pub element_once : (text : List ℕ) (a b : Element) (r s : List ℕ) → IsElementAt text a r → IsElementAt text b s → (a ≡ b) × (r ≡ s)
@@ -147,9 +147,9 @@ element_once text a b r s p q =
     let kind = same_found (kind_at p.after_repeat) p.kind q.kind (0x27 ∷ p.after_quote) (0x27 ∷ q.after_quote) p.of_kind
     (subst (λ (t : List ℕ). kind_at t ≡ Some (q.kind, 0x27 ∷ q.after_quote)) (sym repeat.1) q.of_kind) in
     let following : p.after_quote ≡ q.after_quote = same_after 0x27 p.after_quote q.after_quote kind.1 in
-    let there = subst (λ (t : List ℕ). IsValueAt p.kind t b.value s) (sym following) (subst (λ (k : Kind). IsValueAt k q.after_quote b.value s) (sym kind.0) q.value) in
+    let there = subst (λ (t : List ℕ). IsValueAt p.kind t b.value s) (sym following) (subst (λ (k : ElementType). IsValueAt k q.after_quote b.value s) (sym kind.0) q.value) in
     let value = value_once p.kind p.after_quote a.value b.value r s p.value there in
-    (ap (λ (x : Repeat). made x a.value) repeat.0 ∙ ap (λ (x : Value). made b.repeat x) value.0, value.1)
+    (ap (λ (x : Repeat). made x a.value) repeat.0 ∙ ap (λ (x : ElementValue). made b.repeat x) value.0, value.1)
 
 pub elements_once : (text : List ℕ) (a b : List Element) → AreElements text a → AreElements text b → a ≡ b
 elements_once text [] b p q = absurd p
@@ -171,7 +171,7 @@ list_once text (Some x) (Some y) p q = ap (λ (e : List Element). Some e) (eleme
 
 -- ---- statements
 
-move_once : (o : Option Segment) (text : List ℕ) (a b : Option Tree) → IsMove o text a → IsMove o text b → a ≡ b
+move_once : (o : Option StartedSegment) (text : List ℕ) (a b : Option Tree) → IsMove o text a → IsMove o text b → a ≡ b
 move_once None text a b p q = formula_once text a b p q
 move_once (Some s) text a b p q = by_text (following_here text) p q
   where

@@ -31,7 +31,7 @@ use Rattle.asm_meaning.specs.Formulas.{IsFormula, formula_of}
 use Rattle.asm_meaning.specs.Instruction.{instruction}
 use Rattle.asm_meaning.specs.Operations.{operation_of}
 use Rattle.asm_meaning.specs.Pieces.{Piece, records_of}
-use Rattle.asm_meaning.specs.State.{Segment, State, cells_of, greatest_length, state_after_start, state_after_end, with_records, with_local_record, in_segment, is_too_long, within_length}
+use Rattle.asm_meaning.specs.State.{StartedSegment, State, cells_of, greatest_length, state_after_start, state_after_end, with_records, with_local_record, in_segment, is_too_long, within_length}
 use Rattle.asm_meaning.specs.Statement.{needs_label, is_taken, free_label, label_of, IsOperandOf, Good, Bad, Large, load_name_of, name_of, switch_of, value_in, constants_in, constants_of, number_in, alignment_in, distance_in, listed_kind, state_after_align, state_after_org, with_kind, equate, value_of, with_equate, equating, equating_outside, equating_global, spacing, align_state, moving, kinding, IsMoveText, IsMove, marking, IsDone, IsPlaced, IsKnown, IsStep, is_misplaced}
 use Rattle.asm_meaning.specs.laws.AmountLaws.{AreSmall, IsFineAmount, fine_amount, small_worth, is_written}
 use Rattle.asm_meaning.specs.laws.InstructionLaws.{both_ok}
@@ -144,7 +144,7 @@ known_small state sound name n e = by_name (constants_in state.segment name) ref
         some_value : Option ℕ → Option (Option ℕ)
         some_value v = Some v
 
-    by_segment : (o : Option Segment) → InSegment IsSoundSegment o → constants_in o name ≡ Some n → n < 2 ^ 32
+    by_segment : (o : Option StartedSegment) → InSegment IsSoundSegment o → constants_in o name ≡ Some n → n < 2 ^ 32
     by_segment None is e = absurd cc
     by_segment (Some s) is e = in_names (s.names name) (is.names name) e
 
@@ -264,7 +264,7 @@ outside_sound state next text label found sound short is formula e =
     by_name given m name n small true v = subst (λ (k : ℕ). k < 2 ^ 32) (same m n v) small
     by_name given m name n small false v = sound.outside name n v
 
-global_sound : (state next : State) (o : Option Segment) (text : List ℕ) (label : Answer (List ℕ)) (found : Option Tree) → IsSound state → length text ≤ 255 → ((name : List ℕ) → label ≡ Ok name → IsNameLength name)
+global_sound : (state next : State) (o : Option StartedSegment) (text : List ℕ) (label : Answer (List ℕ)) (found : Option Tree) → IsSound state → length text ≤ 255 → ((name : List ℕ) → label ≡ Ok name → IsNameLength name)
     → IsFormula text found → equating_global state o label found ≡ Ok next → IsSound next
 global_sound state next None text label found sound short is formula e = outside_sound state next text label found sound short is formula e
 global_sound state next (Some s) text label found sound short is formula e = equating_sound state next true text label found sound short is formula e
@@ -284,7 +284,7 @@ same_number false m n e = absurd cc
 alignment_same : (state : State) (m n : ℕ) → alignment_in state m ≡ Ok n → m ≡ n
 alignment_same state m n e = same_number (Rattle.asm_meaning.specs.Statement.is_alignment state.segment m) m n e
 
-aligned_sound : (state : State) (o : Option Segment) (label : List ℕ) (n : ℕ) → IsSound state → IsLabelText label → n < 2 ^ 32 → IsSound (state_after_align state o label n)
+aligned_sound : (state : State) (o : Option StartedSegment) (label : List ℕ) (n : ℕ) → IsSound state → IsLabelText label → n < 2 ^ 32 → IsSound (state_after_align state o label n)
 aligned_sound state None label n sound is small = record { outside = sound.outside; org = sound.org; align = small; front = sound.front; segment = sound.segment; ended = sound.ended }
 aligned_sound state (Some s) label n sound is small = mark_sound label 0x4E (Align n ∷ []) state sound is (omega arith) (align_plain n small)
 
@@ -298,11 +298,11 @@ aligning_sound state next text label found sound short is formula e =
     subst IsSound (same_okay (state_after_align state state.segment all.0.0 all.0.1) next all.2) (aligned_sound state state.segment all.0.0 all.0.1 sound (is all.0.0 parts.0) small)
 
 -- how far ORG goes
-abbrev IsDistanceIn : Option Segment → ℕ → Type 0
+abbrev IsDistanceIn : Option StartedSegment → ℕ → Type 0
 IsDistanceIn None n = n < 2 ^ 32
 IsDistanceIn (Some s) n = n < 2 ^ 31
 
-distance_small : (o : Option Segment) (m n : ℕ) → m < 2 ^ 32 → distance_in o m ≡ Ok n → IsDistanceIn o n
+distance_small : (o : Option StartedSegment) (m n : ℕ) → m < 2 ^ 32 → distance_in o m ≡ Ok n → IsDistanceIn o n
 distance_small None m n small e = subst (λ (k : ℕ). k < 2 ^ 32) (same_okay m n e) small
 distance_small (Some s) m n small e = by_size (ltb m (2 ^ 31)) refl e
   where
@@ -310,12 +310,12 @@ distance_small (Some s) m n small e = by_size (ltb m (2 ^ 31)) refl e
     by_size true is e = subst (λ (k : ℕ). k < 2 ^ 31) (same_okay m n e) (ltb-true m (2 ^ 31) is)
     by_size false is e = absurd cc
 
-moved_sound : (state : State) (o : Option Segment) (label : List ℕ) (n : ℕ) → IsSound state → IsLabelText label → IsDistanceIn o n → IsSound (state_after_org state o label n)
+moved_sound : (state : State) (o : Option StartedSegment) (label : List ℕ) (n : ℕ) → IsSound state → IsLabelText label → IsDistanceIn o n → IsSound (state_after_org state o label n)
 moved_sound state None label n sound is small = record { outside = sound.outside; org = small; align = sound.align; front = sound.front; segment = sound.segment; ended = sound.ended }
 moved_sound state (Some s) label n sound is small = mark_sound label 0x4E (Org n ∷ []) state sound is (omega arith) (org_plain n small)
 
 -- the formula of ORG is one of its operand
-move_text : (o : Option Segment) (text : List ℕ) (found : Option Tree) → length text ≤ 255 → IsMove o text found → (following : List ℕ) × (length following ≤ 255) × IsFormula following found
+move_text : (o : Option StartedSegment) (text : List ℕ) (found : Option Tree) → length text ≤ 255 → IsMove o text found → (following : List ℕ) × (length following ≤ 255) × IsFormula following found
 move_text None text found short is = (text, short, is)
 move_text (Some s) [] found short is = ([], omega arith, by_none found is)
   where
@@ -360,7 +360,7 @@ kind_listed m n e = by_listed (is_listed (form_of m)) refl e
     by_listed true is e = by_size (ltb 0xFFFF m) refl is e
     by_listed false is e = absurd cc
 
-with_kind_sound : (n : ℕ) (s : Segment) → IsSoundSegment s → is_listed (form_of n) ≡ true → n < 2 ^ 16 → IsSoundSegment (with_kind n s)
+with_kind_sound : (n : ℕ) (s : StartedSegment) → IsSoundSegment s → is_listed (form_of n) ≡ true → n < 2 ^ 16 → IsSoundSegment (with_kind n s)
 with_kind_sound n s sound listed small = record {
   header = record {
     version = sound.header.version;
@@ -386,7 +386,7 @@ kinding_sound state next label found sound is e =
     let parts = both_ok label (number_in state found >>= listed_kind) all.0 all.1 in
     let n = bind_ok (number_in state found) listed_kind all.0.1 parts.1 in
     let kind = kind_listed n.0 all.0.1 n.2 in
-    let change : Segment → Segment = λ s. with_kind all.0.1 (with_local_record all.0.0 0x4E [] s) in
+    let change : StartedSegment → StartedSegment = λ s. with_kind all.0.1 (with_local_record all.0.0 0x4E [] s) in
     subst IsSound (same_okay (in_segment change state) next all.2)
     (change_sound change state sound (λ s p. with_kind_sound all.0.1 (with_local_record all.0.0 0x4E [] s) (marked_sound all.0.0 0x4E [] s p (is all.0.0 parts.0) (omega arith) tt) kind.0 kind.1))
 
@@ -446,7 +446,7 @@ greatest-le PrivateData = omega arith
 length_short : (state next : State) → within_length state ≡ Ok next → (state ≡ next) × IsShort next
 length_short state next e = by_long (is_too_long state.segment) refl e
   where
-    by_segment : (o : Option Segment) → is_too_long o ≡ false → InSegment (λ s. cells_of s ≤ 0xFFFFFF) o
+    by_segment : (o : Option StartedSegment) → is_too_long o ≡ false → InSegment (λ s. cells_of s ≤ 0xFFFFFF) o
     by_segment None is = tt
     by_segment (Some s) is = omega (arith, ltb-false (greatest_length s.class) (cells_of s) is, greatest-le s.class)
 

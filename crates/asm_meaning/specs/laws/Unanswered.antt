@@ -23,7 +23,7 @@ use Rattle.asm_meaning.specs.Formulas.{IsFormula}
 use Rattle.asm_meaning.specs.Instruction.{instruction}
 use Rattle.asm_meaning.specs.Operations.{operation_of}
 use Rattle.asm_meaning.specs.Pieces.{records_of}
-use Rattle.asm_meaning.specs.State.{Segment, State, start, state_after_end, within_length}
+use Rattle.asm_meaning.specs.State.{StartedSegment, State, start, state_after_end, within_length}
 use Rattle.asm_meaning.specs.Statement.{following_here, is_misplaced, label_of, IsOperandOf, Good, Bad, Large, name_of, constants_of, equating, equating_global, spacing, align_state, moving, kinding, IsMoveText, IsMove, marking, beginning, turning, entering, IsDone, IsPlaced, IsKnown, IsStep}
 use Rattle.asm_meaning.specs.Object.{object_text, most_bytes, AreSteps, HasLines, InExpansion, InLine, InSegment, InLength}
 use Rattle.asm_meaning.specs.ObjectLaws.{NoneUnanswered}
@@ -36,7 +36,7 @@ a_formula text go = go None (λ tree means. go (Some tree) means)
 a_list : (text : List ℕ) → ((found : Option (List Element)) → IsList text found → ⊥) → ⊥
 a_list text go = go None (λ elements are. go (Some elements) are)
 
-a_move : (o : Option Segment) (text : List ℕ) → ((found : Option Tree) → IsMove o text found → ⊥) → ⊥
+a_move : (o : Option StartedSegment) (text : List ℕ) → ((found : Option Tree) → IsMove o text found → ⊥) → ⊥
 a_move None text go = a_formula text go
 a_move (Some s) text go = by_text (following_here text) go
   where
@@ -133,7 +133,7 @@ none_unanswered source macros no_object no_fault =
     by_length last has ended (inl fits) = no_object (object_text last.ended) (record { last = last; has = has; ended = ended; text = refl; fits = fits })
     by_length last has ended (inr long) = no_fault _ (InLength last has ended long refl)
 
-    by_segment : (last : State) → HasLines source macros last → (o : Option Segment) → last.segment ≡ o → ⊥
+    by_segment : (last : State) → HasLines source macros last → (o : Option StartedSegment) → last.segment ≡ o → ⊥
     by_segment last has None is = by_length last has is (short_or_long (length (object_text last.ended)) most_bytes)
     by_segment last has (Some s) is = no_fault _ (InSegment last s has is refl)
 

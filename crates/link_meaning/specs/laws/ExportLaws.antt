@@ -9,7 +9,7 @@ use Rattle.omf_format.specs.Number.{number_at}
 use Rattle.omf_format.specs.Name.{name_at, without_trailing}
 use Rattle.omf_format.specs.laws.FieldLaws.{IsBytes-drop, length-trim}
 use Rattle.omf_format.specs.Field.{IsName, length_width_of}
-use Rattle.omf_format.specs.Header.{Fields, fields_of, is_private}
+use Rattle.omf_format.specs.Header.{HeaderFields, fields_of, is_private}
 use Rattle.byteorder.specs.Numbers.{little_from-lt}
 use Rattle.omf_format.specs.Number.{IsBytes}
 use Rattle.omf_format.specs.Record.{Record, End, Const, LongConst, Align, Org, Space, Reloc, InterSeg, ShortReloc, ShortInterSeg, Super, Using, Strong, Label, Equate, Formula, Entry, IsRecord}
@@ -92,7 +92,7 @@ name_short (suc n) at bytes small fits =
     let small' : length (without_trailing 32 front) ≤ 255 = omega (arith, small, length-trim 32 front, length-take (suc n) (drop at bytes)) in
     rw some small'
 
-abbrev AreShort : Fields → Type 0
+abbrev AreShort : HeaderFields → Type 0
 AreShort f = (length f.name ≤ 255) × (f.lab_len ≤ 255)
 
 fields_short : (bytes : List ℕ) → IsBytes bytes → AreShort (fields_of bytes)
@@ -148,7 +148,7 @@ all_at {A} P (y ∷ xs) zero x all e = subst P (same y x e) all.0
     same y x e = cc
 all_at P (y ∷ xs) (suc k) x all e = all_at P xs k x all.1 e
 
-short_length : (f : Fields) → is_too_long f ≡ false → f.length ≤ 0xFFFFFF
+short_length : (f : HeaderFields) → is_too_long f ≡ false → f.length ≤ 0xFFFFFF
 short_length f e = ltb-false 0xFFFFFF f.length (left _ _ e)
   where
     left : (a b : Bool) → (a || b) ≡ false → a ≡ false
@@ -156,14 +156,14 @@ short_length f e = ltb-false 0xFFFFFF f.length (left _ _ e)
     left false b e = refl
 
 -- a load segment with a place in it has a number of a byte, and the place fits
-inside : (headers : List Fields) (segment offset : ℕ) → length headers ≤ 254 → AllByRecursion (λ f. is_too_long f ≡ false) headers → offset < length_of headers segment → (segment < 2 ^ 16) × (offset < 2 ^ 32)
+inside : (headers : List HeaderFields) (segment offset : ℕ) → length headers ≤ 254 → AllByRecursion (λ f. is_too_long f ≡ false) headers → offset < length_of headers segment → (segment < 2 ^ 16) × (offset < 2 ^ 32)
 inside headers segment offset few short below = by_header (load_header headers segment) refl below
   where
-    by_header : (o : Option Fields) → load_header headers segment ≡ o → offset < elim o as (λ x. ℕ) [ None ↦ 0 | Some f ↦ f.length ] → (segment < 2 ^ 16) × (offset < 2 ^ 32)
+    by_header : (o : Option HeaderFields) → load_header headers segment ≡ o → offset < elim o as (λ x. ℕ) [ None ↦ 0 | Some f ↦ f.length ] → (segment < 2 ^ 16) × (offset < 2 ^ 32)
     by_header None e below = absurd (omega (arith, below))
     by_header (Some f) e below = (omega (arith, few, within headers (segment - 1) f e), omega (arith, below, short_length f (all_at (λ g. is_too_long g ≡ false) headers (segment - 1) f short e)))
 
-at_fits : (headers : List Fields) (name : List ℕ) (r : Result Value ValueFault) → length headers ≤ 254 → AllByRecursion (λ f. is_too_long f ≡ false) headers → IsShort name → AllByRecursion IsExport (export_at headers name r)
+at_fits : (headers : List HeaderFields) (name : List ℕ) (r : Result Value ValueFault) → length headers ≤ 254 → AllByRecursion (λ f. is_too_long f ≡ false) headers → IsShort name → AllByRecursion IsExport (export_at headers name r)
 at_fits headers name (Ok (Fixed n)) few short is = tt
 at_fits headers name (Ok (At file segment offset shift)) few short is = by_test (is_unshifted shift && ltb offset (length_of headers segment)) refl
   where

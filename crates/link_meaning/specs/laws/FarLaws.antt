@@ -6,7 +6,7 @@ use Rattle.std.specs.List.{AllByRecursion}
 use Rattle.byteorder.specs.Numbers.{little_from-lt}
 use Rattle.omf_format.specs.Number.{number_at}
 use Rattle.omf_format.specs.laws.FieldLaws.{IsBytes-drop}
-use Rattle.omf_format.specs.Header.{Fields, fields_of}
+use Rattle.omf_format.specs.Header.{HeaderFields, fields_of}
 use Rattle.omf_format.specs.Number.{IsBytes}
 use Rattle.omf_format.specs.File.{Segment, segment_at}
 use Rattle.load_meaning.specs.Loadable.{IsLoadable}
@@ -38,7 +38,7 @@ segment_fits file segments zero s bytes is at = absurd cc
 segment_fits file segments (suc k) s bytes is at =
     let sound = loadable_has file segments is (suc k) s at in
     let there = of_file segments 0 file (length file) s is.is_file (in_at segments k s at) in
-    let fits : Fits s.fields.seg_num s.fields.length = subst (λ (f : Fields). Fits f.seg_num f.length) (sym there.header.fields) (fields_fit (drop s.start file) (IsBytes-drop s.start file bytes)) in
+    let fits : Fits s.fields.seg_num s.fields.length = subst (λ (f : HeaderFields). Fits f.seg_num f.length) (sym there.header.fields) (fields_fit (drop s.start file) (IsBytes-drop s.start file bytes)) in
     (omega (arith, sound.number', fits.0), fits.1)
 
 runtime_fits : (files : List (List ℕ × List ℕ)) (runtimes : List RuntimeFile) (j : ℕ) (r : RuntimeFile) (number : ℕ) (s : Segment) → AllByRecursion (λ file. IsBytes file.1) files → AreRuntimes files runtimes

@@ -9,7 +9,7 @@ use Rattle.omf_base.specs.declared.spot.Spot.{Spot}
 use Rattle.link_meaning.specs.declared.fault.LinkFault.{LinkFault}
 use Rattle.link_meaning.specs.First.{IsFirst}
 use Rattle.link_meaning.specs.laws.FirstLaws.{HasOne, one_first}
-use Rattle.link_meaning.specs.Member.{Row, Input, Member, RuntimeFile, LinkSetting}
+use Rattle.link_meaning.specs.Member.{OfferedRow, Input, Member, RuntimeFile, LinkSetting}
 use Rattle.link_meaning.specs.declared.form.LinkForm.{LinkForm}
 use Rattle.load_meaning.specs.declared.load.LoadFault.{LoadFault}
 use Rattle.load_meaning.specs.laws.LoadableLaws.{loadable_same, loadable_sound, first_fault_same}
@@ -69,9 +69,9 @@ one_input : (bytes : List ℕ) (a b : Input) → IsInput bytes a → IsInput byt
 one_input bytes a b p q =
     let same : a.segments ≡ b.segments = file_same a.segments b.segments bytes p.is_file q.is_file in
     let rows : a.rows ≡ b.rows = fine_same a.rows b.rows (sym p.rows ∙ ap rows_in_file same ∙ q.rows) in
-    ap (λ (s : List Segment). input s a.rows) same ∙ ap (λ (r : List Row). input b.segments r) rows
+    ap (λ (s : List Segment). input s a.rows) same ∙ ap (λ (r : List OfferedRow). input b.segments r) rows
   where
-    input : List Segment → List Row → Input
+    input : List Segment → List OfferedRow → Input
     input segments rows = record { segments = segments; rows = rows }
 
 pub inputs_same : (files : List (List ℕ)) (a b : List Input) → AreInputs files a → AreInputs files b → a ≡ b

@@ -10,7 +10,7 @@ use Rattle.std.specs.Str.{bytes_eq}
 use Rattle.std.proofs.lemmas.Bool.{eq-eqb, lt-ltb, ltb-true, and_parts, and_from}
 use Rattle.std.proofs.lemmas.List.{length-append, length-map, append-nil}
 use Rattle.std.proofs.lemmas.Slice.Eq.{bytes_eq-Decides}
-use Rattle.omf_format.specs.Header.{Fields, form_of, first_of, is_dynamic, is_skipped}
+use Rattle.omf_format.specs.Header.{HeaderFields, form_of, first_of, is_dynamic, is_skipped}
 use Rattle.omf_format.specs.Record.{Record, Entry as Exported}
 use Rattle.omf_format.specs.Value.{is_unshifted}
 use Rattle.omf_format.specs.declared.value.Value.{Value}
@@ -81,7 +81,7 @@ unfolding pathnames_image
 exports_of_paths number paths = refl
 
 -- what a header of the pathnames says
-record PathHeader (number : ℕ) (f : Fields) : Type 0 where
+record PathHeader (number : ℕ) (f : HeaderFields) : Type 0 where
   kind : f.kind ≡ 0x0004
   name : is_express f.name ≡ false
   number' : f.seg_num ≡ number
@@ -91,7 +91,7 @@ unfolding pathnames_fields table_fields
 path_header number size = record { kind = refl; name = refl; number' = refl }
 
 path_kind : (number : ℕ) (paths : List (List ℕ)) (s : Segment) → IsWritten (pathnames_image number paths) s → s.fields.kind ≡ 0x0004
-path_kind number paths s is = ap (λ (g : Fields). g.kind) is.read.fields ∙ ap (λ (g : Fields). g.kind) (fields_of_paths number paths) ∙ (path_header number (length (paths_text paths))).kind
+path_kind number paths s is = ap (λ (g : HeaderFields). g.kind) is.read.fields ∙ ap (λ (g : HeaderFields). g.kind) (fields_of_paths number paths) ∙ (path_header number (length (paths_text paths))).kind
 
 path_bytes : (number : ℕ) (paths : List (List ℕ)) (s : Segment) → IsWritten (pathnames_image number paths) s → segment_bytes s ≡ rows_text 2 paths
 unfolding paths_text
@@ -117,8 +117,8 @@ path_passes segments number more paths s most is before all few some =
     let h = path_header number (length (paths_text paths)) in
     let fields = fields_of_paths number paths in
     let kind = path_kind number paths s is in
-    let name : is_express s.fields.name ≡ false = ap (λ (g : Fields). is_express g.name) is.read.fields ∙ ap (λ (g : Fields). is_express g.name) fields ∙ h.name in
-    let own : image.fields.seg_num ≡ number = ap (λ (g : Fields). g.seg_num) fields ∙ h.number' in
+    let name : is_express s.fields.name ≡ false = ap (λ (g : HeaderFields). is_express g.name) is.read.fields ∙ ap (λ (g : HeaderFields). is_express g.name) fields ∙ h.name in
+    let own : image.fields.seg_num ≡ number = ap (λ (g : HeaderFields). g.seg_num) fields ∙ h.number' in
     let named = subst (AllByRecursion (λ r. entry_refusal segments r ≡ None)) (sym (exports_of_paths number paths)) tt in
     let bytes = path_bytes number paths s is in
     let size : s.fields.length ≡ length image.content = length_written image s is in
@@ -168,19 +168,19 @@ paths_last more number (r ∷ runtimes) (s ∷ []) most all few written =
     let read = (paths_written more paths all (omega (arith, count, few)) (omega arith) (omega (arith, count, few, most))).1 in
     ap length (paths_one more s most (ap (λ (k : ℕ). eqb (form_of k) 0x04) (path_kind number paths s written.0)) ∙ ap (paths_in more) (path_bytes number paths s written.0) ∙ read) ∙ count
 
-paths_after : (fs last : List Fields) (segments : List Segment) → map plain segments ≡ fs ++ last → AllByRecursion (λ (f : Fields). eqb (form_of f.kind) 0x04 ≡ false) fs → paths_of segments ≡ paths_of (drop (length fs) segments)
+paths_after : (fs last : List HeaderFields) (segments : List Segment) → map plain segments ≡ fs ++ last → AllByRecursion (λ (f : HeaderFields). eqb (form_of f.kind) 0x04 ≡ false) fs → paths_of segments ≡ paths_of (drop (length fs) segments)
 unfolding paths_of
 paths_after [] last segments e all = refl
 paths_after (f ∷ fs) last [] e all = absurd cc
 paths_after (f ∷ fs) last (s ∷ segments) e all =
     let head : plain s ≡ f = heads (plain s) f (map plain segments) (fs ++ last) e in
-    let here : has_pathnames s ≡ false = ap (λ (g : Fields). eqb (form_of g.kind) 0x04) head ∙ all.0 in
+    let here : has_pathnames s ≡ false = ap (λ (g : HeaderFields). eqb (form_of g.kind) 0x04) head ∙ all.0 in
     ap (λ (b : Bool). cond b (paths_in most_paths (segment_bytes s)) (paths_of segments)) here ∙ paths_after fs last segments (tails (plain s) f (map plain segments) (fs ++ last) e) all.1
   where
-    heads : (a b : Fields) (xs ys : List Fields) → a ∷ xs ≡ b ∷ ys → a ≡ b
+    heads : (a b : HeaderFields) (xs ys : List HeaderFields) → a ∷ xs ≡ b ∷ ys → a ≡ b
     heads a b xs ys e = cc
 
-    tails : (a b : Fields) (xs ys : List Fields) → a ∷ xs ≡ b ∷ ys → xs ≡ ys
+    tails : (a b : HeaderFields) (xs ys : List HeaderFields) → a ∷ xs ≡ b ∷ ys → xs ≡ ys
     tails a b xs ys e = cc
 
 written_after : (xs ys : List Image) (segments : List Segment) → AreWrittenAs (xs ++ ys) segments → AreWrittenAs ys (drop (length xs) segments)
@@ -331,7 +331,7 @@ not_skipped : (list : List Member) (table : List EquateAnswer) (segments : List 
 not_skipped list table segments number k form l =
     let stands' : may_not_stand (form_in list) l.fields ≡ false = all_at (λ f. may_not_stand (form_in list) f ≡ false) (load_headers list) (number - 1) l.fields k.standing l.header in
     let kept : is_skipped l.fields.kind ≡ false = and_last (is_dynamic l.fields.kind) (is_skipped l.fields.kind) (ap (λ (f : LinkForm). may_not_stand f l.fields) (sym form) ∙ stands') in
-    ap (λ (o : Option Fields). elim o as (λ x. Bool) [ None ↦ false | Some f ↦ is_skipped f.kind ]) l.header ∙ kept
+    ap (λ (o : Option HeaderFields). elim o as (λ x. Bool) [ None ↦ false | Some f ↦ is_skipped f.kind ]) l.header ∙ kept
 
 place_there : (list : List Member) (table : List EquateAnswer) (segments : List Segment) (number offset : ℕ) → StandFor list table segments → Known list table → form_in list ≡ LibraryForm → IsLoad (length (load_names list)) number
     → offset < length_of (load_headers list) number → is_place segments number offset ≡ true
@@ -416,34 +416,34 @@ loads_pass list table segments tables front (x ∷ xs) (s ∷ segs) stand k part
     )
 
 kinds_all : (list : List Member) (number : ℕ) (xs : List (List ℕ)) → ((m : Member) → IsIn list m → PlainKind m.segment.fields.kind) → ((x : List ℕ) → IsIn xs x → IsIn (load_names list) x)
-    → AllByRecursion (λ (f : Fields). PlainKind f.kind) (headers_from list number xs)
+    → AllByRecursion (λ (f : HeaderFields). PlainKind f.kind) (headers_from list number xs)
 kinds_all list number [] kinds among = tt
 kinds_all list number (x ∷ xs) kinds among = (load_kind list number x kinds (among x (inl refl)), kinds_all list (number + 1) xs kinds (λ y is. among y (inr is)))
 
-plain_loads : (list : List Member) → ((m : Member) → IsIn list m → PlainKind m.segment.fields.kind) → AllByRecursion (λ (f : Fields). PlainKind f.kind) (load_headers list)
+plain_loads : (list : List Member) → ((m : Member) → IsIn list m → PlainKind m.segment.fields.kind) → AllByRecursion (λ (f : HeaderFields). PlainKind f.kind) (load_headers list)
 unfolding load_headers
 plain_loads list kinds = kinds_all list 1 (load_names list) kinds (λ x is. is)
 
-no_tables : (fs : List Fields) → AllByRecursion (λ (f : Fields). PlainKind f.kind) fs → AllByRecursion (λ (f : Fields). eqb (form_of f.kind) 0x02 ≡ false) fs
+no_tables : (fs : List HeaderFields) → AllByRecursion (λ (f : HeaderFields). PlainKind f.kind) fs → AllByRecursion (λ (f : HeaderFields). eqb (form_of f.kind) 0x02 ≡ false) fs
 no_tables [] all = tt
 no_tables (f ∷ fs) all = (all.0.0, no_tables fs all.1)
 
-no_pathnames : (fs : List Fields) → AllByRecursion (λ (f : Fields). PlainKind f.kind) fs → AllByRecursion (λ (f : Fields). eqb (form_of f.kind) 0x04 ≡ false) fs
+no_pathnames : (fs : List HeaderFields) → AllByRecursion (λ (f : HeaderFields). PlainKind f.kind) fs → AllByRecursion (λ (f : HeaderFields). eqb (form_of f.kind) 0x04 ≡ false) fs
 no_pathnames [] all = tt
 no_pathnames (f ∷ fs) all = (all.0.1, no_pathnames fs all.1)
 
-table_kind : (number : ℕ) (ts : List Target) → AllByRecursion (λ (f : Fields). eqb (form_of f.kind) 0x04 ≡ false) (table_headers number ts)
+table_kind : (number : ℕ) (ts : List Target) → AllByRecursion (λ (f : HeaderFields). eqb (form_of f.kind) 0x04 ≡ false) (table_headers number ts)
 unfolding table_fields
 table_kind number [] = tt
 table_kind number (t ∷ ts) = (refl, tt)
 
 -- the headers before the pathnames
-abbrev front_headers : List Member → List EquateAnswer → List Fields
+abbrev front_headers : List Member → List EquateAnswer → List HeaderFields
 front_headers list table = load_headers list ++ table_headers (table_number list) (targets list table)
 
-front_kinds : (list : List Member) (table : List EquateAnswer) → Known list table → AllByRecursion (λ (f : Fields). eqb (form_of f.kind) 0x04 ≡ false) (front_headers list table)
+front_kinds : (list : List Member) (table : List EquateAnswer) → Known list table → AllByRecursion (λ (f : HeaderFields). eqb (form_of f.kind) 0x04 ≡ false) (front_headers list table)
 front_kinds list table k =
-    all-both (λ (f : Fields). eqb (form_of f.kind) 0x04 ≡ false) (load_headers list) (table_headers (table_number list) (targets list table)) (no_pathnames (load_headers list) (plain_loads list k.kinds)) (table_kind (table_number list) (targets list table))
+    all-both (λ (f : HeaderFields). eqb (form_of f.kind) 0x04 ≡ false) (load_headers list) (table_headers (table_number list) (targets list table)) (no_pathnames (load_headers list) (plain_loads list k.kinds)) (table_kind (table_number list) (targets list table))
 
 abbrev paths_number : List Member → List EquateAnswer → ℕ
 paths_number list table = table_number list + length (table_images (table_number list) (targets list table))
@@ -568,11 +568,11 @@ has_no_load_fault files output bytes is none fault first = let loaded = is_loade
 no_load_skipped : (list : List Member) (table : List EquateAnswer) (number : ℕ) → Known list table → form_in list ≡ LibraryForm → is_skipped_load (load_headers list) number ≡ false
 no_load_skipped list table number k form = by_header (load_header (load_headers list) number) refl
   where
-    by_header : (o : Option Fields) → load_header (load_headers list) number ≡ o → is_skipped_load (load_headers list) number ≡ false
-    by_header None e = ap (λ (p : Option Fields). elim p as (λ x. Bool) [ None ↦ false | Some f ↦ is_skipped f.kind ]) e
+    by_header : (o : Option HeaderFields) → load_header (load_headers list) number ≡ o → is_skipped_load (load_headers list) number ≡ false
+    by_header None e = ap (λ (p : Option HeaderFields). elim p as (λ x. Bool) [ None ↦ false | Some f ↦ is_skipped f.kind ]) e
     by_header (Some f) e =
         let stands' : may_not_stand (form_in list) f ≡ false = all_at (λ g. may_not_stand (form_in list) g ≡ false) (load_headers list) (number - 1) f k.standing e in
-        ap (λ (p : Option Fields). elim p as (λ x. Bool) [ None ↦ false | Some g ↦ is_skipped g.kind ]) e ∙ and_last (is_dynamic f.kind) (is_skipped f.kind) (ap (λ (o : LinkForm). may_not_stand o f) (sym form) ∙ stands')
+        ap (λ (p : Option HeaderFields). elim p as (λ x. Bool) [ None ↦ false | Some g ↦ is_skipped g.kind ]) e ∙ and_last (is_dynamic f.kind) (is_skipped f.kind) (ap (λ (o : LinkForm). may_not_stand o f) (sym form) ∙ stands')
 
 -- it has no entries
 no_targets : (list : List Member) (ts : List Target) → AllByRecursion (IsCalled list) ts → form_in list ≡ LibraryForm → ts ≡ []
@@ -615,19 +615,19 @@ library_headers list table k form =
     ap (λ (ts : List Target). load_headers list ++ (table_headers (table_number list) ts ++ path_headers (table_number list + length (table_headers (table_number list) ts)) (setting_in list).runtimes)) (no_targets list (targets list table) k.called form)
     ∙ ap (λ (rs : List RuntimeFile). load_headers list ++ path_headers (table_number list + 0) rs) (k.lone form) ∙ append-nil (load_headers list)
 
-kinds_pass : (number : ℕ) (fs : List Fields) (segments : List Segment) → map plain segments ≡ fs → AllByRecursion (λ (f : Fields). may_not_stand LibraryForm f ≡ false) fs → first_in kind_fault number segments ≡ None
+kinds_pass : (number : ℕ) (fs : List HeaderFields) (segments : List Segment) → map plain segments ≡ fs → AllByRecursion (λ (f : HeaderFields). may_not_stand LibraryForm f ≡ false) fs → first_in kind_fault number segments ≡ None
 kinds_pass number [] [] e all = refl
 kinds_pass number [] (s ∷ segments) e all = absurd cc
 kinds_pass number (f ∷ fs) [] e all = absurd cc
 kinds_pass number (f ∷ fs) (s ∷ segments) e all =
     let head : plain s ≡ f = heads (plain s) f (map plain segments) fs e in
-    let here : not (is_dynamic s.fields.kind && not (is_skipped s.fields.kind)) ≡ false = ap (λ (g : Fields). not (is_dynamic g.kind && not (is_skipped g.kind))) head ∙ all.0 in
+    let here : not (is_dynamic s.fields.kind && not (is_skipped s.fields.kind)) ≡ false = ap (λ (g : HeaderFields). not (is_dynamic g.kind && not (is_skipped g.kind))) head ∙ all.0 in
     by_kind (is_dynamic s.fields.kind && not (is_skipped s.fields.kind)) here (kinds_pass (number + 1) fs segments (tails (plain s) f (map plain segments) fs e) all.1)
   where
-    heads : (a b : Fields) (xs ys : List Fields) → a ∷ xs ≡ b ∷ ys → a ≡ b
+    heads : (a b : HeaderFields) (xs ys : List HeaderFields) → a ∷ xs ≡ b ∷ ys → a ≡ b
     heads a b xs ys e = cc
 
-    tails : (a b : Fields) (xs ys : List Fields) → a ∷ xs ≡ b ∷ ys → xs ≡ ys
+    tails : (a b : HeaderFields) (xs ys : List HeaderFields) → a ∷ xs ≡ b ∷ ys → xs ≡ ys
     tails a b xs ys e = cc
 
     by_kind : (b : Bool) → not b ≡ false → first_in kind_fault (number + 1) segments ≡ None → option_or (option_map (in_segment number) (cond b None (Some (NotLoadFile, s.start)))) (first_in kind_fault (number + 1) segments) ≡ None
@@ -642,24 +642,24 @@ is_runtime files output bytes is library =
     let some : is.list ≡ [] → ⊥ = λ e. k.some (ap (λ (l : List Member). distinct (map (λ (m : Member). m.segment.fields.load_name) l)) e) in
     let form : form_in is.list ≡ LibraryForm = ap (λ (s : LinkSetting). s.form) (setting_of files is.list program some) ∙ program.is_setting.form' ∙ library in
     let loaded = is_loaded files output bytes is (library_unskipped is.list is.table k form) in
-    let standing = subst (λ (f : LinkForm). AllByRecursion (λ (g : Fields). may_not_stand f g ≡ false) (load_headers is.list)) form k.standing in
+    let standing = subst (λ (f : LinkForm). AllByRecursion (λ (g : HeaderFields). may_not_stand f g ≡ false) (load_headers is.list)) form k.standing in
     (loaded.0, record { loadable = loaded.1; dynamic = kinds_pass 1 (load_headers is.list) loaded.0 (loaded.2.headers ∙ library_headers is.list is.table k form) standing }, loaded.2)
 
 -- ---- no pathname segment
 
-none_from : (number : ℕ) (fs : List Fields) (segments : List Segment) → map plain segments ≡ fs → AllByRecursion (λ (f : Fields). eqb (form_of f.kind) 0x04 ≡ false) fs → pathnames_from number segments ≡ None
+none_from : (number : ℕ) (fs : List HeaderFields) (segments : List Segment) → map plain segments ≡ fs → AllByRecursion (λ (f : HeaderFields). eqb (form_of f.kind) 0x04 ≡ false) fs → pathnames_from number segments ≡ None
 none_from number [] [] e all = refl
 none_from number [] (s ∷ segments) e all = absurd cc
 none_from number (f ∷ fs) [] e all = absurd cc
 none_from number (f ∷ fs) (s ∷ segments) e all =
     let head : plain s ≡ f = heads (plain s) f (map plain segments) fs e in
-    let here : has_pathnames s ≡ false = ap (λ (g : Fields). eqb (form_of g.kind) 0x04) head ∙ all.0 in
+    let here : has_pathnames s ≡ false = ap (λ (g : HeaderFields). eqb (form_of g.kind) 0x04) head ∙ all.0 in
     ap (λ (b : Bool). cond b (Some number) (pathnames_from (number + 1) segments)) here ∙ none_from (number + 1) fs segments (tails (plain s) f (map plain segments) fs e) all.1
   where
-    heads : (a b : Fields) (xs ys : List Fields) → a ∷ xs ≡ b ∷ ys → a ≡ b
+    heads : (a b : HeaderFields) (xs ys : List HeaderFields) → a ∷ xs ≡ b ∷ ys → a ≡ b
     heads a b xs ys e = cc
 
-    tails : (a b : Fields) (xs ys : List Fields) → a ∷ xs ≡ b ∷ ys → xs ≡ ys
+    tails : (a b : HeaderFields) (xs ys : List HeaderFields) → a ∷ xs ≡ b ∷ ys → xs ≡ ys
     tails a b xs ys e = cc
 
 pub has_no_pathnames : HasNoPathnames

@@ -9,7 +9,7 @@ use Rattle.std.proofs.lemmas.List.Concat.{flat_map-cons}
 use Rattle.std.proofs.lemmas.Grind.{flat_map-append}
 use Rattle.std.proofs.lemmas.Option.{slice_get-get_or}
 use Rattle.std.proofs.lemmas.Slice.Eq.{bytes_eq-Decides}
-use Rattle.omf_format.specs.Header.{Fields, form_of, is_listed, header_bytes}
+use Rattle.omf_format.specs.Header.{HeaderFields, form_of, is_listed, header_bytes}
 use Rattle.omf_format.specs.laws.WrittenHeaderLaws.{length-header}
 use Rattle.omf_format.specs.laws.FieldLaws.{length-trim}
 use Rattle.omf_format.specs.File.{Segment, IsFile}
@@ -77,7 +77,7 @@ few_loads files list resolved = elim (cases_lt 254 (length (load_names list))) [
 true_false : true ≡ false → ⊥
 true_false e = cc
 
-short_from : (files : LinkInput) (list : List Member) (before rest : List Fields) → IsResolved files list → load_headers list ≡ before ++ rest → HasNone (HasLengthFault list) before
+short_from : (files : LinkInput) (list : List Member) (before rest : List HeaderFields) → IsResolved files list → load_headers list ≡ before ++ rest → HasNone (HasLengthFault list) before
     → AllByRecursion (λ f. is_too_long f ≡ false) rest
 short_from files list before [] resolved parts none = tt
 short_from files list before (f ∷ rest) resolved parts none = by_test (is_too_long f) refl (λ is more. (is, short_from files list (before ++ f ∷ []) rest resolved (parts ∙ sym (append_assoc before (f ∷ []) rest)) more))
@@ -95,7 +95,7 @@ no_kinds files list resolved fault has =
     no_layout files list fault resolved (record { before = Orgs ∷ Count ∷ Lengths ∷ []; item = Kinds; after = []; parts = refl; none = none_more (HasLayoutFault list) (Orgs ∷ Count ∷ []) Lengths (none_two files list resolved) (no_lengths files list resolved); here = has })
 
 -- each load segment may stand in what is linked
-standing_from : (files : LinkInput) (list : List Member) (before rest : List Fields) → IsResolved files list → load_headers list ≡ before ++ rest → HasNone (HasKindFault list) before
+standing_from : (files : LinkInput) (list : List Member) (before rest : List HeaderFields) → IsResolved files list → load_headers list ≡ before ++ rest → HasNone (HasKindFault list) before
     → AllByRecursion (λ f. may_not_stand (form_in list) f ≡ false) rest
 standing_from files list before [] resolved parts none = tt
 standing_from files list before (f ∷ rest) resolved parts none = by_test (may_not_stand (form_in list) f) refl (λ is more. (is, standing_from files list (before ++ f ∷ []) rest resolved (parts ∙ sym (append_assoc before (f ∷ []) rest)) more))
@@ -108,7 +108,7 @@ standing_from files list before (f ∷ rest) resolved parts none = by_test (may_
 pub standing_loads : (files : LinkInput) (list : List Member) → IsResolved files list → AllByRecursion (λ f. may_not_stand (form_in list) f ≡ false) (load_headers list)
 standing_loads files list resolved = standing_from files list [] (load_headers list) resolved refl (none_yet (HasKindFault list))
 
-pub short_length : (f : Fields) → is_too_long f ≡ false → f.length ≤ 0xFFFFFF
+pub short_length : (f : HeaderFields) → is_too_long f ≡ false → f.length ≤ 0xFFFFFF
 short_length f e = elim (cases_lt 0xFFFFFF f.length) [
   | inl lt ↦ absurd (clash (ltb 0xFFFFFF f.length) (not (eqb f.bank_size 0) && ltb f.bank_size f.length) (lt-ltb 0xFFFFFF f.length lt) e)
   | inr le ↦ le
@@ -142,7 +142,7 @@ some_members list x is =
     let m = of_member list x is in
     (m.0, filter_in (in_load x) list m.0 m.1 ((bytes_eq-Decides m.0.segment.fields.load_name x).1 m.2))
 
-pub first_has : (P : ℕ → Type 0) (field : Fields → ℕ) (members : List Member) (m : Member) → IsIn members m → ((o : Member) → IsIn members o → P (field o.segment.fields)) → P (of_first field members)
+pub first_has : (P : ℕ → Type 0) (field : HeaderFields → ℕ) (members : List Member) (m : Member) → IsIn members m → ((o : Member) → IsIn members o → P (field o.segment.fields)) → P (of_first field members)
 first_has P field [] m is each = absurd is
 first_has P field (o ∷ members) m is each = each o (inl refl)
 
@@ -189,7 +189,7 @@ load_header_fits list number x each is =
 
 -- ---- a load segment can be written
 
-image_fits : (f : Fields) (cs : List Cell) (es : List Record) → AllByRecursion IsExport es → HasHeader f → f.version ≡ 2 → f.seg_num < 2 ^ 16 → length f.name ≤ 255 → f.length ≡ length cs → length cs ≤ 0xFFFFFF → AreRuns cs
+image_fits : (f : HeaderFields) (cs : List Cell) (es : List Record) → AllByRecursion IsExport es → HasHeader f → f.version ≡ 2 → f.seg_num < 2 ^ 16 → length f.name ≤ 255 → f.length ≡ length cs → length cs ≤ 0xFFFFFF → AreRuns cs
     → length (image_text (image_of f cs es)) ≤ 0x1000000 → IsImage (image_of f cs es)
 unfolding image_of image_text
 image_fits f cs es exported header version number name len small runs short =
@@ -278,7 +278,7 @@ all-append (x ∷ xs) ys p q = (p.0, all-append xs ys p.1 q)
 
 -- ---- the cells of what is read
 
-cells_read : (f : Fields) (cs : List Cell) (es : List Record) (s : Segment) → AreRuns cs → IsReadAs (image_of f cs es) s → cells s ≡ cs
+cells_read : (f : HeaderFields) (cs : List Cell) (es : List Record) (s : Segment) → AreRuns cs → IsReadAs (image_of f cs es) s → cells s ≡ cs
 unfolding image_of
 cells_read f cs es s runs is = is.cells' ∙ runs_stand cs runs
 

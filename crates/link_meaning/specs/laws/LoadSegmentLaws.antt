@@ -8,7 +8,7 @@ use Rattle.std.proofs.lemmas.Bool.{cases_Bool, eq-eqb, le-ltb}
 use Rattle.std.proofs.lemmas.List.{length-append, length-map}
 use Rattle.std.proofs.lemmas.Slice.Eq.{bytes_eq-Decides}
 use Rattle.omf_format.specs.laws.FieldLaws.{length-trim}
-use Rattle.omf_format.specs.Header.{Fields, form_of, first_of, is_dynamic, is_skipped}
+use Rattle.omf_format.specs.Header.{HeaderFields, form_of, first_of, is_dynamic, is_skipped}
 use Rattle.omf_format.specs.Record.{Record}
 use Rattle.omf_format.specs.declared.value.Value.{Value}
 use Rattle.load_meaning.specs.Pathnames.{paths_of}
@@ -53,15 +53,15 @@ use Rattle.link_meaning.specs.laws.WrittenSegments.{IsWritten, length_written, b
 
 -- ---- headers and cells of what is read
 
-headers_read : (list : List Member) (table : List EquateAnswer) (number : ℕ) (xs : List (List ℕ)) (tables : List Image) (last : List Fields) (segments : List Segment)
+headers_read : (list : List Member) (table : List EquateAnswer) (number : ℕ) (xs : List (List ℕ)) (tables : List Image) (last : List HeaderFields) (segments : List Segment)
     → ((rest : List Segment) → AreReadAs tables rest → map (λ (s : Segment). plain_fields s.fields) rest ≡ last) → AreReadAs (load_images list table number xs ++ tables) segments
     → map (λ (s : Segment). plain_fields s.fields) segments ≡ headers_from list number xs ++ last
 unfolding image_of load_fields
 headers_read list table number [] tables last segments rest are = rest segments are
 headers_read list table number (x ∷ xs) tables last [] rest are = absurd are
 headers_read list table number (x ∷ xs) tables last (s ∷ segments) rest are =
-    ap (λ (f : Fields). plain_fields f ∷ map (λ (t : Segment). plain_fields t.fields) segments) are.0.fields
-    ∙ ap (λ (l : List Fields). load_fields list number x ∷ l) (headers_read list table (number + 1) xs tables last segments rest are.1)
+    ap (λ (f : HeaderFields). plain_fields f ∷ map (λ (t : Segment). plain_fields t.fields) segments) are.0.fields
+    ∙ ap (λ (l : List HeaderFields). load_fields list number x ∷ l) (headers_read list table (number + 1) xs tables last segments rest are.1)
 
 cells_read : (all : List (List Cell)) (segments : List Segment) → HaveCells all segments → map cells segments ≡ all
 cells_read [] [] have = refl
@@ -70,7 +70,7 @@ cells_read (cs ∷ all) [] have = absurd have
 cells_read (cs ∷ all) (s ∷ segments) have = ap (λ (c : List Cell). c ∷ map cells segments) have.0 ∙ ap (λ (l : List (List Cell)). cs ∷ l) (cells_read all segments have.1)
 
 -- the headers behind those of the load segments
-abbrev pub after_headers : List Member → List EquateAnswer → List Fields
+abbrev pub after_headers : List Member → List EquateAnswer → List HeaderFields
 after_headers list table =
     table_headers (table_number list) (targets list table) ++ path_headers (table_number list + length (table_headers (table_number list) (targets list table))) (setting_in list).runtimes
 
@@ -79,18 +79,18 @@ unfolding pathnames_image pathnames_fields table_fields
 path_read number [] [] are = refl
 path_read number [] (s ∷ segments) are = absurd are
 path_read number (r ∷ runtimes) [] are = absurd are
-path_read number (r ∷ runtimes) (s ∷ []) are = ap (λ (f : Fields). plain_fields f ∷ []) are.0.fields
+path_read number (r ∷ runtimes) (s ∷ []) are = ap (λ (f : HeaderFields). plain_fields f ∷ []) are.0.fields
 path_read number (r ∷ runtimes) (s ∷ u ∷ segments) are = absurd are.1
 
-following_read : (number : ℕ) (ts : List Target) (more : List Image) (last : List Fields) (segments : List Segment)
+following_read : (number : ℕ) (ts : List Target) (more : List Image) (last : List HeaderFields) (segments : List Segment)
     → ((rest : List Segment) → AreReadAs more rest → map (λ (s : Segment). plain_fields s.fields) rest ≡ last) → AreReadAs (table_images number ts ++ more) segments
     → map (λ (s : Segment). plain_fields s.fields) segments ≡ table_headers number ts ++ last
 unfolding table_image table_fields
 following_read number [] more last segments rest are = rest segments are
 following_read number (t ∷ ts) more last [] rest are = absurd are
 following_read number (t ∷ ts) more last (s ∷ segments) rest are =
-    ap (λ (f : Fields). plain_fields f ∷ map (λ (u : Segment). plain_fields u.fields) segments) are.0.fields
-    ∙ ap (λ (l : List Fields). table_fields number (length (table_bytes (map file_entry (t ∷ ts)))) ∷ l) (rest segments are.1)
+    ap (λ (f : HeaderFields). plain_fields f ∷ map (λ (u : Segment). plain_fields u.fields) segments) are.0.fields
+    ∙ ap (λ (l : List HeaderFields). table_fields number (length (table_bytes (map file_entry (t ∷ ts)))) ∷ l) (rest segments are.1)
 
 pub same_count : (number : ℕ) (ts : List Target) → length (table_images number ts) ≡ length (table_headers number ts)
 same_count number [] = refl
@@ -205,7 +205,7 @@ mapped f (x ∷ xs) (suc k) y e = mapped f xs k y e
 
 -- ---- load segments of what is read
 
-abbrev pub plain : Segment → Fields
+abbrev pub plain : Segment → HeaderFields
 plain s = plain_fields s.fields
 
 length-headers : (list : List Member) (number : ℕ) (xs : List (List ℕ)) → length (headers_from list number xs) ≡ length xs
@@ -218,7 +218,7 @@ count-headers list = length-headers list 1 (load_names list)
 
 -- a load segment: its header in the layout, and where it is read
 pub record HasLoad (list : List Member) (segments : List Segment) (number : ℕ) : Type 0 where
-  pub fields : Fields
+  pub fields : HeaderFields
   pub header : load_header (load_headers list) number ≡ Some fields
   pub s : Segment
   pub is : segment_at segments number ≡ Some s
@@ -232,7 +232,7 @@ load_there list table segments (suc k) stand is =
     let count = count-headers list in
     let inside : k < length (load_headers list) = omega (arith, count, is.1) in
     let f = some_at (load_headers list) k inside in
-    let found : slice_get (map plain segments) k ≡ Some f.0 = ap (λ (l : List Fields). slice_get l k) stand.headers ∙ get-front (load_headers list) (after_headers list table) k inside ∙ f.1 in
+    let found : slice_get (map plain segments) k ≡ Some f.0 = ap (λ (l : List HeaderFields). slice_get l k) stand.headers ∙ get-front (load_headers list) (after_headers list table) k inside ∙ f.1 in
     let s = mapped plain segments k f.0 found in
     let place : suc k - 1 ≡ k = omega arith in
     record {
@@ -240,8 +240,8 @@ load_there list table segments (suc k) stand is =
       header = ap (slice_get (load_headers list)) place ∙ f.1;
       s = s.0;
       is = s.1;
-      kind = ap (λ (g : Fields). g.kind) s.2;
-      length' = ap (λ (g : Fields). g.length) s.2;
+      kind = ap (λ (g : HeaderFields). g.kind) s.2;
+      length' = ap (λ (g : HeaderFields). g.length) s.2;
     }
 
 -- the table, where there is an entry
@@ -263,10 +263,10 @@ table_there list table segments stand some = by_targets (targets list table) ref
         let parts : map plain segments ≡ load_headers list ++ f ∷ more =
         stand.headers ∙ ap (λ (l : List Target). load_headers list ++ (table_headers (table_number list) l ++ path_headers (table_number list + length (table_headers (table_number list) l)) (setting_in list).runtimes)) e in
         let following : k ≡ length (load_headers list) + 0 = omega (arith, count-headers list) in
-        let found : slice_get (map plain segments) k ≡ Some f = ap (λ (l : List Fields). slice_get l k) parts ∙ get-following (load_headers list) (f ∷ more) k 0 following in
+        let found : slice_get (map plain segments) k ≡ Some f = ap (λ (l : List HeaderFields). slice_get l k) parts ∙ get-following (load_headers list) (f ∷ more) k 0 following in
         let s = mapped plain segments k f found in
         let place : table_number list ≡ suc k = omega arith in
-        record { s = s.0; is = ap (segment_at segments) place ∙ s.1; kind = ap (λ (g : Fields). g.kind) s.2 }
+        record { s = s.0; is = ap (segment_at segments) place ∙ s.1; kind = ap (λ (g : HeaderFields). g.kind) s.2 }
 
 -- ---- patches
 
@@ -302,15 +302,15 @@ static_there o s is static = ap (λ (p : Option Segment). option_map_or (λ (t :
 -- an attribute in the layout is one of what is read
 pub skip_read : (list : List Member) (segments : List Segment) (number : ℕ) (l : HasLoad list segments number) → is_skipped_load (load_headers list) number ≡ false → is_skipped l.s.fields.kind ≡ false
 skip_read list segments number l none =
-    ap is_skipped l.kind ∙ sym (ap (λ (o : Option Fields). elim o as (λ x. Bool) [ None ↦ false | Some f ↦ is_skipped f.kind ]) l.header) ∙ none
+    ap is_skipped l.kind ∙ sym (ap (λ (o : Option HeaderFields). elim o as (λ x. Bool) [ None ↦ false | Some f ↦ is_skipped f.kind ]) l.header) ∙ none
 
 dynamic_read : (list : List Member) (segments : List Segment) (number : ℕ) (l : HasLoad list segments number) → is_dynamic l.s.fields.kind ≡ is_dynamic_load (load_headers list) number
 dynamic_read list segments number l =
-    ap is_dynamic l.kind ∙ sym (ap (λ (o : Option Fields). elim o as (λ x. Bool) [ None ↦ false | Some f ↦ is_dynamic f.kind ]) l.header)
+    ap is_dynamic l.kind ∙ sym (ap (λ (o : Option HeaderFields). elim o as (λ x. Bool) [ None ↦ false | Some f ↦ is_dynamic f.kind ]) l.header)
 
 pub length_read : (list : List Member) (segments : List Segment) (number : ℕ) (l : HasLoad list segments number) → l.s.fields.length ≡ length_of (load_headers list) number
 length_read list segments number l =
-    l.length' ∙ sym (ap (λ (o : Option Fields). elim o as (λ x. ℕ) [ None ↦ 0 | Some f ↦ f.length ]) l.header)
+    l.length' ∙ sym (ap (λ (o : Option HeaderFields). elim o as (λ x. ℕ) [ None ↦ 0 | Some f ↦ f.length ]) l.header)
 
 -- a patch that names what it may, and nothing that is skipped, may stand there
 patch_passes : (list : List Member) (table : List EquateAnswer) (segments : List Segment) (s : Segment) (own : ℕ) (p : Patch) → StandFor list table segments → s.fields.seg_num ≡ own → p.file ≡ 1 → p.location + p.count ≤ s.fields.length
@@ -384,7 +384,7 @@ not_express : (name : List ℕ) → length name ≤ 10 → is_express name ≡ f
 not_express name short =
     ap (λ (b : Bool). b || bytes_eq name (126 ∷ express_name)) (other_text name express_name short (omega arith)) ∙ other_text name (126 ∷ express_name) short (omega arith)
 
-pub front_passes : (f : Fields) → is_express f.name ≡ false → eqb (form_of f.kind) 0x08 ≡ false → segment_refusal f ≡ None
+pub front_passes : (f : HeaderFields) → is_express f.name ≡ false → eqb (form_of f.kind) 0x08 ≡ false → segment_refusal f ≡ None
 unfolding segment_refusal
 front_passes f name dictionary =
     pass (is_express f.name) Unsupported ((eqb (form_of f.kind) 0x08, NotLoadFile) ∷ []) name
@@ -400,7 +400,7 @@ pub load_segment : (image : Image) (segments : List Segment) (s : Segment) → I
 load_segment image segments s is names front = record { front = front; records = allowed_only segments s.records (records_written image segments s is names) }
 
 number_read : (image : Image) (s : Segment) → IsWritten image s → s.fields.seg_num ≡ image.fields.seg_num
-number_read image s is = ap (λ (f : Fields). f.seg_num) is.read.fields
+number_read image s is = ap (λ (f : HeaderFields). f.seg_num) is.read.fields
 
 shape_passes : (image : Image) (s : Segment) (number : ℕ) → image.whole ≡ false → IsWritten image s → image.fields.seg_num ≡ number → shape_fault number s ≡ None
 unfolding shape_fault segment_bytes
@@ -432,19 +432,19 @@ AllPass segments number [] = Unit {0}
 AllPass segments number (s ∷ more) = Passes segments number s × AllPass segments (number + 1) more
 
 -- the image of a load segment
-fields_of_image : (f : Fields) (cs : List Cell) (es : List Record) → (image_of f cs es).fields ≡ f
+fields_of_image : (f : HeaderFields) (cs : List Cell) (es : List Record) → (image_of f cs es).fields ≡ f
 unfolding image_of
 fields_of_image f cs es = refl
 
-patches_of_image : (f : Fields) (cs : List Cell) (es : List Record) → (image_of f cs es).patches ≡ patches_of_cells cs
+patches_of_image : (f : HeaderFields) (cs : List Cell) (es : List Record) → (image_of f cs es).patches ≡ patches_of_cells cs
 unfolding image_of
 patches_of_image f cs es = refl
 
-part_image : (f : Fields) (cs : List Cell) (es : List Record) → (image_of f cs es).whole ≡ false
+part_image : (f : HeaderFields) (cs : List Cell) (es : List Record) → (image_of f cs es).whole ≡ false
 unfolding image_of
 part_image f cs es = refl
 
-exports_of_image : (f : Fields) (cs : List Cell) (es : List Record) → (image_of f cs es).exports ≡ es
+exports_of_image : (f : HeaderFields) (cs : List Cell) (es : List Record) → (image_of f cs es).exports ≡ es
 unfolding image_of
 exports_of_image f cs es = refl
 
@@ -465,10 +465,10 @@ load_passes list table segments number x es s names stand is reach none kind ten
     let image = image_of f (linked list table x) es in
     let part = part_image f (linked list table x) es in
     let named = subst (AllByRecursion (λ r. entry_refusal segments r ≡ None)) (sym (exports_of_image f (linked list table x) es)) names in
-    let own : image.fields.seg_num ≡ number = ap (λ (g : Fields). g.seg_num) (fields_of_image f (linked list table x) es) ∙ number_of_load list number x in
+    let own : image.fields.seg_num ≡ number = ap (λ (g : HeaderFields). g.seg_num) (fields_of_image f (linked list table x) es) ∙ number_of_load list number x in
     let number' : s.fields.seg_num ≡ number = number_read image s is ∙ own in
-    let kind' : s.fields.kind ≡ f.kind = ap (λ (g : Fields). g.kind) is.read.fields ∙ ap (λ (g : Fields). g.kind) (fields_of_image f (linked list table x) es) in
-    let name : s.fields.name ≡ f.name = ap (λ (g : Fields). g.name) is.read.fields ∙ ap (λ (g : Fields). g.name) (fields_of_image f (linked list table x) es) in
+    let kind' : s.fields.kind ≡ f.kind = ap (λ (g : HeaderFields). g.kind) is.read.fields ∙ ap (λ (g : HeaderFields). g.kind) (fields_of_image f (linked list table x) es) in
+    let name : s.fields.name ≡ f.name = ap (λ (g : HeaderFields). g.name) is.read.fields ∙ ap (λ (g : HeaderFields). g.name) (fields_of_image f (linked list table x) es) in
     let plain' : PlainKind s.fields.kind = subst PlainKind (sym kind') kind in
     let short : length s.fields.name ≤ 10 = omega (arith, ap length name, name_of_load list number x, ten) in
     let reach' = subst (AllByRecursion (λ (p : Patch). Reaches list (targets list table) number p.segment)) (sym (patches_of_image f (linked list table x) es)) (patches_name (Reaches list (targets list table) number) (linked list table x) reach) in
@@ -509,19 +509,19 @@ pub record Known (list : List Member) (table : List EquateAnswer) : Type 0 where
 -- ---- the table
 
 -- the segments before it have another form
-pub none_before : (form : ℕ) (fs last : List Fields) (segments : List Segment) → map plain segments ≡ fs ++ last → AllByRecursion (λ (f : Fields). eqb (form_of f.kind) form ≡ false) fs
+pub none_before : (form : ℕ) (fs last : List HeaderFields) (segments : List Segment) → map plain segments ≡ fs ++ last → AllByRecursion (λ (f : HeaderFields). eqb (form_of f.kind) form ≡ false) fs
     → list_any (λ (s : Segment). eqb (form_of s.fields.kind) form) (take (length fs) segments) ≡ false
 none_before form [] last segments e all = refl
 none_before form (f ∷ fs) last [] e all = absurd cc
 none_before form (f ∷ fs) last (s ∷ segments) e all =
     let head : plain s ≡ f = heads (plain s) f (map plain segments) (fs ++ last) e in
-    let here : eqb (form_of s.fields.kind) form ≡ false = ap (λ (g : Fields). eqb (form_of g.kind) form) head ∙ all.0 in
+    let here : eqb (form_of s.fields.kind) form ≡ false = ap (λ (g : HeaderFields). eqb (form_of g.kind) form) head ∙ all.0 in
     ap (λ (b : Bool). b || list_any (λ (u : Segment). eqb (form_of u.fields.kind) form) (take (length fs) segments)) here ∙ none_before form fs last segments (tails (plain s) f (map plain segments) (fs ++ last) e) all.1
   where
-    heads : (a b : Fields) (xs ys : List Fields) → a ∷ xs ≡ b ∷ ys → a ≡ b
+    heads : (a b : HeaderFields) (xs ys : List HeaderFields) → a ∷ xs ≡ b ∷ ys → a ≡ b
     heads a b xs ys e = cc
 
-    tails : (a b : Fields) (xs ys : List Fields) → a ∷ xs ≡ b ∷ ys → xs ≡ ys
+    tails : (a b : HeaderFields) (xs ys : List HeaderFields) → a ∷ xs ≡ b ∷ ys → xs ≡ ys
     tails a b xs ys e = cc
 
 -- a target is there
@@ -556,10 +556,10 @@ fits_here list t few short called = record {
   loaded = tt;
 }
   where
-    length_is : (o : Option Fields) → load_header (load_headers list) t.segment ≡ o → length_of (load_headers list) t.segment ≡ elim o as (λ x. ℕ) [ None ↦ 0 | Some f ↦ f.length ]
-    length_is o e = ap (λ (p : Option Fields). elim p as (λ x. ℕ) [ None ↦ 0 | Some f ↦ f.length ]) e
+    length_is : (o : Option HeaderFields) → load_header (load_headers list) t.segment ≡ o → length_of (load_headers list) t.segment ≡ elim o as (λ x. ℕ) [ None ↦ 0 | Some f ↦ f.length ]
+    length_is o e = ap (λ (p : Option HeaderFields). elim p as (λ x. ℕ) [ None ↦ 0 | Some f ↦ f.length ]) e
 
-    by_header : (o : Option Fields) → load_header (load_headers list) t.segment ≡ o → t.offset < 2 ^ 32
+    by_header : (o : Option HeaderFields) → load_header (load_headers list) t.segment ≡ o → t.offset < 2 ^ 32
     by_header None e = absurd (omega (arith, called.inside, length_is None e))
     by_header (Some f) e = omega (arith, called.inside, length_is (Some f) e, short_length f (all_at (λ g. is_too_long g ≡ false) (load_headers list) (t.segment - 1) f short e))
 
@@ -594,7 +594,7 @@ unfolding table_image
 patches_of_table number entries = refl
 
 -- what a header of the table says
-record TableHeader (number : ℕ) (f : Fields) : Type 0 where
+record TableHeader (number : ℕ) (f : HeaderFields) : Type 0 where
   pub kind : f.kind ≡ 0x0002
   pub name : is_express f.name ≡ false
   pub number' : f.seg_num ≡ number
@@ -612,7 +612,7 @@ unfolding table_image
 exports_of_table number entries = refl
 
 pub table_passes' : (list : List Member) (table : List EquateAnswer) (segments : List Segment) (s : Segment) (ts : List Target) → StandFor list table segments → IsWritten (table_image (table_number list) (map file_entry ts)) s
-    → AllByRecursion (λ (f : Fields). eqb (form_of f.kind) 0x02 ≡ false) (load_headers list) → ((k : ℕ) (entry : Entry) → slice_get (map file_entry ts) k ≡ Some entry → FitsEntry entry) → AllByRecursion (IsTarget segments) ts
+    → AllByRecursion (λ (f : HeaderFields). eqb (form_of f.kind) 0x02 ≡ false) (load_headers list) → ((k : ℕ) (entry : Entry) → slice_get (map file_entry ts) k ≡ Some entry → FitsEntry entry) → AllByRecursion (IsTarget segments) ts
     → Passes segments (table_number list) s
 unfolding table_flaw linked_headers
 table_passes' list table segments s ts stand is kinds fits there =
@@ -624,9 +624,9 @@ table_passes' list table segments s ts stand is kinds fits there =
     let f = table_fields number (length (table_bytes entries)) in
     let h = table_header number (length (table_bytes entries)) in
     let fields = fields_of_table number entries in
-    let own : image.fields.seg_num ≡ number = ap (λ (g : Fields). g.seg_num) fields ∙ h.number' in
-    let kind : s.fields.kind ≡ 0x0002 = ap (λ (g : Fields). g.kind) is.read.fields ∙ ap (λ (g : Fields). g.kind) fields ∙ h.kind in
-    let name : is_express s.fields.name ≡ false = ap (λ (g : Fields). is_express g.name) is.read.fields ∙ ap (λ (g : Fields). is_express g.name) fields ∙ h.name in
+    let own : image.fields.seg_num ≡ number = ap (λ (g : HeaderFields). g.seg_num) fields ∙ h.number' in
+    let kind : s.fields.kind ≡ 0x0002 = ap (λ (g : HeaderFields). g.kind) is.read.fields ∙ ap (λ (g : HeaderFields). g.kind) fields ∙ h.kind in
+    let name : is_express s.fields.name ≡ false = ap (λ (g : HeaderFields). is_express g.name) is.read.fields ∙ ap (λ (g : HeaderFields). is_express g.name) fields ∙ h.name in
     let no_patch : (p : Patch) → Has (patch_list s) p → ⊥ = λ p h. subst (λ (l : List Patch). Has l p) (patches_of_table number entries) (patches_written image s part is p h) in
     let no_list : length (patches_of s) ≡ 0 = sym (length-map (patches_of s) (λ (found : ℕ × Patch). found.1)) ∙ ap length (no_patches (patch_list s) no_patch) in
     let bytes : segment_bytes s ≡ table_bytes entries = bytes_written image s part is ∙ ap (with_stored image.fields.seg_num image.content) (patches_of_table number entries) ∙ content_of_table number entries in

@@ -15,7 +15,7 @@ use Rattle.omf_format.specs.declared.value.ValueFault.{ValueFault}
 use Rattle.omf_format.specs.Field.{is_count, is_shift}
 use Rattle.omf_format.specs.laws.FieldLaws.{bind_ok, chosen}
 use Rattle.omf_format.specs.Record.{Record, End, Const, LongConst, Align, Org, Space, Reloc, InterSeg, ShortReloc, ShortInterSeg, Super, Using, Strong, Label, Equate, Formula, Entry}
-use Rattle.omf_format.specs.Header.{Fields}
+use Rattle.omf_format.specs.Header.{HeaderFields}
 use Rattle.load_meaning.specs.Cells.{Cell, Byte, Patch, parts_from}
 use Rattle.load_meaning.specs.declared.table.Target.{Target}
 use Rattle.load_meaning.specs.Table.{is_same, with_target, entry_place}
@@ -183,7 +183,7 @@ room : (b : Bool) → not b ≡ false → b ≡ true
 room true e = refl
 room false e = absurd cc
 
-call_fits : (headers : List Fields) (setting : LinkSetting) (targets : List Target) (call : Bool) (t : Target) (fit : Fit) → call_fit headers setting targets call t ≡ Ok fit → FitsFit targets fit
+call_fits : (headers : List HeaderFields) (setting : LinkSetting) (targets : List Target) (call : Bool) (t : Target) (fit : Fit) → call_fit headers setting targets call t ≡ Ok fit → FitsFit targets fit
 call_fits headers setting targets call t fit e = elim (chosen (not (may_call setting.form && call)) _ _ (fine fit) e) [
   | inl x ↦ absurd (not_bad DynamicReference fit x.1)
   | inr x ↦ elim (chosen (leb (length_there headers setting t) t.offset) (bad OutOfSegment) (cond (not (has_room_for targets t)) (bad TooManyEntries) (fine (fitting.Entry t))) (fine fit) x.1) [
@@ -203,7 +203,7 @@ own_file file d e = by_test (eqb file 1) refl e
     by_test true is e = eqb-true file 1 is
     by_test false is e = absurd cc
 
-fits_fit : (headers : List Fields) (f : PatchPlace) (targets : List Target) (before : List Cell) (code count n : ℕ) (v : Value) (fit : Fit) → fit_value headers f targets before code count n v ≡ Ok fit → FitsPatch v → FitsFit targets fit
+fits_fit : (headers : List HeaderFields) (f : PatchPlace) (targets : List Target) (before : List Cell) (code count n : ℕ) (v : Value) (fit : Fit) → fit_value headers f targets before code count n v ≡ Ok fit → FitsPatch v → FitsFit targets fit
 fits_fit headers f targets before code count n (Fixed k) fit e is = in_fit targets (number_fit code count k) fit e (number_fits targets code count k)
 fits_fit headers f targets before code count n (At file segment offset shift) fit e is = elim (chosen (is_far headers f.own file segment) _ _ (fine fit) e) [
   | inl x ↦ call_fits headers f.setting targets (is_call code count shift before) (target_of file segment offset) fit x.1

@@ -11,19 +11,19 @@ use Rattle.omf_format.specs.File.{Segment}
 use Rattle.link_meaning.specs.First.{IsIn}
 use Rattle.std.proofs.lemmas.Bool.{eq-eqb, eqb-true}
 use Rattle.link_meaning.specs.laws.MemberLists.{filter_in}
-use Rattle.link_meaning.specs.declared.search.Step.{Step}
-use Rattle.link_meaning.specs.declared.search.Step.TheVariants.{Within, OfUnit, Everyone}
+use Rattle.link_meaning.specs.declared.search.SearchStep.{SearchStep}
+use Rattle.link_meaning.specs.declared.search.SearchStep.TheVariants.{Within, OfUnit, Everyone}
 use Rattle.link_meaning.specs.Search.{FoundDefinition, step_for, is_step, is_seen_by_step, or_else, first_step_found, outer_steps, steps_of, used_data, entries_from, entries, with_this_name, finds, finds_data, data_titles, finds_inside, outside}
-use Rattle.link_meaning.specs.declared.search.Want.TheVariants.{Data, One}
+use Rattle.link_meaning.specs.declared.search.SearchKind.TheVariants.{Data, One}
 use Rattle.link_meaning.specs.Uses.{Use}
 use Rattle.link_meaning.specs.LinkedList.{has_title, counts_for, is_of_member, first_offer, row_for}
 
 -- nothing decided: no step has anything
-abbrev pub AllNone : List Step → List FoundDefinition → Type 0
+abbrev pub AllNone : List SearchStep → List FoundDefinition → Type 0
 AllNone [] all = Unit {0}
 AllNone (s ∷ steps) all = (filter (is_seen_by_step s) all ≡ []) × AllNone steps all
 
-pub none_decided : (steps : List Step) (all : List FoundDefinition) → first_step_found steps all ≡ [] → AllNone steps all
+pub none_decided : (steps : List SearchStep) (all : List FoundDefinition) → first_step_found steps all ≡ [] → AllNone steps all
 none_decided [] all e = tt
 none_decided (s ∷ steps) all e = settle (filter (is_seen_by_step s) all) refl e (λ rest. none_decided steps all rest)
   where
@@ -32,7 +32,7 @@ none_decided (s ∷ steps) all e = settle (filter (is_seen_by_step s) all) refl 
     settle [] is e go = (is, go e)
     settle (f ∷ found) is e go = absurd cc
 
-pub none_after : (front back : List Step) (all : List FoundDefinition) → AllNone (front ++ back) all → AllNone back all
+pub none_after : (front back : List SearchStep) (all : List FoundDefinition) → AllNone (front ++ back) all → AllNone back all
 none_after [] back all none = none
 none_after (s ∷ front) back all none = none_after front back all none.1
 
@@ -73,7 +73,7 @@ not_empty : (xs : List FoundDefinition) (f : FoundDefinition) → IsIn xs f → 
 not_empty [] f is e = is
 not_empty (x ∷ xs) f is e = absurd cc
 
-pub seen_is_found : (s : Step) (all : List FoundDefinition) (f : FoundDefinition) → IsIn all f → is_seen_by_step s f ≡ true → filter (is_seen_by_step s) all ≡ [] → ⊥
+pub seen_is_found : (s : SearchStep) (all : List FoundDefinition) (f : FoundDefinition) → IsIn all f → is_seen_by_step s f ≡ true → filter (is_seen_by_step s) all ≡ [] → ⊥
 seen_is_found s all f is sees' none = not_empty (filter (is_seen_by_step s) all) f (filter_in (is_seen_by_step s) all f is sees') none
 
 -- a definition with a row's privacy, in the row's member, where neither the unit's nor the public step finds anything: there is none

@@ -9,7 +9,7 @@ use Rattle.byteorder.specs.Numbers.{little_from-lt}
 use Rattle.omf_format.specs.Number.{number_at}
 use Rattle.omf_format.specs.Field.{◌>>=◌, layout_of}
 use Rattle.omf_format.specs.laws.FieldLaws.{IsBytes-drop, IsBytes-take, kind_of-lt, bind_ok}
-use Rattle.omf_format.specs.Header.{Fields, fields_of, names_end, form_of, is_listed}
+use Rattle.omf_format.specs.Header.{HeaderFields, fields_of, names_end, form_of, is_listed}
 use Rattle.omf_format.specs.Number.{IsBytes}
 use Rattle.omf_format.specs.laws.HeaderLaws.{IsSound, sound_from_none}
 use Rattle.omf_format.specs.Record.{Record, IsRecord}
@@ -21,7 +21,7 @@ use Rattle.link_meaning.specs.declared.fault.LinkCause.{LinkCause}
 use Rattle.link_meaning.specs.declared.fault.LinkCause.TheVariants.{Unsupported, BadRecord}
 use Rattle.link_meaning.specs.First.{IsIn, first_some}
 use Rattle.object_meaning.specs.Sizes.{body_size}
-use Rattle.link_meaning.specs.Member.{Row, Input, Member, is_library, members_from, objects_from, objects, Offer, offer_of, offers_from, library_offers, LinkSetting}
+use Rattle.link_meaning.specs.Member.{OfferedRow, Input, Member, is_library, members_from, objects_from, objects, Offer, offer_of, offers_from, library_offers, LinkSetting}
 use Rattle.link_meaning.specs.Uses.{Use}
 use Rattle.link_meaning.specs.Search.{FoundDefinition}
 use Rattle.link_meaning.specs.LinkedList.{first_offer, row_for, unless_found, wanted_by, PlacedUse, all_uses, wanted, Follow}
@@ -218,10 +218,10 @@ numbered_at number (s ∷ segments) x (inr more) =
     (suc rest.0, omega (arith, rest.1), rest.2)
 
 -- the row names a segment that is no dictionary
-abbrev NamesMember : List Segment → Row → Type 0
+abbrev NamesMember : List Segment → OfferedRow → Type 0
 NamesMember segments row = (s : Segment) × (slice_get segments (row.segment - 1) ≡ Some s) × ((form_of s.fields.kind == 0x08) ≡ false)
 
-row_names : (numbers : List ℕ) (names : List (ℕ × List ℕ)) (d : Segment) (others : List Segment) (at : ℕ) (bytes : List ℕ) (row : Row) → row_at numbers names (numbered_from 2 others) at bytes ≡ Ok row → NamesMember (d ∷ others) row
+row_names : (numbers : List ℕ) (names : List (ℕ × List ℕ)) (d : Segment) (others : List Segment) (at : ℕ) (bytes : List ℕ) (row : OfferedRow) → row_at numbers names (numbered_from 2 others) at bytes ≡ Ok row → NamesMember (d ∷ others) row
 unfolding row_at
 row_names numbers names d others at bytes row e =
     let test : (ℕ × Segment) → Bool = λ x. x.1.start == number_at 4 8 bytes && not (form_of x.1.fields.kind == 0x08) in
@@ -234,53 +234,53 @@ row_names numbers names d others at bytes row e =
     let index : row.segment - 1 ≡ suc place.0 = omega (arith, number, place.1) in
     (member.0.1, ap (slice_get (d ∷ others)) index ∙ place.2, not-true _ kind.1)
   where
-    ok_row : Row → Result Row ℕ
+    ok_row : OfferedRow → Result OfferedRow ℕ
     ok_row r = Ok r
 
-    same_row : (a b : Row) → ok_row a ≡ ok_row b → a ≡ b
+    same_row : (a b : OfferedRow) → ok_row a ≡ ok_row b → a ≡ b
     same_row a b e = cc
 
-    no_row : (r : Row) → Err at ≡ ok_row r → ⊥
+    no_row : (r : OfferedRow) → Err at ≡ ok_row r → ⊥
     no_row r e = cc
 
-    of_row : (b : Bool) (made : Row) (f : Row → ℕ) → cond b (Ok made) (Err at) ≡ Ok row → f row ≡ f made
+    of_row : (b : Bool) (made : OfferedRow) (f : OfferedRow → ℕ) → cond b (Ok made) (Err at) ≡ Ok row → f row ≡ f made
     of_row true made f e = ap f (sym (same_row made row e))
     of_row false made f e = absurd (no_row row e)
 
-abbrev ok_rows : List Row → Result (List Row) ℕ
+abbrev ok_rows : List OfferedRow → Result (List OfferedRow) ℕ
 ok_rows l = Ok l
 
-same_rows : (a b : List Row) → ok_rows a ≡ ok_rows b → a ≡ b
+same_rows : (a b : List OfferedRow) → ok_rows a ≡ ok_rows b → a ≡ b
 same_rows a b e = cc
 
-all_named : (n : ℕ) (numbers : List ℕ) (names : List (ℕ × List ℕ)) (d : Segment) (others : List Segment) (at : ℕ) (bytes : List ℕ) (rows : List Row) → rows_from n numbers names (numbered_from 2 others) at bytes ≡ Ok rows
-    → (row : Row) → IsIn rows row → NamesMember (d ∷ others) row
+all_named : (n : ℕ) (numbers : List ℕ) (names : List (ℕ × List ℕ)) (d : Segment) (others : List Segment) (at : ℕ) (bytes : List ℕ) (rows : List OfferedRow) → rows_from n numbers names (numbered_from 2 others) at bytes ≡ Ok rows
+    → (row : OfferedRow) → IsIn rows row → NamesMember (d ∷ others) row
 unfolding rows_from
-all_named zero numbers names d others at bytes rows e row is = absurd (subst (λ (l : List Row). IsIn l row) (sym (same_rows [] rows e)) is)
+all_named zero numbers names d others at bytes rows e row is = absurd (subst (λ (l : List OfferedRow). IsIn l row) (sym (same_rows [] rows e)) is)
 all_named (suc n) numbers names d others at bytes rows e row is =
     let first = bind_ok (row_at numbers names (numbered_from 2 others) at (take 12 bytes)) _ rows e in
     let more = bind_ok (rows_from n numbers names (numbered_from 2 others) (at + 12) (drop 12 bytes)) _ rows first.2 in
     by_place first.0 more.0 (same_rows (first.0 ∷ more.0) rows more.2) (row_names numbers names d others at (take 12 bytes) first.0 first.1) (all_named n numbers names d others (at + 12) (drop 12 bytes) more.0 more.1)
   where
-    by_place : (r : Row) (l : List Row) → r ∷ l ≡ rows → NamesMember (d ∷ others) r → ((row : Row) → IsIn l row → NamesMember (d ∷ others) row) → NamesMember (d ∷ others) row
-    by_place r l same here rest = go (subst (λ (k : List Row). IsIn k row) (sym same) is)
+    by_place : (r : OfferedRow) (l : List OfferedRow) → r ∷ l ≡ rows → NamesMember (d ∷ others) r → ((row : OfferedRow) → IsIn l row → NamesMember (d ∷ others) row) → NamesMember (d ∷ others) row
+    by_place r l same here rest = go (subst (λ (k : List OfferedRow). IsIn k row) (sym same) is)
       where
         go : (r ≡ row) ⊎ IsIn l row → NamesMember (d ∷ others) row
         go (inl e) = subst (NamesMember (d ∷ others)) e here
         go (inr more) = rest row more
 
-parts_rows : (d : Segment) (others : List Segment) (start at : ℕ) (first second third : List ℕ) (rows : List Row) → rows_in start at first second third others ≡ Ok rows → (row : Row) → IsIn rows row → NamesMember (d ∷ others) row
+parts_rows : (d : Segment) (others : List Segment) (start at : ℕ) (first second third : List ℕ) (rows : List OfferedRow) → rows_in start at first second third others ≡ Ok rows → (row : OfferedRow) → IsIn rows row → NamesMember (d ∷ others) row
 unfolding rows_in
 parts_rows d others start at first second third rows e =
-    let after_names : List ℕ → List ℕ → List (ℕ × List ℕ) → Result (List Row) ℕ = λ numbers whole names. rows_from (length second / 12) numbers names (numbered_from 2 others) (at + 5) whole in
-    let after_rows : List ℕ → List ℕ → Result (List Row) ℕ = λ numbers whole. or_false start (names_from (length third) 0 third) >>= after_names numbers whole in
-    let after_numbers : List ℕ → Result (List Row) ℕ = λ numbers. or_false start (cond (length second % 12 == 0) (Some second) None) >>= after_rows numbers in
+    let after_names : List ℕ → List ℕ → List (ℕ × List ℕ) → Result (List OfferedRow) ℕ = λ numbers whole names. rows_from (length second / 12) numbers names (numbered_from 2 others) (at + 5) whole in
+    let after_rows : List ℕ → List ℕ → Result (List OfferedRow) ℕ = λ numbers whole. or_false start (names_from (length third) 0 third) >>= after_names numbers whole in
+    let after_numbers : List ℕ → Result (List OfferedRow) ℕ = λ numbers. or_false start (cond (length second % 12 == 0) (Some second) None) >>= after_rows numbers in
     let numbers = bind_ok (or_false start (file_numbers (length first) first)) after_numbers rows e in
     let whole = bind_ok (or_false start (cond (length second % 12 == 0) (Some second) None)) (after_rows numbers.0) rows numbers.2 in
     let names = bind_ok (or_false start (names_from (length third) 0 third)) (after_names numbers.0 whole.0) rows whole.2 in
     all_named (length second / 12) numbers.0 names.0 d others (at + 5) whole.0 rows names.2
 
-record_rows : (d : Segment) (others : List Segment) (start : ℕ) (records : List (ℕ × Record)) (rows : List Row) → rows_of_records start records others ≡ Ok rows → (row : Row) → IsIn rows row → NamesMember (d ∷ others) row
+record_rows : (d : Segment) (others : List Segment) (start : ℕ) (records : List (ℕ × Record)) (rows : List OfferedRow) → rows_of_records start records others ≡ Ok rows → (row : OfferedRow) → IsIn rows row → NamesMember (d ∷ others) row
 record_rows d others start [] rows e = absurd cc
 record_rows d others start (a ∷ []) rows e = absurd cc
 record_rows d others start (a ∷ b ∷ []) rows e = absurd cc
@@ -292,19 +292,19 @@ record_rows d others start (a ∷ b ∷ c ∷ l ∷ []) rows e =
     parts_rows d others start b.0 first.0 second.0 third.0 rows third.2
 record_rows d others start (a ∷ b ∷ c ∷ l ∷ m ∷ more) rows e = absurd cc
 
-file_rows : (segments : List Segment) (rows : List Row) → rows_in_file segments ≡ Ok rows → (row : Row) → IsIn rows row → NamesMember segments row
+file_rows : (segments : List Segment) (rows : List OfferedRow) → rows_in_file segments ≡ Ok rows → (row : OfferedRow) → IsIn rows row → NamesMember segments row
 unfolding rows_of
-file_rows [] rows e row is = absurd (subst (λ (l : List Row). IsIn l row) (sym (same_rows [] rows e)) is)
+file_rows [] rows e row is = absurd (subst (λ (l : List OfferedRow). IsIn l row) (sym (same_rows [] rows e)) is)
 file_rows (d ∷ others) rows e row is = by_library (form_of d.fields.kind == 0x08) e
   where
     by_library : (b : Bool) → cond b (rows_of_records d.start d.records others) (Ok []) ≡ Ok rows → NamesMember (d ∷ others) row
     by_library true e = record_rows d others d.start d.records rows e row is
-    by_library false e = absurd (subst (λ (l : List Row). IsIn l row) (sym (same_rows [] rows e)) is)
+    by_library false e = absurd (subst (λ (l : List OfferedRow). IsIn l row) (sym (same_rows [] rows e)) is)
 
 one_segment : (a b : Segment) → Some a ≡ Some b → a ≡ b
 one_segment a b e = cc
 
-from_row : (setting : LinkSetting) (file : ℕ) (segments : List Segment) (row : Row) (o : Offer) → NamesMember segments row → offer_of setting file segments row ≡ Some o → IsIn segments o.member.segment × ((form_of o.member.segment.fields.kind == 0x08) ≡ false)
+from_row : (setting : LinkSetting) (file : ℕ) (segments : List Segment) (row : OfferedRow) (o : Offer) → NamesMember segments row → offer_of setting file segments row ≡ Some o → IsIn segments o.member.segment × ((form_of o.member.segment.fields.kind == 0x08) ≡ false)
 from_row setting file segments row o names e = by_segment (slice_get segments (row.segment - 1)) refl e
   where
     by_segment : (x : Option Segment) → slice_get segments (row.segment - 1) ≡ x
@@ -387,7 +387,7 @@ members_read files list m bytes program is = of_inputs files.inputs program.inpu
 -- ---- what is known of its header
 
 -- the fields fit a header, and the checks hold
-pub record HasHeader (f : Fields) : Type 0 where
+pub record HasHeader (f : HeaderFields) : Type 0 where
   pub bank : f.bank_size ≤ 0x10000
   pub kind : f.kind < 2 ^ 16
   pub listed : is_listed (form_of f.kind) ≡ true
@@ -428,7 +428,7 @@ read_size s read =
     let b = or_none _ _ a.1 in
     eqb-true s.fields.length (body_size s + s.fields.res_spc) (if_none (eqb s.fields.length (body_size s + s.fields.res_spc)) _ b.1)
 
-open_at : (start : ℕ) (f : Fields) (file : List ℕ) → (body_reader start f file).ended ≡ false
+open_at : (start : ℕ) (f : HeaderFields) (file : List ℕ) → (body_reader start f file).ended ≡ false
 unfolding body_reader
 open_at start f file = refl
 

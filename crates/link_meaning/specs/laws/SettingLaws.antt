@@ -7,7 +7,7 @@ use Rattle.load_meaning.specs.Pathnames.{IsPath, most_paths}
 use Rattle.link_meaning.specs.declared.form.LinkForm.{LinkForm}
 use Rattle.link_meaning.specs.declared.form.LinkForm.TheVariants.{Program, Runtime as LibraryForm}
 use Rattle.link_meaning.specs.First.{IsIn}
-use Rattle.link_meaning.specs.Member.{Row, Input, RuntimeFile, LinkSetting, Member, Offer, is_library, members_from, objects_from, objects, offer_of, offers_from, library_offers, setting_in, without_runtimes}
+use Rattle.link_meaning.specs.Member.{OfferedRow, Input, RuntimeFile, LinkSetting, Member, Offer, is_library, members_from, objects_from, objects, offer_of, offers_from, library_offers, setting_in, without_runtimes}
 use Rattle.link_meaning.specs.LinkFaults.{LinkInput, HasBytes, MayHave, AreRuntimes, IsProgram}
 use Rattle.link_meaning.specs.laws.ReadMembers.{from_filter, followed}
 
@@ -38,7 +38,7 @@ in_objects setting file (input ∷ inputs) m is = elim (in-append (cond (is_libr
 one_offer : (a b : Offer) → Some a ≡ Some b → a ≡ b
 one_offer a b e = cc
 
-of_row : (setting : LinkSetting) (file : ℕ) (segments : List Segment) (row : Row) (o : Offer) → offer_of setting file segments row ≡ Some o → Has setting o.member
+of_row : (setting : LinkSetting) (file : ℕ) (segments : List Segment) (row : OfferedRow) (o : Offer) → offer_of setting file segments row ≡ Some o → Has setting o.member
 of_row setting file segments row o e = by_segment (slice_get segments (row.segment - 1)) e
   where
     by_segment : (x : Option Segment) → option_map (λ (s : Segment). record { name = row.name; private = row.private; member = record { file = file; number = row.segment; from = row.from; segment = s; setting = setting } }) x ≡ Some o → Has setting o.member

@@ -19,7 +19,7 @@ use Rattle.link_meaning.specs.First.{IsIn}
 use Rattle.link_meaning.specs.laws.MemberLists.{in_filter, filter_in}
 use Rattle.link_meaning.specs.Member.{Member, RuntimeFile, LinkSetting, setting_in, without_runtimes}
 use Rattle.object_meaning.specs.Terms.{asks_value, asked_by, asked_in, term_at, tree_in}
-use Rattle.link_meaning.specs.declared.search.Step.{Step}
+use Rattle.link_meaning.specs.declared.search.SearchStep.{SearchStep}
 use Rattle.link_meaning.specs.Search.{FoundDefinition, is_seen_by_step, or_else, first_step_found, steps_of, with_this_name, entries, finds, finds_inside, outside_of, outside_from, outside}
 use Rattle.link_meaning.specs.Cycles.{is_equate, equates, names_in, LeadsTo, Path, Last, Through, IsCircular}
 use Rattle.link_meaning.specs.LinkValues.{EquateAnswer, value_of_definition, found_value, if_ok, label_value, member_environment, fault_found, fault_named, value_or_equate_fault, tree_value, value_in, equate_value, AreReported, IsTable}
@@ -30,7 +30,7 @@ in_either : (a b : List FoundDefinition) (f : FoundDefinition) → IsIn (or_else
 in_either [] b f is = inr is
 in_either (g ∷ a) b f is = inl is
 
-in_decided : (steps : List Step) (all : List FoundDefinition) (f : FoundDefinition) → IsIn (first_step_found steps all) f → IsIn all f
+in_decided : (steps : List SearchStep) (all : List FoundDefinition) (f : FoundDefinition) → IsIn (first_step_found steps all) f → IsIn all f
 in_decided [] all f is = absurd is
 in_decided (s ∷ steps) all f is = settle (in_either (filter (is_seen_by_step s) all) (first_step_found steps all) f is) (λ more. in_decided steps all f more)
   where

@@ -6,7 +6,7 @@ use Rattle.std.specs.Option.{option_or}
 use Rattle.std.proofs.lemmas.Bool.{cases_Bool}
 use Rattle.std.proofs.lemmas.List.{append-nil, take_at, drop_at, length-append}
 use Rattle.std.proofs.lemmas.List.Concat.{flat_map-cons}
-use Rattle.omf_format.specs.Header.{Fields, header_bytes}
+use Rattle.omf_format.specs.Header.{HeaderFields, header_bytes}
 use Rattle.omf_format.specs.laws.WrittenHeaderLaws.{length-header}
 use Rattle.omf_format.specs.Record.{Record, End, content_of, Const, LongConst, Align, Org, Space, Reloc, InterSeg, ShortReloc, ShortInterSeg, Super, Using, Strong, Label, Equate, Formula, Entry}
 use Rattle.omf_format.specs.File.{Segment, IsSegment, AreSegments, IsFile}
@@ -139,14 +139,14 @@ has_body image s front rest file is read segment size parts =
     let header = header_bytes (image_fields image) n in
     let h = 0x37 + length image.fields.name in
     let there = body_there front header (image_body image) rest file s.start h n size (length-header (image_fields image) n is.fits.load_name) refl parts in
-    let data' : s.fields.disp_data ≡ h = ap (λ (f : Fields). f.disp_data) read.fields in
-    let count : s.fields.byte_count ≡ h + n = ap (λ (f : Fields). f.byte_count) read.fields in
+    let data' : s.fields.disp_data ≡ h = ap (λ (f : HeaderFields). f.disp_data) read.fields in
+    let count : s.fields.byte_count ≡ h + n = ap (λ (f : HeaderFields). f.byte_count) read.fields in
     record {
       segment' = segment;
-      version = ap (λ (f : Fields). f.version) read.fields;
-      lab_len = ap (λ (f : Fields). f.lab_len) read.fields;
-      seg_num = ap (λ (f : Fields). f.seg_num) read.fields;
-      length' = ap (λ (f : Fields). f.length) read.fields ∙ is.length';
+      version = ap (λ (f : HeaderFields). f.version) read.fields;
+      lab_len = ap (λ (f : HeaderFields). f.lab_len) read.fields;
+      seg_num = ap (λ (f : HeaderFields). f.seg_num) read.fields;
+      length' = ap (λ (f : HeaderFields). f.length) read.fields ∙ is.length';
       body = ap (λ (k : ℕ). drop (s.start + k) (take (s.start + s.fields.byte_count) file)) data' ∙ ap (λ (k : ℕ). drop (s.start + h) (take (s.start + k) file)) count ∙ there;
     }
 
@@ -167,7 +167,7 @@ written_all [] (s ∷ segments) at front file size parts are all read = absurd r
 written_all (image ∷ images) [] at front file size parts are all read = absurd read
 written_all (image ∷ images) (s ∷ segments) at front file size parts are all read =
     let whole : file ≡ front ++ (image_text image ++ flat_map image_text images) = parts ∙ ap (λ (l : List ℕ). front ++ l) (flat_map-cons image_text image images) in
-    let count : s.fields.byte_count ≡ 0x37 + length image.fields.name + length (image_body image) = ap (λ (f : Fields). f.byte_count) read.0.fields in
+    let count : s.fields.byte_count ≡ 0x37 + length image.fields.name + length (image_body image) = ap (λ (f : HeaderFields). f.byte_count) read.0.fields in
     let next : length (front ++ image_text image) ≡ at + s.fields.byte_count = omega (arith, length-append front (image_text image), size, count, length-image image all.0) in (
       written_one image s front (flat_map image_text images) file all.0 read.0 are.2 (size ∙ sym are.0) whole,
       written_all images segments (at + s.fields.byte_count) (front ++ image_text image) file next (whole ∙ sym (append_assoc front (image_text image) (flat_map image_text images))) are.3 all.1 read.1,
@@ -181,7 +181,7 @@ are_written_as images segments are all read = written_all images segments 0 [] (
 -- ---- its bytes and patches
 
 pub length_written : (image : Image) (s : Segment) → IsWritten image s → s.fields.length ≡ length image.content
-length_written image s is = ap (λ (f : Fields). f.length) is.read.fields ∙ is.image'.length'
+length_written image s is = ap (λ (f : HeaderFields). f.length) is.read.fields ∙ is.image'.length'
 
 -- the records of an image that isn't whole
 part_records : (image : Image) → image.whole ≡ false → image_records image ≡ body_records image.fields.seg_num image.content image.patches ++ image.exports
@@ -199,7 +199,7 @@ bytes_written image s e is = segment_has image.fields.seg_num image.content imag
 pub patches_written : (image : Image) (s : Segment) → image.whole ≡ false → IsWritten image s → (p : Patch) → Has (patch_list s) p → Has image.patches p
 patches_written image s e is p h =
     let own = image.fields.seg_num in
-    let number : s.fields.seg_num ≡ own = ap (λ (f : Fields). f.seg_num) is.read.fields in
+    let number : s.fields.seg_num ≡ own = ap (λ (f : HeaderFields). f.seg_num) is.read.fields in
     let st = stands own image.content image.patches s number (length_written image s is) is.image'.patches' (has_of image s e is) in
     from_records own image.patches p (subst (λ (l : List Patch). Has l p) (patches_are own image.content image.patches s (has_of image s e is) st) h)
 

@@ -4,7 +4,7 @@ use Rattle.std.specs.Prelude.{is_some, bytes_eq, ◌||◌, map, cond}
 use Rattle.std.specs.Int.{is_power_of_two}
 use Rattle.std.specs.Option.{option_or}
 use Rattle.std.proofs.lemmas.Slice.Eq.{bytes_eq-Decides}
-use Rattle.omf_format.specs.Header.{Fields, alignment_of}
+use Rattle.omf_format.specs.Header.{HeaderFields, alignment_of}
 use Rattle.omf_format.specs.Record.{Record}
 use Rattle.orca_meaning.specs.Formula.{pending}
 use Rattle.orca_meaning.specs.Line.{line_of, numbered_lines}
@@ -15,7 +15,7 @@ use Rattle.asm_meaning.specs.Instruction.{Widths}
 use Rattle.asm_meaning.specs.Object.{AreSteps}
 use Rattle.asm_meaning.specs.Pieces.{place_after}
 use Rattle.asm_meaning.specs.laws.PieceLaws.{place_after-append, place_after-le}
-use Rattle.asm_meaning.specs.State.{State, Segment, Names, greatest_length}
+use Rattle.asm_meaning.specs.State.{State, StartedSegment, Names, greatest_length}
 use Rattle.asm_meaning.specs.Statement.{IsStep, constants_of, constants_in, value_in}
 use Rattle.list_meaning.specs.Listed.{ListedStatement, NextAlignIs, NextOrg, StartIs, KindIs, SwitchIs, Ds, Aligns, OrgIs, UsingIs, StrongIs, Labels, Equates, Instructs, Bytes, WeakIs, FormulaIs, EndIs, said_text}
 use Rattle.list_meaning.specs.Listing.{is_among}
@@ -118,7 +118,7 @@ AreFine-append equates align names w (said ∷ a) b p q = (p.0, AreFine-append e
 -- ---- the assembler's state
 
 -- what the assembler has there: the open segment with these names, at these widths, where only equates have values
-pub record Holds (equates : List (List ℕ)) (align : ℕ) (names : List (List ℕ)) (w : Widths) (state : State) (s : Segment) : Type 0 where
+pub record Holds (equates : List (List ℕ)) (align : ℕ) (names : List (List ℕ)) (w : Widths) (state : State) (s : StartedSegment) : Type 0 where
   pub here : state.segment ≡ Some s
   pub aligned : s.header.align ≡ align
   pub same_names : (name : List ℕ) → is_some (s.names name) ≡ is_among names name
@@ -126,11 +126,11 @@ pub record Holds (equates : List (List ℕ)) (align : ℕ) (names : List (List �
   pub outside : (name : List ℕ) → state.outside name ≡ None
   pub widths : state.widths ≡ w
 
-knows_only : (equates : List (List ℕ)) (align : ℕ) (names : List (List ℕ)) (w : Widths) (state : State) (s : Segment) → Holds equates align names w state s → KnowsOnly equates (constants_of state)
+knows_only : (equates : List (List ℕ)) (align : ℕ) (names : List (List ℕ)) (w : Widths) (state : State) (s : StartedSegment) → Holds equates align names w state s → KnowsOnly equates (constants_of state)
 knows_only equates align names w state s holds name other =
-    ap (λ (o : Option Segment). option_or (constants_in o name) (state.outside name)) holds.here ∙ rw (holds.inner name other, holds.outside name) refl
+    ap (λ (o : Option StartedSegment). option_or (constants_in o name) (state.outside name)) holds.here ∙ rw (holds.inner name other, holds.outside name) refl
 
-can_stand : (equates : List (List ℕ)) (align : ℕ) (names : List (List ℕ)) (w : Widths) (state : State) (s : Segment) (said : ListedStatement) → Holds equates align names w state s → IsFine equates align names w said → CanStand state s said
+can_stand : (equates : List (List ℕ)) (align : ℕ) (names : List (List ℕ)) (w : Widths) (state : State) (s : StartedSegment) (said : ListedStatement) → Holds equates align names w state s → IsFine equates align names w said → CanStand state s said
 can_stand equates align names w state s said holds fine = by said fine
   where
     free : (name : List ℕ) → IsNew names name → IsPlainName name × (is_some (s.names name) ≡ false)
@@ -195,26 +195,26 @@ inner_same equates align before w (Equates global name n) names fine inner asked
     by false e = inner asked other
 inner_same equates align before w _ names fine inner asked other = inner asked other
 
-same_align : (said : ListedStatement) (header : Fields) → (header_said said header).align ≡ header.align
+same_align : (said : ListedStatement) (header : HeaderFields) → (header_said said header).align ≡ header.align
 same_align (KindIs n) header = refl
 same_align _ header = refl
 
-same_header : (equates : List (List ℕ)) (align : ℕ) (names : List (List ℕ)) (w : Widths) (said : ListedStatement) (header : Fields) → IsFine equates align names w said → header_said said header ≡ header
+same_header : (equates : List (List ℕ)) (align : ℕ) (names : List (List ℕ)) (w : Widths) (said : ListedStatement) (header : HeaderFields) → IsFine equates align names w said → header_said said header ≡ header
 same_header equates align names w (KindIs n) header fine = absurd fine
 same_header equates align names w _ header fine = refl
 
-holds_on : (equates : List (List ℕ)) (align : ℕ) (names : List (List ℕ)) (w : Widths) (state next : State) (s : Segment) (said : ListedStatement) → Holds equates align names w state s → IsFine equates align names w said
+holds_on : (equates : List (List ℕ)) (align : ℕ) (names : List (List ℕ)) (w : Widths) (state next : State) (s : StartedSegment) (said : ListedStatement) → Holds equates align names w state s → IsFine equates align names w said
     → (leaves : Leaves said state s next) → Holds equates align (name_said said ++ names) (widths_said said w) next leaves.after
 holds_on equates align names w state next s said holds fine leaves = record {
   here = leaves.here;
-  aligned = ap (λ (h : Fields). h.align) leaves.header ∙ same_align said s.header ∙ holds.aligned;
+  aligned = ap (λ (h : HeaderFields). h.align) leaves.header ∙ same_align said s.header ∙ holds.aligned;
   same_names = λ name. ap (λ (n : Names). is_some (n name)) leaves.names ∙ names_same said s.names names holds.same_names name;
   inner = λ name other. ap (λ (n : Names). value_in (n name)) leaves.names ∙ inner_same equates align names w said s.names fine holds.inner name other;
   outside = λ name. ap (λ (o : Constants). o name) leaves.outside ∙ holds.outside name;
   widths = leaves.widths ∙ ap (widths_said said) holds.widths;
 }
 
-left_inside : (equates : List (List ℕ)) (align : ℕ) (names : List (List ℕ)) (w : Widths) (said : ListedStatement) (state next : State) (s : Segment) → IsFine equates align names w said → state.segment ≡ Some s → Leaves said state s next
+left_inside : (equates : List (List ℕ)) (align : ℕ) (names : List (List ℕ)) (w : Widths) (said : ListedStatement) (state next : State) (s : StartedSegment) → IsFine equates align names w said → state.segment ≡ Some s → Leaves said state s next
     → IsLeft said state next
 left_inside equates align names w (NextAlignIs n) state next s fine here leaves = absurd fine
 left_inside equates align names w (NextOrg n) state next s fine here leaves = absurd fine
@@ -225,10 +225,10 @@ left_inside equates align names w _ state next s fine here leaves = (s, here, le
 -- ---- lines one after another
 
 -- what lines leave
-pub record Ran (w : Widths) (lines : List ListedStatement) (state : State) (s : Segment) (number : ℕ) : Type 0 where
+pub record Ran (w : Widths) (lines : List ListedStatement) (state : State) (s : StartedSegment) (number : ℕ) : Type 0 where
   pub last : State
   pub leads : Leads state number lines last
-  pub after : Segment
+  pub after : StartedSegment
   pub here : last.segment ≡ Some after
   pub class : after.class ≡ s.class
   pub header : after.header ≡ s.header
@@ -239,7 +239,7 @@ pub record Ran (w : Widths) (lines : List ListedStatement) (state : State) (s : 
   pub front : last.front ≡ state.front
   pub ended : last.ended ≡ state.ended
 
-pub lines_run : (equates : List (List ℕ)) (align : ℕ) (names : List (List ℕ)) (w : Widths) (state : State) (s : Segment) (number : ℕ) (lines : List ListedStatement) → Holds equates align names w state s
+pub lines_run : (equates : List (List ℕ)) (align : ℕ) (names : List (List ℕ)) (w : Widths) (state : State) (s : StartedSegment) (number : ℕ) (lines : List ListedStatement) → Holds equates align names w state s
     → AreFine equates align names w lines → place_after 0 (s.body ++ given w lines) ≤ greatest_length s.class → Ran w lines state s number
 lines_run equates align names w state s number [] holds fine room = record {
   last = state;

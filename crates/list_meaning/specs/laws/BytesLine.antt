@@ -18,7 +18,7 @@ use Rattle.asm_meaning.specs.Constant.{Constants}
 use Rattle.asm_meaning.specs.Elements as elements
 use Rattle.asm_meaning.specs.Elements.{bytes_of_digits, bytes_of_group_digits, packed_digits, without_spaces, list_pieces}
 use Rattle.asm_meaning.specs.Pieces.{records_of, records_after}
-use Rattle.asm_meaning.specs.State.{State, Segment, cells_of, greatest_length, with_local_record, in_segment}
+use Rattle.asm_meaning.specs.State.{State, StartedSegment, cells_of, greatest_length, with_local_record, in_segment}
 use Rattle.asm_meaning.specs.Statement.{IsStep, constants_of}
 use Rattle.list_meaning.specs.laws.LineText.{HasNoBlank}
 use Rattle.list_meaning.specs.Listed.{Bytes, said_text, quoted_value}
@@ -163,7 +163,7 @@ fixed_gives : (constants : Constants) (msb : Bool) (byte : ℕ) (bytes : List �
 unfolding elements.element_pieces records_after
 fixed_gives constants msb byte bytes few = rw (le-leb (length (byte ∷ bytes)) 223 few) refl
 
-pub bytes_step : (state : State) (s : Segment) (number byte : ℕ) (bytes : List ℕ) → state.segment ≡ Some s → AreBytes (byte ∷ bytes) → length (byte ∷ bytes) ≤ 223
+pub bytes_step : (state : State) (s : StartedSegment) (number byte : ℕ) (bytes : List ℕ) → state.segment ≡ Some s → AreBytes (byte ∷ bytes) → length (byte ∷ bytes) ≤ 223
     → cells_of (with_local_record [] 0x4E (Const (byte ∷ bytes) ∷ []) s) ≤ greatest_length s.class
     → IsStep state (line_of 0 number (said_text (Bytes (byte ∷ bytes)))) (Ok (in_segment (with_local_record [] 0x4E (Const (byte ∷ bytes) ∷ [])) state))
 unfolding said_text elements.kind_at tokens.digits_at

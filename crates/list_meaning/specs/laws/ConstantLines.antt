@@ -29,7 +29,7 @@ use Rattle.asm_meaning.specs.Formulas.{expression_text}
 use Rattle.asm_meaning.specs.Operations as asm_operations
 use Rattle.asm_meaning.specs.Operations.{operation_of}
 use Rattle.asm_meaning.specs.Pieces.{records_of, records_after}
-use Rattle.asm_meaning.specs.State.{State, Segment, cells_of, greatest_length, with_local_record, in_segment}
+use Rattle.asm_meaning.specs.State.{State, StartedSegment, cells_of, greatest_length, with_local_record, in_segment}
 use Rattle.asm_meaning.specs.Statement.{IsStep, IsDone, constants_of}
 use Rattle.list_meaning.specs.laws.LineText.{HasNoBlank}
 use Rattle.list_meaning.specs.Listed.{statement_text}
@@ -43,7 +43,7 @@ use Rattle.list_meaning.specs.laws.SumLaw.{HasNoQuote, AreUnknown, has_open, ele
 
 -- ---- one element
 
-pub dc_step : (state : State) (s : Segment) (number : ℕ) (text : List ℕ) (element : Element) (contents : List Record) → state.segment ≡ Some s → HasNoBlank text → AreElements text (element ∷ [])
+pub dc_step : (state : State) (s : StartedSegment) (number : ℕ) (text : List ℕ) (element : Element) (contents : List Record) → state.segment ≡ Some s → HasNoBlank text → AreElements text (element ∷ [])
     → (list_pieces (constants_of state) state.msb (Some (element ∷ [])) >>= λ pieces. Ok (records_of pieces)) ≡ Ok contents → cells_of (with_local_record [] 0x4E contents s) ≤ greatest_length s.class
     → IsStep state (line_of 0 number (statement_text [] (codes "DC") text)) (Ok (in_segment (with_local_record [] 0x4E contents) state))
 unfolding IsDone operation_of operations.operation_use operations.mnemonic_of operations.value_of_spelling operations.mnemonics operations.without_operand asm_operations.directives asm_operations.ignored_directives
@@ -167,7 +167,7 @@ same_kind : (n : ℕ) (rest : List ℕ) → IsCount n → elements.kind_at (0x41
 unfolding elements.kind_at
 same_kind n rest is = rw (le-leb 0x31 (0x30 + n) (omega (arith, is.0)), le-leb (0x30 + n) 0x34 (omega (arith, is.1))) (ap (λ (k : ℕ). seen (elements.Number k) rest) (back n))
   where
-    seen : elements.Kind → List ℕ → tokens.Found elements.Kind
+    seen : elements.ElementType → List ℕ → tokens.Found elements.ElementType
     seen kind left = Some (kind, left)
 
     back : (n : ℕ) → 0x30 + n - 0x30 ≡ n
@@ -184,7 +184,7 @@ element_read n t is can = record {
   value = (formula_text t, t ∷ [], closed_found (formula_text t) [] (no_quote t can), subst (λ (l : List ℕ). MeansAt Labels l t []) (append-nil (formula_text t)) (formula_read t [] can tt refl), refl);
 }
 
-pub sums_step : (state : State) (s : Segment) (number n : ℕ) (t : Tree) → state.segment ≡ Some s → IsCount n → CanWrite t → AreUnknown (constants_of state) t → has_open t ≡ true → pending 1 t ≤ 64
+pub sums_step : (state : State) (s : StartedSegment) (number n : ℕ) (t : Tree) → state.segment ≡ Some s → IsCount n → CanWrite t → AreUnknown (constants_of state) t → has_open t ≡ true → pending 1 t ≤ 64
     → cells_of (with_local_record [] 0x4E (Formula 0xEB n 0 (expression_text t) ∷ []) s) ≤ greatest_length s.class
     → IsStep state (line_of 0 number (said_text (FormulaIs n t))) (Ok (in_segment (with_local_record [] 0x4E (Formula 0xEB n 0 (expression_text t) ∷ [])) state))
 unfolding said_text
@@ -210,7 +210,7 @@ name_quote (byte ∷ name) is = (quote_name byte (start_is_byte byte is.0), foll
 whole_name : (name : List ℕ) → IsPlainName name → name_at name ≡ Some (name, [])
 whole_name name is = ap name_at (sym (append-nil name)) ∙ name_read name [] is tt
 
-pub asks_step : (state : State) (s : Segment) (number : ℕ) (name : List ℕ) → state.segment ≡ Some s → IsPlainName name → cells_of (with_local_record [] 0x4E (Strong name ∷ []) s) ≤ greatest_length s.class
+pub asks_step : (state : State) (s : StartedSegment) (number : ℕ) (name : List ℕ) → state.segment ≡ Some s → IsPlainName name → cells_of (with_local_record [] 0x4E (Strong name ∷ []) s) ≤ greatest_length s.class
     → IsStep state (line_of 0 number (said_text (StrongIs name))) (Ok (in_segment (with_local_record [] 0x4E (Strong name ∷ [])) state))
 unfolding said_text elements.kind_at tokens.digits_at elements.element_pieces records_after
 asks_step state s number name here is room =
@@ -224,7 +224,7 @@ asks_step state s number name here is room =
       value = (name, name ∷ [], closed_found name [] (name_quote name is), whole_name name is, refl);
     }) refl room
 
-pub weakly_step : (state : State) (s : Segment) (number : ℕ) (name : List ℕ) → state.segment ≡ Some s → IsPlainName name
+pub weakly_step : (state : State) (s : StartedSegment) (number : ℕ) (name : List ℕ) → state.segment ≡ Some s → IsPlainName name
     → cells_of (with_local_record [] 0x4E (Formula 0xEB 2 0 (expression_text (Leaf (expression.Named 0x82 name))) ∷ []) s) ≤ greatest_length s.class
     → IsStep state (line_of 0 number (said_text (WeakIs name))) (Ok (in_segment (with_local_record [] 0x4E (Formula 0xEB 2 0 (expression_text (Leaf (expression.Named 0x82 name))) ∷ [])) state))
 unfolding said_text elements.kind_at tokens.digits_at elements.element_pieces records_after

@@ -9,15 +9,15 @@ use Rattle.object_meaning.specs.Defines.{defined_by}
 use Rattle.object_meaning.specs.Sizes.{size_at}
 use Rattle.asm_meaning.specs.Pieces.{place_after}
 use Rattle.asm_meaning.specs.laws.PieceLaws.{place_after-append}
-use Rattle.list_meaning.specs.Flat.{FlatCell, One, zeros, places_at, places_from, Defined, comparable_definition, used_by, asked_by}
+use Rattle.list_meaning.specs.Flat.{FlatCell, One, zeros, places_at, places_from, FlatDefinition, comparable_definition, used_by, asked_by}
 use Rattle.list_meaning.specs.laws.RunGives.{IsConst}
 
 -- ---- definitions, from a place on
 
-abbrev pub defs_at : ℕ → ℕ → Record → List Defined
+abbrev pub defs_at : ℕ → ℕ → Record → List FlatDefinition
 defs_at l place r = map (comparable_definition l) (defined_by 0 place r)
 
-abbrev pub defs_from : ℕ → ℕ → List Record → List Defined
+abbrev pub defs_from : ℕ → ℕ → List Record → List FlatDefinition
 defs_from l at [] = []
 defs_from l at (r ∷ rs) = defs_at l at r ++ defs_from l (at + size_at at r) rs
 
@@ -25,7 +25,7 @@ pub defs_from-append : (l at : ℕ) (a b : List Record) → defs_from l at (a ++
 unfolding place_after
 defs_from-append l at [] b = refl
 defs_from-append l at (r ∷ a) b =
-    ap (λ (d : List Defined). defs_at l at r ++ d) (defs_from-append l (at + size_at at r) a b)
+    ap (λ (d : List FlatDefinition). defs_at l at r ++ d) (defs_from-append l (at + size_at at r) a b)
     ∙ sym (append_assoc (defs_at l at r) (defs_from l (at + size_at at r) a) (defs_from l (place_after (at + size_at at r) a) b))
 
 pub places_from-append : (l at : ℕ) (a b : List Record) → places_from l at (a ++ b) ≡ places_from l at a ++ places_from l (place_after at a) b
@@ -102,7 +102,7 @@ same_line l at run r x g are bytes like =
           ∙ ap (λ (k : ℕ). map One run ++ (places_at 0 k x ++ [])) gives.following));
       following = omega (arith, like.size p, place_after-append at g (x ∷ []), ap (λ (k : ℕ). k + size_at k x) gives.following);
       defined = like.defined p ∙ sym (append-nil (defs_at 0 p x))
-          ∙ sym (defs_from-append 0 at g (x ∷ []) ∙ ap (λ (d : List Defined). d ++ defs_from 0 (place_after at g) (x ∷ [])) gives.defined ∙ ap (λ (k : ℕ). defs_at 0 k x ++ []) gives.following);
+          ∙ sym (defs_from-append 0 at g (x ∷ []) ∙ ap (λ (d : List FlatDefinition). d ++ defs_from 0 (place_after at g) (x ∷ [])) gives.defined ∙ ap (λ (k : ℕ). defs_at 0 k x ++ []) gives.following);
       using' = like.using' ∙ sym (one_used used_by g x gives.using');
       strong = like.strong ∙ sym (one_used asked_by g x gives.strong);
     }
@@ -131,8 +131,8 @@ alike_cons l res at run rest r rs first more same others =
           ∙ ap (λ (k : ℕ). places_from 0 at first ++ (map One rest ++ (places_from l k rs ++ zeros res))) next
           ∙ ap (λ (x : List FlatCell). places_from 0 at first ++ x) others.places ∙ sym (places_from-append 0 at first more);
       following = ap (λ (k : ℕ). place_after k rs + res) next ∙ others.following ∙ sym (place_after-append at first more);
-      defined = ap (λ (d : List Defined). d ++ defs_from l (p + size_at p r) rs) same.defined ∙ ap (λ (k : ℕ). defs_from 0 at first ++ defs_from l k rs) next
-          ∙ ap (λ (d : List Defined). defs_from 0 at first ++ d) others.defined ∙ sym (defs_from-append 0 at first more);
+      defined = ap (λ (d : List FlatDefinition). d ++ defs_from l (p + size_at p r) rs) same.defined ∙ ap (λ (k : ℕ). defs_from 0 at first ++ defs_from l k rs) next
+          ∙ ap (λ (d : List FlatDefinition). defs_from 0 at first ++ d) others.defined ∙ sym (defs_from-append 0 at first more);
       using' = flat_map-cons used_by r rs ∙ ap (λ (u : List (List ℕ)). u ++ flat_map used_by rs) same.using' ∙ ap (λ (u : List (List ℕ)). flat_map used_by first ++ u) others.using'
           ∙ sym (flat_map-append used_by first more);
       strong = flat_map-cons asked_by r rs ∙ ap (λ (u : List (List ℕ)). u ++ flat_map asked_by rs) same.strong ∙ ap (λ (u : List (List ℕ)). flat_map asked_by first ++ u) others.strong
@@ -170,7 +170,7 @@ alike_end l res at run g are bytes =
       places = sym (places_from-append 0 at g (spaces_of res) ∙ ap (λ (q : List FlatCell). q ++ places_from 0 (place_after at g) (spaces_of res)) gives.places
           ∙ ap (λ (k : ℕ). map One run ++ places_from 0 k (spaces_of res)) gives.following ∙ ap (λ (q : List FlatCell). map One run ++ q) spaces.places);
       following = omega (arith, place_after-append at g (spaces_of res), ap (λ (k : ℕ). place_after k (spaces_of res)) gives.following, spaces.following);
-      defined = sym (defs_from-append 0 at g (spaces_of res) ∙ ap (λ (d : List Defined). d ++ defs_from 0 (place_after at g) (spaces_of res)) gives.defined
+      defined = sym (defs_from-append 0 at g (spaces_of res) ∙ ap (λ (d : List FlatDefinition). d ++ defs_from 0 (place_after at g) (spaces_of res)) gives.defined
           ∙ ap (λ (k : ℕ). defs_from 0 k (spaces_of res)) gives.following ∙ spaces.defined);
       using' = sym (both_none used_by g (spaces_of res) gives.using' spaces.using');
       strong = sym (both_none asked_by g (spaces_of res) gives.strong spaces.strong);

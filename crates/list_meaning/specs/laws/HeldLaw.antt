@@ -21,7 +21,7 @@ use Rattle.asm_meaning.specs.Constant.{Constants, Written, amount}
 use Rattle.asm_meaning.specs.Instruction as instructions
 use Rattle.asm_meaning.specs.Instruction.{Widths, instruction, kind_of, mode_of_tree, with_amount}
 use Rattle.asm_meaning.specs.Pieces.{records_of, records_after}
-use Rattle.asm_meaning.specs.State.{State, Segment, cells_of, greatest_length, with_local_record, in_segment}
+use Rattle.asm_meaning.specs.State.{State, StartedSegment, cells_of, greatest_length, with_local_record, in_segment}
 use Rattle.asm_meaning.specs.Statement.{IsStep, IsDone, IsOperandOf, Good, constants_of}
 use Rattle.list_meaning.specs.laws.LineText.{HasNoBlank, IsTaken}
 use Rattle.list_meaning.specs.Listed.{statement_text}
@@ -228,7 +228,7 @@ good_operand m way w takes has other =
     Good (meaning_in way w) (record { is = operand_read m way w takes has other; shallow = ((small_tree w has).0, tt); small = (small_tree w has).1 }) refl
 
 -- a byte that is held back and its record: the line gives the opcode and exactly this record
-pub held_step : (state : State) (s : Segment) (number k : ℕ) (m : Mnemonic) (way : Mode) (w : Wanted) → state.segment ≡ Some s → slice_get matrix k ≡ Some (m, way) → TakesName way → HasName w
+pub held_step : (state : State) (s : StartedSegment) (number k : ℕ) (m : Mnemonic) (way : Mode) (w : Wanted) → state.segment ≡ Some s → slice_get matrix k ≡ Some (m, way) → TakesName way → HasName w
     → IsUnknown (constants_of state) w → cells_of (with_local_record [] 0x4D (held_records state.widths k m way w) s) ≤ greatest_length s.class
     → IsStep state (line_of 0 number (said_text (Instructs m way w))) (Ok (in_segment (with_local_record [] 0x4D (held_records state.widths k m way w)) state))
 unfolding said_text IsDone

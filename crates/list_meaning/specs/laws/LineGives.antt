@@ -20,7 +20,7 @@ use Rattle.asm_meaning.specs.declared.directives.Switch.TheVariants.{LongA, Long
 use Rattle.asm_meaning.specs.Constant.{Constants}
 use Rattle.asm_meaning.specs.Instruction.{Widths, operand_bytes, opcode_in}
 use Rattle.asm_meaning.specs.Pieces.{place_after, length_at}
-use Rattle.asm_meaning.specs.State.{State, Segment, cells_of, greatest_length, with_local_record, with_records, in_segment, local_of, with_switch_set, Names, with_label}
+use Rattle.asm_meaning.specs.State.{State, StartedSegment, cells_of, greatest_length, with_local_record, with_records, in_segment, local_of, with_switch_set, Names, with_label}
 use Rattle.asm_meaning.specs.Statement.{IsStep, constants_of, with_kind}
 use Rattle.list_meaning.specs.Listed.{ListedStatement, NextAlignIs, NextOrg, StartIs, KindIs, SwitchIs, Ds, Aligns, OrgIs, UsingIs, StrongIs, Labels, Equates, Instructs, Bytes, WeakIs, FormulaIs, EndIs, Wanted, None', Number, Banks, Label, Moved, said_text}
 use Rattle.list_meaning.specs.Given.{instruction_records, records_said, names_said, widths_said, header_said, Leaves}
@@ -37,7 +37,7 @@ use Rattle.list_meaning.specs.laws.NumberLine.{TakesNumber, number_records, numb
 -- ---- which lines can stand there
 
 -- a name that the segment doesn't define yet
-abbrev pub IsFree : Segment → List ℕ → Type 0
+abbrev pub IsFree : StartedSegment → List ℕ → Type 0
 IsFree s name = IsPlainName name × (is_some (s.names name) ≡ false)
 
 -- the instruction has an opcode, and its operand fits it
@@ -59,7 +59,7 @@ AreSome [] = ⊥
 AreSome (byte ∷ bytes) = Unit {0}
 
 -- a line that the lister may write inside a segment
-abbrev pub CanStand : State → Segment → ListedStatement → Type 0
+abbrev pub CanStand : State → StartedSegment → ListedStatement → Type 0
 CanStand state s (NextAlignIs n) = ⊥
 CanStand state s (NextOrg n) = ⊥
 CanStand state s (StartIs crosses name load_name) = ⊥
@@ -81,13 +81,13 @@ CanStand state s EndIs = ⊥
 -- ---- what is left
 
 -- a line's answer, and what it leaves
-pub record Stands (said : ListedStatement) (state : State) (s : Segment) (number : ℕ) : Type 0 where
+pub record Stands (said : ListedStatement) (state : State) (s : StartedSegment) (number : ℕ) : Type 0 where
   pub next : State
   pub step : IsStep state (line_of 0 number (said_text said)) (Ok next)
   pub leaves : Leaves said state s next
 
 -- records after those of the segment, with no label
-left_marked : (said : ListedStatement) (state : State) (s : Segment) (number form : ℕ) (contents : List Record) → state.segment ≡ Some s
+left_marked : (said : ListedStatement) (state : State) (s : StartedSegment) (number form : ℕ) (contents : List Record) → state.segment ≡ Some s
     → records_said state.widths said ≡ contents → names_said said s.names ≡ s.names → widths_said said state.widths ≡ state.widths → header_said said s.header ≡ s.header
     → IsStep state (line_of 0 number (said_text said)) (Ok (in_segment (with_local_record [] form contents) state)) → Stands said state s number
 left_marked said state s number form contents here gives names widths header step = record {
@@ -120,7 +120,7 @@ same_label [] value names is = absurd is
 same_label (byte ∷ name) value names is = refl
 
 -- LOCAL
-left_local : (state : State) (s : Segment) (number : ℕ) (name : List ℕ) → state.segment ≡ Some s → IsPlainName name
+left_local : (state : State) (s : StartedSegment) (number : ℕ) (name : List ℕ) → state.segment ≡ Some s → IsPlainName name
     → IsStep state (line_of 0 number (said_text (Labels false name))) (Ok (in_segment (with_local_record name 0x4E []) state)) → Stands (Labels false name) state s number
 left_local state s number name here is step = record {
   next = in_segment (with_local_record name 0x4E []) state;
@@ -143,7 +143,7 @@ left_local state s number name here is step = record {
 }
 
 -- one record and a name that may be a constant
-left_grown : (said : ListedStatement) (state : State) (s : Segment) (number : ℕ) (name : List ℕ) (value : Option ℕ) (front contents : List Record) → state.segment ≡ Some s → IsPlainName name
+left_grown : (said : ListedStatement) (state : State) (s : StartedSegment) (number : ℕ) (name : List ℕ) (value : Option ℕ) (front contents : List Record) → state.segment ≡ Some s → IsPlainName name
     → records_said state.widths said ≡ front ++ contents → names_said said s.names ≡ with_name name value s.names → widths_said said state.widths ≡ state.widths → header_said said s.header ≡ s.header
     → IsStep state (line_of 0 number (said_text said)) (Ok (in_segment (with_records name value front contents) state)) → Stands said state s number
 left_grown said state s number name value front contents here is gives names widths header step = record {
@@ -167,7 +167,7 @@ left_grown said state s number name value front contents here is gives names wid
 }
 
 -- LONGA and LONGI
-left_turned : (state : State) (s : Segment) (number : ℕ) (switch : Switch) (on : Bool) → state.segment ≡ Some s
+left_turned : (state : State) (s : StartedSegment) (number : ℕ) (switch : Switch) (on : Bool) → state.segment ≡ Some s
     → IsStep state (line_of 0 number (said_text (SwitchIs switch on))) (Ok (with_switch_set switch on (in_segment (with_local_record [] 0x4E []) state))) → Stands (SwitchIs switch on) state s number
 left_turned state s number switch on here step = by switch step
   where
@@ -231,7 +231,7 @@ left_turned state s number switch on here step = by switch step
     }
 
 -- KIND
-left_kind : (state : State) (s : Segment) (number n : ℕ) → state.segment ≡ Some s
+left_kind : (state : State) (s : StartedSegment) (number n : ℕ) → state.segment ≡ Some s
     → IsStep state (line_of 0 number (said_text (KindIs n))) (Ok (in_segment (λ s. with_kind n (with_local_record [] 0x4E [] s)) state)) → Stands (KindIs n) state s number
 left_kind state s number n here step = record {
   next = in_segment (λ s. with_kind n (with_local_record [] 0x4E [] s)) state;
@@ -256,14 +256,14 @@ left_kind state s number n here step = record {
 -- ---- the law
 
 -- a line that can stand there, in a segment that it doesn't make too long
-abbrev pub Room : State → Segment → ListedStatement → Type 0
+abbrev pub Room : State → StartedSegment → ListedStatement → Type 0
 Room state s said = place_after 0 (s.body ++ records_said state.widths said) ≤ greatest_length s.class
 
 number_records_same : (w : Widths) (m : Mnemonic) (way : Mode) (bytes n : ℕ) → bytes ≡ operand_bytes w m way
     → number_records w (opcode_in m way) m way n ≡ instruction_records w m way (Number bytes n)
 number_records_same w m way bytes n same = ap (λ (k : ℕ). records.Const (opcode_in m way ∷ little_bytes k n) ∷ []) (sym same)
 
-line_instruction : (state : State) (s : Segment) (number : ℕ) (m : Mnemonic) (way : Mode) (operand : Wanted) → state.segment ≡ Some s
+line_instruction : (state : State) (s : StartedSegment) (number : ℕ) (m : Mnemonic) (way : Mode) (operand : Wanted) → state.segment ≡ Some s
     → IsInstruction (constants_of state) state.widths m way operand → Room state s (Instructs m way operand) → Stands (Instructs m way operand) state s number
 line_instruction state s number m modes.Implied None' here can room =
     left_marked (Instructs m modes.Implied None') state s number 0x4D (instruction_records state.widths m modes.Implied None') here refl refl refl refl (implied_step state s number m here can.1 room)
@@ -293,7 +293,7 @@ line_instruction state s number m _ None' here can room = absurd can.1
 line_instruction state s number m _ (Banks source destination) here can room = absurd can.1
 
 -- the law on one line
-pub line_gives : (state : State) (s : Segment) (number : ℕ) (said : ListedStatement) → state.segment ≡ Some s → CanStand state s said → Room state s said → Stands said state s number
+pub line_gives : (state : State) (s : StartedSegment) (number : ℕ) (said : ListedStatement) → state.segment ≡ Some s → CanStand state s said → Room state s said → Stands said state s number
 line_gives state s number (NextAlignIs n) here can room = absurd can
 line_gives state s number (NextOrg n) here can room = absurd can
 line_gives state s number (StartIs crosses name load_name) here can room = absurd can

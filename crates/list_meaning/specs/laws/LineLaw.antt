@@ -24,7 +24,7 @@ use Rattle.asm_meaning.specs.Formulas as formulas
 use Rattle.asm_meaning.specs.Formulas.{IsFormula}
 use Rattle.asm_meaning.specs.Operations as asm_operations
 use Rattle.asm_meaning.specs.Operations.{operation_of}
-use Rattle.asm_meaning.specs.State.{State, Segment, cells_of, greatest_length, with_local_record, in_segment, is_too_long, within_length}
+use Rattle.asm_meaning.specs.State.{State, StartedSegment, cells_of, greatest_length, with_local_record, in_segment, is_too_long, within_length}
 use Rattle.asm_meaning.specs.Statement as statement
 use Rattle.std.specs.Option.{option_map}
 use Rattle.asm_meaning.specs.Statement.{IsDone, begins_segment, label_of, IsStep, IsPlaced, is_misplaced, number_in}
@@ -59,17 +59,17 @@ step_of state number label operation operand op answer front named ink taken is 
     rw (fields.label_is, fields.operation_is, fields.operand_is, is) placed
 
 -- a statement in the open segment, which isn't too long behind it
-pub fits_in : (state : State) (s : Segment) (change : Segment → Segment) → state.segment ≡ Some s → cells_of (change s) ≤ greatest_length (change s).class
+pub fits_in : (state : State) (s : StartedSegment) (change : StartedSegment → StartedSegment) → state.segment ≡ Some s → cells_of (change s) ≤ greatest_length (change s).class
     → within_length (in_segment change state) ≡ Ok (in_segment change state)
 fits_in state s change here room =
-    let same : is_too_long (option_map change state.segment) ≡ false = ap (λ (o : Option Segment). is_too_long (option_map change o)) here ∙ le-ltb (greatest_length (change s).class) (cells_of (change s)) room in
+    let same : is_too_long (option_map change state.segment) ≡ false = ap (λ (o : Option StartedSegment). is_too_long (option_map change o)) here ∙ le-ltb (greatest_length (change s).class) (cells_of (change s)) room in
     rw same refl
 
-pub inside : (state : State) (s : Segment) (line : Line) (op : Operation) (label text : List ℕ) (change : Segment → Segment) → state.segment ≡ Some s → begins_segment op ≡ false
+pub inside : (state : State) (s : StartedSegment) (line : Line) (op : Operation) (label text : List ℕ) (change : StartedSegment → StartedSegment) → state.segment ≡ Some s → begins_segment op ≡ false
     → IsDone state line op (label_of state op label) text (Ok (in_segment change state)) → cells_of (change s) ≤ greatest_length (change s).class
     → IsPlaced state line op label text (is_misplaced state.segment op label text) (Ok (in_segment change state))
 inside state s line op label text change here begins done room =
-    subst (λ (o : Option Segment). IsPlaced state line op label text (is_misplaced o op label text) (Ok (in_segment change state))) (sym here)
+    subst (λ (o : Option StartedSegment). IsPlaced state line op label text (is_misplaced o op label text) (Ok (in_segment change state))) (sym here)
     (subst (λ (b : Bool). IsPlaced state line op label text b (Ok (in_segment change state))) (sym begins)
     (Ok (in_segment change state), done, sym (fits_in state s change here room)))
 
@@ -112,7 +112,7 @@ pub number_there : (state : State) (n : ℕ) → n < 2 ^ 32 → number_in state 
 unfolding formulas.checked_formula constant.known_value
 number_there state n fits = rw (lt-leb (2 ^ 32) n fits) refl
 
-pub spaces_step : (state : State) (s : Segment) (number n : ℕ) → state.segment ≡ Some s → n < 2 ^ 32 → cells_of (with_local_record [] 0x4E (Space n ∷ []) s) ≤ greatest_length s.class
+pub spaces_step : (state : State) (s : StartedSegment) (number n : ℕ) → state.segment ≡ Some s → n < 2 ^ 32 → cells_of (with_local_record [] 0x4E (Space n ∷ []) s) ≤ greatest_length s.class
     → IsStep state (line_of 0 number (said_text (Ds n))) (Ok (in_segment (with_local_record [] 0x4E (Space n ∷ [])) state))
 unfolding said_text statement.IsDone operation_of operations.operation_use operations.mnemonic_of operations.value_of_spelling operations.mnemonics operations.without_operand asm_operations.directives asm_operations.ignored_directives
 spaces_step state s number n here fits room =
@@ -141,7 +141,7 @@ implied_gives : (constants : Constants) (widths : Widths) (m : Mnemonic) → has
 unfolding no_operand instruction modes_of_form modes_of kind_of without_amount operand_bytes length_of records_after
 implied_gives constants widths m has = rw has refl
 
-pub implied_step : (state : State) (s : Segment) (number : ℕ) (m : Mnemonic) → state.segment ≡ Some s → has_mode m Implied ≡ true
+pub implied_step : (state : State) (s : StartedSegment) (number : ℕ) (m : Mnemonic) → state.segment ≡ Some s → has_mode m Implied ≡ true
     → cells_of (with_local_record [] 0x4D (Const (opcode_in m Implied ∷ []) ∷ []) s) ≤ greatest_length s.class
     → IsStep state (line_of 0 number (said_text (Instructs m Implied listed.None'))) (Ok (in_segment (with_local_record [] 0x4D (Const (opcode_in m Implied ∷ []) ∷ [])) state))
 unfolding said_text IsDone operation_of listed.shape_of

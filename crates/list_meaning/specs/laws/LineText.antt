@@ -9,7 +9,7 @@ use Rattle.orca_meaning.specs.Characters.{is_blank}
 use Rattle.orca_meaning.specs.Operation.{operation_use}
 use Rattle.orca_meaning.specs.Quotes.{outside_from, is_closed, quote_following}
 use Rattle.list_meaning.specs.Listed.{with_leading_space, statement_text}
-use Rattle.orca_meaning.specs.Line.{Fields, is_ink, is_comment, next_blank, next_ink, next_outside, three_fields, operand_span, fields_of, part, span}
+use Rattle.orca_meaning.specs.Line.{LineFields, is_ink, is_comment, next_blank, next_ink, next_outside, three_fields, operand_span, fields_of, part, span}
 
 -- no blank is among the bytes
 abbrev pub HasNoBlank : List ℕ → Type 0
@@ -47,7 +47,7 @@ all_outside quote (byte ∷ text) none = by (is_closed quote) (all_outside (quot
     by false same = omega (arith, same)
 
 -- the fields of such a line
-abbrev pub laid_out : List ℕ → List ℕ → List ℕ → Fields
+abbrev pub laid_out : List ℕ → List ℕ → List ℕ → LineFields
 laid_out label operation operand =
     let a = length label in
     let b = a + 1 in
@@ -161,7 +161,7 @@ empty_part : (text : List ℕ) (from : ℕ) → part text (span from from) ≡ [
 empty_part text from = let none : from - from ≡ 0 = omega arith in ap (λ (k : ℕ). take k (drop from text)) none
 
 -- the fields of the line are these
-pub record IsLaid (text label operation operand : List ℕ) (fields : Fields) : Type 0 where
+pub record IsLaid (text label operation operand : List ℕ) (fields : LineFields) : Type 0 where
   pub label_is : part text fields.label ≡ label
   pub operation_is : part text fields.operation ≡ operation
   pub operand_is : part text fields.operand ≡ operand
@@ -190,7 +190,7 @@ module _ (label operation operand : List ℕ) where
 
   pub laid_three : IsLabelFront label → IsOperation operation → HasNoBlank operand → IsLaid whole label operation operand (three_fields whole)
   laid_three front op none =
-      subst (λ (f : Fields). IsLaid whole label operation operand f) (sym (three_are label operation operand (label_ink label front) op none)) (record {
+      subst (λ (f : LineFields). IsLaid whole label operation operand f) (sym (three_are label operation operand (label_ink label front) op none)) (record {
         label_is = part_at [] label (0x20 ∷ (operation ++ with_leading_space operand)) 0 (length label) refl (omega arith);
         operation_is =
             ap (λ (l : List ℕ). part l (laid_out label operation operand).operation) (sym (append_assoc label (0x20 ∷ []) (operation ++ with_leading_space operand)))
@@ -198,12 +198,12 @@ module _ (label operation operand : List ℕ) where
         operand_is = third operand;
       })
 
-  by_front : (more : List ℕ) (b : Bool) → (b ≡ true → more ≡ []) → (f : Fields) → f ≡ laid_out label operation more
+  by_front : (more : List ℕ) (b : Bool) → (b ≡ true → more ≡ []) → (f : LineFields) → f ≡ laid_out label operation more
       → part (statement_text label operation more) (cond b (span f.operand.from f.operand.from) f.operand) ≡ more
   by_front more true none f same = empty_part (statement_text label operation more) f.operand.from ∙ sym (none refl)
-  by_front more false none f same = ap (λ (g : Fields). part (statement_text label operation more) g.operand) same ∙ third more
+  by_front more false none f same = ap (λ (g : LineFields). part (statement_text label operation more) g.operand) same ∙ third more
 
-  taken : (way : OperandUse) (f : Fields) → f ≡ laid_out label operation operand → drop f.operand.from whole ≡ operand → IsTaken way operand
+  taken : (way : OperandUse) (f : LineFields) → f ≡ laid_out label operation operand → drop f.operand.from whole ≡ operand → IsTaken way operand
       → part whole (operand_span way whole f.operand) ≡ operand
   taken Never f same there is = empty_part whole f.operand.from ∙ sym is
   taken Accumulator f same there is = by_front operand (slice_index whole f.operand.from == 0x3B) (λ e. absurd (differs (slice_index whole f.operand.from) e (index_drop f.operand.from whole ∙ ap (λ (l : List ℕ). slice_index l 0) there))) f same
@@ -214,7 +214,7 @@ module _ (label operation operand : List ℕ) where
     where
       differs : (byte : ℕ) → (byte == 0x3B) ≡ true → byte ≡ slice_index operand 0 → ⊥
       differs byte e here = let clash : true ≡ false = sym e ∙ ap (λ (x : ℕ). x == 0x3B) here ∙ is in absurd cc
-  taken Always f same there is = ap (λ (g : Fields). part whole g.operand) same ∙ third operand
+  taken Always f same there is = ap (λ (g : LineFields). part whole g.operand) same ∙ third operand
 
   -- the fields of the line as the assembler reads it
   pub laid : IsLabelFront label → IsOperation operation → HasNoBlank operand → IsTaken (operation_use operation) operand → IsLaid whole label operation operand (fields_of whole)
@@ -222,7 +222,7 @@ module _ (label operation operand : List ℕ) where
   laid front op none is =
       let three = laid_three front op none in
       let same = three_are label operation operand (label_ink label front) op none in
-      let there = ap (λ (f : Fields). drop f.operand.from whole) same ∙ at_operand label operation operand (label_ink label front) op none in
+      let there = ap (λ (f : LineFields). drop f.operand.from whole) same ∙ at_operand label operation operand (label_ink label front) op none in
       let used = ap operation_use three.operation_is in
       rw (no_comment label operation operand front op) (record {
         label_is = three.label_is;

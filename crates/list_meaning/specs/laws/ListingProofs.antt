@@ -6,7 +6,7 @@ use Rattle.std.proofs.lemmas.List.{map-append}
 use Rattle.std.proofs.lemmas.List.Concat.{flat_map-cons, flat_map-append}
 use Rattle.omf_format.specs.Number.{IsBytes}
 use Rattle.omf_format.specs.File.{Segment, AreSegments, IsFile}
-use Rattle.omf_format.specs.Header.{Fields, is_private}
+use Rattle.omf_format.specs.Header.{HeaderFields, is_private}
 use Rattle.omf_format.specs.Record.{Record, End}
 use Rattle.object_meaning.specs.Defines.{defined_by, defined_in, title_of, outer_scope}
 use Rattle.object_meaning.specs.Sizes.{Located, located_from, records_with_offsets, size_at}
@@ -15,13 +15,13 @@ use Rattle.asm_meaning.specs.Object.{AreSteps, HasLines, InLength, object_text, 
 use Rattle.asm_meaning.specs.ObjectFile.{IsReadAs, AreReadAs}
 use Rattle.asm_meaning.specs.laws.ObjectFileLaws.{object_is_file}
 use Rattle.asm_meaning.specs.Answer.{Answer}
-use Rattle.asm_meaning.specs.State.{State, Ended, start}
+use Rattle.asm_meaning.specs.State.{State, FinishedSegment, start}
 use Rattle.asm_meaning.specs.Statement.{IsStep}
 use Rattle.asm_meaning.specs.laws.StatementLaws.{step_once}
 use Rattle.list_meaning.specs.Given.{IsLeft}
 use Rattle.list_meaning.specs.Listed.{ListedStatement, said_text, listing_text}
 use Rattle.list_meaning.specs.Listing.{listing_from}
-use Rattle.list_meaning.specs.Flat.{zeros, places_from, contents_of, flat, Defined, comparable_definition, definitions, used_by, asked_by, AreAlike, AreAllAlike}
+use Rattle.list_meaning.specs.Flat.{zeros, places_from, contents_of, flat, FlatDefinition, comparable_definition, definitions, used_by, asked_by, AreAlike, AreAllAlike}
 use Rattle.list_meaning.specs.ListingLaws.{IsReadAgain, Whole, TooLong, ListingIsReadAgain, LineIsRead}
 use Rattle.list_meaning.specs.laws.WholeLaw.{text_expands}
 use Rattle.list_meaning.specs.laws.After.{Leads, leads_steps}
@@ -44,11 +44,11 @@ reported_located l at (found ∷ founds) =
     let first = defined_by found.0 at found.1 in
     let following = flat_map each (located_from (at + size_at at found.1) founds) in
     ap (map (comparable_definition l)) (flat_map-cons each (record { at = found.0; location = at; content = found.1 }) (located_from (at + size_at at found.1) founds))
-    ∙ map-append (comparable_definition l) first following ∙ ap (λ (d : List Defined). d ++ map (comparable_definition l) following) (same_reported l found.0 at found.1)
-    ∙ ap (λ (d : List Defined). defs_at l at found.1 ++ d) (reported_located l (at + size_at at found.1) founds)
+    ∙ map-append (comparable_definition l) first following ∙ ap (λ (d : List FlatDefinition). d ++ map (comparable_definition l) following) (same_reported l found.0 at found.1)
+    ∙ ap (λ (d : List FlatDefinition). defs_at l at found.1 ++ d) (reported_located l (at + size_at at found.1) founds)
 
 -- SEGNAME
-titled : List ℕ → ℕ → List Defined
+titled : List ℕ → ℕ → List FlatDefinition
 titled [] kind = []
 titled (byte ∷ name) kind = record { name = byte ∷ name; scope = outer_scope (is_private kind); place = 0; value = None } ∷ []
 
@@ -65,7 +65,7 @@ unfolding defined_in records_with_offsets
 definitions_are s =
     let l = s.fields.lab_len in
     let following = flat_map (λ r. defined_by r.at r.location r.content) (located_from 0 s.records) in
-    map-append (comparable_definition l) (title_of s) following ∙ ap (λ (d : List Defined). d ++ map (comparable_definition l) following) (title_reported l s) ∙ ap (λ (d : List Defined). titled s.fields.name s.fields.kind ++ d) (reported_located l 0 s.records)
+    map-append (comparable_definition l) (title_of s) following ∙ ap (λ (d : List FlatDefinition). d ++ map (comparable_definition l) following) (title_reported l s) ∙ ap (λ (d : List FlatDefinition). titled s.fields.name s.fields.kind ++ d) (reported_located l 0 s.records)
 
 -- ---- a segment
 
@@ -73,36 +73,36 @@ with_end : (used : Record → List (List ℕ)) (written : List Record) → used 
 with_end used written none =
     flat_map-append used written (End ∷ []) ∙ ap (λ (l : List (List ℕ)). flat_map used written ++ l) (flat_map-cons used End [] ∙ append-nil (used End) ∙ none) ∙ append-nil (flat_map used written)
 
-alike_of : (s o : Segment) (e : Ended) → IsEndedAs s e → IsReadAs e o → AreAlike s o
+alike_of : (s o : Segment) (e : FinishedSegment) → IsEndedAs s e → IsReadAs e o → AreAlike s o
 unfolding flat places_from
 alike_of s o e is read =
     let l = s.fields.lab_len in
     let contents : contents_of o ≡ is.written ++ End ∷ [] = read.records ∙ is.body in
-    let lab_len : o.fields.lab_len ≡ 0 = ap (λ (f : Fields). f.lab_len) read.fields in
-    let res : o.fields.res_spc ≡ 0 = ap (λ (f : Fields). f.res_spc) read.fields ∙ is.spaced in
-    let name : s.fields.name ≡ o.fields.name = sym is.name ∙ sym (ap (λ (f : Fields). f.name) read.fields) in
-    let kind : s.fields.kind ≡ o.fields.kind = sym is.kind ∙ sym (ap (λ (f : Fields). f.kind) read.fields) in
+    let lab_len : o.fields.lab_len ≡ 0 = ap (λ (f : HeaderFields). f.lab_len) read.fields in
+    let res : o.fields.res_spc ≡ 0 = ap (λ (f : HeaderFields). f.res_spc) read.fields ∙ is.spaced in
+    let name : s.fields.name ≡ o.fields.name = sym is.name ∙ sym (ap (λ (f : HeaderFields). f.name) read.fields) in
+    let kind : s.fields.kind ≡ o.fields.kind = sym is.kind ∙ sym (ap (λ (f : HeaderFields). f.kind) read.fields) in
     record {
       name = name;
-      load_name = sym is.load_name ∙ sym (ap (λ (f : Fields). f.load_name) read.fields);
+      load_name = sym is.load_name ∙ sym (ap (λ (f : HeaderFields). f.load_name) read.fields);
       kind = kind;
-      bank_size = sym is.bank_size ∙ sym (ap (λ (f : Fields). f.bank_size) read.fields);
-      org = sym is.org ∙ sym (ap (λ (f : Fields). f.org) read.fields);
-      align = sym is.align ∙ sym (ap (λ (f : Fields). f.align) read.fields);
-      length = sym is.length' ∙ sym (ap (λ (f : Fields). f.length) read.fields);
+      bank_size = sym is.bank_size ∙ sym (ap (λ (f : HeaderFields). f.bank_size) read.fields);
+      org = sym is.org ∙ sym (ap (λ (f : HeaderFields). f.org) read.fields);
+      align = sym is.align ∙ sym (ap (λ (f : HeaderFields). f.align) read.fields);
+      length = sym is.length' ∙ sym (ap (λ (f : HeaderFields). f.length) read.fields);
       places = is.alike.places
           ∙ sym (ap (λ (k : ℕ). places_from k 0 (contents_of o) ++ zeros o.fields.res_spc) lab_len ∙ ap (λ (k : ℕ). places_from 0 0 (contents_of o) ++ zeros k) res
           ∙ append-nil (places_from 0 0 (contents_of o)) ∙ ap (places_from 0 0) contents ∙ places_from-append 0 0 is.written (End ∷ []) ∙ append-nil (places_from 0 0 is.written));
-      defined = definitions_are s ∙ ap (λ (d : List Defined). titled s.fields.name s.fields.kind ++ d) is.alike.defined
+      defined = definitions_are s ∙ ap (λ (d : List FlatDefinition). titled s.fields.name s.fields.kind ++ d) is.alike.defined
           ∙ sym (definitions_are o ∙ ap (λ (k : ℕ). titled o.fields.name o.fields.kind ++ defs_from k 0 (contents_of o)) lab_len
           ∙ ap (λ (rs : List Record). titled o.fields.name o.fields.kind ++ defs_from 0 0 rs) contents
-          ∙ ap (λ (d : List Defined). titled o.fields.name o.fields.kind ++ d) (defs_from-append 0 0 is.written (End ∷ []) ∙ append-nil (defs_from 0 0 is.written))
+          ∙ ap (λ (d : List FlatDefinition). titled o.fields.name o.fields.kind ++ d) (defs_from-append 0 0 is.written (End ∷ []) ∙ append-nil (defs_from 0 0 is.written))
           ∙ ap (λ (n : List ℕ). titled n o.fields.kind ++ defs_from 0 0 is.written) (sym name) ∙ ap (λ (k : ℕ). titled s.fields.name k ++ defs_from 0 0 is.written) (sym kind));
       using' = is.alike.using' ∙ sym (ap (flat_map used_by) contents ∙ with_end used_by is.written refl);
       strong = is.alike.strong ∙ sym (ap (flat_map asked_by) contents ∙ with_end asked_by is.written refl);
     }
 
-all_alike : (segments others : List Segment) (ended : List Ended) → AreEndedAs segments ended → AreReadAs ended others → AreAllAlike segments others
+all_alike : (segments others : List Segment) (ended : List FinishedSegment) → AreEndedAs segments ended → AreReadAs ended others → AreAllAlike segments others
 all_alike [] [] [] are read = tt
 all_alike [] [] (e ∷ ended) are read = absurd are
 all_alike [] (o ∷ others) [] are read = absurd read

@@ -27,7 +27,7 @@ use Rattle.asm_meaning.specs.declared.directives.Class.{Class}
 use Rattle.omf_base.specs.Digits.{hexadecimal}
 use Rattle.asm_meaning.specs.Operations.{operation_of}
 use Rattle.asm_meaning.specs.Pieces as pieces
-use Rattle.asm_meaning.specs.State.{State, Segment, cells_of, greatest_length, with_local_record, with_records, in_segment, is_too_long, within_length, with_switch_set, state_after_end, state_after_start}
+use Rattle.asm_meaning.specs.State.{State, StartedSegment, cells_of, greatest_length, with_local_record, with_records, in_segment, is_too_long, within_length, with_switch_set, state_after_end, state_after_start}
 use Rattle.asm_meaning.specs.Statement.{is_some_text, following_here, with_equate, equating, equating_global, constants_of, IsStep, IsDone, IsPlaced, is_misplaced, begins_segment, label_of, is_taken, load_name_of, is_alignment, switch_of, distance_in, IsMove, state_after_align, state_after_org, with_kind, listed_kind, alignment_in}
 use Rattle.list_meaning.specs.laws.LineText.{IsLabelFront, HasNoBlank}
 use Rattle.list_meaning.specs.Listed.{statement_text}
@@ -65,10 +65,10 @@ front_is [] is = absurd is
 front_is (byte ∷ name) is = (not_start byte 0x2A is.0 refl, not_start byte 0x3B is.0 refl, not_start byte 0x21 is.0 refl, not_start byte 0x2E is.0 refl, name_ink (byte ∷ name) is)
 
 -- a label that no other statement of the segment has
-label_is : (state : State) (s : Segment) (op : Operation) (name : List ℕ) → state.segment ≡ Some s → IsPlainName name → is_some (s.names name) ≡ false → label_of state op name ≡ Ok name
+label_is : (state : State) (s : StartedSegment) (op : Operation) (name : List ℕ) → state.segment ≡ Some s → IsPlainName name → is_some (s.names name) ≡ false → label_of state op name ≡ Ok name
 label_is state s op [] here is free = absurd is
 label_is state s op (byte ∷ name) here is free =
-    let taken : is_taken state state.segment op (folded (byte ∷ name)) ≡ false = ap (λ (o : Option Segment). is_taken state o op (folded (byte ∷ name))) here ∙ ap (λ (n : List ℕ). is_some (s.names n)) (folded_is (byte ∷ name) is) ∙ free in
+    let taken : is_taken state state.segment op (folded (byte ∷ name)) ≡ false = ap (λ (o : Option StartedSegment). is_taken state o op (folded (byte ∷ name))) here ∙ ap (λ (n : List ℕ). is_some (s.names n)) (folded_is (byte ∷ name) is) ∙ free in
     rw (name_is (byte ∷ name) is, taken) (ap (λ (n : List ℕ). ok n) (folded_is (byte ∷ name) is))
   where
     ok : List ℕ → Answer (List ℕ)
@@ -76,15 +76,15 @@ label_is state s op (byte ∷ name) here is free =
 
 -- ---- a state that is left
 
-inside_to : (state next : State) (s : Segment) (line : Line) (op : Operation) (label text : List ℕ) → state.segment ≡ Some s → begins_segment op ≡ false
+inside_to : (state next : State) (s : StartedSegment) (line : Line) (op : Operation) (label text : List ℕ) → state.segment ≡ Some s → begins_segment op ≡ false
     → IsDone state line op (label_of state op label) text (Ok next) → within_length next ≡ Ok next → IsPlaced state line op label text (is_misplaced state.segment op label text) (Ok next)
 inside_to state next s line op label text here begins done fits =
-    subst (λ (o : Option Segment). IsPlaced state line op label text (is_misplaced o op label text) (Ok next)) (sym here)
+    subst (λ (o : Option StartedSegment). IsPlaced state line op label text (is_misplaced o op label text) (Ok next)) (sym here)
     (subst (λ (b : Bool). IsPlaced state line op label text b (Ok next)) (sym begins) (Ok next, done, sym fits))
 
 -- ---- labels
 
-pub local_step : (state : State) (s : Segment) (number : ℕ) (name : List ℕ) → state.segment ≡ Some s → IsPlainName name → is_some (s.names name) ≡ false → cells_of (with_local_record name 0x4E [] s) ≤ greatest_length s.class
+pub local_step : (state : State) (s : StartedSegment) (number : ℕ) (name : List ℕ) → state.segment ≡ Some s → IsPlainName name → is_some (s.names name) ≡ false → cells_of (with_local_record name 0x4E [] s) ≤ greatest_length s.class
     → IsStep state (line_of 0 number (said_text (Labels false name))) (Ok (in_segment (with_local_record name 0x4E []) state))
 unfolding said_text IsDone operation_of operations.operation_use operations.mnemonic_of operations.value_of_spelling operations.mnemonics operations.without_operand asm_operations.directives asm_operations.ignored_directives
 local_step state s number name here is free room =
@@ -92,7 +92,7 @@ local_step state s number name here is free room =
     (inside state s (line_of 0 number (statement_text name (codes "ANOP") [])) (Direct directives.Nothing) name [] (with_local_record name 0x4E []) here refl
     (rw (label_is state s (Direct directives.Nothing) name here is free) refl) room)
 
-pub global_step : (state : State) (s : Segment) (number : ℕ) (name : List ℕ) → state.segment ≡ Some s → IsPlainName name → is_some (s.names name) ≡ false
+pub global_step : (state : State) (s : StartedSegment) (number : ℕ) (name : List ℕ) → state.segment ≡ Some s → IsPlainName name → is_some (s.names name) ≡ false
     → cells_of (with_records name None (Label true name 0 0x4E 0 ∷ []) [] s) ≤ greatest_length s.class
     → IsStep state (line_of 0 number (said_text (Labels true name))) (Ok (in_segment (with_records name None (Label true name 0 0x4E 0 ∷ []) []) state))
 unfolding said_text IsDone operation_of operations.operation_use operations.mnemonic_of operations.value_of_spelling operations.mnemonics operations.without_operand asm_operations.directives asm_operations.ignored_directives
@@ -103,7 +103,7 @@ global_step state s number name here is free room =
 
 -- ---- USING
 
-pub using_step : (state : State) (s : Segment) (number : ℕ) (name : List ℕ) → state.segment ≡ Some s → IsPlainName name → cells_of (with_local_record [] 0x4E (Using name ∷ []) s) ≤ greatest_length s.class
+pub using_step : (state : State) (s : StartedSegment) (number : ℕ) (name : List ℕ) → state.segment ≡ Some s → IsPlainName name → cells_of (with_local_record [] 0x4E (Using name ∷ []) s) ≤ greatest_length s.class
     → IsStep state (line_of 0 number (said_text (UsingIs name))) (Ok (in_segment (with_local_record [] 0x4E (Using name ∷ [])) state))
 unfolding said_text IsDone operation_of operations.operation_use operations.mnemonic_of operations.value_of_spelling operations.mnemonics operations.without_operand asm_operations.directives asm_operations.ignored_directives
 using_step state s number name here is room =
@@ -123,8 +123,8 @@ turned_fits LongI on state fits = rw fits refl
 turned_fits Msb on state fits = rw fits refl
 
 -- the open segment stays as long as it is
-unchanged_fits : (state : State) (s : Segment) → state.segment ≡ Some s → cells_of (with_local_record [] 0x4E [] s) ≤ greatest_length s.class → is_too_long (in_segment (with_local_record [] 0x4E []) state).segment ≡ false
-unchanged_fits state s here room = ap (λ (o : Option Segment). is_too_long (option_map (with_local_record [] 0x4E []) o)) here ∙ le-ltb (greatest_length s.class) (cells_of (with_local_record [] 0x4E [] s)) room
+unchanged_fits : (state : State) (s : StartedSegment) → state.segment ≡ Some s → cells_of (with_local_record [] 0x4E [] s) ≤ greatest_length s.class → is_too_long (in_segment (with_local_record [] 0x4E []) state).segment ≡ false
+unchanged_fits state s here room = ap (λ (o : Option StartedSegment). is_too_long (option_map (with_local_record [] 0x4E []) o)) here ∙ le-ltb (greatest_length s.class) (cells_of (with_local_record [] 0x4E [] s)) room
 
 switch_is : (on : Bool) → switch_of (listed.on_text on) ≡ Ok on
 switch_is true = refl
@@ -134,7 +134,7 @@ turns_done : (state : State) (line : Line) (switch : Switch) (on : Bool) → IsD
 unfolding IsDone
 turns_done state line switch on = rw (switch_is on) refl
 
-pub turns_step : (state : State) (s : Segment) (number : ℕ) (switch : Switch) (on : Bool) → state.segment ≡ Some s → cells_of (with_local_record [] 0x4E [] s) ≤ greatest_length s.class
+pub turns_step : (state : State) (s : StartedSegment) (number : ℕ) (switch : Switch) (on : Bool) → state.segment ≡ Some s → cells_of (with_local_record [] 0x4E [] s) ≤ greatest_length s.class
     → IsStep state (line_of 0 number (said_text (SwitchIs switch on))) (Ok (with_switch_set switch on (in_segment (with_local_record [] 0x4E []) state)))
 unfolding said_text IsDone operation_of operations.operation_use operations.mnemonic_of operations.value_of_spelling operations.mnemonics operations.without_operand asm_operations.directives asm_operations.ignored_directives
 turns_step state s number LongA on here room =
@@ -152,7 +152,7 @@ turns_step state s number Msb on here room =
 
 -- ---- END
 
-pub end_step : (state : State) (s : Segment) (number : ℕ) → state.segment ≡ Some s
+pub end_step : (state : State) (s : StartedSegment) (number : ℕ) → state.segment ≡ Some s
     → IsStep state (line_of 0 number (said_text EndIs)) (Ok (state_after_end (in_segment (with_local_record [] 0x4E (End ∷ [])) state)))
 unfolding said_text IsDone operation_of operations.operation_use operations.mnemonic_of operations.value_of_spelling operations.mnemonics operations.without_operand asm_operations.directives asm_operations.ignored_directives
 end_step state s number here =
@@ -162,34 +162,34 @@ end_step state s number here =
 
 -- ---- ALIGN and ORG inside
 
-pub align_step : (state : State) (s : Segment) (number n : ℕ) → state.segment ≡ Some s → n < 2 ^ 32 → is_power_of_two n ≡ true → n ≤ alignment_of s.header.align
+pub align_step : (state : State) (s : StartedSegment) (number n : ℕ) → state.segment ≡ Some s → n < 2 ^ 32 → is_power_of_two n ≡ true → n ≤ alignment_of s.header.align
     → cells_of (with_local_record [] 0x4E (Align n ∷ []) s) ≤ greatest_length s.class → IsStep state (line_of 0 number (said_text (Aligns n))) (Ok (in_segment (with_local_record [] 0x4E (Align n ∷ [])) state))
 unfolding said_text IsDone operation_of operations.operation_use operations.mnemonic_of operations.value_of_spelling operations.mnemonics operations.without_operand asm_operations.directives asm_operations.ignored_directives
 align_step state s number n here fits power low room =
-    let inside_alignment : is_alignment state.segment n ≡ true = ap (λ (o : Option Segment). is_alignment o n) here ∙ rw (power, le-leb n (alignment_of s.header.align) low) refl in
+    let inside_alignment : is_alignment state.segment n ≡ true = ap (λ (o : Option StartedSegment). is_alignment o n) here ∙ rw (power, le-leb n (alignment_of s.header.align) low) refl in
     let allowed : alignment_in state n ≡ Ok n = rw inside_alignment refl in
-    let same : state_after_align state state.segment [] n ≡ in_segment (with_local_record [] 0x4E (Align n ∷ [])) state = ap (λ (o : Option Segment). state_after_align state o [] n) here in
+    let same : state_after_align state state.segment [] n ≡ in_segment (with_local_record [] 0x4E (Align n ∷ [])) state = ap (λ (o : Option StartedSegment). state_after_align state o [] n) here in
     step_of state number [] (codes "ALIGN") (number_text 8 n) (Direct directives.Align) (Ok (in_segment (with_local_record [] 0x4E (Align n ∷ [])) state)) tt (refl, (refl, (refl, (refl, (refl, tt))))) (number_ink 8 n fits) tt refl
     (inside state s (line_of 0 number (statement_text [] (codes "ALIGN") (number_text 8 n))) (Direct directives.Align) [] (number_text 8 n) (with_local_record [] 0x4E (Align n ∷ [])) here refl
     (Some (Leaf (expression.Constant n)), number_formula 8 n fits, rw (number_there state n fits, allowed, same) refl) room)
 
 -- `*+` and a number
-pub move_step : (state : State) (s : Segment) (number n : ℕ) → state.segment ≡ Some s → n < 2 ^ 31 → cells_of (with_local_record [] 0x4E (Org n ∷ []) s) ≤ greatest_length s.class
+pub move_step : (state : State) (s : StartedSegment) (number n : ℕ) → state.segment ≡ Some s → n < 2 ^ 31 → cells_of (with_local_record [] 0x4E (Org n ∷ []) s) ≤ greatest_length s.class
     → IsStep state (line_of 0 number (said_text (OrgIs n))) (Ok (in_segment (with_local_record [] 0x4E (Org n ∷ [])) state))
 unfolding said_text IsDone operation_of operations.operation_use operations.mnemonic_of operations.value_of_spelling operations.mnemonics operations.without_operand asm_operations.directives asm_operations.ignored_directives
 move_step state s number n here low room =
     let fits : n < 2 ^ 32 = omega (arith, low) in
     let text = codes "*+" ++ number_text 8 n in
-    let allowed : distance_in state.segment n ≡ Ok n = ap (λ (o : Option Segment). distance_in o n) here ∙ rw (lt-ltb n (2 ^ 31) low) refl in
-    let same : state_after_org state state.segment [] n ≡ in_segment (with_local_record [] 0x4E (Org n ∷ [])) state = ap (λ (o : Option Segment). state_after_org state o [] n) here in
-    let there : IsMove state.segment text (Some (Leaf (expression.Constant n))) = subst (λ (o : Option Segment). IsMove o text (Some (Leaf (expression.Constant n)))) (sym here) (number_formula 8 n fits) in
+    let allowed : distance_in state.segment n ≡ Ok n = ap (λ (o : Option StartedSegment). distance_in o n) here ∙ rw (lt-ltb n (2 ^ 31) low) refl in
+    let same : state_after_org state state.segment [] n ≡ in_segment (with_local_record [] 0x4E (Org n ∷ [])) state = ap (λ (o : Option StartedSegment). state_after_org state o [] n) here in
+    let there : IsMove state.segment text (Some (Leaf (expression.Constant n))) = subst (λ (o : Option StartedSegment). IsMove o text (Some (Leaf (expression.Constant n)))) (sym here) (number_formula 8 n fits) in
     step_of state number [] (codes "ORG") text (Direct directives.Org) (Ok (in_segment (with_local_record [] 0x4E (Org n ∷ [])) state)) tt (refl, (refl, (refl, tt))) (refl, (refl, number_ink 8 n fits)) tt refl
     (inside state s (line_of 0 number (statement_text [] (codes "ORG") text)) (Direct directives.Org) [] text (with_local_record [] 0x4E (Org n ∷ [])) here refl
     (Some (Leaf (expression.Constant n)), there, rw (number_there state n fits, allowed, same) refl) room)
 
 -- ---- KIND
 
-pub kind_step : (state : State) (s : Segment) (number n : ℕ) → state.segment ≡ Some s → n ≤ 0xFFFF → is_listed (form_of n) ≡ true → cells_of (with_local_record [] 0x4E [] s) ≤ greatest_length s.class
+pub kind_step : (state : State) (s : StartedSegment) (number n : ℕ) → state.segment ≡ Some s → n ≤ 0xFFFF → is_listed (form_of n) ≡ true → cells_of (with_local_record [] 0x4E [] s) ≤ greatest_length s.class
     → IsStep state (line_of 0 number (said_text (KindIs n))) (Ok (in_segment (λ s. with_kind n (with_local_record [] 0x4E [] s)) state))
 unfolding said_text IsDone operation_of operations.operation_use operations.mnemonic_of operations.value_of_spelling operations.mnemonics operations.without_operand asm_operations.directives asm_operations.ignored_directives
 kind_step state s number n here low listed_form room =
@@ -204,16 +204,16 @@ kind_step state s number n here low listed_form room =
 outside_to : (state next : State) (line : Line) (op : Operation) (label text : List ℕ) → state.segment ≡ None → is_misplaced None op label text ≡ false
     → IsDone state line op (label_of state op label) text (Ok next) → within_length next ≡ Ok next → IsPlaced state line op label text (is_misplaced state.segment op label text) (Ok next)
 outside_to state next line op label text here may done fits =
-    subst (λ (o : Option Segment). IsPlaced state line op label text (is_misplaced o op label text) (Ok next)) (sym here)
+    subst (λ (o : Option StartedSegment). IsPlaced state line op label text (is_misplaced o op label text) (Ok next)) (sym here)
     (subst (λ (b : Bool). IsPlaced state line op label text b (Ok next)) (sym may) (Ok next, done, sym fits))
 
 pub next_align_step : (state : State) (number n : ℕ) → state.segment ≡ None → n ≤ 0x10000 → is_power_of_two n ≡ true → IsStep state (line_of 0 number (said_text (NextAlignIs n))) (Ok (record state { align = n }))
 unfolding said_text IsDone operation_of operations.operation_use operations.mnemonic_of operations.value_of_spelling operations.mnemonics operations.without_operand asm_operations.directives asm_operations.ignored_directives
 next_align_step state number n here low power =
     let fits : n < 2 ^ 32 = omega (arith, low) in
-    let outside_alignment : is_alignment state.segment n ≡ true = ap (λ (o : Option Segment). is_alignment o n) here ∙ rw (power, le-leb n 0x10000 low) refl in
+    let outside_alignment : is_alignment state.segment n ≡ true = ap (λ (o : Option StartedSegment). is_alignment o n) here ∙ rw (power, le-leb n 0x10000 low) refl in
     let allowed : alignment_in state n ≡ Ok n = rw outside_alignment refl in
-    let same : state_after_align state state.segment [] n ≡ record state { align = n } = ap (λ (o : Option Segment). state_after_align state o [] n) here in
+    let same : state_after_align state state.segment [] n ≡ record state { align = n } = ap (λ (o : Option StartedSegment). state_after_align state o [] n) here in
     let short : within_length (record state { align = n }) ≡ Ok (record state { align = n }) = rw here refl in
     step_of state number [] (codes "ALIGN") (number_text 8 n) (Direct directives.Align) (Ok (record state { align = n })) tt (refl, (refl, (refl, (refl, (refl, tt))))) (number_ink 8 n fits) tt refl
     (outside_to state (record state { align = n }) (line_of 0 number (statement_text [] (codes "ALIGN") (number_text 8 n))) (Direct directives.Align) [] (number_text 8 n) here refl
@@ -227,9 +227,9 @@ pub next_org_step : (state : State) (number n : ℕ) → state.segment ≡ None 
 unfolding said_text IsDone operation_of operations.operation_use operations.mnemonic_of operations.value_of_spelling operations.mnemonics operations.without_operand asm_operations.directives asm_operations.ignored_directives
 next_org_step state number n here fits =
     let text = number_text 8 n in
-    let allowed : distance_in state.segment n ≡ Ok n = ap (λ (o : Option Segment). distance_in o n) here in
-    let same : state_after_org state state.segment [] n ≡ record state { org = n } = ap (λ (o : Option Segment). state_after_org state o [] n) here in
-    let there : IsMove state.segment text (Some (Leaf (expression.Constant n))) = subst (λ (o : Option Segment). IsMove o text (Some (Leaf (expression.Constant n)))) (sym here) (number_formula 8 n fits) in
+    let allowed : distance_in state.segment n ≡ Ok n = ap (λ (o : Option StartedSegment). distance_in o n) here in
+    let same : state_after_org state state.segment [] n ≡ record state { org = n } = ap (λ (o : Option StartedSegment). state_after_org state o [] n) here in
+    let there : IsMove state.segment text (Some (Leaf (expression.Constant n))) = subst (λ (o : Option StartedSegment). IsMove o text (Some (Leaf (expression.Constant n)))) (sym here) (number_formula 8 n fits) in
     let short : within_length (record state { org = n }) ≡ Ok (record state { org = n }) = rw here refl in
     step_of state number [] (codes "ORG") text (Direct directives.Org) (Ok (record state { org = n })) tt (refl, (refl, (refl, tt))) (number_ink 8 n fits) tt refl
     (outside_to state (record state { org = n }) (line_of 0 number (statement_text [] (codes "ORG") text)) (Direct directives.Org) [] text here (no_here (hexadecimal 8 n))
@@ -245,7 +245,7 @@ judged_number : (n : ℕ) → n < 2 ^ 32 → formulas.formula_of (Some (Leaf (ex
 unfolding formulas.checked_formula
 judged_number n fits = rw (lt-leb (2 ^ 32) n fits) refl
 
-pub equ_step : (state : State) (s : Segment) (number : ℕ) (name : List ℕ) (n : ℕ) → state.segment ≡ Some s → IsPlainName name → is_some (s.names name) ≡ false → n < 2 ^ 32
+pub equ_step : (state : State) (s : StartedSegment) (number : ℕ) (name : List ℕ) (n : ℕ) → state.segment ≡ Some s → IsPlainName name → is_some (s.names name) ≡ false → n < 2 ^ 32
     → cells_of (with_equate false name (Known n) s) ≤ greatest_length s.class → IsStep state (line_of 0 number (said_text (Equates false name n))) (Ok (in_segment (with_equate false name (Known n)) state))
 unfolding said_text IsDone operation_of operations.operation_use operations.mnemonic_of operations.value_of_spelling operations.mnemonics operations.without_operand asm_operations.directives asm_operations.ignored_directives
 equ_step state s number name n here is free fits room =
@@ -253,11 +253,11 @@ equ_step state s number name n here is free fits room =
     (inside state s (line_of 0 number (statement_text name (codes "EQU") (number_text 8 n))) (Direct directives.Equ) name (number_text 8 n) (with_equate false name (Known n)) here refl
     (Some (Leaf (expression.Constant n)), number_formula 8 n fits, rw (label_is state s (Direct directives.Equ) name here is free, judged_number n fits, known (constants_of state) n) refl) room)
 
-pub gequ_step : (state : State) (s : Segment) (number : ℕ) (name : List ℕ) (n : ℕ) → state.segment ≡ Some s → IsPlainName name → is_some (s.names name) ≡ false → n < 2 ^ 32
+pub gequ_step : (state : State) (s : StartedSegment) (number : ℕ) (name : List ℕ) (n : ℕ) → state.segment ≡ Some s → IsPlainName name → is_some (s.names name) ≡ false → n < 2 ^ 32
     → cells_of (with_equate true name (Known n) s) ≤ greatest_length s.class → IsStep state (line_of 0 number (said_text (Equates true name n))) (Ok (in_segment (with_equate true name (Known n)) state))
 unfolding said_text IsDone operation_of operations.operation_use operations.mnemonic_of operations.value_of_spelling operations.mnemonics operations.without_operand asm_operations.directives asm_operations.ignored_directives
 gequ_step state s number name n here is free fits room =
-    let same : (label : Answer (List ℕ)) (found : Option Tree) → equating_global state state.segment label found ≡ equating state true label found = λ label found. ap (λ (o : Option Segment). equating_global state o label found) here in
+    let same : (label : Answer (List ℕ)) (found : Option Tree) → equating_global state state.segment label found ≡ equating state true label found = λ label found. ap (λ (o : Option StartedSegment). equating_global state o label found) here in
     step_of state number name (codes "GEQU") (number_text 8 n) (Direct directives.Gequ) (Ok (in_segment (with_equate true name (Known n)) state)) (front_is name is) (refl, (refl, (refl, (refl, tt)))) (number_ink 8 n fits) tt refl
     (inside state s (line_of 0 number (statement_text name (codes "GEQU") (number_text 8 n))) (Direct directives.Gequ) name (number_text 8 n) (with_equate true name (Known n)) here refl (
       Some (Leaf (expression.Constant n)),
@@ -270,7 +270,7 @@ gequ_step state s number name n here is free fits room =
 outside_label : (state : State) (class : Class) (name : List ℕ) → state.segment ≡ None → IsPlainName name → label_of state (Direct (directives.Begin class)) name ≡ Ok name
 outside_label state class [] here is = absurd is
 outside_label state class (byte ∷ name) here is =
-    let taken : is_taken state state.segment (Direct (directives.Begin class)) (folded (byte ∷ name)) ≡ false = ap (λ (o : Option Segment). is_taken state o (Direct (directives.Begin class)) (folded (byte ∷ name))) here in
+    let taken : is_taken state state.segment (Direct (directives.Begin class)) (folded (byte ∷ name)) ≡ false = ap (λ (o : Option StartedSegment). is_taken state o (Direct (directives.Begin class)) (folded (byte ∷ name))) here in
     rw (name_is (byte ∷ name) is, taken) (ap (λ (n : List ℕ). ok n) (folded_is (byte ∷ name) is))
   where
     ok : List ℕ → Answer (List ℕ)

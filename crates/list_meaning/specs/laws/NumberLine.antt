@@ -30,7 +30,7 @@ use Rattle.asm_meaning.specs.Constant.{Constants, Known, amount}
 use Rattle.asm_meaning.specs.Instruction as instructions
 use Rattle.asm_meaning.specs.Instruction.{Widths, instruction, kind_of, operand_bytes, with_amount, without_amount}
 use Rattle.asm_meaning.specs.Pieces.{records_of, records_after}
-use Rattle.asm_meaning.specs.State.{State, Segment, cells_of, greatest_length, with_local_record, in_segment}
+use Rattle.asm_meaning.specs.State.{State, StartedSegment, cells_of, greatest_length, with_local_record, in_segment}
 use Rattle.asm_meaning.specs.Statement.{IsStep, IsDone, IsOperandOf, Good, constants_of}
 use Rattle.list_meaning.specs.laws.LineText.{HasNoBlank, IsTaken}
 use Rattle.list_meaning.specs.Listed.{statement_text}
@@ -146,7 +146,7 @@ number_gives constants w k m way n is takes fits =
     let few : leb (length (k ∷ little_bytes (operand_bytes w m way) n)) 223 ≡ true = le-leb (length (k ∷ little_bytes (operand_bytes w m way) n)) 223 (omega (arith, length-bytes_low_first 0 (operand_bytes w m way) n, few_bytes w m way)) in
     rw (one_mode k m way is, known constants n, holds_it w m way n takes fits, no_distance way takes, no_shift way, opcode_back k m way is, same, few) refl
 
-pub number_step : (state : State) (s : Segment) (number k : ℕ) (m : Mnemonic) (way : Mode) (n : ℕ) → state.segment ≡ Some s → slice_get matrix k ≡ Some (m, way) → TakesNumber way → n < 2 ^ 32
+pub number_step : (state : State) (s : StartedSegment) (number k : ℕ) (m : Mnemonic) (way : Mode) (n : ℕ) → state.segment ≡ Some s → slice_get matrix k ≡ Some (m, way) → TakesNumber way → n < 2 ^ 32
     → n < 256 ^ operand_bytes state.widths m way → cells_of (with_local_record [] 0x4D (number_records state.widths k m way n) s) ≤ greatest_length s.class
     → IsStep state (line_of 0 number (said_text (Instructs m way (Number (operand_bytes state.widths m way) n)))) (Ok (in_segment (with_local_record [] 0x4D (number_records state.widths k m way n)) state))
 unfolding said_text IsDone
@@ -177,7 +177,7 @@ gathered_gives constants w k m is = rw (one_mode k m modes.Accumulator is, opcod
 taken_a : (way : OperandUse) → is_never way ≡ false → IsTaken way (codes "A")
 taken_a way some = taken_as way (codes "A") some refl
 
-pub accumulator_step : (state : State) (s : Segment) (number k : ℕ) (m : Mnemonic) → state.segment ≡ Some s → slice_get matrix k ≡ Some (m, modes.Accumulator)
+pub accumulator_step : (state : State) (s : StartedSegment) (number k : ℕ) (m : Mnemonic) → state.segment ≡ Some s → slice_get matrix k ≡ Some (m, modes.Accumulator)
     → cells_of (with_local_record [] 0x4D (Const (k ∷ []) ∷ []) s) ≤ greatest_length s.class
     → IsStep state (line_of 0 number (said_text (Instructs m modes.Accumulator listed.None'))) (Ok (in_segment (with_local_record [] 0x4D (Const (k ∷ []) ∷ [])) state))
 unfolding said_text IsDone listed.shape_of
@@ -231,7 +231,7 @@ unfolding banks_meaning instruction records_after
 banks_gives constants w k m source destination is low high =
     rw (one_mode k m modes.Move is, known constants source, known constants destination, lt-ltb source 256 low, lt-ltb destination 256 high, opcode_back k m modes.Move is) refl
 
-pub banks_step : (state : State) (s : Segment) (number k : ℕ) (m : Mnemonic) (source destination : ℕ) → state.segment ≡ Some s → slice_get matrix k ≡ Some (m, modes.Move) → source < 256 → destination < 256
+pub banks_step : (state : State) (s : StartedSegment) (number k : ℕ) (m : Mnemonic) (source destination : ℕ) → state.segment ≡ Some s → slice_get matrix k ≡ Some (m, modes.Move) → source < 256 → destination < 256
     → cells_of (with_local_record [] 0x4D (Const (k ∷ destination ∷ source ∷ []) ∷ []) s) ≤ greatest_length s.class
     → IsStep state (line_of 0 number (said_text (Instructs m modes.Move (listed.Banks source destination)))) (Ok (in_segment (with_local_record [] 0x4D (Const (k ∷ destination ∷ source ∷ []) ∷ [])) state))
 unfolding said_text IsDone

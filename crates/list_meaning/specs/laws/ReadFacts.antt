@@ -7,7 +7,7 @@ use Rattle.byteorder.specs.Endian.{little_bytes}
 use Rattle.byteorder.specs.Numbers.{little_from-lt, length-bytes_low_first}
 use Rattle.omf_format.specs.Number.{IsBytes, number_at}
 use Rattle.omf_format.specs.Field.{Layout, layout_of}
-use Rattle.omf_format.specs.Header.{Fields, fields_of, names_end}
+use Rattle.omf_format.specs.Header.{HeaderFields, fields_of, names_end}
 use Rattle.omf_format.specs.Record.{Record, End, Const, LongConst, IsRecord, spelling}
 use Rattle.omf_format.specs.Reading.{Reader, HandsOut, next_answer, after_next, is_end}
 use Rattle.omf_format.specs.File.{Segment, body_reader, IsSegment}
@@ -21,7 +21,7 @@ use Rattle.list_meaning.specs.laws.RunGives.{are_bytes}
 
 -- ---- the header
 
-pub record HasFields (f : Fields) : Type 0 where
+pub record HasFields (f : HeaderFields) : Type 0 where
   pub kind : f.kind < 2 ^ 16
   pub org : f.org < 2 ^ 32
   pub lab_len : f.lab_len ≤ 255

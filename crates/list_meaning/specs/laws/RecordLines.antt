@@ -9,7 +9,7 @@ use Rattle.omf_format.specs.Expression as expression
 use Rattle.omf_format.specs.Expression.{Tree, Leaf, Binary, IsTree, terms_of, depth, IsExpression}
 use Rattle.omf_format.specs.Field.{Layout, is_count}
 use Rattle.omf_format.specs.Reading.{is_end}
-use Rattle.omf_format.specs.Header.{Fields, alignment_of}
+use Rattle.omf_format.specs.Header.{HeaderFields, alignment_of}
 use Rattle.omf_format.specs.Record as records
 use Rattle.omf_format.specs.Record.{Record, IsRecord, IsDistance, Const, content_of}
 use Rattle.object_meaning.specs.Defines.{Scope, scope_of}
@@ -23,7 +23,7 @@ use Rattle.orca_meaning.specs.Matrix.{matrix}
 use Rattle.asm_meaning.specs.Constant.{Constants}
 use Rattle.asm_meaning.specs.Formulas.{expression_text}
 use Rattle.asm_meaning.specs.Instruction as instructions
-use Rattle.asm_meaning.specs.Instruction.{Widths, Kind, Missing, Value, Address, Distance, Sign, kind_of, operand_bytes, operand_record, opcode_in}
+use Rattle.asm_meaning.specs.Instruction.{Widths, OperandKind, Missing, Value, Address, Distance, Sign, kind_of, operand_bytes, operand_record, opcode_in}
 use Rattle.asm_meaning.specs.laws.PieceLaws.{all-append}
 use Rattle.list_meaning.specs.Listed as listed
 use Rattle.list_meaning.specs.Listed.{ListedStatement, Aligns, OrgIs, Ds, UsingIs, StrongIs, Labels, Equates, Instructs, WeakIs, FormulaIs, Wanted, Moved}
@@ -46,7 +46,7 @@ use Rattle.list_meaning.specs.laws.Content.{IsLike, SameAt, same_const, same_lon
 -- ---- what the lines of a record do
 
 -- the lines can stand there, leave this, and stand for the record behind the run
-pub record IsPut (f : Fields) (equates : List (List ℕ)) (b : PendingRun) (r : Record) (g : Given) : Type 0 where
+pub record IsPut (f : HeaderFields) (equates : List (List ℕ)) (b : PendingRun) (r : Record) (g : Given) : Type 0 where
   pub fine : AreFine equates f.align b.names b.widths g.0
   pub widths : widths_after b.widths g.0 ≡ g.1.widths
   pub names : names_after b.names g.0 ≡ g.1.names
@@ -57,7 +57,7 @@ abbrev pub widths_at : PendingRun → Widths
 widths_at b = widths_rest b.widths 0 b.run
 
 -- the lines of the run and one more, which stands for one record
-put_line : (f : Fields) (equates : List (List ℕ)) (b : PendingRun) (r x : Record) (said : ListedStatement) (names : List (List ℕ)) → AreBytes b.run
+put_line : (f : HeaderFields) (equates : List (List ℕ)) (b : PendingRun) (r x : Record) (said : ListedStatement) (names : List (List ℕ)) → AreBytes b.run
     → IsFine equates f.align b.names (widths_at b) said → records_said (widths_at b) said ≡ x ∷ [] → widths_said said (widths_at b) ≡ widths_at b → name_said said ++ b.names ≡ names
     → IsLike f.lab_len r x → IsPut f equates b r (said_rest b.widths 0 b.run ++ said ∷ [], record { widths = widths_at b; run = []; names = names })
 put_line f equates b r x said names are fine gives same_widths same_names like =
@@ -77,7 +77,7 @@ put_line f equates b r x said names are fine gives same_widths same_names like =
     }
 
 -- a byte of the run that is held back, and its record
-put_held : (f : Fields) (equates : List (List ℕ)) (b : PendingRun) (r x : Record) (front : List ℕ) (k : ℕ) (said : ListedStatement) → AreBytes front → b.run ≡ front ++ k ∷ []
+put_held : (f : HeaderFields) (equates : List (List ℕ)) (b : PendingRun) (r x : Record) (front : List ℕ) (k : ℕ) (said : ListedStatement) → AreBytes front → b.run ≡ front ++ k ∷ []
     → IsFine equates f.align b.names (widths_rest b.widths 0 front) said → records_said (widths_rest b.widths 0 front) said ≡ Const (k ∷ []) ∷ x ∷ []
     → widths_said said (widths_rest b.widths 0 front) ≡ widths_rest b.widths 0 front → name_said said ≡ []
     → IsLike f.lab_len r x → IsPut f equates b r (said_rest b.widths 0 front ++ said ∷ [], record { widths = widths_rest b.widths 0 front; run = []; names = b.names })
@@ -118,11 +118,11 @@ if_parts holds g given is = by holds (are_short g) refl refl is
     by false b p q e = absurd cc
 
 -- a record's lines are short, and put
-pub record IsGiven (f : Fields) (equates : List (List ℕ)) (b : PendingRun) (r : Record) (g : Given) : Type 0 where
+pub record IsGiven (f : HeaderFields) (equates : List (List ℕ)) (b : PendingRun) (r : Record) (g : Given) : Type 0 where
   pub short : are_short g ≡ true
   pub put : IsPut f equates b r g
 
-given_as : (f : Fields) (equates : List (List ℕ)) (b : PendingRun) (r : Record) (holds : Bool) (g given : Given) → (holds ≡ true → IsPut f equates b r g) → if_short holds g ≡ Some given → IsGiven f equates b r given
+given_as : (f : HeaderFields) (equates : List (List ℕ)) (b : PendingRun) (r : Record) (holds : Bool) (g given : Given) → (holds ≡ true → IsPut f equates b r g) → if_short holds g ≡ Some given → IsGiven f equates b r given
 given_as f equates b r holds g given puts is =
     let parts = if_parts holds g given is in
     subst (IsGiven f equates b r) parts.2 (record { short = parts.1; put = puts parts.0 })
@@ -150,7 +150,7 @@ same_formula a b c code count n t is =
     rw (eqb-true a code first.0, eqb-true b count first.1, eqb-true c n last.1) refl
 
 -- a kind of operand with a record has a name as its operand, and gives that record
-record_is : (m : Mnemonic) (kind : Kind) (bytes code count n : ℕ) (t : Tree) → is_record code count n (record_by m kind bytes) ≡ true → operand_record m kind bytes t ≡ records.Formula code count n (expression_text t)
+record_is : (m : Mnemonic) (kind : OperandKind) (bytes code count n : ℕ) (t : Tree) → is_record code count n (record_by m kind bytes) ≡ true → operand_record m kind bytes t ≡ records.Formula code count n (expression_text t)
 unfolding record_by
 record_is m Missing bytes code count n t is = absurd cc
 record_is m Value bytes code count n t is = same_formula 0xEB bytes 0 code count n t is
@@ -263,7 +263,7 @@ distance_none : (code n : ℕ) → eqb code 0xEB ≡ true → IsDistance (eqb co
 distance_none code n e is = subst (λ (k : ℕ). IsDistance (eqb k 0xEE) n) (eqb-true code 0xEB e) is
 
 -- the opcode is held back
-held_put : (f : Fields) (equates : List (List ℕ)) (b : PendingRun) (code count n : ℕ) (expr : List ℕ) (t : Tree) (found : List ℕ × ℕ) (w : Wanted) → f.lab_len ≤ 255 → IsTree f.lab_len t → depth t ≤ 64
+held_put : (f : HeaderFields) (equates : List (List ℕ)) (b : PendingRun) (code count n : ℕ) (expr : List ℕ) (t : Tree) (found : List ℕ × ℕ) (w : Wanted) → f.lab_len ≤ 255 → IsTree f.lab_len t → depth t ≤ 64
     → tree_in f.lab_len expr ≡ Some t → list_all (term_listable equates) (terms_of t) ≡ true → AreBytes b.run → split_last b.run ≡ Some found → simple_of t ≡ Some w → is_held b code count n found ≡ true
     → IsPut f equates b (records.Formula code count n expr) (held_back b found.0 found.1 w)
 held_put f equates b code count n expr t found w low formed shallow there names are split simple held =
@@ -291,7 +291,7 @@ held_put f equates b code count n expr t found w low formed shallow there names 
     fits_name constants m way (Moved name adds k) is takes named unknown = (is, (takes, named, unknown))
 
 -- DC A or DC S
-apart_put : (f : Fields) (equates : List (List ℕ)) (b : PendingRun) (code count n : ℕ) (expr : List ℕ) (t : Tree) → f.lab_len ≤ 255 → IsTree f.lab_len t → depth t ≤ 64 → tree_in f.lab_len expr ≡ Some t
+apart_put : (f : HeaderFields) (equates : List (List ℕ)) (b : PendingRun) (code count n : ℕ) (expr : List ℕ) (t : Tree) → f.lab_len ≤ 255 → IsTree f.lab_len t → depth t ≤ 64 → tree_in f.lab_len expr ≡ Some t
     → IsCount count → eqb code 0xEB ≡ true → n ≡ 0 → list_all (term_listable equates) (terms_of t) ≡ true → listing.expr_listable count t ≡ true → AreBytes b.run
     → IsPut f equates b (records.Formula code count n expr) (then_said (dc_of_formula count t (weak_of t) ∷ []) (with_run_written b))
 unfolding weak_of
@@ -331,7 +331,7 @@ apart_put f equates b code count n expr t low formed shallow there counted is_ex
         weak_is _ name names is = absurd cc
 
 -- all expression records
-formula_put : (f : Fields) (equates : List (List ℕ)) (b : PendingRun) (code count n : ℕ) (expr : List ℕ) (t : Tree) → f.lab_len ≤ 255 → IsTree f.lab_len t → depth t ≤ 64 → tree_in f.lab_len expr ≡ Some t
+formula_put : (f : HeaderFields) (equates : List (List ℕ)) (b : PendingRun) (code count n : ℕ) (expr : List ℕ) (t : Tree) → f.lab_len ≤ 255 → IsTree f.lab_len t → depth t ≤ 64 → tree_in f.lab_len expr ≡ Some t
     → IsCount count → IsDistance (eqb code 0xEE) n → AreBytes b.run → formula_listable equates b code count n t ≡ true
     → IsPut f equates b (records.Formula code count n expr) (formula_given b code count n t (split_last b.run) (simple_of t))
 unfolding formula_listable formula_given
@@ -383,7 +383,7 @@ private_zero true private is = ap (scope_of true) (eqb-true private 0 is)
 private_zero false private is = refl
 
 -- the lines of a record other than END
-pub record_given : (f : Fields) (equates : List (List ℕ)) (b : PendingRun) (l : Layout) (r : Record) (g : Given) → l.lab_len ≡ f.lab_len → f.lab_len ≤ 255 → IsRecord l r → IsKnown equates r → AreBytes b.run
+pub record_given : (f : HeaderFields) (equates : List (List ℕ)) (b : PendingRun) (l : Layout) (r : Record) (g : Given) → l.lab_len ≡ f.lab_len → f.lab_len ≤ 255 → IsRecord l r → IsKnown equates r → AreBytes b.run
     → is_end r ≡ false → given_by f equates b r ≡ Some g → IsGiven f equates b r g
 unfolding given_by
 record_given f equates b l records.End g same low is known are no_end gives = absurd cc

@@ -9,7 +9,7 @@ use Rattle.std.proofs.lemmas.List.Concat.{flat_map-cons}
 use Rattle.std.proofs.lemmas.Slice.Eq.{bytes_eq-Decides}
 use Rattle.omf_format.specs.Field.{◌>>=◌, Layout}
 use Rattle.omf_format.specs.File as format
-use Rattle.omf_format.specs.Header.{Fields, form_of, is_listed}
+use Rattle.omf_format.specs.Header.{HeaderFields, form_of, is_listed}
 use Rattle.omf_format.specs.Record as records
 use Rattle.omf_format.specs.Record.{Record, End, IsRecord}
 use Rattle.omf_format.specs.laws.FieldLaws.{bind_ok}
@@ -25,7 +25,7 @@ use Rattle.asm_meaning.specs.Pieces.{place_after}
 use Rattle.asm_meaning.specs.laws.PieceLaws.{all-append, place_after-append}
 use Rattle.asm_meaning.specs.laws.ObjectFileLaws.{same_place}
 use Rattle.asm_meaning.specs.State as states
-use Rattle.asm_meaning.specs.State.{State, Segment, Ended, state_after_start, state_after_end, with_local_record, in_segment, ended_of, bank_size_of, no_names}
+use Rattle.asm_meaning.specs.State.{State, StartedSegment, FinishedSegment, state_after_start, state_after_end, with_local_record, in_segment, ended_of, bank_size_of, no_names}
 use Rattle.asm_meaning.specs.Statement.{IsStep, value_in}
 use Rattle.list_meaning.specs.Listed.{ListedStatement, NextAlignIs, NextOrg, StartIs, KindIs, SwitchIs, Ds, EndIs, said_text}
 use Rattle.list_meaning.specs.Listing as listing
@@ -48,7 +48,7 @@ use Rattle.list_meaning.specs.laws.ReadFacts.{HasBytes, EndsLast, IsReadSegment}
 -- ---- the records of a segment
 
 -- the lines of records up to END: those before END can stand there, and stand for the same
-pub record IsWritten (f : Fields) (equates : List (List ℕ)) (b : PendingRun) (rs : List Record) (lines : List ListedStatement) : Type 0 where
+pub record IsWritten (f : HeaderFields) (equates : List (List ℕ)) (b : PendingRun) (rs : List Record) (lines : List ListedStatement) : Type 0 where
   pub mids : List ListedStatement
   pub whole : lines ≡ mids ++ EndIs ∷ []
   pub short : AllByRecursion (λ said. is_short said ≡ true) lines
@@ -76,14 +76,14 @@ same_lines : (a b : List ListedStatement) → right_lines a ≡ right_lines b �
 same_lines a b e = cc
 
 -- the lines of a record, and of those behind it
-record Parts (f : Fields) (equates : List (List ℕ)) (b : PendingRun) (found : ℕ × Record) (founds : List (ℕ × Record)) (lines : List ListedStatement) : Type 0 where
+record Parts (f : HeaderFields) (equates : List (List ℕ)) (b : PendingRun) (found : ℕ × Record) (founds : List (ℕ × Record)) (lines : List ListedStatement) : Type 0 where
   first : Given
   gives : given_by f equates b found.1 ≡ Some first
   more : List ListedStatement
   rest : said_from f equates first.1 founds ≡ Ok more
   whole : lines ≡ first.0 ++ more
 
-parts_of : (f : Fields) (equates : List (List ℕ)) (b : PendingRun) (found : ℕ × Record) (founds : List (ℕ × Record)) (lines : List ListedStatement) → said_from f equates b (found ∷ founds) ≡ Ok lines
+parts_of : (f : HeaderFields) (equates : List (List ℕ)) (b : PendingRun) (found : ℕ × Record) (founds : List (ℕ × Record)) (lines : List ListedStatement) → said_from f equates b (found ∷ founds) ≡ Ok lines
     → Parts f equates b found founds lines
 unfolding said_from
 parts_of f equates b found founds lines is =
@@ -108,7 +108,7 @@ spaces_stand equates align names w n fits = let both = by (eqb n 0) refl in reco
     by false e = ((fits, tt), some n e)
 
 -- END
-end_written : (f : Fields) (equates : List (List ℕ)) (b : PendingRun) (lines : List ListedStatement) (g : Given) (more : List ListedStatement) → f.res_spc < 2 ^ 32 → AreBytes b.run → given_by f equates b End ≡ Some g → more ≡ [] → lines ≡ g.0 ++ more
+end_written : (f : HeaderFields) (equates : List (List ℕ)) (b : PendingRun) (lines : List ListedStatement) (g : Given) (more : List ListedStatement) → f.res_spc < 2 ^ 32 → AreBytes b.run → given_by f equates b End ≡ Some g → more ≡ [] → lines ≡ g.0 ++ more
     → IsWritten f equates b (End ∷ []) lines
 unfolding given_by
 end_written f equates b lines g more fits are gives none whole = by (are_short answer) refl gives
@@ -151,11 +151,11 @@ end_written f equates b lines g more fits are gives none whole = by (are_short a
 abbrev pub AreKnown : List (List ℕ) → Layout → List (ℕ × Record) → Type 0
 AreKnown equates l founds = AllByRecursion (λ found. IsRecord l found.1 × IsKnown equates found.1) founds
 
-none_left : (f : Fields) (equates : List (List ℕ)) (b : PendingRun) (more : List ListedStatement) → said_from f equates b [] ≡ Ok more → more ≡ []
+none_left : (f : HeaderFields) (equates : List (List ℕ)) (b : PendingRun) (more : List ListedStatement) → said_from f equates b [] ≡ Ok more → more ≡ []
 unfolding said_from
 none_left f equates b more is = sym (same_lines [] more is)
 
-pub records_written : (f : Fields) (equates : List (List ℕ)) (l : Layout) (b : PendingRun) (founds : List (ℕ × Record)) (lines : List ListedStatement) → l.lab_len ≡ f.lab_len → f.lab_len ≤ 255 → f.res_spc < 2 ^ 32
+pub records_written : (f : HeaderFields) (equates : List (List ℕ)) (l : Layout) (b : PendingRun) (founds : List (ℕ × Record)) (lines : List ListedStatement) → l.lab_len ≡ f.lab_len → f.lab_len ≤ 255 → f.res_spc < 2 ^ 32
     → AreKnown equates l founds → EndsLast (map (λ found. found.1) founds) → AreBytes b.run → said_from f equates b founds ≡ Ok lines → IsWritten f equates b (map (λ found. found.1) founds) lines
 records_written f equates l b [] lines same low fits known ends are is = absurd ends
 records_written f equates l b (found ∷ []) lines same low fits known ends are is =
@@ -285,7 +285,7 @@ load_name_is text size is =
 -- ---- the front
 
 -- no segment is open, and nothing waits but this ALIGN and this ORG
-pub record Ready (align org : ℕ) (ended : List Ended) (state : State) : Type 0 where
+pub record Ready (align org : ℕ) (ended : List FinishedSegment) (state : State) : Type 0 where
   pub none : state.segment ≡ None
   pub outside : (name : List ℕ) → state.outside name ≡ None
   pub org_is : state.org ≡ org
@@ -293,12 +293,12 @@ pub record Ready (align org : ℕ) (ended : List Ended) (state : State) : Type 0
   pub front : state.front ≡ []
   pub ended_is : state.ended ≡ ended
 
-record ReadyAfter (align org : ℕ) (ended : List Ended) (state : State) (number : ℕ) (lines : List ListedStatement) : Type 0 where
+record ReadyAfter (align org : ℕ) (ended : List FinishedSegment) (state : State) (number : ℕ) (lines : List ListedStatement) : Type 0 where
   next : State
   leads : Leads state number lines next
   ready : Ready align org ended next
 
-align_ready : (n : ℕ) (ended : List Ended) (state : State) (number : ℕ) → (n == 0 || (is_power_of_two n && nat_le n 0x10000)) ≡ true → Ready 0 0 ended state → ReadyAfter n 0 ended state number (unless_zero NextAlignIs n)
+align_ready : (n : ℕ) (ended : List FinishedSegment) (state : State) (number : ℕ) → (n == 0 || (is_power_of_two n && nat_le n 0x10000)) ≡ true → Ready 0 0 ended state → ReadyAfter n 0 ended state number (unless_zero NextAlignIs n)
 align_ready n ended state number may ready = by (eqb n 0) refl may
   where
     by : (b : Bool) → eqb n 0 ≡ b → (b || (is_power_of_two n && nat_le n 0x10000)) ≡ true → ReadyAfter n 0 ended state number (cond b [] (NextAlignIs n ∷ []))
@@ -311,7 +311,7 @@ align_ready n ended state number may ready = by (eqb n 0) refl may
           ready = record { none = ready.none; outside = ready.outside; org_is = ready.org_is; align_is = refl; front = ready.front; ended_is = ready.ended_is };
         }
 
-org_ready : (align n : ℕ) (ended : List Ended) (state : State) (number : ℕ) → n < 2 ^ 32 → Ready align 0 ended state → ReadyAfter align n ended state number (unless_zero NextOrg n)
+org_ready : (align n : ℕ) (ended : List FinishedSegment) (state : State) (number : ℕ) → n < 2 ^ 32 → Ready align 0 ended state → ReadyAfter align n ended state number (unless_zero NextOrg n)
 org_ready align n ended state number fits ready = by (eqb n 0) refl
   where
     by : (b : Bool) → eqb n 0 ≡ b → ReadyAfter align n ended state number (cond b [] (NextOrg n ∷ []))
@@ -327,11 +327,11 @@ class_of true = Data
 class_of false = Code
 
 -- behind START or DATA
-record HasBegun (crosses : Bool) (name load_name : List ℕ) (align org : ℕ) (ended : List Ended) (state : State) (number : ℕ) : Type 0 where
+record HasBegun (crosses : Bool) (name load_name : List ℕ) (align org : ℕ) (ended : List FinishedSegment) (state : State) (number : ℕ) : Type 0 where
   next : State
   step : IsStep state (line_of 0 number (said_text (StartIs crosses name load_name))) (Ok next)
   left : Opens crosses name load_name state next
-  s : Segment
+  s : StartedSegment
   here : next.segment ≡ Some s
   class : s.class ≡ class_of crosses
   name_is : s.header.name ≡ name
@@ -352,7 +352,7 @@ bank_of : (crosses : Bool) → bank_size_of (class_of crosses) ≡ cond crosses 
 bank_of true = refl
 bank_of false = refl
 
-begun_is : (crosses : Bool) (name load_name : List ℕ) (align org : ℕ) (ended : List Ended) (state : State) (number : ℕ) → Ready align org ended state
+begun_is : (crosses : Bool) (name load_name : List ℕ) (align org : ℕ) (ended : List FinishedSegment) (state : State) (number : ℕ) → Ready align org ended state
     → IsStep state (line_of 0 number (said_text (StartIs crosses name load_name))) (Ok (state_after_start state (line_of 0 number (said_text (StartIs crosses name load_name))) (class_of crosses) name (padded load_name)))
     → HasBegun crosses name load_name align org ended state number
 begun_is crosses name load_name align org ended state number ready step =
@@ -392,7 +392,7 @@ begun_is crosses name load_name align org ended state number ready step =
       ended_left = ready.ended_is;
     }
 
-begins : (crosses : Bool) (name load_name : List ℕ) (align org : ℕ) (ended : List Ended) (state : State) (number : ℕ) → IsPlainName name → IsLoadName load_name → Ready align org ended state
+begins : (crosses : Bool) (name load_name : List ℕ) (align org : ℕ) (ended : List FinishedSegment) (state : State) (number : ℕ) → IsPlainName name → IsLoadName load_name → Ready align org ended state
     → HasBegun crosses name load_name align org ended state number
 begins true name load_name align org ended state number is load ready =
     begun_is true name load_name align org ended state number ready (data_step state number name load_name ready.none ready.front is load)
@@ -402,7 +402,7 @@ begins false name load_name align org ended state number is load ready =
 -- ---- a segment
 
 -- an ended segment has this header, and its records stand for the same
-pub record IsEndedAs (s : format.Segment) (e : Ended) : Type 0 where
+pub record IsEndedAs (s : format.Segment) (e : FinishedSegment) : Type 0 where
   pub name : e.header.name ≡ s.fields.name
   pub load_name : e.header.load_name ≡ s.fields.load_name
   pub kind : e.header.kind ≡ s.fields.kind
@@ -415,10 +415,10 @@ pub record IsEndedAs (s : format.Segment) (e : Ended) : Type 0 where
   pub body : e.body ≡ written ++ End ∷ []
   pub alike : Alike s.fields.lab_len s.fields.res_spc 0 [] (contents_of s) written
 
-pub record SegmentRan (s : format.Segment) (ended : List Ended) (state : State) (number : ℕ) (lines : List ListedStatement) : Type 0 where
+pub record SegmentRan (s : format.Segment) (ended : List FinishedSegment) (state : State) (number : ℕ) (lines : List ListedStatement) : Type 0 where
   pub last : State
   pub leads : Leads state number lines last
-  pub e : Ended
+  pub e : FinishedSegment
   pub ready : Ready 0 0 (ended ++ e ∷ []) last
   pub is : IsEndedAs s e
   pub said : AllByRecursion IsSaidLine lines
@@ -485,8 +485,8 @@ org_said n fits = by (eqb n 0)
     by true short = tt
     by false short = (origin_line n fits short.0, tt)
 
-module _ (s : format.Segment) (lines : List ListedStatement) (ended : List Ended) (state : State) (number : ℕ) (read : IsReadSegment s) (parts : ListedParts s lines) (ready : Ready 0 0 ended state) where
-  abbrev f : Fields
+module _ (s : format.Segment) (lines : List ListedStatement) (ended : List FinishedSegment) (state : State) (number : ℕ) (read : IsReadSegment s) (parts : ListedParts s lines) (ready : Ready 0 0 ended state) where
+  abbrev f : HeaderFields
   f = s.fields
 
   listed' : HasListedHeader s
@@ -536,7 +536,7 @@ module _ (s : format.Segment) (lines : List ListedStatement) (ended : List Ended
   holds : Holds (equates_of s) f.align (f.name ∷ []) fourth.next.widths fourth.next fourth.leaves.after
   holds = record {
     here = fourth.leaves.here;
-    aligned = ap (λ (h : Fields). h.align) fourth.leaves.header ∙ third.align_is;
+    aligned = ap (λ (h : HeaderFields). h.align) fourth.leaves.header ∙ third.align_is;
     same_names = λ name. ap (λ (n : states.Names). is_some (n name)) (fourth.leaves.names ∙ third.names) ∙ one_more f.name name None no_names [] refl;
     inner = λ name other. ap (λ (n : states.Names). value_in (n name)) (fourth.leaves.names ∙ third.names) ∙ first_name f.name name;
     outside = λ name. ap (λ (o : Constants). o name) fourth.leaves.outside ∙ third.outside name;
@@ -567,14 +567,14 @@ module _ (s : format.Segment) (lines : List ListedStatement) (ended : List Ended
   abbrev last_state : State
   last_state = state_after_end (in_segment (with_local_record [] 0x4E (End ∷ [])) ran.last)
 
-  abbrev ending : Ended
+  abbrev ending : FinishedSegment
   ending = record { header = record ran.after.header { length = place_after 0 (ran.after.body ++ End ∷ []) }; body = ran.after.body ++ End ∷ [] }
 
   body_is : ran.after.body ≡ records'
   body_is = ran.body ∙ ap (λ (l : List Record). l ++ given both_long written.mids) body_none
 
   ends_with : last_state.ended ≡ ran.last.ended ++ ending ∷ []
-  ends_with = ap (λ (o : Option Segment). ran.last.ended ++ ended_of (option_map (with_local_record [] 0x4E (End ∷ [])) o)) ran.here
+  ends_with = ap (λ (o : Option StartedSegment). ran.last.ended ++ ended_of (option_map (with_local_record [] 0x4E (End ∷ [])) o)) ran.here
 
   end_left : Closes ran.last last_state
   end_left = record { s = ran.after; was = ran.here; here = refl; ended = ends_with }
@@ -603,14 +603,14 @@ module _ (s : format.Segment) (lines : List ListedStatement) (ended : List Ended
   is_ended : IsEndedAs s ending
   unfolding place_after
   is_ended = record {
-    name = ap (λ (h : Fields). h.name) header_is ∙ third.name_is;
-    load_name = ap (λ (h : Fields). h.load_name) header_is ∙ third.load_is ∙ load.1;
-    kind = ap (λ (h : Fields). h.kind) header_is;
-    bank_size = ap (λ (h : Fields). h.bank_size) header_is ∙ third.bank ∙ same_bank f.bank_size listed'.bank;
-    org = ap (λ (h : Fields). h.org) header_is ∙ third.org_is;
-    align = ap (λ (h : Fields). h.align) header_is ∙ third.align_is;
+    name = ap (λ (h : HeaderFields). h.name) header_is ∙ third.name_is;
+    load_name = ap (λ (h : HeaderFields). h.load_name) header_is ∙ third.load_is ∙ load.1;
+    kind = ap (λ (h : HeaderFields). h.kind) header_is;
+    bank_size = ap (λ (h : HeaderFields). h.bank_size) header_is ∙ third.bank ∙ same_bank f.bank_size listed'.bank;
+    org = ap (λ (h : HeaderFields). h.org) header_is ∙ third.org_is;
+    align = ap (λ (h : HeaderFields). h.align) header_is ∙ third.align_is;
     length' = ap (λ (l : List Record). place_after 0 (l ++ End ∷ [])) body_is ∙ place_after-append 0 records' (End ∷ []) ∙ omega (arith, cells);
-    spaced = ap (λ (h : Fields). h.res_spc) header_is ∙ third.spaced;
+    spaced = ap (λ (h : HeaderFields). h.res_spc) header_is ∙ third.spaced;
     written = records';
     body = ap (λ (l : List Record). l ++ End ∷ []) body_is;
     alike = written.alike 0;
@@ -624,7 +624,7 @@ module _ (s : format.Segment) (lines : List ListedStatement) (ended : List Ended
     align_is = ran.align ∙ fourth.leaves.align ∙ third.align_left;
     front = ran.front ∙ fourth.leaves.front ∙ third.front;
     ended_is = ends_with
-        ∙ ap (λ (x : List Ended). x ++ ending ∷ []) (ran.ended ∙ fourth.leaves.ended ∙ third.ended_left);
+        ∙ ap (λ (x : List FinishedSegment). x ++ ending ∷ []) (ran.ended ∙ fourth.leaves.ended ∙ third.ended_left);
   }
 
   said : AllByRecursion IsSaidLine lines
@@ -653,16 +653,16 @@ module _ (s : format.Segment) (lines : List ListedStatement) (ended : List Ended
 
 -- ---- a file
 
-abbrev pub AreEndedAs : List format.Segment → List Ended → Type 0
+abbrev pub AreEndedAs : List format.Segment → List FinishedSegment → Type 0
 AreEndedAs [] [] = Unit {0}
 AreEndedAs [] (e ∷ ended) = ⊥
 AreEndedAs (s ∷ segments) [] = ⊥
 AreEndedAs (s ∷ segments) (e ∷ ended) = IsEndedAs s e × AreEndedAs segments ended
 
-pub record FileRan (segments : List format.Segment) (ended : List Ended) (state : State) (number : ℕ) (lines : List ListedStatement) : Type 0 where
+pub record FileRan (segments : List format.Segment) (ended : List FinishedSegment) (state : State) (number : ℕ) (lines : List ListedStatement) : Type 0 where
   pub last : State
   pub leads : Leads state number lines last
-  pub more : List Ended
+  pub more : List FinishedSegment
   pub ready : Ready 0 0 (ended ++ more) last
   pub are : AreEndedAs segments more
   pub said : AllByRecursion IsSaidLine lines
@@ -696,10 +696,10 @@ none_listed : (k : ℕ) (lines : List ListedStatement) → listing_from k [] ≡
 unfolding listing_from
 none_listed k lines is = sym (same_file [] lines is)
 
-pub file_runs : (k : ℕ) (segments : List format.Segment) (lines : List ListedStatement) (ended : List Ended) (state : State) (number : ℕ) → AllByRecursion IsReadSegment segments → listing_from k segments ≡ Ok lines → Ready 0 0 ended state
+pub file_runs : (k : ℕ) (segments : List format.Segment) (lines : List ListedStatement) (ended : List FinishedSegment) (state : State) (number : ℕ) → AllByRecursion IsReadSegment segments → listing_from k segments ≡ Ok lines → Ready 0 0 ended state
     → FileRan segments ended state number lines
 file_runs k [] lines ended state number read is ready =
-    record { last = state; leads = subst (λ (l : List ListedStatement). Leads state number l state) (sym (none_listed k lines is)) refl; more = []; ready = subst (λ (x : List Ended). Ready 0 0 x state) (sym (append-nil ended)) ready; are = tt; said = subst (AllByRecursion IsSaidLine) (sym (none_listed k lines is)) tt }
+    record { last = state; leads = subst (λ (l : List ListedStatement). Leads state number l state) (sym (none_listed k lines is)) refl; more = []; ready = subst (λ (x : List FinishedSegment). Ready 0 0 x state) (sym (append-nil ended)) ready; are = tt; said = subst (AllByRecursion IsSaidLine) (sym (none_listed k lines is)) tt }
 file_runs k (s ∷ segments) lines ended state number read is ready =
     let parts = file_parts k s segments lines is in
     let first = segment_runs s parts.first ended state number read.0 (listed_parts s parts.first parts.here) ready in
@@ -708,7 +708,7 @@ file_runs k (s ∷ segments) lines ended state number read is ready =
       last = others.last;
       leads = subst (λ (l : List ListedStatement). Leads state number l others.last) (sym parts.whole) (leads_on state first.last others.last number parts.first parts.more first.leads others.leads);
       more = first.e ∷ others.more;
-      ready = subst (λ (x : List Ended). Ready 0 0 x others.last) (append_assoc ended (first.e ∷ []) others.more) others.ready;
+      ready = subst (λ (x : List FinishedSegment). Ready 0 0 x others.last) (append_assoc ended (first.e ∷ []) others.more) others.ready;
       are = (first.is, others.are);
       said = subst (AllByRecursion IsSaidLine) (sym parts.whole) (all-append IsSaidLine parts.first parts.more first.said others.said);
     }

@@ -55,7 +55,7 @@ exports_content [] all = refl
 exports_content (r ∷ rs) all =
     flat_map-cons content_of r rs ∙ ap (λ (l : List ℕ). l ++ flat_map content_of rs) (gives_none r all.0 (record { start = 0; fields = none_fields; records = [] })).0 ∙ exports_content rs all.1
   where
-    none_fields : Rattle.omf_format.specs.Header.Fields
+    none_fields : Rattle.omf_format.specs.Header.HeaderFields
     none_fields = record { byte_count = 0; res_spc = 0; length = 0; lab_len = 0; version = 2; bank_size = 0; kind = 0; org = 0; align = 0; seg_num = 0; entry = 0; disp_name = 0; disp_data = 0; load_name = []; name = [] }
 
 pub exports_patches : (s : Segment) (rs : List Record) → AllByRecursion IsExport rs → flat_map (patches_in s) rs ≡ []

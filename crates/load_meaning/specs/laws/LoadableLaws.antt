@@ -6,7 +6,7 @@ use Rattle.omf_format.specs.declared.fault.HeaderFault.{HeaderFault}
 use Rattle.omf_format.specs.declared.fault.RecordFault.{RecordFault}
 use Rattle.load_meaning.specs.declared.load.LoadCause.{LoadCause}
 use Rattle.load_meaning.specs.declared.load.LoadFault.{LoadFault}
-use Rattle.omf_format.specs.Header.{Fields, fields_of, version_of, header_fault}
+use Rattle.omf_format.specs.Header.{HeaderFields, fields_of, version_of, header_fault}
 use Rattle.omf_format.specs.Record.{Record}
 use Rattle.omf_format.specs.Reading.{Reader, next_answer, after_next, HandsOut}
 use Rattle.omf_format.specs.File.{Segment, body_reader, IsHeader, IsSegment, AreSegments, IsFile, to_file_header_fault, to_file_record_fault}
@@ -67,7 +67,7 @@ no_stop r (found ∷ xs) [] x last a p q ended all e =
 no_stop r (found ∷ xs) (other ∷ ys) x last a p q ended all e = no_stop (after_next r) xs ys x last a p.1 q.1 ended all.1 e
 
 -- where the header passes and isn't refused, the front has no fault
-pub front-none : (start : ℕ) (f : Fields) (file : List ℕ) → IsHeader start f file → segment_refusal f ≡ None → front_fault start file ≡ None
+pub front-none : (start : ℕ) (f : HeaderFields) (file : List ℕ) → IsHeader start f file → segment_refusal f ≡ None → front_fault start file ≡ None
 unfolding front_fault
 front-none start f file header front =
     let passes' : header_fault (drop start file) ≡ None = header.passes in
@@ -83,7 +83,7 @@ no_load_segment at file fault s (OfFront is) start segment pass =
 no_load_segment at file fault s (OfRecord f before reader header front run all is) start segment pass =
     let fields : s.fields ≡ f = segment.header.fields ∙ ap (λ (n : ℕ). fields_of (drop n file)) start ∙ sym header.fields in
     let whole : body_reader s.start s.fields file ≡ body_reader at f file =
-    ap (λ (n : ℕ). body_reader n s.fields file) start ∙ ap (λ (g : Fields). body_reader at g file) fields in
+    ap (λ (n : ℕ). body_reader n s.fields file) start ∙ ap (λ (g : HeaderFields). body_reader at g file) fields in
     no_stop (body_reader at f file) before s.records reader segment.last fault run (subst (λ (r : Reader). HandsOut r s.records segment.last) whole segment.records) segment.ended pass.records is
 
 -- a segment has one first fault of phase 1
@@ -97,7 +97,7 @@ read_same at file a b (OfRecord f before reader header front run all x) (OfFront
     cc
 read_same at file a b (OfRecord f xs x header front run all e) (OfRecord g ys y header' front' run' all' e') =
     let fields : g ≡ f = header'.fields ∙ sym header.fields in
-    stops_same (body_reader at f file) xs ys x y a b run (subst (λ (h : Fields). HandsOut (body_reader at h file) ys y) fields run') all all' e e'
+    stops_same (body_reader at f file) xs ys x y a b run (subst (λ (h : HeaderFields). HandsOut (body_reader at h file) ys y) fields run') all all' e e'
 
 -- two segments of a file at fault in phase 1, behind segments that pass, are one
 faults_same : (xs ys : List Segment) (at x y : ℕ) (file : List ℕ) (a b : Fault) → AreSegments xs at file x → AreSegments ys at file y

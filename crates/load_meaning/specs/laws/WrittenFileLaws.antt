@@ -4,7 +4,7 @@ use Rattle.std.specs.List.{flat_map, AllByRecursion}
 use Rattle.std.proofs.lemmas.List.{append-nil, take_at, drop_at, length-append}
 use Rattle.std.proofs.lemmas.List.Concat.{flat_map-cons}
 use Rattle.omf_format.specs.Field.{length_width_of}
-use Rattle.omf_format.specs.Header.{Fields, fields_of, header_fault, written_fields, header_bytes}
+use Rattle.omf_format.specs.Header.{HeaderFields, fields_of, header_fault, written_fields, header_bytes}
 use Rattle.omf_format.specs.laws.HeaderLaws.{drop-more}
 use Rattle.omf_format.specs.laws.WrittenHeaderLaws.{length-header, fields_of-written, header_fault-written}
 use Rattle.omf_format.specs.Record.{Record, content_of}
@@ -32,7 +32,7 @@ body_cut front header body rest a h n fa hh nn =
     ap (drop (a + h)) whole ∙ drop-more front (header ++ body) a h fa ∙ drop_at header body h hh
 
 -- a reader of a written body stands at its front
-reader-written : (f : Fields) (at n : ℕ) (body file : List ℕ) → drop (at + (0x37 + length f.name)) (take (at + (0x37 + length f.name + n)) file) ≡ body
+reader-written : (f : HeaderFields) (at n : ℕ) (body file : List ℕ) → drop (at + (0x37 + length f.name)) (take (at + (0x37 + length f.name + n)) file) ≡ body
     → body_reader at (written_fields f n) file ≡ reader_at (at + (0x37 + length f.name + n)) body false
 unfolding body_reader length_width_of
 reader-written f at n body file cut = ap (λ (l : List ℕ). reader_at (at + (0x37 + length f.name + n)) l false) cut

@@ -6,7 +6,7 @@ use Rattle.std.proofs.lemmas.Bool.{eq-eqb}
 use Rattle.std.proofs.lemmas.List.{length-append}
 use Rattle.omf_format.specs.Ascii as ascii
 use Rattle.omf_format.specs.Value.{truth}
-use Rattle.orca_meaning.specs.Line.{Line, Fields, part, is_comment, three_fields}
+use Rattle.orca_meaning.specs.Line.{Line, LineFields, part, is_comment, three_fields}
 use Rattle.macro_meaning.specs.declared.faults.MacroCause.TheVariants.{LineTooLong, TooManyLines, NoSuchSymbol, BadSetting}
 use Rattle.macro_meaning.specs.declared.faults.MacroFault.{MacroFault}
 use Rattle.macro_meaning.specs.declared.statements.Kind.{Kind}
@@ -18,7 +18,7 @@ use Rattle.macro_meaning.specs.Effect.{Effect, NoEffect, Emit, Fail, Exit, pair_
 use Rattle.macro_meaning.specs.Pieces.{pieces, unquoted_text, joined_texts}
 use Rattle.macro_meaning.specs.Statements.{symbol_name, target_name}
 use Rattle.macro_meaning.specs.Symbol.{Values}
-use Rattle.macro_meaning.specs.Visit.{Program, Visit, Move, On, Ends, Stops, line_at, setting_of, move_of, given_by, most_visits, IsVisitOf, IsVisitAt, IsVisit, Follow, first_visit}
+use Rattle.macro_meaning.specs.Visit.{MacroProgram, Visit, Move, On, Ends, Stops, line_at, setting_of, move_of, given_by, most_visits, IsVisitOf, IsVisitAt, IsVisit, Follow, first_visit}
 use Rattle.macro_meaning.specs.Expansion.{AreGoodFiles, InText, InDefinition, InVisit, first_of_files, file_text_fault, file_part_fault, program_of, fault_at}
 use Rattle.macro_meaning.specs.ExpansionLaws.{NoneUnanswered}
 
@@ -75,7 +75,7 @@ a_statement values Define text label operand go = go (Emit text) refl
 
 -- ---- lines
 
-done_by : (s : SymbolSetting) (text : List ℕ) (fields : Fields) (o : Option Statement) → ((effect_done : Effect) → IsDoneBy s text fields o effect_done → ⊥) → ⊥
+done_by : (s : SymbolSetting) (text : List ℕ) (fields : LineFields) (o : Option Statement) → ((effect_done : Effect) → IsDoneBy s text fields o effect_done → ⊥) → ⊥
 done_by s text fields (Some statement) go = a_statement s.values statement text (part text fields.label) (part text fields.operand) go
 done_by s text fields None go = go _ refl
 
@@ -104,7 +104,7 @@ a_effect s line go = as_written s line (is_comment line.text) go
 
 -- ---- visits
 
-a_visit : (program : Program) (before : List Visit) (v : Visit) → ((given : List Line) (move : Move) → IsVisit program before v given move → ⊥) → ⊥
+a_visit : (program : MacroProgram) (before : List Visit) (v : Visit) → ((given : List Line) (move : Move) → IsVisit program before v given move → ⊥) → ⊥
 a_visit program before v go = by_line (line_at program v.macro v.line) go
   where
     by_count : (line : Line) (full : Bool) → ((given : List Line) (move : Move) → IsVisitOf program before v line full given move → ⊥) → ⊥
@@ -123,7 +123,7 @@ IsEnd Ends = Unit {0}
 IsEnd (Stops line cause) = Unit {0}
 
 -- the last visit that may be is followed by none
-last_visit : (program : Program) (before : List Visit) (v : Visit) → length before ≡ most_visits → ((given : List Line) (end : Move) → IsVisit program before v given end → IsEnd end → ⊥) → ⊥
+last_visit : (program : MacroProgram) (before : List Visit) (v : Visit) → length before ≡ most_visits → ((given : List Line) (end : Move) → IsVisit program before v given end → IsEnd end → ⊥) → ⊥
 last_visit program before v most go = by_line (line_at program v.macro v.line) go
   where
     full : (length before == most_visits) ≡ true
@@ -134,7 +134,7 @@ last_visit program before v most go = by_line (line_at program v.macro v.line) g
     by_line (Some line) go = go [] (Stops line TooManyLines) (subst (λ (b : Bool). IsVisitOf program before v line b [] (Stops line TooManyLines)) (sym full) (refl, refl)) tt
 
 -- the visits end, after so many more at most
-visits_end : (n : ℕ) (program : Program) (before : List Visit) (v : Visit) → length before + n ≡ most_visits
+visits_end : (n : ℕ) (program : MacroProgram) (before : List Visit) (v : Visit) → length before + n ≡ most_visits
     → ((visits : List Visit) (given : List Line) (end : Move) → Follow program before v visits given end → IsEnd end → ⊥) → ⊥
 visits_end zero program before v most go = last_visit program before v (none_more (length before) most_visits most) (λ given end is ends. go [] given end is ends)
   where

@@ -2,7 +2,7 @@
 use Rattle.std.proofs.Common.{◌≡◌, ℕ, Bool, true, false, eqb, ltb, List, [], ◌∷◌, ◌++◌, length, Option, Some, None, sym, ap, subst, ◌∙◌}
 use Rattle.orca_meaning.specs.declared.operators.Operands.TheVariants as operands
 use Rattle.orca_meaning.specs.laws.FormulaLaws.{one_tree}
-use Rattle.orca_meaning.specs.Line.{Line, Fields, is_comment, three_fields, part}
+use Rattle.orca_meaning.specs.Line.{Line, LineFields, is_comment, three_fields, part}
 use Rattle.macro_meaning.specs.declared.statements.Kind.{Kind}
 use Rattle.macro_meaning.specs.declared.statements.Kind.TheVariants.{Number, Flag, Text}
 use Rattle.macro_meaning.specs.declared.statements.Statement.{Statement}
@@ -12,7 +12,7 @@ use Rattle.macro_meaning.specs.Effect.{Effect, SymbolSetting, pair_or_earlier_fa
 use Rattle.macro_meaning.specs.Pieces.{unquoted_text, pieces}
 use Rattle.macro_meaning.specs.Statements.{target_name}
 use Rattle.macro_meaning.specs.Symbol.{Values}
-use Rattle.macro_meaning.specs.Visit.{Program, Visit, Move, On, Ends, Stops, IsVisitOf, IsVisitAt, IsVisit, Follow, line_at, setting_of, given_by, move_of, most_visits}
+use Rattle.macro_meaning.specs.Visit.{MacroProgram, Visit, Move, On, Ends, Stops, IsVisitOf, IsVisitAt, IsVisit, Follow, line_at, setting_of, given_by, move_of, most_visits}
 
 -- ---- answers
 
@@ -75,7 +75,7 @@ done_once values Define text label operand d e p q = p ∙ sym q
 pub effect_once : (s : SymbolSetting) (line : Line) (d e : Effect) → IsEffect s line d → IsEffect s line e → d ≡ e
 effect_once s line d e p q = by_comment (is_comment line.text) p q
   where
-    by_statement : (text : List ℕ) (fields : Fields) (o : Option Statement) → IsDoneBy s text fields o d → IsDoneBy s text fields o e → d ≡ e
+    by_statement : (text : List ℕ) (fields : LineFields) (o : Option Statement) → IsDoneBy s text fields o d → IsDoneBy s text fields o e → d ≡ e
     by_statement text fields None p q = p ∙ sym q
     by_statement text fields (Some statement) p q = done_once s.values statement text (part text fields.label) (part text fields.operand) d e p q
 
@@ -102,7 +102,7 @@ effect_once s line d e p q = by_comment (is_comment line.text) p q
 -- ---- visits
 
 -- what a visit gives, and what follows on it
-pub visit_once : (program : Program) (before : List Visit) (v : Visit) (given given' : List Line) (move move' : Move) → IsVisit program before v given move → IsVisit program before v given' move'
+pub visit_once : (program : MacroProgram) (before : List Visit) (v : Visit) (given given' : List Line) (move move' : Move) → IsVisit program before v given move → IsVisit program before v given' move'
     → (given ≡ given') × (move ≡ move')
 visit_once program before v given given' move move' p q = by_line (line_at program v.macro v.line) p q
   where
@@ -134,7 +134,7 @@ same_visit : (v w : Visit) → On v ≡ On w → v ≡ w
 unfolding visit_of
 same_visit v w e = ap (λ (m : Move). visit_of m v) e
 
-pub follow_once : (program : Program) (before : List Visit) (v : Visit) (ws xs : List Visit) (given given' : List Line) (end following : Move) → IsEnd end → IsEnd following
+pub follow_once : (program : MacroProgram) (before : List Visit) (v : Visit) (ws xs : List Visit) (given given' : List Line) (end following : Move) → IsEnd end → IsEnd following
     → Follow program before v ws given end → Follow program before v xs given' following → (given ≡ given') × (end ≡ following)
 follow_once program before v [] [] given given' end following is is' p q = visit_once program before v given given' end following p q
 follow_once program before v [] (x ∷ xs) given given' end following is is' p q =

@@ -6,7 +6,7 @@ use Rattle.std.proofs.lemmas.Bool.{cases_Bool}
 use Rattle.std.proofs.lemmas.List.{append-nil, length-map}
 use Rattle.std.proofs.lemmas.List.Concat.{flat_map-cons}
 use Rattle.omf_format.specs.Field.{written_layout}
-use Rattle.omf_format.specs.Header.{Fields, form_of, is_listed, written_fields, IsWritable}
+use Rattle.omf_format.specs.Header.{HeaderFields, form_of, is_listed, written_fields, IsWritable}
 use Rattle.omf_format.specs.Record.{Record, End, Const, LongConst, Align, Org, Space, Reloc, InterSeg, ShortReloc, ShortInterSeg, Super, Using, Strong, Label, Equate, Formula, Entry, content_of, IsRecord}
 use Rattle.omf_format.specs.File.{Segment, IsFile}
 use Rattle.omf_format.specs.Body.{body_bytes}
@@ -181,8 +181,8 @@ pathname_back number p s held is len of =
 plain_cells : (number : ℕ) (p : Plain) (s : Segment) → IsHeld number p → IsSheetOf (sheet_of number p) s → cells s ≡ p.cells'
 unfolding canon_fields
 plain_cells number p s held of =
-    let len : s.fields.length ≡ p.length = ap (λ (f : Fields). f.length) of.fields in
-    let own : s.fields.seg_num ≡ number = ap (λ (f : Fields). f.seg_num) of.fields in
+    let len : s.fields.length ≡ p.length = ap (λ (f : HeaderFields). f.length) of.fields in
+    let own : s.fields.seg_num ≡ number = ap (λ (f : HeaderFields). f.seg_num) of.fields in
     elim (cases_Bool (is_pathname p)) [
       | inl is ↦ pathname_back number p s held is len of
       | inr other ↦ cells_back number p.cells' p.entries s own (len ∙ held.sized) held.unbroken held.written (record {
@@ -194,7 +194,7 @@ plain_cells number p s held of =
 
 -- ---- what is held is held again
 
-made : Fields → List Cell → List Record → Plain
+made : HeaderFields → List Cell → List Record → Plain
 made f of entries = record {
   load_name = f.load_name;
   name = f.name;
@@ -219,7 +219,7 @@ made-canon number n p = refl
 pub plain_back : (number : ℕ) (p : Plain) (s : Segment) → IsHeld number p → IsSheetOf (sheet_of number p) s → plain_of s ≡ p
 plain_back number p s held of =
     plain-made s
-    ∙ ap (λ (f : Fields). made f (cells s) (entries_in s)) of.fields
+    ∙ ap (λ (f : HeaderFields). made f (cells s) (entries_in s)) of.fields
     ∙ ap (λ (l : List Cell). made (written_fields (canon_fields number p) (length (text (canon_records number p)))) l (entries_in s)) (plain_cells number p s held of)
     ∙ ap (λ (l : List Record). made (written_fields (canon_fields number p) (length (text (canon_records number p)))) p.cells' l) (entries_back number p s held.entries' of)
     ∙ made-canon number _ p

@@ -5,7 +5,7 @@ use Rattle.std.specs.List.{flat_map, AllByRecursion}
 use Rattle.std.proofs.lemmas.List.{append-nil, length-map, map-append}
 use Rattle.std.proofs.lemmas.List.Concat.{flat_map-cons}
 use Rattle.std.proofs.lemmas.Grind.{flat_map-append}
-use Rattle.omf_format.specs.Header.{Fields}
+use Rattle.omf_format.specs.Header.{HeaderFields}
 use Rattle.omf_format.specs.Number.{number_at}
 use Rattle.omf_format.specs.Super.{locations_left}
 use Rattle.omf_format.specs.Record.{Record, End, Const, LongConst, Align, Org, Space, Reloc, InterSeg, ShortReloc, ShortInterSeg, Super, Using, Strong, Label, Equate, Formula, Entry, content_of}
@@ -37,7 +37,7 @@ super_is s form at = refl
 -- segments with one number and the same bytes have the same patches in a record
 super_same : (s t : Segment) (form at : ℕ) → s.fields ≡ t.fields → segment_bytes s ≡ segment_bytes t → super_patch s form at ≡ super_patch t form at
 super_same s t form at f e =
-    super_is s form at ∙ ap (λ (g : Fields). super_by g.seg_num (segment_bytes s) form at) f ∙ ap (λ (l : List ℕ). super_by t.fields.seg_num l form at) e ∙ sym (super_is t form at)
+    super_is s form at ∙ ap (λ (g : HeaderFields). super_by g.seg_num (segment_bytes s) form at) f ∙ ap (λ (l : List ℕ). super_by t.fields.seg_num l form at) e ∙ sym (super_is t form at)
 
 supers_same : (s t : Segment) (form : ℕ) (locations : List ℕ) → s.fields ≡ t.fields → segment_bytes s ≡ segment_bytes t → map (super_patch s form) locations ≡ map (super_patch t form) locations
 supers_same s t form [] f e = refl
@@ -46,11 +46,11 @@ supers_same s t form (at ∷ locations) f e =
 
 patches_same : (s t : Segment) (r : Record) → s.fields ≡ t.fields → segment_bytes s ≡ segment_bytes t → patches_in s r ≡ patches_in t r
 patches_same s t (Super form bytes) f e = supers_same s t form (locations_left 0 0 bytes) f e
-patches_same s t (Reloc count shift location offset) f e = ap (λ (g : Fields). own_patch g.seg_num location count offset shift ∷ []) f
+patches_same s t (Reloc count shift location offset) f e = ap (λ (g : HeaderFields). own_patch g.seg_num location count offset shift ∷ []) f
   where
     own_patch : ℕ → ℕ → ℕ → ℕ → ℤ → Patch
     own_patch own location count offset shift = record { location = location; count = count; file = 1; segment = own; offset = offset; shift = shift }
-patches_same s t (ShortReloc count shift location offset) f e = ap (λ (g : Fields). own_patch g.seg_num location count offset shift ∷ []) f
+patches_same s t (ShortReloc count shift location offset) f e = ap (λ (g : HeaderFields). own_patch g.seg_num location count offset shift ∷ []) f
   where
     own_patch : ℕ → ℕ → ℕ → ℕ → ℤ → Patch
     own_patch own location count offset shift = record { location = location; count = count; file = 1; segment = own; offset = offset; shift = shift }
@@ -99,7 +99,7 @@ patches_given s = without_places s s.records
 
 pub bytes_same : (s t : Segment) → s.fields ≡ t.fields → body_bytes s ≡ body_bytes t → segment_bytes s ≡ segment_bytes t
 unfolding segment_bytes
-bytes_same s t f e = ap (λ (g : Fields). body_bytes s ++ replicate (g.length - length (body_bytes s)) 0) f ∙ ap (λ (l : List ℕ). l ++ replicate (t.fields.length - length l) 0) e
+bytes_same s t f e = ap (λ (g : HeaderFields). body_bytes s ++ replicate (g.length - length (body_bytes s)) 0) f ∙ ap (λ (l : List ℕ). l ++ replicate (t.fields.length - length l) 0) e
 
 -- segments with the same fields and data, whose records give the same patches, have the same cells
 pub cells_same : (s t : Segment) → s.fields ≡ t.fields → body_bytes s ≡ body_bytes t → given t s.records ≡ given t t.records → cells s ≡ cells t

@@ -10,7 +10,7 @@ use Rattle.byteorder.specs.Endian.{little_bytes}
 use Rattle.byteorder.specs.Numbers.{little_from-lt}
 use Rattle.omf_format.specs.Number.{IsBytes, number_at}
 use Rattle.omf_format.specs.Name.{without_trailing, name_at}
-use Rattle.omf_format.specs.Header.{Fields, form_of, is_listed, version_of, kind_of, fields_of, names_end, header_fault}
+use Rattle.omf_format.specs.Header.{HeaderFields, form_of, is_listed, version_of, kind_of, fields_of, names_end, header_fault}
 use Rattle.omf_format.specs.laws.HeaderLaws.{sound_from_none}
 use Rattle.omf_format.specs.laws.FieldLaws.{IsBytes-drop}
 use Rattle.omf_format.specs.Field.{Layout, layout_of, written_layout, is_count, is_shift, IsName}
@@ -56,7 +56,7 @@ kind-fits bytes fits = elim (cases_Bool (version_of bytes == 1)) [
 ]
 
 -- the fields of a header are as wide as they are written
-pub record FitsFields (f : Fields) : Type 0 where
+pub record FitsFields (f : HeaderFields) : Type 0 where
   pub length' : f.length < 2 ^ 32
   pub kind : f.kind < 2 ^ 16
   pub org : f.org < 2 ^ 32

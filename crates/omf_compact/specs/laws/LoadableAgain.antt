@@ -8,7 +8,7 @@ use Rattle.std.proofs.lemmas.List.{append-nil, length-map}
 use Rattle.std.proofs.lemmas.List.Concat.{flat_map-cons}
 use Rattle.std.proofs.lemmas.Grind.{flat_map-append}
 use Rattle.std.proofs.lemmas.Option.{slice_get-map, same_Some}
-use Rattle.omf_format.specs.Header.{Fields, form_of, is_dynamic, is_skipped, first_of}
+use Rattle.omf_format.specs.Header.{HeaderFields, form_of, is_dynamic, is_skipped, first_of}
 use Rattle.omf_format.specs.Record.{Record, End, Const, LongConst, Align, Org, Space, Reloc, InterSeg, ShortReloc, ShortInterSeg, Super, Using, Strong, Label, Equate, Formula, Entry, content_of}
 use Rattle.omf_format.specs.File.{Segment, IsFile, segment_at}
 use Rattle.omf_format.specs.Body.{body_bytes}
@@ -117,7 +117,7 @@ twin segments others k t same is =
 refusal_by : List ℕ → ℕ → Option LoadCause
 refusal_by name kind = first_of ((is_express name, Unsupported) ∷ (eqb (form_of kind) 8, NotLoadFile) ∷ [])
 
-refusal-is : (f : Fields) → segment_refusal f ≡ refusal_by f.name f.kind
+refusal-is : (f : HeaderFields) → segment_refusal f ≡ refusal_by f.name f.kind
 unfolding segment_refusal refusal_by
 refusal-is f = refl
 
@@ -456,11 +456,11 @@ module _ (number : ℕ) (s t : Segment) (twin' : IsTwin number s t) where
 
   number-is : t.fields.seg_num ≡ number
   unfolding canon_fields
-  number-is = ap (λ (f : Fields). f.seg_num) twin'.of.fields
+  number-is = ap (λ (f : HeaderFields). f.seg_num) twin'.of.fields
 
   length-is : t.fields.length ≡ length (bytes_in p.cells')
   unfolding canon_fields
-  length-is = ap (λ (f : Fields). f.length) twin'.of.fields ∙ twin'.held.sized ∙ sym (length-map p.cells' byte_in)
+  length-is = ap (λ (f : HeaderFields). f.length) twin'.of.fields ∙ twin'.held.sized ∙ sym (length-map p.cells' byte_in)
 
   allowed : AllByRecursion (λ (found : ℕ × Record). record_refusal found.1 ≡ None) t.records
   allowed = subst (AllByRecursion (λ (found : ℕ × Record). record_refusal found.1 ≡ None)) (sym records_are)
@@ -612,7 +612,7 @@ module _ (number : ℕ) (s t : Segment) (twin' : IsPathTwin number s t) where
 
   path_length : t.fields.length ≡ length held_bytes
   unfolding canon_fields
-  path_length = ap (λ (f : Fields). f.length) twin'.of.fields ∙ twin'.held.sized ∙ sym (length-map (plain_of s).cells' byte_in)
+  path_length = ap (λ (f : HeaderFields). f.length) twin'.of.fields ∙ twin'.held.sized ∙ sym (length-map (plain_of s).cells' byte_in)
 
   path_lone : IsLone t
   path_lone = record {
@@ -635,7 +635,7 @@ module _ (number : ℕ) (s t : Segment) (twin' : IsPathTwin number s t) where
   path_shape : shape_fault number t ≡ None
   unfolding shape_fault canon_fields
   path_shape =
-      rw (eq-eqb t.fields.seg_num number (ap (λ (f : Fields). f.seg_num) twin'.of.fields), le-ltb t.fields.length (length (body_bytes t)) (omega (arith, ap length path_body, path_length))) refl
+      rw (eq-eqb t.fields.seg_num number (ap (λ (f : HeaderFields). f.seg_num) twin'.of.fields), le-ltb t.fields.length (length (body_bytes t)) (omega (arith, ap length path_body, path_length))) refl
 
   path_target : (others : List Segment) → target_fault others number t ≡ None
   path_target others = ap (first_target_fault others t) path_records

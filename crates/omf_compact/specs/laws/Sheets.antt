@@ -5,7 +5,7 @@ use Rattle.std.specs.List.{flat_map, AllByRecursion}
 use Rattle.std.proofs.lemmas.List.{append-nil, take_at, drop_at, length-append}
 use Rattle.std.proofs.lemmas.List.Concat.{flat_map-cons}
 use Rattle.omf_format.specs.Field.{length_width_of}
-use Rattle.omf_format.specs.Header.{Fields, fields_of, header_fault, written_fields, header_bytes, IsWritable}
+use Rattle.omf_format.specs.Header.{HeaderFields, fields_of, header_fault, written_fields, header_bytes, IsWritable}
 use Rattle.omf_format.specs.laws.HeaderLaws.{drop-more}
 use Rattle.omf_format.specs.WrittenHeader.{FitsWritten}
 use Rattle.omf_format.specs.laws.WrittenHeaderLaws.{length-header, fields_of-written, header_fault-written}
@@ -18,7 +18,7 @@ use Rattle.object_meaning.specs.laws.RunLaws.{IsBodyRecord, reader_at, text, pla
 
 -- a segment that is to be written: its header's fields, and its records without END
 pub record Sheet : Type 0 where
-  pub fields : Fields
+  pub fields : HeaderFields
   pub records : List Record
 
 unfoldable pub sheet_text : Sheet → List ℕ
@@ -52,7 +52,7 @@ body_cut front header body rest a h n fa hh nn =
     ∙ take_at (front ++ (header ++ body)) rest (a + (h + n)) (omega (arith, length-append front (header ++ body), length-append header body, fa, hh, nn)) in
     ap (drop (a + h)) whole ∙ drop-more front (header ++ body) a h fa ∙ drop_at header body h hh
 
-reader-written : (f : Fields) (at n : ℕ) (body file : List ℕ) → drop (at + (0x37 + length f.name)) (take (at + (0x37 + length f.name + n)) file) ≡ body
+reader-written : (f : HeaderFields) (at n : ℕ) (body file : List ℕ) → drop (at + (0x37 + length f.name)) (take (at + (0x37 + length f.name + n)) file) ≡ body
     → body_reader at (written_fields f n) file ≡ reader_at (at + (0x37 + length f.name + n)) body false
 unfolding body_reader length_width_of
 reader-written f at n body file cut = ap (λ (l : List ℕ). reader_at (at + (0x37 + length f.name + n)) l false) cut

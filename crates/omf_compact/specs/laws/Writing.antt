@@ -5,7 +5,7 @@ use Rattle.std.specs.declared.alloc.Global.{Global}
 use Rattle.std.specs.List.{flat_map}
 use Rattle.omf_format.specs.Number.{IsBytes}
 use Rattle.omf_format.specs.Field.{written_layout}
-use Rattle.omf_format.specs.Header.{Fields}
+use Rattle.omf_format.specs.Header.{HeaderFields}
 use Rattle.omf_format.specs.Record.{Record, LongConst, Entry, spelling}
 use Rattle.omf_format.specs.File.{Segment, segment_at}
 use Rattle.load_meaning.specs.Cells.{Patch, cells}
@@ -74,5 +74,5 @@ abbrev pub AtExports : List Segment → ℕ → ℕ → Type 0
 AtExports segments number place = drop place (exports_of segments) ≡ exports_from number (drop (number - 1) segments)
 
 -- the fields that are written for a header with so many zeros after the data
-abbrev pub fields_with : Fields → ℕ → Fields
+abbrev pub fields_with : HeaderFields → ℕ → HeaderFields
 fields_with f zeros = record f { byte_count = 0; res_spc = zeros; lab_len = 0; version = 2; disp_name = 0; disp_data = 0 }

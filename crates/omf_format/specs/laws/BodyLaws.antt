@@ -5,7 +5,7 @@ use Rattle.std.proofs.lemmas.List.{length-append}
 use Rattle.std.proofs.lemmas.List.Concat.{flat_map-cons}
 use Rattle.omf_format.specs.declared.fault.Flaw.{Flaw}
 use Rattle.omf_format.specs.declared.fault.RecordFault.{RecordFault}
-use Rattle.omf_format.specs.Header.{Fields}
+use Rattle.omf_format.specs.Header.{HeaderFields}
 use Rattle.omf_format.specs.Number.{IsBytes}
 use Rattle.omf_format.specs.Field.{Layout}
 use Rattle.omf_format.specs.laws.FieldLaws.{IsBytes-drop, IsBytes-take}
@@ -121,7 +121,7 @@ records_are r founds last fits run ended =
     records_of-run r founds last run ended (omega (arith, ap length text, length-append (flat_map (λ (found : ℕ × Record). spelling r.layout found.1) founds) last.left, spellings-some r.layout founds))
 
 -- the bytes of a body are bytes of the file
-pub body_fits : (start : ℕ) (f : Fields) (file : List ℕ) → IsBytes file → IsBytes (body_reader start f file).left
+pub body_fits : (start : ℕ) (f : HeaderFields) (file : List ℕ) → IsBytes file → IsBytes (body_reader start f file).left
 unfolding body_reader
 body_fits start f file fits = IsBytes-drop (start + f.disp_data) _ (IsBytes-take (start + f.byte_count) file fits)
 

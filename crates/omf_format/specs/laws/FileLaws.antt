@@ -5,7 +5,7 @@ use Rattle.omf_format.specs.declared.fault.Flaw.{Flaw}
 use Rattle.omf_format.specs.declared.fault.HeaderFault.{HeaderFault}
 use Rattle.omf_format.specs.declared.fault.RecordFault.{RecordFault}
 use Rattle.omf_format.specs.declared.fault.FileFault.{FileFault}
-use Rattle.omf_format.specs.Header.{Fields, fields_of, version_of, names_end, header_fault}
+use Rattle.omf_format.specs.Header.{HeaderFields, fields_of, version_of, names_end, header_fault}
 use Rattle.omf_format.specs.laws.HeaderLaws.{IsSound, sound_from_none}
 use Rattle.omf_format.specs.Record.{Record}
 use Rattle.omf_format.specs.Reading.{Reader, first_record, answer_of_reader, next_answer, after_next, HandsOut}
@@ -107,12 +107,12 @@ pub segment_same : (a b : Segment) (file : List ℕ) → IsSegment a file → Is
 segment_same a b file p q start =
     let fields : a.fields ≡ b.fields = p.header.fields ∙ ap (λ (s : ℕ). fields_of (drop s file)) start ∙ sym q.header.fields in
     let reader : body_reader a.start a.fields file ≡ body_reader b.start b.fields file =
-    ap (λ (s : ℕ). body_reader s a.fields file) start ∙ ap (λ (f : Fields). body_reader b.start f file) fields in
+    ap (λ (s : ℕ). body_reader s a.fields file) start ∙ ap (λ (f : HeaderFields). body_reader b.start f file) fields in
     let run : HandsOut (body_reader b.start b.fields file) a.records p.last = subst (λ (r : Reader). HandsOut r a.records p.last) reader p.records in
     let records : a.records ≡ b.records = HandsOut-same (body_reader b.start b.fields file) a.records b.records p.last q.last run q.records p.ended q.ended in
-    ap (λ (s : ℕ). made s a.fields a.records) start ∙ ap (λ (f : Fields). made b.start f a.records) fields ∙ ap (made b.start b.fields) records
+    ap (λ (s : ℕ). made s a.fields a.records) start ∙ ap (λ (f : HeaderFields). made b.start f a.records) fields ∙ ap (made b.start b.fields) records
   where
-    made : ℕ → Fields → List (ℕ × Record) → Segment
+    made : ℕ → HeaderFields → List (ℕ × Record) → Segment
     made start fields records = record { start = start; fields = fields; records = records }
 
 -- segments behind segments
@@ -157,7 +157,7 @@ no_segment at file answer_of_reader s (InHeader of is says) start segment =
 no_segment at file answer_of_reader s (InRecord f before reader of header run is says) start segment =
     let fields : s.fields ≡ f = segment.header.fields ∙ ap (λ (n : ℕ). fields_of (drop n file)) start ∙ sym header.fields in
     let whole : body_reader s.start s.fields file ≡ body_reader at f file =
-    ap (λ (n : ℕ). body_reader n s.fields file) start ∙ ap (λ (g : Fields). body_reader at g file) fields in
+    ap (λ (n : ℕ). body_reader n s.fields file) start ∙ ap (λ (g : HeaderFields). body_reader at g file) fields in
     no_run (body_reader at f file) before s.records reader segment.last of run is (subst (λ (r : Reader). HandsOut r s.records segment.last) whole segment.records) segment.ended
 
 -- a file with a first fault is no list of segments
@@ -195,7 +195,7 @@ reported_same at file a b (InRecord f before reader of header run is says) (InHe
     cc
 reported_same at file a b (InRecord f xs x of header run is says) (InRecord g ys y of' header' run' is' says') =
     let fields : g ≡ f = header'.fields ∙ sym header.fields in
-    let same = stops_same (body_reader at f file) xs ys x y of of' run (subst (λ (h : Fields). HandsOut (body_reader at h file) ys y) fields run') is is' in
+    let same = stops_same (body_reader at f file) xs ys x y of of' run (subst (λ (h : HeaderFields). HandsOut (body_reader at h file) ys y) fields run') is is' in
     says ∙ ap to_file_record_fault same ∙ sym says'
 
 -- two segments at fault, behind sound segments of one file, are one
@@ -227,12 +227,12 @@ unfolding names_end
 names_end-some bytes = omega arith
 
 -- the body begins in the segment, and the segment, which has ten bytes at least, ends in the file
-pub record LiesIn (start : ℕ) (f : Fields) (file : List ℕ) : Type 0 where
+pub record LiesIn (start : ℕ) (f : HeaderFields) (file : List ℕ) : Type 0 where
   pub ordered : f.disp_data ≤ f.byte_count
   pub within : start + f.byte_count ≤ length file
   pub some : 10 ≤ f.byte_count
 
-pub header_lies : (start : ℕ) (f : Fields) (file : List ℕ) → IsHeader start f file → LiesIn start f file
+pub header_lies : (start : ℕ) (f : HeaderFields) (file : List ℕ) → IsHeader start f file → LiesIn start f file
 header_lies start f file is =
     let bytes = drop start file in
     let sound : IsSound bytes f = subst (IsSound bytes) (sym is.fields) (sound_from_none bytes is.passes) in

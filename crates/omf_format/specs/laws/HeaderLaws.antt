@@ -9,7 +9,7 @@ use Rattle.byteorder.specs.Numbers.{little_number-reads_back, length-bytes_low_f
 use Rattle.omf_format.specs.declared.fault.HeaderFault.{HeaderFault}
 use Rattle.omf_format.specs.declared.fault.HeaderFault.TheVariants.{Truncated, Unsupported, BadField, Memory}
 use Rattle.omf_format.specs.Number.{number_at}
-use Rattle.omf_format.specs.Header.{Fields, fields_of, names_end, form_of, is_listed, is_read_version, header_checks, first_of, header_fault, laid_out}
+use Rattle.omf_format.specs.Header.{HeaderFields, fields_of, names_end, form_of, is_listed, is_read_version, header_checks, first_of, header_fault, laid_out}
 
 -- ---- no check holds
 
@@ -31,7 +31,7 @@ none_holds [] each = refl
 none_holds (check ∷ checks) each = rw each.0 (none_holds checks each.1)
 
 -- what a header that passes the checks keeps
-pub record IsSound (bytes : List ℕ) (f : Fields) : Type 0 where
+pub record IsSound (bytes : List ℕ) (f : HeaderFields) : Type 0 where
   pub long : 44 ≤ length bytes
   pub banks : f.bank_size ≤ 0x10000
   pub listed : is_listed (form_of f.kind) ≡ true

@@ -5,12 +5,12 @@ use Rattle.std.proofs.lemmas.Bool.{le-ltb}
 use Rattle.std.proofs.lemmas.List.{take_at, drop_at, length-append}
 use Rattle.omf_format.specs.Number.{number_at}
 use Rattle.omf_format.specs.Name.{name_at, name_size}
-use Rattle.omf_format.specs.Header.{Fields, version_of, byte_count_of, kind_of, fields_of, names_end, checks_of, header_checks, first_of, header_fault, laid_out, written_fields, written_numbers, header_bytes, IsWritable}
+use Rattle.omf_format.specs.Header.{HeaderFields, version_of, byte_count_of, kind_of, fields_of, names_end, checks_of, header_checks, first_of, header_fault, laid_out, written_fields, written_numbers, header_bytes, IsWritable}
 use Rattle.omf_format.specs.laws.HeaderLaws.{none_holds, length-laid_out, number_at-laid_out, drop-more}
 use Rattle.omf_format.specs.WrittenHeader.{FitsWritten}
 
 -- the fields are as wide as they are in a header
-pub record FitsFields (f : Fields) : Type 0 where
+pub record FitsFields (f : HeaderFields) : Type 0 where
   pub byte_count : f.byte_count < 2 ^ 32
   pub res_spc : f.res_spc < 2 ^ 32
   pub length : f.length < 2 ^ 32
@@ -26,7 +26,7 @@ pub record FitsFields (f : Fields) : Type 0 where
   pub disp_data : f.disp_data < 2 ^ 16
 
 -- the numbers of a header stand at their displacements
-record Stands (f : Fields) (bytes : List ℕ) : Type 0 where
+record Stands (f : HeaderFields) (bytes : List ℕ) : Type 0 where
   byte_count : number_at 4 0x00 bytes ≡ f.byte_count
   res_spc : number_at 4 0x04 bytes ≡ f.res_spc
   length' : number_at 4 0x08 bytes ≡ f.length
@@ -43,7 +43,7 @@ record Stands (f : Fields) (bytes : List ℕ) : Type 0 where
   disp_name : number_at 2 0x28 bytes ≡ f.disp_name
   disp_data : number_at 2 0x2A bytes ≡ f.disp_data
 
-stands : (f : Fields) (rest : List ℕ) → FitsFields f → Stands f (laid_out (written_numbers f) ++ rest)
+stands : (f : HeaderFields) (rest : List ℕ) → FitsFields f → Stands f (laid_out (written_numbers f) ++ rest)
 unfolding written_numbers
 stands f rest fits =
     let all = written_numbers f in
@@ -66,7 +66,7 @@ stands f rest fits =
     }
 
 -- the numbers take 44 bytes
-length-numbers : (f : Fields) → length (laid_out (written_numbers f)) ≡ 44
+length-numbers : (f : HeaderFields) → length (laid_out (written_numbers f)) ≡ 44
 unfolding written_numbers
 length-numbers f = length-laid_out (written_numbers f)
 
@@ -95,7 +95,7 @@ unfolding named
 load_name_at numbers load_name name rest n44 n10 =
     rw (drop_at numbers (load_name ++ (length name ∷ (name ++ rest))) 44 n44, take_at load_name (length name ∷ (name ++ rest)) 10 n10) refl
 
-regrouped : (f : Fields) (n : ℕ) (rest : List ℕ) → header_bytes f n ++ rest ≡ named (laid_out (written_numbers (written_fields f n))) f.load_name f.name rest
+regrouped : (f : HeaderFields) (n : ℕ) (rest : List ℕ) → header_bytes f n ++ rest ≡ named (laid_out (written_numbers (written_fields f n))) f.load_name f.name rest
 unfolding header_bytes named
 regrouped f n rest =
     let numbers = laid_out (written_numbers (written_fields f n)) in
@@ -103,7 +103,7 @@ regrouped f n rest =
 
 -- ---- the whole header
 
-fits_fields : (f : Fields) (n : ℕ) → FitsWritten f n → FitsFields (written_fields f n)
+fits_fields : (f : HeaderFields) (n : ℕ) → FitsWritten f n → FitsFields (written_fields f n)
 fits_fields f n fits = record {
   byte_count = fits.total;
   res_spc = fits.res_spc;
@@ -121,13 +121,13 @@ fits_fields f n fits = record {
 }
 
 -- what is known of the bytes of a written header, whatever follows
-record Written (f : Fields) (n : ℕ) (bytes : List ℕ) : Type 0 where
+record Written (f : HeaderFields) (n : ℕ) (bytes : List ℕ) : Type 0 where
   numbers : Stands (written_fields f n) bytes
   load_name : take 10 (drop 44 bytes) ≡ f.load_name
   name_length : number_at 1 54 bytes ≡ length f.name
   name : take (length f.name) (drop 55 bytes) ≡ f.name
 
-written : (f : Fields) (n : ℕ) (rest : List ℕ) → FitsWritten f n → Written f n (header_bytes f n ++ rest)
+written : (f : HeaderFields) (n : ℕ) (rest : List ℕ) → FitsWritten f n → Written f n (header_bytes f n ++ rest)
 unfolding named
 written f n rest fits =
     let numbers = laid_out (written_numbers (written_fields f n)) in
@@ -141,14 +141,14 @@ written f n rest fits =
     } in
     subst (λ (bytes : List ℕ). Written f n bytes) (sym (regrouped f n rest)) whole
 
-pub length-header : (f : Fields) (n : ℕ) → length f.load_name ≡ 10 → length (header_bytes f n) ≡ 0x37 + length f.name
+pub length-header : (f : HeaderFields) (n : ℕ) → length f.load_name ≡ 10 → length (header_bytes f n) ≡ 0x37 + length f.name
 unfolding header_bytes
 length-header f n ten =
     let numbers = laid_out (written_numbers (written_fields f n)) in
     omega (arith, length-append (numbers ++ f.load_name) (length f.name ∷ f.name), length-append numbers f.load_name, length-numbers (written_fields f n), ten)
 
 -- the names of a written header end where its body begins
-names_end-written : (f : Fields) (n : ℕ) (bytes : List ℕ) → Written f n bytes → names_end bytes ≡ 0x37 + length f.name
+names_end-written : (f : HeaderFields) (n : ℕ) (bytes : List ℕ) → Written f n bytes → names_end bytes ≡ 0x37 + length f.name
 unfolding names_end name_size
 names_end-written f n bytes w =
     rw (w.numbers.disp_name, w.numbers.lab_len) (omega (arith, w.name_length))
@@ -158,12 +158,12 @@ in_version_2 : (bytes : List ℕ) → version_of bytes ≡ 2 → (byte_count_of 
 unfolding byte_count_of kind_of
 in_version_2 bytes is = (rw is refl, rw is refl)
 
-version-written : (f : Fields) (n : ℕ) (bytes : List ℕ) → Written f n bytes → version_of bytes ≡ 2
+version-written : (f : HeaderFields) (n : ℕ) (bytes : List ℕ) → Written f n bytes → version_of bytes ≡ 2
 unfolding version_of
 version-written f n bytes w = w.numbers.version
 
 -- the fields that are read are those that were written
-pub fields_of-written : (f : Fields) (n : ℕ) (rest : List ℕ) → FitsWritten f n → fields_of (header_bytes f n ++ rest) ≡ written_fields f n
+pub fields_of-written : (f : HeaderFields) (n : ℕ) (rest : List ℕ) → FitsWritten f n → fields_of (header_bytes f n ++ rest) ≡ written_fields f n
 unfolding fields_of name_at
 fields_of-written f n rest fits =
     let w = written f n rest fits in
@@ -174,7 +174,7 @@ fields_of-written f n rest fits =
     (rw (w.load_name, w.name_length, w.name) refl)
 
 -- and none of the checks holds, where the whole body follows
-pub header_fault-written : (f : Fields) (n : ℕ) (rest : List ℕ) → FitsWritten f n → IsWritable f → n ≤ length rest → header_fault (header_bytes f n ++ rest) ≡ None
+pub header_fault-written : (f : HeaderFields) (n : ℕ) (rest : List ℕ) → FitsWritten f n → IsWritable f → n ≤ length rest → header_fault (header_bytes f n ++ rest) ≡ None
 unfolding header_fault header_checks
 header_fault-written f n rest fits writable long =
     let bytes = header_bytes f n ++ rest in
@@ -182,7 +182,7 @@ header_fault-written f n rest fits writable long =
     let body = 0x37 + length f.name in
     let ends = names_end-written f n bytes w in
     let len : length bytes ≡ 0x37 + length f.name + length rest = omega (arith, length-append (header_bytes f n) rest, length-header f n fits.load_name) in
-    ap (λ (g : Fields). first_of (checks_of g bytes)) (fields_of-written f n rest fits)
+    ap (λ (g : HeaderFields). first_of (checks_of g bytes)) (fields_of-written f n rest fits)
     ∙ none_holds (checks_of (written_fields f n) bytes) (
       le-ltb _ _ (omega arith),
       (
@@ -216,8 +216,8 @@ header_fault-written f n rest fits writable long =
     both_false a b p q = rw (p, q) refl
 
 -- the same of bytes that are a written header
-pub written_passes : (f : Fields) (n : ℕ) (header rest : List ℕ) → header ≡ header_bytes f n → FitsWritten f n → IsWritable f → n ≤ length rest → header_fault (header ++ rest) ≡ None
+pub written_passes : (f : HeaderFields) (n : ℕ) (header rest : List ℕ) → header ≡ header_bytes f n → FitsWritten f n → IsWritable f → n ≤ length rest → header_fault (header ++ rest) ≡ None
 written_passes f n header rest is fits writable long = ap (λ (h : List ℕ). header_fault (h ++ rest)) is ∙ header_fault-written f n rest fits writable long
 
-pub written_reads : (f : Fields) (n : ℕ) (header rest : List ℕ) → header ≡ header_bytes f n → FitsWritten f n → fields_of (header ++ rest) ≡ written_fields f n
+pub written_reads : (f : HeaderFields) (n : ℕ) (header rest : List ℕ) → header ≡ header_bytes f n → FitsWritten f n → fields_of (header ++ rest) ≡ written_fields f n
 written_reads f n header rest is fits = ap (λ (h : List ℕ). fields_of (h ++ rest)) is ∙ fields_of-written f n rest fits

@@ -9,7 +9,7 @@ use Rattle.std.proofs.lemmas.Slice.Eq.{bytes_eq-Decides}
 use Rattle.omf_format.specs.declared.value.Value.{Value}
 use Rattle.omf_format.specs.declared.value.Value.TheVariants.{At}
 use Rattle.omf_format.specs.declared.value.ValueFault.{ValueFault}
-use Rattle.omf_format.specs.Header.{Fields}
+use Rattle.omf_format.specs.Header.{HeaderFields}
 use Rattle.omf_format.specs.Expression.{Named, Leaf}
 use Rattle.omf_format.specs.Value.{operand_value, known_or_fault}
 use Rattle.omf_format.specs.Record.{Record, End, Const, LongConst, Formula}
@@ -42,7 +42,7 @@ use Rattle.workload_meaning.specs.laws.ResolvedLaws.{all_in, IsList, is_list, is
 
 -- ---- the header of a member's load segment
 
-abbrev some_fields : Fields → Option Fields
+abbrev some_fields : HeaderFields → Option HeaderFields
 some_fields f = Some f
 
 number_some : (xs : List (List ℕ)) (x : List ℕ) → 1 ≤ number_in xs x
@@ -65,7 +65,7 @@ header_at list number (y ∷ ys) x is = elim (cases_Bool (bytes_eq y x)) [
     later other (inl e) = let clash : true ≡ false = sym ((bytes_eq-Decides y x).1 e) ∙ other in absurd cc
     later other (inr more) = more
 
-    by_number : (k : ℕ) → 1 ≤ k → {f : Option Fields} → slice_get (headers_from list (number + 1) ys) (k - 1) ≡ f → slice_get (load_fields list number y ∷ headers_from list (number + 1) ys) (1 + k - 1) ≡ f
+    by_number : (k : ℕ) → 1 ≤ k → {f : Option HeaderFields} → slice_get (headers_from list (number + 1) ys) (k - 1) ≡ f → slice_get (load_fields list number y ∷ headers_from list (number + 1) ys) (1 + k - 1) ≡ f
     by_number zero some e = absurd (omega (arith, some))
     by_number (suc k) some {f} e =
         let one : suc k - 1 ≡ k = omega arith in
@@ -79,7 +79,7 @@ inside list front m back parts some =
     let x = m.segment.fields.load_name in
     let header = header_at list 1 (load_names list) x (name_there list m (in_parts list front m back parts)) in
     let size : length_of (headers_from list 1 (load_names list)) (number_in (load_names list) x) ≡ load_length x list =
-    ap (λ (o : Option Fields). elim o as (λ y. ℕ) [ None ↦ 0 | Some f ↦ f.length ]) header.1 in
+    ap (λ (o : Option HeaderFields). elim o as (λ y. ℕ) [ None ↦ 0 | Some f ↦ f.length ]) header.1 in
     let place : offset_of list (1 + length front) m ≡ offset_of list (length front + 1) m = ap (λ (p : ℕ). offset_of list p m) (omega arith) in
     omega (arith, size, place, offset-le list front m back parts, some)
 
@@ -103,11 +103,11 @@ record HasFit (targets : List Target) (answer : Result Fit LinkCause) : Type 0 w
   few : length (targets_after targets fit) ≤ length targets + 1
 
 -- what a call of a place in the file itself comes to, once it may call
-abbrev room_fit : List Fields → List Target → ℕ → ℕ → Result Fit LinkCause
+abbrev room_fit : List HeaderFields → List Target → ℕ → ℕ → Result Fit LinkCause
 room_fit headers targets segment offset = cond (leb (length_of headers segment) offset) (Err fault.OutOfSegment)
     (cond (not (has_room_for targets (target_of 1 segment offset))) (Err fault.TooManyEntries) (Ok (fitting.Entry (target_of 1 segment offset))))
 
-call_fits : (headers : List Fields) (setting : LinkSetting) (targets : List Target) (segment offset : ℕ) → setting ≡ without_runtimes → offset < length_of headers segment → length targets < 4680
+call_fits : (headers : List HeaderFields) (setting : LinkSetting) (targets : List Target) (segment offset : ℕ) → setting ≡ without_runtimes → offset < length_of headers segment → length targets < 4680
     → HasFit targets (call_fit headers setting targets true (target_of 1 segment offset))
 call_fits headers setting targets segment offset own within few =
     let inner : leb (length_of headers segment) offset ≡ false = lt-leb (length_of headers segment) offset within in
@@ -119,7 +119,7 @@ call_fits headers setting targets segment offset own within few =
     } in
     subst (λ (form : LinkForm). HasFit targets (cond (not (may_call form && true)) (Err fault.DynamicReference) (room_fit headers targets segment offset))) (ap (λ (s : LinkSetting). s.form) (sym own)) fits
 
-jsl_fits : (headers : List Fields) (f : PatchPlace) (targets : List Target) (before : List Cell) (segment offset : ℕ) → f.setting ≡ without_runtimes → ends_in_jsl before ≡ true → offset < length_of headers segment → length targets < 4680
+jsl_fits : (headers : List HeaderFields) (f : PatchPlace) (targets : List Target) (before : List Cell) (segment offset : ℕ) → f.setting ≡ without_runtimes → ends_in_jsl before ≡ true → offset < length_of headers segment → length targets < 4680
     → HasFit targets (fit_value headers f targets before 0xF3 3 0 (At 1 segment offset (pos 0)))
 jsl_fits headers f targets before segment offset own jsl within few = by_test (not (eqb segment f.own) && is_dynamic_load headers segment)
   where
@@ -127,7 +127,7 @@ jsl_fits headers f targets before segment offset own jsl within few = by_test (n
     by_test true = subst (λ (call : Bool). HasFit targets (call_fit headers f.setting targets call (target_of 1 segment offset))) (sym jsl) (call_fits headers f.setting targets segment offset own within few)
     by_test false = record { fit = Place segment offset (pos 0); is = refl; few = omega arith }
 
-own_fits : (headers : List Fields) (f : PatchPlace) (targets : List Target) (before : List Cell) (segment offset : ℕ) → segment ≡ f.own → fit_value headers f targets before 0xEB 3 0 (At 1 segment offset (pos 0)) ≡ Ok (Place segment offset (pos 0))
+own_fits : (headers : List HeaderFields) (f : PatchPlace) (targets : List Target) (before : List Cell) (segment offset : ℕ) → segment ≡ f.own → fit_value headers f targets before 0xEB 3 0 (At 1 segment offset (pos 0)) ≡ Ok (Place segment offset (pos 0))
 own_fits headers f targets before segment offset own = rw (eq-eqb segment f.own own) refl
 
 -- ---- records

@@ -3,11 +3,11 @@ use Rattle.std.proofs.Common.{◌≡◌, ℕ, zero, suc, ◌+◌, ◌*◌, ◌%�
 use Rattle.std.specs.Prelude.{codes, replicate}
 use Rattle.std.specs.List.{AllByRecursion}
 use Rattle.std.proofs.lemmas.List.{length-replicate}
-use Rattle.omf_format.specs.Header.{Fields, is_listed, form_of, is_private}
+use Rattle.omf_format.specs.Header.{HeaderFields, is_listed, form_of, is_private}
 use Rattle.omf_format.specs.Record.{Record, End, Const, LongConst, Align, Org, Space, Reloc, InterSeg, ShortReloc, ShortInterSeg, Super, Using, Strong, Label, Equate, Formula, Entry}
 use Rattle.omf_format.specs.File.{Segment}
 use Rattle.object_meaning.specs.Sizes.{body_size}
-use Rattle.asm_meaning.specs.State.{Ended}
+use Rattle.asm_meaning.specs.State.{FinishedSegment}
 use Rattle.asm_meaning.specs.Pieces.{place_after}
 use Rattle.asm_meaning.specs.laws.PieceLaws.{IsPlain, ArePlain}
 use Rattle.asm_meaning.specs.laws.Sound.{IsSoundHeader, IsSoundEnded}
@@ -92,7 +92,7 @@ length-draws zero x = refl
 length-draws (suc count) x = ap suc (length-draws count (next x))
 
 -- the segments of the object
-abbrev pub segments_of : ℕ → ℕ → List Ended
+abbrev pub segments_of : ℕ → ℕ → List FinishedSegment
 segments_of n seed = main_segment n ∷ dynamic_segments 1 (draws n seed)
 
 pub are_sound : (n seed : ℕ) → n ≤ 64 → AllByRecursion IsSoundEnded (segments_of n seed)
@@ -168,24 +168,24 @@ calls_own n (suc more) i some few = (tt, ((i, some, omega (arith, few), refl), c
 own_read : (n kind size number : ℕ) (name : List ℕ) (body : List Record) (s : Segment) → IsReadAs (record { header = header_for kind size number name; body = body }) s
     → form_of kind ≡ 0 → is_private kind ≡ false → 1 ≤ length name → 1 ≤ size → size ≤ 4114 → AllByRecursion (IsOwnRecord n) body → IsOwn n s
 own_read n kind size number name body s read form public some cells small own = record {
-  lab_len = ap (λ (f : Fields). f.lab_len) read.fields;
-  res_spc = ap (λ (f : Fields). f.res_spc) read.fields;
+  lab_len = ap (λ (f : HeaderFields). f.lab_len) read.fields;
+  res_spc = ap (λ (f : HeaderFields). f.res_spc) read.fields;
   length' = read.cells;
-  bank = ap (λ (f : Fields). f.bank_size) read.fields;
-  form = ap (λ (f : Fields). form_of f.kind) read.fields ∙ form;
-  public = ap (λ (f : Fields). is_private f.kind) read.fields ∙ public;
-  org = ap (λ (f : Fields). f.org) read.fields;
-  align = ap (λ (f : Fields). f.align) read.fields;
-  some = omega (arith, ap (λ (f : Fields). length f.name) read.fields, some);
-  cells = omega (arith, ap (λ (f : Fields). f.length) read.fields, cells);
-  small = omega (arith, ap (λ (f : Fields). f.length) read.fields, small);
+  bank = ap (λ (f : HeaderFields). f.bank_size) read.fields;
+  form = ap (λ (f : HeaderFields). form_of f.kind) read.fields ∙ form;
+  public = ap (λ (f : HeaderFields). is_private f.kind) read.fields ∙ public;
+  org = ap (λ (f : HeaderFields). f.org) read.fields;
+  align = ap (λ (f : HeaderFields). f.align) read.fields;
+  some = omega (arith, ap (λ (f : HeaderFields). length f.name) read.fields, some);
+  cells = omega (arith, ap (λ (f : HeaderFields). f.length) read.fields, cells);
+  small = omega (arith, ap (λ (f : HeaderFields). f.length) read.fields, small);
   body = subst (AllByRecursion (IsOwnRecord n)) (sym read.records) own;
 }
 
 part_read : (kind size number : ℕ) (name : List ℕ) (body : List Record) (s : Segment) → IsReadAs (record { header = header_for kind size number name; body = body }) s → IsPart name body s
 part_read kind size number name body s read = record {
-  name' = ap (λ (f : Fields). f.name) read.fields;
-  load_name = ap (λ (f : Fields). f.load_name) read.fields;
+  name' = ap (λ (f : HeaderFields). f.name) read.fields;
+  load_name = ap (λ (f : HeaderFields). f.load_name) read.fields;
   records = read.records;
 }
 

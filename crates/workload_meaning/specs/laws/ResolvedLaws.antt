@@ -7,25 +7,25 @@ use Rattle.std.specs.Str.{bytes_eq}
 use Rattle.std.proofs.lemmas.Bool.{cases_Bool, eq-eqb, le-ltb}
 use Rattle.std.proofs.lemmas.List.{append-nil, length-append, length-map}
 use Rattle.std.proofs.lemmas.Slice.Eq.{bytes_eq-Decides}
-use Rattle.omf_format.specs.Header.{Fields, alignment_of, first_of}
+use Rattle.omf_format.specs.Header.{HeaderFields, alignment_of, first_of}
 use Rattle.omf_format.specs.Record.{Record, End, Const, LongConst, Align, Org, Space, Reloc, InterSeg, ShortReloc, ShortInterSeg, Super, Using, Strong, Label, Equate, Formula, Entry}
 use Rattle.omf_format.specs.File.{Segment, IsFile}
 use Rattle.omf_format.specs.laws.FileLaws.{file_same, no_file}
 use Rattle.link_meaning.specs.declared.fault.LinkCause.{LinkCause}
 use Rattle.link_meaning.specs.declared.fault.LinkCause.TheVariants.{Unsupported, BadRecord}
 use Rattle.link_meaning.specs.declared.fault.LinkFault.{LinkFault}
-use Rattle.link_meaning.specs.declared.search.Want.TheVariants.{One}
+use Rattle.link_meaning.specs.declared.search.SearchKind.TheVariants.{One}
 use Rattle.link_meaning.specs.First.{IsIn, HasNone, IsFirst, first_some}
 use Rattle.object_meaning.specs.Sizes.{body_size}
 use Rattle.link_meaning.specs.declared.form.LinkForm.{LinkForm}
 use Rattle.link_meaning.specs.declared.form.LinkForm.TheVariants.{Program}
-use Rattle.link_meaning.specs.Member.{Row, Input, RuntimeFile, LinkSetting, without_runtimes, Member, is_library, members_from, objects, setting_in, Offer, library_offers}
+use Rattle.link_meaning.specs.Member.{OfferedRow, Input, RuntimeFile, LinkSetting, without_runtimes, Member, is_library, members_from, objects, setting_in, Offer, library_offers}
 use Rattle.link_meaning.specs.Uses.{Use, uses_of}
 use Rattle.link_meaning.specs.Search.{FoundDefinition, finds}
 use Rattle.link_meaning.specs.LinkedList.{PlacedUse, asked_from, all_uses, found_for, unless_found, row_for, wanted_by, wanted, Follow, IsLinked}
 use Rattle.link_meaning.specs.Layout.{in_load, aligned_from, end_from, load_length, distinct, load_names, load_members, lesser_bank, least_bank, load_fields, headers_from, load_headers}
 use Rattle.link_meaning.specs.laws.LayoutLaws.{aligned_from-least}
-use Rattle.link_meaning.specs.LinkFaults.{plain, Part, OfInput, AreRuntimes, IsSetting, HasPartFault, with_place, type_fault, record_fault, records_fault, length_fault, segment_fault, segments_fault, rows_in_file, HasFileFault, OfFile, OfSegment, OfDictionary, IsInput, AreInputs, IsProgram, use_cause, HasUseFault, HasOrgFault, is_too_long, HasLengthFault, may_not_stand, HasKindFault, LayoutCheck, Orgs, Count, Lengths, Kinds, HasLayoutFault, Phase, Reading, Objects, Names, Layout, phases, HasPhaseFault, IsResolved}
+use Rattle.link_meaning.specs.LinkFaults.{plain, InputPart, OfInput, AreRuntimes, IsSetting, HasPartFault, with_place, type_fault, record_fault, records_fault, length_fault, segment_fault, segments_fault, rows_in_file, HasFileFault, OfFile, OfSegment, OfDictionary, IsInput, AreInputs, IsProgram, use_cause, HasUseFault, HasOrgFault, is_too_long, HasLengthFault, may_not_stand, HasKindFault, LayoutCheck, Orgs, Count, Lengths, Kinds, HasLayoutFault, Phase, Reading, Objects, Names, Layout, phases, HasPhaseFault, IsResolved}
 use Rattle.workload_meaning.specs.Object.{name_of, padded}
 use Rattle.workload_meaning.specs.laws.NameLaws.{padded_differs, padded_not_main}
 use Rattle.workload_meaning.specs.laws.ObjectLaws.{IsOwnRecord, IsOwn, AreDynamic, IsWorkload}
@@ -211,7 +211,7 @@ no_use_fault n list few is fault first = never_in (HasUseFault list) (asked_from
         let one : finds list a.place a.member a.use'.name ≡ title_at (1 + length at.front) at.member ∷ [] =
         ap (finds list a.place a.member) own.1.1.3 ∙ finds_one n i a.place list a.member few is.all own.0 at in
         let none : use_cause a.use'.want (found_for list a.place a.member a.use') ≡ None =
-        ap (λ (w : Rattle.link_meaning.specs.declared.search.Want.Want). use_cause w (found_for list a.place a.member (record { want = w; name = a.use'.name; at = a.use'.at }))) own.1.0 ∙ ap (use_cause One) one in
+        ap (λ (w : Rattle.link_meaning.specs.declared.search.SearchKind.Want). use_cause w (found_for list a.place a.member (record { want = w; name = a.use'.name; at = a.use'.at }))) own.1.0 ∙ ap (use_cause One) one in
         let clash : no_link_cause ≡ some_cause fault.cause = sym none ∙ has.cause in
         cc
 
@@ -311,7 +311,7 @@ unfolding load_fields load_members
 not_too_long n number x list few is =
     fits_bank (least_bank (filter (in_load x) list)) (load_length x list) (bank_is n (filter (in_load x) list) (all_filter (λ (m : Member). IsOwn n m.segment) (in_load x) list is.all)) (short_load n x list few is)
 
-in_headers : (list : List Member) (number : ℕ) (xs : List (List ℕ)) (f : Fields) → IsIn (headers_from list number xs) f → (k : ℕ) × (x : List ℕ) × (f ≡ load_fields list k x)
+in_headers : (list : List Member) (number : ℕ) (xs : List (List ℕ)) (f : HeaderFields) → IsIn (headers_from list number xs) f → (k : ℕ) × (x : List ℕ) × (f ≡ load_fields list k x)
 in_headers list number [] f is = absurd is
 in_headers list number (x ∷ xs) f (inl e) = (number, x, sym e)
 in_headers list number (x ∷ xs) f (inr more) = in_headers list (number + 1) xs f more
@@ -340,10 +340,10 @@ no_found = None
 abbrev some_found : ℕ × (LinkCause × ℕ) → Option (ℕ × (LinkCause × ℕ))
 some_found found = Some found
 
-abbrev fine_rows : List Row → Result (List Row) ℕ
+abbrev fine_rows : List OfferedRow → Result (List OfferedRow) ℕ
 fine_rows rows = Ok rows
 
-same_rows : (a b : List Row) → fine_rows a ≡ fine_rows b → a ≡ b
+same_rows : (a b : List OfferedRow) → fine_rows a ≡ fine_rows b → a ≡ b
 same_rows a b e = cc
 
 module _ (n : ℕ) (sizes object : List ℕ) (segments : List Segment) (few : n ≤ 64) (size : length sizes ≡ n) (is_file : IsFile segments object) (w : IsWorkload n sizes segments) where
@@ -383,7 +383,7 @@ module _ (n : ℕ) (sizes object : List ℕ) (segments : List Segment) (few : n 
   inputs_are (i ∷ []) are =
       let same : i.segments ≡ segments = file_same i.segments segments object are.0.is_file is_file in
       let rows : i.rows ≡ [] = same_rows i.rows [] (sym are.0.rows ∙ ap rows_in_file same ∙ no_rows) in
-      ap (λ (s : List Segment). record { segments = s; rows = i.rows } ∷ []) same ∙ ap (λ (r : List Row). record { segments = segments; rows = r } ∷ []) rows
+      ap (λ (s : List Segment). record { segments = s; rows = i.rows } ∷ []) same ∙ ap (λ (r : List OfferedRow). record { segments = segments; rows = r } ∷ []) rows
   inputs_are (i ∷ j ∷ inputs) are = absurd are.1
 
   objects_are : objects without_runtimes (input ∷ []) ≡ list
@@ -430,7 +430,7 @@ module _ (n : ℕ) (sizes object : List ℕ) (segments : List Segment) (few : n 
   no_phase_fault : (before : List Phase) (phase : Phase) (fault : LinkFault) → HasPhaseFault (plain (object ∷ [])) before phase fault → ⊥
   no_phase_fault before Reading fault has =
       let same = only_one (OfInput object) has.item has.before has.after has.parts in
-      no_file_fault (length has.before + 1) fault (subst (λ (part : Part). HasPartFault has.before part fault) same has.here)
+      no_file_fault (length has.before + 1) fault (subst (λ (part : InputPart). HasPartFault has.before part fault) same has.here)
   no_phase_fault before Objects fault has =
       let none : list ≡ [] =
       sym objects_are ∙ ap (objects without_runtimes) (sym (inputs_are has.1 has.3)) ∙ ap (λ (setting : LinkSetting). objects setting has.1) (sym (alone_is has.0 has.2)) ∙ has.4 in

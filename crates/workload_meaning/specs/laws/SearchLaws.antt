@@ -11,8 +11,8 @@ use Rattle.omf_format.specs.Expression.{Term, Named, Leaf, terms_in}
 use Rattle.omf_format.specs.laws.ExpressionLaws.{terms_are}
 use Rattle.omf_format.specs.Record.{Record, End, Const, LongConst, Align, Org, Space, Reloc, InterSeg, ShortReloc, ShortInterSeg, Super, Using, Strong, Label, Equate, Formula, Entry}
 use Rattle.omf_format.specs.File.{Segment}
-use Rattle.link_meaning.specs.declared.search.Want.TheVariants.{One}
-use Rattle.link_meaning.specs.declared.search.Step.{Step}
+use Rattle.link_meaning.specs.declared.search.SearchKind.TheVariants.{One}
+use Rattle.link_meaning.specs.declared.search.SearchStep.{SearchStep}
 use Rattle.object_meaning.specs.Sizes.{Located, size_at, located_from, records_with_offsets}
 use Rattle.link_meaning.specs.Member.{Member, without_runtimes, members_from, setting_in}
 use Rattle.object_meaning.specs.Defines.{Definition, ForAll, outer_scope, title_of, defined_by, defined_in}
@@ -163,7 +163,7 @@ no_data : (n : ℕ) (us : List Use) → AllByRecursion (IsOwnUse n) us → flat_
 no_data n [] own = refl
 no_data n (u ∷ us) own =
     flat_map-cons data_name u us
-    ∙ ap (λ (l : List (List ℕ)). l ++ flat_map data_name us) (ap (λ (w : Rattle.link_meaning.specs.declared.search.Want.Want). data_name (record { want = w; name = u.name; at = u.at })) own.0.0)
+    ∙ ap (λ (l : List (List ℕ)). l ++ flat_map data_name us) (ap (λ (w : Rattle.link_meaning.specs.declared.search.SearchKind.Want). data_name (record { want = w; name = u.name; at = u.at })) own.0.0)
     ∙ no_data n us own.1
 
 used_none : (n : ℕ) (list : List Member) (m : Member) → n ≤ 64 → IsOwn n m.segment → used_data list m ≡ []
@@ -239,7 +239,7 @@ unfolding finds_inside
 inside_one n i place list m small all own at =
     ap (λ (l : List FoundDefinition). first_step_found (steps_of list place m) (with_this_name (name_of i) l)) (entries_are n list all)
     ∙ ap (λ (l : List FoundDefinition). first_step_found (steps_of list place m) l) at.found
-    ∙ ap (λ (used : List ℕ). first_step_found (Rattle.link_meaning.specs.declared.search.Step.TheVariants.Within place ∷ (map (λ (p : ℕ). Rattle.link_meaning.specs.declared.search.Step.TheVariants.Within p) used ++ outer_steps m)) (title_at (1 + length at.front) at.member ∷ [])) (used_none n list m small own)
+    ∙ ap (λ (used : List ℕ). first_step_found (Rattle.link_meaning.specs.declared.search.SearchStep.TheVariants.Within place ∷ (map (λ (p : ℕ). Rattle.link_meaning.specs.declared.search.SearchStep.TheVariants.Within p) used ++ outer_steps m)) (title_at (1 + length at.front) at.member ∷ [])) (used_none n list m small own)
 
 -- a name that one member has finds it
 pub finds_one : (n i place : ℕ) (list : List Member) (m : Member) → n ≤ 64 → AreOwn n list → IsOwn n m.segment → (at : IsNamedAt i 1 list) → finds list place m (name_of i) ≡ title_at (1 + length at.front) at.member ∷ []

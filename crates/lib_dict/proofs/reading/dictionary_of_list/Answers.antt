@@ -4,7 +4,7 @@ use Rattle.omf_format.specs.Header.{form_of}
 use Rattle.omf_format.specs.Record.{Record}
 use Rattle.omf_format.specs.Reading.{records_of}
 use Rattle.omf_records.specs.Segments.{segment_of_view}
-use Rattle.lib_dict.specs.Parts.{Texts, seen_parts, HasParts}
+use Rattle.lib_dict.specs.Parts.{DictionaryTexts, seen_parts, HasParts}
 use Rattle.lib_dict.proofs.ReadLaws.{none_first, other_first, false_first, row_views, false_rows, parts_fit}
 use Rattle.lib_dict.proofs.RowCounts.{few_rows}
 use Rattle.lib_dict.proofs.reading.dictionary_of_list.Goals as goal
@@ -21,7 +21,7 @@ returns-in-None-parts_of-clause-refused c = λ file is.
     let s = segment_of_view c.in-Some.view.now in
     let form : form_of s.fields.kind ≡ 0x08 = sym c.form.ensures ∙ c.if-form-ne-DICTIONARY.false in
     let body : records_of c.records.result ≡ s.records = ap records_of c.records.ensures in
-    let none = subst (λ (l : List (ℕ × Record)). (parts : Texts) → HasParts parts l → ⊥) body c.in-None-parts_of.ensures in
+    let none = subst (λ (l : List (ℕ × Record)). (parts : DictionaryTexts) → HasParts parts l → ⊥) body c.in-None-parts_of.ensures in
     false_first c.args.list.now file s is.is_file c.in-Some.ensures.value form none
 
 pub rows_in-requires-clause-place : goal.rows_in-requires-clause-place

@@ -1,5 +1,5 @@
 use Rattle.std.proofs.Common.{◌≡◌, length, sym, ap, subst, ◌∙◌, arith}
-use Rattle.omf_format.specs.Header.{Fields, IsWritable}
+use Rattle.omf_format.specs.Header.{HeaderFields, IsWritable}
 use Rattle.omf_header.specs.View.{fields}
 use Rattle.load_meaning.specs.WrittenFile.{image_text, file_text}
 use Rattle.link_meaning.specs.Member.{setting_in}
@@ -17,7 +17,7 @@ pub overflow_cast-len : goal.overflow_cast-len
 overflow_cast-len c = omega (arith, c.len.ensures, c.in_ok-text.text.ok, text_fits c.args.program.now c.requires c.in_ok-text.text.items c.in_ok-text.ensures)
 
 pub put_whole-requires-clause-writable : goal.put_whole-requires-clause-writable
-put_whole-requires-clause-writable c = subst (λ (f : Fields). IsWritable (with_space f 0)) (sym c.in_ok-header.ensures.ok) (pathnames_writable c.args.number c.len.result)
+put_whole-requires-clause-writable c = subst (λ (f : HeaderFields). IsWritable (with_space f 0)) (sym c.in_ok-header.ensures.ok) (pathnames_writable c.args.number c.len.result)
 
 pub put_whole-requires-clause-some : goal.put_whole-requires-clause-some
 put_whole-requires-clause-some c = text_some (paths_of c.args.program.now) c.as_slice.result.now (c.as_slice.ensures.value ∙ c.in_ok-text.ensures)

@@ -1,6 +1,6 @@
 use Rattle.std.proofs.Common.{◌++◌, ℕ, List, sym, ap, ◌∙◌}
 use Rattle.std.proofs.lemmas.Result.{on_ok_weaker}
-use Rattle.omf_format.specs.Header.{Fields}
+use Rattle.omf_format.specs.Header.{HeaderFields}
 use Rattle.omf_header.specs.View.{fields}
 use Rattle.link_meaning.specs.Member.{Member}
 use Rattle.link_meaning.specs.Layout.{load_headers}
@@ -24,5 +24,5 @@ returns c =
     let same = same_some header f (c.in-Some.ensures ∙ ap (λ (l : List Member). header_at (load_headers l) number) c.program-program.ensures ∙ there) in
     both c.args.line.now (header_line number header) (numbered_texts (text_in list table number) 1 list) c.put_load_line.new.line c.put_members.new.line
     (c.in_ok-put_load_line.ensures ∙ ap (λ (name : List ℕ). c.args.line.now ++ load_line number header.length header.kind header.align name) c.bytes.ensures.value) is
-    ∙ ap (λ (x : Fields). c.args.line.now ++ load_text list table number x) same)
+    ∙ ap (λ (x : HeaderFields). c.args.line.now ++ load_text list table number x) same)
     c.put_members.ensures

@@ -1,7 +1,7 @@
 use Rattle.std.proofs.Common.{◌≡◌, ◌+◌, ◌<◌, ◌++◌, ◌∷◌, [], List, length, map, get_or, take, sym, ap, subst, ◌∙◌, arith}
 use Rattle.std.proofs.lemmas.List.{map-append}
 use Rattle.std.proofs.lemmas.Option.{slice_get-get_or}
-use Rattle.omf_format.specs.Header.{Fields}
+use Rattle.omf_format.specs.Header.{HeaderFields}
 use Rattle.omf_header.specs.declared.header.Header.{Header}
 use Rattle.omf_header.specs.View.{fields}
 use Rattle.link_tables.specs.declared.layout.LoadLayout.{LoadLayout}
@@ -26,6 +26,6 @@ loads-preserved c =
     let more : map (λ (x : Header). fields x) c.push.new.self.items ≡ map (λ (x : Header). fields x) c.loads.headers.items ++ fields h ∷ [] =
     ap (map (λ (x : Header). fields x)) c.in_ok-push.ensures.items ∙ map-append (λ (x : Header). fields x) c.loads.headers.items (h ∷ []) in (
       omega (arith, c.loads.invariant.0),
-      subst (λ (l : List Fields). AreHeaders 1 (take (k + 1) loads) l) (sym more)
+      subst (λ (l : List HeaderFields). AreHeaders 1 (take (k + 1) loads) l) (sym more)
           (headers_next loads k c.loads.number (get_or loads k nothing) (map (λ (x : Header). fields x) c.loads.headers.items) (fields h) (slice_get-get_or loads k nothing less) c.loads.invariant.0 c.loads.invariant.1 shows),
     )

@@ -1,6 +1,6 @@
 use Rattle.std.proofs.Common.{ℕ, List, sym, ap, ◌∙◌}
 use Rattle.std.specs.Option.{option_or}
-use Rattle.link_meaning.specs.declared.search.Step.TheVariants.{Everyone}
+use Rattle.link_meaning.specs.declared.search.SearchStep.TheVariants.{Everyone}
 use Rattle.link_tables.specs.declared.names.Matches.{Matches}
 use Rattle.link_tables.specs.Names.{Named, outcome}
 use Rattle.link_tables.specs.Offers.{number_of}

@@ -1,6 +1,6 @@
 use Rattle.std.proofs.Common.{◌≡◌, ℕ, ◌-◌, true, false, sym, ap, ◌∙◌, arith}
 use Rattle.std.proofs.lemmas.Bool.{eq-eqb, ne_eqb}
-use Rattle.omf_format.specs.Header.{Fields, form_of}
+use Rattle.omf_format.specs.Header.{HeaderFields, form_of}
 use Rattle.omf_header.specs.View.{fields}
 use Rattle.omf_cells.specs.Whole.{front_at}
 use Rattle.omf_compact.specs.Canonical.{plain_of, is_pathname}
@@ -37,6 +37,6 @@ returns-clause-zeros c = λ s at.
     let f = fields c.args.header.now in
     let other : is_pathname (plain_of s) ≡ false = kind_is s f (c.requires.header s at) ∙ ne_eqb (form_of f.kind) 4 (λ same. c.if-form-eq-PATHNAMES.false (c.form.ensures ∙ same)) in
     let size : c.first_items-size.result ≡ front_at c.args.load.now f.seg_num = c.first_items-size.ensures ∙ ap (front_at c.args.load.now) c.from.ensures in
-    let long : f.length ≡ s.fields.length = sym (ap (λ (g : Fields). g.length) (c.requires.header s at)) in
+    let long : f.length ≡ s.fields.length = sym (ap (λ (g : HeaderFields). g.length) (c.requires.header s at)) in
     zeros_are c.args.load.now f.seg_num s c.requires.known at (c.requires.whole s at).whole c.first_items-size.result c.saturating_sub.result size
     (c.saturating_sub.ensures ∙ ap (λ (n : ℕ). n - c.first_items-size.result) long) other

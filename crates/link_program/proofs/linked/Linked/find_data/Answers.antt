@@ -1,5 +1,5 @@
 use Rattle.std.proofs.Common.{◌≡◌, ℕ, sym, ◌∙◌}
-use Rattle.link_meaning.specs.declared.search.Step.TheVariants.{OfUnit, Everyone}
+use Rattle.link_meaning.specs.declared.search.SearchStep.TheVariants.{OfUnit, Everyone}
 use Rattle.link_meaning.specs.Search.{FoundDefinition, data_titles, with_this_name, finds_data}
 use Rattle.link_tables.specs.declared.names.Matches.TheVariants.{Nothing, One, Several}
 use Rattle.link_program.proofs.SearchLaws.{seen_titles, outer_first, outer_second, one_some, several_some}

@@ -1,7 +1,7 @@
 use Rattle.std.proofs.Common.{◌≡◌, ℕ, ◌-◌, ◌<◌, length, map, Some, refl, subst, arith}
 use Rattle.std.specs.Prelude.{filter, slice_get}
 use Rattle.std.proofs.lemmas.Option.{slice_get_read}
-use Rattle.link_meaning.specs.declared.search.Step.TheVariants.{Within}
+use Rattle.link_meaning.specs.declared.search.SearchStep.TheVariants.{Within}
 use Rattle.link_meaning.specs.Uses.{usings_of}
 use Rattle.link_meaning.specs.Search.{FoundDefinition, entries, with_this_name, is_seen_by_step, first_step_found}
 use Rattle.link_tables.specs.declared.names.Matches.{Matches}

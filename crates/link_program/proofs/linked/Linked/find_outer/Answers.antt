@@ -1,6 +1,6 @@
 use Rattle.std.proofs.Common.{◌≡◌, ℕ, Some, refl}
 use Rattle.std.specs.Prelude.{slice_get}
-use Rattle.link_meaning.specs.declared.search.Step.TheVariants.{OfUnit, Everyone}
+use Rattle.link_meaning.specs.declared.search.SearchStep.TheVariants.{OfUnit, Everyone}
 use Rattle.link_meaning.specs.Search.{FoundDefinition, with_this_name}
 use Rattle.link_tables.specs.declared.names.Matches.TheVariants.{Nothing, One, Several}
 use Rattle.link_program.proofs.SearchLaws.{seen_definitions, outer_first, outer_second, one_some, several_some}

@@ -1,5 +1,5 @@
 use Rattle.std.proofs.Common.{refl}
-use Rattle.link_meaning.specs.declared.search.Step.TheVariants.{Within}
+use Rattle.link_meaning.specs.declared.search.SearchStep.TheVariants.{Within}
 use Rattle.link_program.proofs.SearchLaws.{seen_definitions}
 use Rattle.link_program.proofs.linked.Linked.find_own.Goals as goal
 

@@ -1,4 +1,4 @@
-use Rattle.link_meaning.specs.declared.search.Step.TheVariants.{Everyone}
+use Rattle.link_meaning.specs.declared.search.SearchStep.TheVariants.{Everyone}
 use Rattle.link_meaning.specs.Search.{data_titles}
 use Rattle.link_program.proofs.SearchLaws.{seen_titles}
 use Rattle.link_program.proofs.linked.Linked.find_rivals.Goals as goal

@@ -1,5 +1,5 @@
 use Rattle.std.proofs.Common.{◌≡◌, drop, map, List}
-use Rattle.link_meaning.specs.declared.search.Step.TheVariants.{Within}
+use Rattle.link_meaning.specs.declared.search.SearchStep.TheVariants.{Within}
 use Rattle.link_meaning.specs.Member.{Member}
 use Rattle.link_meaning.specs.Search.{entries, first_step_found, with_this_name}
 use Rattle.link_tables.specs.Definitions.{IsOf}

@@ -1,5 +1,5 @@
 use Rattle.std.proofs.Common.{◌≡◌, ℕ, [], ◌∷◌, ◌++◌, List, length, subst, ap}
-use Rattle.link_meaning.specs.declared.search.Step.TheVariants.{Everyone}
+use Rattle.link_meaning.specs.declared.search.SearchStep.TheVariants.{Everyone}
 use Rattle.link_program.specs.declared.outside.Far.{Far}
 use Rattle.link_program.specs.declared.outside.OutsideNames.{OutsideNames}
 use Rattle.link_tables.specs.Names.{Indexes}

@@ -1,7 +1,7 @@
 use Rattle.std.proofs.Common.{◌≡◌, length, refl, sym, ap, subst, ◌∙◌}
 use Rattle.std.specs.Vec.{with_item}
 use Rattle.std.proofs.lemmas.Option.{slice_get_read}
-use Rattle.omf_format.specs.Header.{Fields, alignment_of}
+use Rattle.omf_format.specs.Header.{HeaderFields, alignment_of}
 use Rattle.link_meaning.specs.Layout.{aligned_from}
 use Rattle.link_tables.specs.declared.layout.LoadOffset.{LoadOffset}
 use Rattle.link_tables.specs.declared.layout.LinkLayout.{LinkLayout}
@@ -17,7 +17,7 @@ returns c = λ list m at same named laid.
     let was = c.index-old.result.now in
     let there = slice_get_read old.loads.items (length old.loads.items) c.args.load was refl c.requires c.index-old.ensures in
     let offset : c.align_up-offset.result ≡ aligned_from (alignment_of m.segment.fields.align) was.length =
-    c.align_up-offset.ensures.value ∙ ap (λ n. aligned_from n was.length) (c.alignment.ensures ∙ ap (λ (f : Fields). alignment_of f.align) (sym same)) in
+    c.align_up-offset.ensures.value ∙ ap (λ n. aligned_from n was.length) (c.alignment.ensures ∙ ap (λ (f : HeaderFields). alignment_of f.align) (sym same)) in
     laid_same list m old new c.args.spot c.args.load was c.load_with_member.result place laid named there at refl offset
-    (subst (λ (f : Fields). IsJoined f c.align_up-offset.result was c.load_with_member.result) (sym same) c.load_with_member.ensures) refl c.in_ok-push.ensures.items
-    (c.conflict_with-self.ensures ∙ ap (λ (f : Fields). conflict_with old.conflict f.org c.args.spot) (sym same)) refl
+    (subst (λ (f : HeaderFields). IsJoined f c.align_up-offset.result was c.load_with_member.result) (sym same) c.load_with_member.ensures) refl c.in_ok-push.ensures.items
+    (c.conflict_with-self.ensures ∙ ap (λ (f : HeaderFields). conflict_with old.conflict f.org c.args.spot) (sym same)) refl

@@ -1,5 +1,5 @@
 use Rattle.std.proofs.Common.{◌∙◌}
-use Rattle.link_meaning.specs.declared.search.Step.TheVariants.{Within, OfUnit, Everyone}
+use Rattle.link_meaning.specs.declared.search.SearchStep.TheVariants.{Within, OfUnit, Everyone}
 use Rattle.link_tables.specs.Names.{key_of}
 use Rattle.link_tables.proofs.NameTables.{looked}
 use Rattle.link_tables.proofs.names.NameTable.look.Goals as goal

@@ -1,6 +1,6 @@
 use Rattle.std.proofs.Common.{◌∷◌, [], ap, arith, ◌∙◌}
 use Rattle.omf_records.specs.View.{view}
-use Rattle.orca_object.specs.declared.writer.Writer.{Writer}
+use Rattle.orca_object.specs.declared.writer.RecordWriter.{RecordWriter}
 use Rattle.orca_object.specs.TextView.{kept_text}
 use Rattle.orca_object.proofs.Growing.{marked_grown, marked_long, one_size, grown_one}
 use Rattle.orca_object.proofs.state.OpenSegment.give_record.Goals as goal
@@ -16,7 +16,7 @@ returns-in_ok-put-in-Ok c = λ s shows.
       header = shown.header;
       names = shown.names;
       body = marked_grown c.args.label.now 0x4E c.args.size (view c.args.rec.now ∷ []) s c.mark.new.self _ shown (c.in_ok-mark.ensures.cells ∙ shows.body.cells) size c.in-Ok.ensures.cells
-          (grown_one _ _ _ (view c.args.rec.now) (ap (λ (w : Writer). kept_text w.text) c.in-Ok.ensures.writer) c.in_ok-put-in-Ok.ensures);
+          (grown_one _ _ _ (view c.args.rec.now) (ap (λ (w : RecordWriter). kept_text w.text) c.in-Ok.ensures.writer) c.in_ok-put-in-Ok.ensures);
     }
 
 pub returns-in-Err : goal.returns-in-Err

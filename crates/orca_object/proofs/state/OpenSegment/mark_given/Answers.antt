@@ -3,7 +3,7 @@ use Rattle.asm_meaning.specs.Object.{records_text}
 use Rattle.asm_meaning.specs.Pieces.{length_at}
 use Rattle.asm_meaning.specs.State.{cells_of}
 use Rattle.orca_object.specs.GivenView.{given_records}
-use Rattle.orca_object.specs.declared.writer.Writer.{Writer}
+use Rattle.orca_object.specs.declared.writer.RecordWriter.{RecordWriter}
 use Rattle.orca_object.specs.TextView.{kept_text}
 use Rattle.orca_object.proofs.Growing.{marked_grown, marked_long, grown_same}
 use Rattle.orca_object.proofs.state.OpenSegment.mark_given.Goals as goal
@@ -20,7 +20,7 @@ returns-in_ok-put-in-Ok c = λ s shows.
       header = shown.header;
       names = shown.names;
       body = marked_grown c.args.label.now c.args.form c.from-size.result records s c.mark.new.self _ shown (c.in_ok-mark.ensures.cells ∙ shows.body.cells) size c.in-Ok.ensures.cells
-          (grown_same _ _ _ (records_text records) (ap (λ (w : Writer). kept_text w.text) c.in-Ok.ensures.writer) c.in_ok-put-in-Ok.ensures);
+          (grown_same _ _ _ (records_text records) (ap (λ (w : RecordWriter). kept_text w.text) c.in-Ok.ensures.writer) c.in_ok-put-in-Ok.ensures);
     }
 
 pub returns-in-Err : goal.returns-in-Err

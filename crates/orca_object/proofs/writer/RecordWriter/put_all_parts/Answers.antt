@@ -1,7 +1,7 @@
 use Rattle.orca_object.specs.GivenView.{all_pieces}
 use Rattle.orca_object.specs.TextView.{kept_text}
 use Rattle.orca_object.proofs.Putting.{put_all}
-use Rattle.orca_object.proofs.writer.Writer.put_all_parts.Goals as goal
+use Rattle.orca_object.proofs.writer.RecordWriter.put_all_parts.Goals as goal
 
 pub returns : goal.returns
 returns c = λ text is.

@@ -3,7 +3,7 @@ use Rattle.asm_meaning.specs.Pieces.{copies}
 use Rattle.orca_object.specs.PieceView.{piece}
 use Rattle.orca_object.specs.TextView.{kept_text}
 use Rattle.orca_object.proofs.Putting.{left_more, copies_next}
-use Rattle.orca_object.proofs.writer.Writer.put_often.Goals as goal
+use Rattle.orca_object.proofs.writer.RecordWriter.put_often.Goals as goal
 
 pub copies-preserved : goal.copies-preserved
 copies-preserved c =

@@ -3,7 +3,7 @@ use Rattle.std.proofs.lemmas.Bool.{eqb-true}
 use Rattle.orca_object.specs.TextView.{kept_text}
 use Rattle.orca_object.proofs.Putting.{flush_nothing}
 use Rattle.orca_object.proofs.Quoted.{nothing}
-use Rattle.orca_object.proofs.writer.Writer.flush.Goals as goal
+use Rattle.orca_object.proofs.writer.RecordWriter.flush.Goals as goal
 
 pub returns-then-is_empty-clause-text : goal.returns-then-is_empty-clause-text
 returns-then-is_empty-clause-text c =

@@ -2,7 +2,7 @@ use Rattle.std.proofs.Common.{◌+◌, drop}
 use Rattle.orca_object.specs.GivenView.{part_pieces, all_pieces}
 use Rattle.orca_object.specs.TextView.{kept_text}
 use Rattle.orca_object.proofs.Putting.{left_more, parts_next, plain_part}
-use Rattle.orca_object.proofs.writer.Writer.put_parts.Goals as goal
+use Rattle.orca_object.proofs.writer.RecordWriter.put_parts.Goals as goal
 
 pub put_part-requires : goal.put_part-requires
 put_part-requires c = plain_part c.args.parts.now c.parts.part-index c.part-item.result c.parts-test.true c.part-item.is c.parts.invariant.plain

@@ -2,7 +2,7 @@ use Rattle.std.proofs.Common.{map, length, ap, sym, ◌∙◌, arith}
 use Rattle.std.proofs.lemmas.List.{length-map}
 use Rattle.orca_macro.specs.Parts.{definition}
 use Rattle.orca_macro.proofs.Firsts.{within}
-use Rattle.orca_macro.proofs.program.Program.macro_by_name.Goals as goal
+use Rattle.orca_macro.proofs.program.MacroProgram.macro_by_name.Goals as goal
 
 pub unreachable-requires : goal.unreachable-requires
 unreachable-requires c =

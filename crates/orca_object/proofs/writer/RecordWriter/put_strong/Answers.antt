@@ -2,7 +2,7 @@ use Rattle.std.proofs.Common.{arith}
 use Rattle.omf_format.specs.Record.{Strong}
 use Rattle.orca_object.specs.TextView.{kept_text}
 use Rattle.orca_object.proofs.Putting.{wrote_record}
-use Rattle.orca_object.proofs.writer.Writer.put_strong.Goals as goal
+use Rattle.orca_object.proofs.writer.RecordWriter.put_strong.Goals as goal
 
 pub put-requires : goal.put-requires
 put-requires c = c.requires.spelled 0 (omega arith)

@@ -1,7 +1,7 @@
 use Rattle.std.proofs.Common.{◌++◌, ap, ◌∙◌}
 use Rattle.orca_object.specs.TextView.{kept_text}
 use Rattle.orca_object.proofs.Putting.{piece_bytes, piece_formula, piece_strong, plain_piece, wrote_bytes, wrote_same}
-use Rattle.orca_object.proofs.writer.Writer.put_piece.Goals as goal
+use Rattle.orca_object.proofs.writer.RecordWriter.put_piece.Goals as goal
 
 pub put_formula-requires : goal.put_formula-requires
 put_formula-requires c =

@@ -2,7 +2,7 @@ use Rattle.std.proofs.Common.{map, sym, ap, ◌∙◌}
 use Rattle.orca_object.specs.PieceView.{piece}
 use Rattle.orca_object.specs.TextView.{kept_text}
 use Rattle.orca_object.proofs.Putting.{wrote_only}
-use Rattle.orca_object.proofs.writer.Writer.put_part.Goals as goal
+use Rattle.orca_object.proofs.writer.RecordWriter.put_part.Goals as goal
 
 pub returns-in_ok-put_copies-in-Some : goal.returns-in_ok-put_copies-in-Some
 returns-in_ok-put_copies-in-Some c = λ whole rest w.

@@ -2,7 +2,7 @@ use Rattle.std.proofs.Common.{arith}
 use Rattle.omf_format.specs.Record.{Formula}
 use Rattle.orca_object.specs.TextView.{kept_text}
 use Rattle.orca_object.proofs.Putting.{wrote_record}
-use Rattle.orca_object.proofs.writer.Writer.put_formula.Goals as goal
+use Rattle.orca_object.proofs.writer.RecordWriter.put_formula.Goals as goal
 
 pub put-requires : goal.put-requires
 put-requires c = c.requires.spelled 0 (omega (arith, c.ranges.count.fits))
