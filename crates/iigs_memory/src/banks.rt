@@ -144,7 +144,7 @@ impl Banks {
 
     /// The bytes of a block.
     pub fn block(&self, h: Handle) -> Result<&[u8], BlockFault>
-        ensures loaned { IfOk result (λ bytes. IsBorrowed self.now h bytes.now) }
+        ensures borrowed { IfOk result (λ bytes. IsBorrowed self.now h bytes.now) }
         ensures refused { IfErr result (IsBlockRefusal self.now.slots h) }
     {
         self.places.know_arranged();
@@ -161,7 +161,7 @@ impl Banks {
 
     /// The bytes of a block, to be written. Of the write itself `lend` says more.
     pub fn block_mut(&mut self, h: Handle) -> Result<&mut [u8], BlockFault>
-        ensures loaned { IfOk result (λ bytes. IsBorrowed self.old h bytes.now) }
+        ensures borrowed { IfOk result (λ bytes. IsBorrowed self.old h bytes.now) }
         ensures refused { IfErr result (IsBlockRefusal self.old.slots h) }
     {
         self.places.know_arranged();

@@ -164,13 +164,13 @@ inside_snoc : (size : ℕ) (patches : List kept.Patch) (p : kept.Patch) → AreI
 inside_snoc size [] p inside is = (is, tt)
 inside_snoc size (q ∷ patches) p inside is = (inside.0, inside_snoc size patches p inside.1 is)
 
-or_borrowed_some : (own loaned : List ℕ) → 1 ≤ length own → or_borrowed own loaned ≡ own
-or_borrowed_some [] loaned some = absurd (omega (arith, some))
-or_borrowed_some (b ∷ own) loaned some = refl
+or_borrowed_some : (own borrowed : List ℕ) → 1 ≤ length own → or_borrowed own borrowed ≡ own
+or_borrowed_some [] borrowed some = absurd (omega (arith, some))
+or_borrowed_some (b ∷ own) borrowed some = refl
 
-or_borrowed_size : (own loaned : List ℕ) → length own ≤ length (or_borrowed own loaned)
-or_borrowed_size [] loaned = omega arith
-or_borrowed_size (b ∷ own) loaned = omega arith
+or_borrowed_size : (own borrowed : List ℕ) → length own ≤ length (or_borrowed own borrowed)
+or_borrowed_size [] borrowed = omega arith
+or_borrowed_size (b ∷ own) borrowed = omega arith
 
 -- zeros more
 pub zeros_longer : (front : List ℕ) (n count : ℕ) (bytes : List ℕ) → front ++ replicate n 0 ≡ bytes → front ++ replicate (n + count) 0 ≡ bytes ++ replicate count 0
@@ -178,31 +178,31 @@ zeros_longer front n count bytes same =
     ap (λ (l : List ℕ). front ++ l) (sym (replicate-append-replicate n count 0)) ∙ sym (append_assoc front (replicate n 0) (replicate count 0)) ∙ ap (λ (l : List ℕ). l ++ replicate count 0) same
 
 -- bytes of one's own that end with at least one zero
-pub settled_bytes : (own new loaned : List ℕ) (n count : ℕ) (bytes : List ℕ) → new ≡ or_borrowed own loaned ++ replicate (n + count) 0 → 1 ≤ count → or_borrowed own loaned ++ replicate n 0 ≡ bytes
-    → or_borrowed new loaned ++ [] ≡ bytes ++ replicate count 0
-settled_bytes own new loaned n count bytes is some same =
-    let long : 1 ≤ length new = omega (arith, some, ap length is, length-append (or_borrowed own loaned) (replicate (n + count) 0), length-replicate {A = ℕ} (n + count) 0) in
-    append-nil (or_borrowed new loaned) ∙ or_borrowed_some new loaned long ∙ is ∙ zeros_longer (or_borrowed own loaned) n count bytes same
+pub settled_bytes : (own new borrowed : List ℕ) (n count : ℕ) (bytes : List ℕ) → new ≡ or_borrowed own borrowed ++ replicate (n + count) 0 → 1 ≤ count → or_borrowed own borrowed ++ replicate n 0 ≡ bytes
+    → or_borrowed new borrowed ++ [] ≡ bytes ++ replicate count 0
+settled_bytes own new borrowed n count bytes is some same =
+    let long : 1 ≤ length new = omega (arith, some, ap length is, length-append (or_borrowed own borrowed) (replicate (n + count) 0), length-replicate {A = ℕ} (n + count) 0) in
+    append-nil (or_borrowed new borrowed) ∙ or_borrowed_some new borrowed long ∙ is ∙ zeros_longer (or_borrowed own borrowed) n count bytes same
 
-pub settled_some : (own new loaned : List ℕ) (n count : ℕ) → new ≡ or_borrowed own loaned ++ replicate (n + count) 0 → 1 ≤ count → new ≡ [] → ⊥
-settled_some own new loaned n count is some none =
-    omega (arith, some, ap length is, ap length none, length-append (or_borrowed own loaned) (replicate (n + count) 0), length-replicate {A = ℕ} (n + count) 0)
+pub settled_some : (own new borrowed : List ℕ) (n count : ℕ) → new ≡ or_borrowed own borrowed ++ replicate (n + count) 0 → 1 ≤ count → new ≡ [] → ⊥
+settled_some own new borrowed n count is some none =
+    omega (arith, some, ap length is, ap length none, length-append (or_borrowed own borrowed) (replicate (n + count) 0), length-replicate {A = ℕ} (n + count) 0)
 
 pub on_ok : {A E P : Type 0} (r : Result A E) → P → OnOk r P
 on_ok (Ok x) is = is
 on_ok (Err e) is = tt
 
 -- the patches of settled bytes with one more, or without where there was no memory
-pub settled_patches : {A E : Type 0} (own new loaned : List ℕ) (n count : ℕ) (bytes : List ℕ) (r : Result A E) (old after : List kept.Patch) (p : kept.Patch) → new ≡ or_borrowed own loaned ++ replicate (n + count) 0
-    → or_borrowed own loaned ++ replicate n 0 ≡ bytes → p.at + p.count ≤ length bytes + count → AreInside (length own) old
+pub settled_patches : {A E : Type 0} (own new borrowed : List ℕ) (n count : ℕ) (bytes : List ℕ) (r : Result A E) (old after : List kept.Patch) (p : kept.Patch) → new ≡ or_borrowed own borrowed ++ replicate (n + count) 0
+    → or_borrowed own borrowed ++ replicate n 0 ≡ bytes → p.at + p.count ≤ length bytes + count → AreInside (length own) old
     → OnOk r (after ≡ old ++ p ∷ []) → OnErr r (after ≡ old) → AreInside (length new) after
-settled_patches {A = A} {E = E} own new loaned n count bytes r old after p is same inside olds = go r
+settled_patches {A = A} {E = E} own new borrowed n count bytes r old after p is same inside olds = go r
   where
     size : length new ≡ length bytes + count
-    size = ap length is ∙ ap length (zeros_longer (or_borrowed own loaned) n count bytes same) ∙ length-append bytes (replicate count 0) ∙ ap (λ (k : ℕ). length bytes + k) (length-replicate {A = ℕ} count 0)
+    size = ap length is ∙ ap length (zeros_longer (or_borrowed own borrowed) n count bytes same) ∙ length-append bytes (replicate count 0) ∙ ap (λ (k : ℕ). length bytes + k) (length-replicate {A = ℕ} count 0)
 
     longer : length own ≤ length new
-    longer = omega (arith, or_borrowed_size own loaned, ap length is, length-append (or_borrowed own loaned) (replicate (n + count) 0))
+    longer = omega (arith, or_borrowed_size own borrowed, ap length is, length-append (or_borrowed own borrowed) (replicate (n + count) 0))
 
     go : (r : Result A E) → OnOk r (after ≡ old ++ p ∷ []) → OnErr r (after ≡ old) → AreInside (length new) after
     go (Ok x) added same = subst (AreInside (length new)) (sym added) (inside_snoc (length new) old p (inside_more (length own) (length new) old longer olds) (omega (arith, inside, size)))

@@ -13,8 +13,8 @@ AreInside size patches = AllByRecursion (λ p. p.at + p.count ≤ size) patches
 
 -- bytes of one's own, or what is borrowed where there are none
 abbrev pub or_borrowed : List ℕ → List ℕ → List ℕ
-or_borrowed [] loaned = loaned
-or_borrowed (byte ∷ own) loaned = byte ∷ own
+or_borrowed [] borrowed = borrowed
+or_borrowed (byte ∷ own) borrowed = byte ∷ own
 
 -- the last byte, if there is one
 abbrev pub last_of : List ℕ → Option ℕ

@@ -78,23 +78,23 @@ fn append_zeros(out: &mut Vec<u8>, count: usize) -> Result<(), AllocError>
 }
 
 /// Copies what is borrowed, unless there are bytes of one's own.
-fn take_in(own: &mut Vec<u8>, loaned: &[&[u8]]) -> Result<(), AllocError>
-    ensures ok { OnOk result (own.new.items ≡ or_borrowed own.old.items (joined loaned.now)) }
+fn take_in(own: &mut Vec<u8>, borrowed: &[&[u8]]) -> Result<(), AllocError>
+    ensures ok { OnOk result (own.new.items ≡ or_borrowed own.old.items (joined borrowed.now)) }
     ensures err { OnErr result (own.old.items ≡ []) }
 {
     if own.is_empty() {
-        return append_all(own, loaned);
+        return append_all(own, borrowed);
     }
     Ok(())
 }
 
 /// Copies what is borrowed, unless there are bytes of one's own, and appends so many zeros.
-fn own_bytes(own: &mut Vec<u8>, loaned: &[&[u8]], zeros: usize) -> Result<(), AllocError>
+fn own_bytes(own: &mut Vec<u8>, borrowed: &[&[u8]], zeros: usize) -> Result<(), AllocError>
     requires { zeros < 2 ^ 34 }
-    ensures ok { OnOk result (own.new.items ≡ or_borrowed own.old.items (joined loaned.now) ++ replicate zeros 0) }
+    ensures ok { OnOk result (own.new.items ≡ or_borrowed own.old.items (joined borrowed.now) ++ replicate zeros 0) }
     ensures longer { own.old.items ≢ [] → length own.old.items ≤ length own.new.items }
 {
-    take_in(own, loaned)?;
+    take_in(own, borrowed)?;
     append_zeros(own, zeros)
 }
 

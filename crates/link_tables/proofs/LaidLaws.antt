@@ -326,7 +326,7 @@ first_stays {A} Has items x what is = record {
 }
 
 pub conflict_none : (list : List Member) (m : Member) (so_far : Option Spot) → list_any (in_load (name_of m)) list ≡ false → IsConflict list so_far → IsConflict (list ++ m ∷ []) so_far
-conflict_none list m None none is = none_more HasOrgFault list m is (λ its contains_text. absurd (not_both (list_any (in_load (name_of m)) list) none contains_text.later))
+conflict_none list m None none is = none_more HasOrgFault list m is (λ its conflict. absurd (not_both (list_any (in_load (name_of m)) list) none conflict.later))
   where
     not_both : (b : Bool) → b ≡ false → b ≡ true → ⊥
     not_both b p q = let clash : false ≡ true = sym p ∙ q in cc
@@ -338,7 +338,7 @@ conflict_more list m (Some first) spot there at is = first_stays HasOrgFault lis
 conflict_more list m None spot there at is = settle (m.segment.fields.org == 0) refl
   where
     settle : (b : Bool) → (m.segment.fields.org == 0) ≡ b → IsConflict (list ++ m ∷ []) (if b then None else Some spot)
-    settle true e = none_more HasOrgFault list m is (λ its contains_text. contains_text.asks (eqb-true m.segment.fields.org 0 e))
+    settle true e = none_more HasOrgFault list m is (λ its conflict. conflict.asks (eqb-true m.segment.fields.org 0 e))
     settle false e = record {
       before = list;
       item = m;

@@ -315,8 +315,8 @@ pub fn put_instruction(
 #[tactic(auto, using(crate::proofs::Written::wrote_of, crate::proofs::Written::long_of), unfolding(list_meaning::specs::Listed::said_text))]
 pub fn put_dc_bytes(out: &mut ListingText, bytes: &[u8]) -> Result<(), LineStop>
     requires { open_line out.old ≡ [] }
-    ensures wrote { OnOk result (Wrote (Bytes put_dc_bytes.now) out.old out.new) }
-    ensures long { IsErrOf result LineStop.NotListable → is_short (Bytes put_dc_bytes.now) ≡ false }
+    ensures wrote { OnOk result (Wrote (Bytes bytes.now) out.old out.new) }
+    ensures long { IsErrOf result LineStop.NotListable → is_short (Bytes bytes.now) ≡ false }
 {
     statement(out, b"", "DC H'")?;
     'bytes: for place in 0..bytes.len() {

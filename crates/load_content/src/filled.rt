@@ -50,7 +50,7 @@ pub fn put_bytes(pieces: &[BytePiece], size: u32, out: &mut Vec<u8>) -> Result<(
 
 /// The bytes of the only piece, where it begins them.
 pub fn lone_piece<'a>(pieces: &[BytePiece<'a>]) -> Option<&'a [u8]>
-    ensures { IfSome result (λ first_items. (bytes : List ℕ) → ArePieces pieces.now bytes → bytes ≡ first_items.now ++ replicate (length bytes - length first_items.now) 0) }
+    ensures { IfSome result (λ front. (bytes : List ℕ) → ArePieces pieces.now bytes → bytes ≡ front.now ++ replicate (length bytes - length front.now) 0) }
 {
     if pieces.len() != 1 || pieces[0].start != 0 {
         return None;

@@ -27,9 +27,9 @@ fn are_apart(spots: &[PatchSpot]) -> bool
 
 /// The spots in the order of their offsets, and those at one offset as they stood.
 fn sort_by_offset(alloc: Global, spots: &[PatchSpot]) -> Result<Vec<PatchSpot>, AllocError>
-    ensures rise { IfOk result (λ sort_by_offset. IsNonDecreasingBy offset_of sort_by_offset.items) }
-    ensures stable { IfOk result (λ sort_by_offset. IsStableByKey offset_of nat_cmp spots.now sort_by_offset.items) }
-    ensures permutation { IfOk result (λ sort_by_offset. IsPermutation spots.now sort_by_offset.items) }
+    ensures rise { IfOk result (λ sorted. IsNonDecreasingBy offset_of sorted.items) }
+    ensures stable { IfOk result (λ sorted. IsStableByKey offset_of nat_cmp spots.now sorted.items) }
+    ensures permutation { IfOk result (λ sorted. IsPermutation spots.now sorted.items) }
 {
     let mut sorted = Vec::from_slice(alloc, spots)?;
     sorted.sort_by_key(|spot| spot.at)?;
@@ -72,8 +72,8 @@ fn bytes_of(alloc: Global, spots: &[PatchSpot]) -> Result<Vec<PatchSpot>, AllocE
 /// offset stays the last.
 fn in_one_run(alloc: Global, spots: &[PatchSpot]) -> Result<Vec<PatchSpot>, AllocError>
     requires { AreBelow (2 ^ 32) (shown_spots spots.now) }
-    ensures rise { IfOk result (λ sort_by_offset. AreRising sort_by_offset.items) }
-    ensures last { IfOk result (λ sort_by_offset. (k : ℕ) → last_at (shown_spots sort_by_offset.items) k ≡ last_at (shown_spots spots.now) k) }
+    ensures rise { IfOk result (λ sorted. AreRising sorted.items) }
+    ensures last { IfOk result (λ sorted. (k : ℕ) → last_at (shown_spots sorted.items) k ≡ last_at (shown_spots spots.now) k) }
 {
     let whole = sort_by_offset(alloc, spots)?;
     if are_apart(&whole) {

@@ -125,7 +125,7 @@ module _ (held : Option FileMap) (old : Loaded) (id number : ℕ) (new : Loaded)
 
 jsl_safe : (loader : Loaded) (id number at : ℕ) (why : LoaderFault) → IsJslRefusal loader id number at why → is_unread_fault why ≡ false
 jsl_safe loader id number at why (NoBytes is) = bytes_safe loader.memory.slots (seen_by loader id) number at 4 why is
-jsl_safe loader id number at why (NoJsl bytes loaned is) = go (slice_index bytes 0 == 0x22) is
+jsl_safe loader id number at why (NoJsl bytes borrowed is) = go (slice_index bytes 0 == 0x22) is
   where
     go : (b : Bool) → cond b None (Some faults.NotJsl) ≡ Some why → is_unread_fault why ≡ false
     go true e = absurd cc

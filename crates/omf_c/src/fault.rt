@@ -66,7 +66,7 @@ fn to_omf_fault(cause: u32, spot: Spot, line: u32, name: &[u8]) -> OmfFault
 
 /// A fault of a listed file, unless out of memory.
 pub fn file_fault(fault: FileFault) -> Option<OmfFault>
-    ensures { MatchOption result (fault.cause ≡ file_causes.Memory) (λ to_omf_fault. (fault.cause ≢ file_causes.Memory) × ReportsFile to_omf_fault fault) }
+    ensures { MatchOption result (fault.cause ≡ file_causes.Memory) (λ reported. (fault.cause ≢ file_causes.Memory) × ReportsFile reported fault) }
 {
     let spot = Spot {
         file: 1,
@@ -78,7 +78,7 @@ pub fn file_fault(fault: FileFault) -> Option<OmfFault>
 
 /// A fault of a load file, unless out of memory.
 pub fn load_fault(fault: LoadFault) -> Option<OmfFault>
-    ensures { MatchOption result (fault.cause ≡ load_causes.Memory) (λ to_omf_fault. (fault.cause ≢ load_causes.Memory) × ReportsLoad to_omf_fault fault) }
+    ensures { MatchOption result (fault.cause ≡ load_causes.Memory) (λ reported. (fault.cause ≢ load_causes.Memory) × ReportsLoad reported fault) }
 {
     let spot = Spot {
         file: 1,
@@ -90,7 +90,7 @@ pub fn load_fault(fault: LoadFault) -> Option<OmfFault>
 
 /// A fault of a library's files, unless out of memory.
 pub fn lib_fault(fault: LibFault) -> Option<OmfFault>
-    ensures { MatchOption result (fault.cause ≡ lib_causes.Memory) (λ to_omf_fault. (fault.cause ≢ lib_causes.Memory) × ReportsLib to_omf_fault fault) }
+    ensures { MatchOption result (fault.cause ≡ lib_causes.Memory) (λ reported. (fault.cause ≢ lib_causes.Memory) × ReportsLib reported fault) }
 {
     Some(to_omf_fault(lib_number(fault.cause)?, fault.spot, 0, &[]))
 }
@@ -108,7 +108,7 @@ fn bytes_of(name: &Option<Name>) -> &[u8]
 
 /// A fault of linked files, unless out of memory.
 pub fn link_fault(fault: &LinkFault) -> Option<OmfFault>
-    ensures { MatchOption result (fault.now.cause ≡ link_causes.Memory) (λ to_omf_fault. (fault.now.cause ≢ link_causes.Memory) × ReportsLink to_omf_fault fault.now) }
+    ensures { MatchOption result (fault.now.cause ≡ link_causes.Memory) (λ reported. (fault.now.cause ≢ link_causes.Memory) × ReportsLink reported fault.now) }
 {
     let number = link_number(fault.cause)?;
     Some(to_omf_fault(number, fault.spot, 0, bytes_of(&fault.name)))
@@ -116,7 +116,7 @@ pub fn link_fault(fault: &LinkFault) -> Option<OmfFault>
 
 /// A fault of a source, unless out of memory.
 pub fn asm_fault(fault: AsmFault) -> Option<OmfFault>
-    ensures { MatchOption result (fault.cause ≡ asm_causes.Memory) (λ to_omf_fault. (fault.cause ≢ asm_causes.Memory) × ReportsAsm to_omf_fault fault) }
+    ensures { MatchOption result (fault.cause ≡ asm_causes.Memory) (λ reported. (fault.cause ≢ asm_causes.Memory) × ReportsAsm reported fault) }
 {
     let spot = Spot {
         file: fault.file,

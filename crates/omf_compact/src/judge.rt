@@ -15,7 +15,7 @@ use std::alloc::{AllocError, Global};
 /// The patches of the cells of the segment with this number, or its first broken part.
 fn patches_of_segment(alloc: Global, load: &LoadFile, number: u32) -> Result<Parted, AllocError>
     requires { IsKnown load.now }
-    ensures { IfOk result (λ patches_of_segment. (s : Segment) → segment_at load.now number ≡ Some s → IsParted (cells s) patches_of_segment) }
+    ensures { IfOk result (λ patches. (s : Segment) → segment_at load.now number ≡ Some s → IsParted (cells s) patches) }
 {
     match load.patches(alloc, number)? {
         Some(patches) => Ok(Parted::Patches(patches)),

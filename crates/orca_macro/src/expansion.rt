@@ -335,7 +335,7 @@ fn visits(
 {
     let mut count: u32 = 0;
     'visits: loop {
-        let Some((line, plan)) = program.visited(state.scope.place, state.scope.line) else {
+        let Some((line, plan)) = program.effect_at(state.scope.place, state.scope.line) else {
             return Ok(None);
         };
         if count == MOST_VISITS {

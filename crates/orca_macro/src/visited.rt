@@ -52,10 +52,10 @@ fn macro_of_operation<'a>(
         (λ x. (first_named (folded operation.entry.bytes.now) program.now.definitions ≡ Some x.0) × (slice_get program.now.definitions x.0 ≡ Some (definition x.1.now)))) }
 {
     if is_folded(operation.bytes) {
-        return Ok(program.named(operation.bytes));
+        return Ok(program.macro_by_name(operation.bytes));
     }
     let asked = to_upper_case(alloc, operation)?;
-    Ok(program.named(asked.bytes()))
+    Ok(program.macro_by_name(asked.bytes()))
 }
 
 /// A call of this macro, or a line that is given, where it doesn't count yet.
@@ -195,7 +195,7 @@ fn headed_call<'a>(
     ensures { IfOk result (λ d. effect_view d ≡ calling_at (where_ at.entry).definitions (where_ at.entry).root text.entry.bytes.now
         (first_named head.now.operation (where_ at.entry).definitions) (take head.now.label text.entry.bytes.now) (part text.entry.bytes.now (three_fields text.entry.bytes.now).operand)) }
 {
-    match at.program.named(head.operation.bytes()) {
+    match at.program.macro_by_name(head.operation.bytes()) {
         Some((place, found)) => {
             let operand = operand_after(text, head.end);
             effect_of_call(

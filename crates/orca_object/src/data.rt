@@ -126,7 +126,7 @@ pub(crate) fn do_instruct(
     requires mnemonic { line_mnemonic line.now ≡ Some mnemonic }
     ensures { IfOk result (λ done. (state : State) (l : Line) → ShowsState state kept.old → IsLeft state l (Instruct mnemonic) label (line_operand line.now) done kept.new) }
 {
-    let given = instruction_given(alloc, kept.known(), kept.widths, mnemonic, line)?;
+    let given = instruction_given(alloc, kept.known_constants(), kept.widths, mnemonic, line)?;
     give_statement(alloc, kept, 0x4D, label, given)
 }
 
@@ -139,7 +139,7 @@ pub(crate) fn do_constants(
 ) -> Result<Result<(), AsmCause>, AllocError>
     ensures { IfOk result (λ done. (state : State) (l : Line) → ShowsState state kept.old → IsLeft state l (Direct Constants) label text.entry.bytes.now done kept.new) }
 {
-    let known = kept.known();
+    let known = kept.known_constants();
     known.recall_small();
     let given = constants_given(alloc, known, kept.msb, text)?;
     give_statement(alloc, kept, 0x4E, label, given)
@@ -186,6 +186,6 @@ pub(crate) fn do_space(
 ) -> Result<Result<(), AsmCause>, AllocError>
     ensures { IfOk result (λ done. (state : State) (line : Line) → ShowsState state kept.old → IsLeft state line (Direct directives.Space) label text.entry.bytes.now done kept.new) }
 {
-    let number = number_in(alloc, kept.known(), text)?;
+    let number = number_in(alloc, kept.known_constants(), text)?;
     space(alloc, kept, label, number)
 }

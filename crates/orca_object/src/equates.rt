@@ -129,7 +129,7 @@ fn do_equate(
     requires some { IsSome label }
     ensures { IfOk result (λ done. (state : State) → ShowsState state kept.old → IsEquated state global label text.entry.bytes.now done kept.new) }
 {
-    let amount = amount_in(alloc, kept.known(), text)?;
+    let amount = amount_in(alloc, kept.known_constants(), text)?;
     match pair_or_earlier_fault(label, amount) {
         Ok((name, amount)) => {
             kept.equate(alloc, global, &name, amount)?;
@@ -149,7 +149,7 @@ fn do_constant(
     requires some { IsSome label }
     ensures { IfOk result (λ done. (state : State) → ShowsState state kept.old → IsConstant state label text.entry.bytes.now done kept.new) }
 {
-    let number = number_in(alloc, kept.known(), text)?;
+    let number = number_in(alloc, kept.known_constants(), text)?;
     match pair_or_earlier_fault(label, number) {
         Ok((name, n)) => {
             kept.equate_outside(alloc, &name, n)?;

@@ -128,7 +128,7 @@ pub(crate) fn do_align(
 ) -> Result<Result<(), AsmCause>, AllocError>
     ensures { IfOk result (λ done. (state : State) (line : Line) → ShowsState state kept.old → IsLeft state line (Direct directives.Align) label text.entry.bytes.now done kept.new) }
 {
-    let number = number_in(alloc, kept.known(), text)?;
+    let number = number_in(alloc, kept.known_constants(), text)?;
     apply_align(alloc, kept, label, number)
 }
 
@@ -141,10 +141,10 @@ fn distance_in(
     ensures { IfOk result (λ number. (state : State) → ShowsState state kept.now → HasDistance state text.entry.bytes.now number) }
 {
     if kept.segment.is_none() {
-        return number_in(alloc, kept.known(), text);
+        return number_in(alloc, kept.known_constants(), text);
     }
     match following_here(text.bytes) {
-        Some(following) => number_in(alloc, kept.known(), LinePart { bytes: following }),
+        Some(following) => number_in(alloc, kept.known_constants(), LinePart { bytes: following }),
         None => Ok(Err(AsmCause::BadOperand)),
     }
 }

@@ -376,6 +376,6 @@ pub(crate) fn do_kind(
 ) -> Result<Result<(), AsmCause>, AllocError>
     ensures { IfOk result (λ done. (state : State) (line : Line) → ShowsState state kept.old → IsLeft state line (Direct directives.Kind) label text.entry.bytes.now done kept.new) }
 {
-    let number = number_in(alloc, kept.known(), text)?;
+    let number = number_in(alloc, kept.known_constants(), text)?;
     kinding(alloc, kept, label, number)
 }

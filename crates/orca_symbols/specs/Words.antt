@@ -2,5 +2,5 @@
 use Rattle.std.specs.Prelude.{ℕ, List, Option, Some, None}
 
 abbrev pub word_of : Option (List ℕ) → List ℕ → List ℕ
-word_of None loaned = loaned
-word_of (Some name) loaned = name
+word_of None borrowed = borrowed
+word_of (Some name) borrowed = name

@@ -146,7 +146,7 @@ fn bind_pieces(
 }
 
 /// The same for an operand that may be missing.
-#[tactic(auto, unfolding(macro_meaning::specs::Call::bound_arguments_all), using(crate::proofs::Binds::none_reached))]
+#[tactic(auto, unfolding(macro_meaning::specs::Call::bound_all), using(crate::proofs::Binds::none_reached))]
 fn bind_all(
     alloc: Global,
     parameters: &[Name],
@@ -216,7 +216,7 @@ fn label_bound(
 ) -> Result<Symbols, AllocError>
     ensures { IfOk result (λ s. symbols_of s ≡ label_bound parameter.now label.entry.bytes.now) }
 {
-    let mut symbols = spare.emptied();
+    let mut symbols = spare.into_empty();
     let Some(parameter) = parameter else {
         return Ok(symbols);
     };

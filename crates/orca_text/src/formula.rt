@@ -96,7 +96,7 @@ fn pop_tight(waiting: &mut Waiting, tight: u8) -> Option<u8>
         ((waiting.new ≡ waiting.old) × ((out : _) → reduced tight out waiting.old ≡ (out, waiting.old)))
         (λ code. (m : _) × (m ≤ tight) × (waiting.old ≡ Pending m code ∷ waiting.new)) }
 {
-    let Some(last) = waiting.last() else {
+    let Some(last) = waiting.last_waiting() else {
         return None;
     };
     match last {

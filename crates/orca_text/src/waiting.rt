@@ -64,6 +64,6 @@ impl Waiting {
     pub(crate) fn last_waiting(&self) -> Option<Wait>
         ensures { MatchOption result (self.now ≡ []) (λ last. (rest : _) × (self.now ≡ wait last ∷ rest)) }
     {
-        self.items.last_waiting().try_copy()
+        self.items.last().copied()
     }
 }

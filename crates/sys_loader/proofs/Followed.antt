@@ -73,39 +73,39 @@ module _ (held : FileMap) (old : Loaded) (state : Machine) (sound : IsSound old.
   Four id number at bytes = (all : List ℕ) × StandsIn held state id number all × (bytes ≡ take 4 (drop at all))
 
   pub four : (id number at : ℕ) (bytes : List ℕ) → HasBorrowed old id number at 4 bytes → Four id number at bytes
-  four id number at bytes loaned =
-      let is = loaned.can.is in
-      let whole = stands (setting_with (far_in old id) id old.memory.slots is.kept.handles) (held_at (user held old state agrees id number loaned.h is) number).pokes (its_segment held old state agrees id number loaned.h is).0 in
-      let front = begins held old state agrees id number loaned.h is in (
+  four id number at bytes borrowed =
+      let is = borrowed.can.is in
+      let whole = stands (setting_with (far_in old id) id old.memory.slots is.kept.handles) (held_at (user held old state agrees id number borrowed.h is) number).pokes (its_segment held old state agrees id number borrowed.h is).0 in
+      let front = begins held old state agrees id number borrowed.h is in (
         whole,
-        stands_there held old state agrees id number loaned.h is,
-        loaned.is ∙ ap (λ (bs : List ℕ). take 4 (drop at bs)) front.1
-            ∙ within_front whole front.0 at 4 (omega (arith, loaned.can.inside, stands_size held old state agrees id number loaned.h is)),
+        stands_there held old state agrees id number borrowed.h is,
+        borrowed.is ∙ ap (λ (bs : List ℕ). take 4 (drop at bs)) front.1
+            ∙ within_front whole front.0 at 4 (omega (arith, borrowed.can.inside, stands_size held old state agrees id number borrowed.h is)),
       )
 
   can_read : (id number at : ℕ) (bytes : List ℕ) → HasBorrowed old id number at 4 bytes → bytes_refusal state.slots (seen_by old id) number at 4 ≡ None
-  can_read id number at bytes loaned = ap (λ (t : Slots). bytes_refusal t (seen_by old id) number at 4) (sym agrees.slots) ∙ loaned.can.passes
+  can_read id number at bytes borrowed = ap (λ (t : Slots). bytes_refusal t (seen_by old id) number at 4) (sym agrees.slots) ∙ borrowed.can.passes
 
   -- the machine's user of the call
-  module _ (id number at : ℕ) (bytes : List ℕ) (loaned : HasBorrowed old id number at 4 bytes) where
-    abbrev it : IsKept held old state agrees id loaned.can.is.kept
-    it = kept_is held old state agrees id loaned.can.is.kept loaned.can.is.made
+  module _ (id number at : ℕ) (bytes : List ℕ) (borrowed : HasBorrowed old id number at 4 bytes) where
+    abbrev it : IsKept held old state agrees id borrowed.can.is.kept
+    it = kept_is held old state agrees id borrowed.can.is.kept borrowed.can.is.made
 
     -- a call whose four bytes are read does this
     does_jsl : (reply : Reply) (next : Machine) → StepsJsl RoomRule held state id number at reply next
         → Rattle.loader_machine.specs.Steps.Does held state id (λ seen. bytes_refusal state.slots seen number at 4) reply next (λ user. StepsJsl RoomRule held state id number at reply next)
     does_jsl reply next steps = does held old state agrees id (λ seen. bytes_refusal state.slots seen number at 4) reply next (λ user. StepsJsl RoomRule held state id number at reply next)
-        (can_read id number at bytes loaned) it.user it.made steps
+        (can_read id number at bytes borrowed) it.user it.made steps
 
     steps_none : (why : LoaderFault) → no_jsl bytes ≡ Some why → StepsJsl RoomRule held state id number at (Refused why) state
     steps_none why is =
-        let f = four id number at bytes loaned in
+        let f = four id number at bytes borrowed in
         record { bytes = f.0; stands = f.1; is = stopped (no_jsl (take 4 (drop at f.0))) why state _ (ap no_jsl (sym f.2) ∙ is) }
 
     steps_to : (place : AddressPlace) (reply : Reply) (next : Machine) → no_jsl bytes ≡ None → IsLocated held state (address_of bytes) place → Enters RoomRule held state (address_of bytes) place reply next
         → StepsJsl RoomRule held state id number at reply next
     steps_to place reply next is located enters =
-        let f = four id number at bytes loaned in
+        let f = four id number at bytes borrowed in
         record {
           bytes = f.0;
           stands = f.1;
@@ -328,8 +328,8 @@ module _ (held : FileMap) (old new : Loaded) (state : Machine) (sound : IsSound 
         ),
         refl,
       )
-  refused why (NoJsl bytes loaned is) =
-      inl ((state, does_jsl held old state sound agrees id number at bytes loaned (Refused why) state (steps_none held old state sound agrees id number at bytes loaned why is), agrees), refl)
+  refused why (NoJsl bytes borrowed is) =
+      inl ((state, does_jsl held old state sound agrees id number at bytes borrowed (Refused why) state (steps_none held old state sound agrees id number at bytes borrowed why is), agrees), refl)
   refused why (NoPlace address call none is) =
       inl (
         (

@@ -165,16 +165,16 @@ module _ (held : FileMap) (old : Loaded) (state : Machine) (sound : IsSound old.
           ∙ ap (λ (seen : Option UserSeen). bytes_refusal state.slots seen number at 4) (seen_once held state id (seen_by old id) r.seen (is_seen held old state agrees id) r.is_seen) ∙ r.passes
 
       same_bytes : (bytes : List ℕ) → HasBorrowed old id number at 4 bytes → bytes ≡ take 4 (drop at r.bytes)
-      same_bytes bytes loaned =
-          let four = followed.four held old state sound agrees id number at bytes loaned in
+      same_bytes bytes borrowed =
+          let four = followed.four held old state sound agrees id number at bytes borrowed in
           four.2 ∙ ap (λ (bs : List ℕ). take 4 (drop at bs)) (stands_once held state id number four.0 r.bytes four.1 r.stands)
 
       same_address : (address : ℕ) (bytes : List ℕ) → HasBorrowed old id number at 4 bytes → address ≡ address_of bytes → address_of (take 4 (drop at r.bytes)) ≡ address
-      same_address address bytes loaned is = sym (is ∙ ap address_of (same_bytes bytes loaned))
+      same_address address bytes borrowed is = sym (is ∙ ap address_of (same_bytes bytes borrowed))
 
       stops : (why : LoaderFault) → IsJslRefusal old id number at why → ⊥
       stops why (NoBytes is) = let clash : Some why ≡ None = sym is ∙ passes in cc
-      stops why (NoJsl bytes loaned is) = let clash : Some why ≡ None = sym is ∙ ap no_jsl (same_bytes bytes loaned) ∙ r.jsl in cc
+      stops why (NoJsl bytes borrowed is) = let clash : Some why ≡ None = sym is ∙ ap no_jsl (same_bytes bytes borrowed) ∙ r.jsl in cc
       stops why (NoPlace address call none is) =
           none r.owner r.table r.offset (lies_back held old state agrees RoomRule sound address r.owner r.table r.offset
           (subst (λ (n : ℕ). IsAt held state n r.owner r.table r.offset) (same_address address call.bytes call.borrow_bytes call.address_is) r.is_at))

@@ -30,10 +30,10 @@ use Rattle.sys_loader.specs.Following.{LeadsTo, IsJslRefusal, NoEntry, EntersPla
 
 -- they are as many as were asked for
 pub loaned_size : (loader : Loaded) → IsSound loader.memory loader.users → (id number at count : ℕ) (bytes : List ℕ) → HasBorrowed loader id number at count bytes → length bytes ≡ count
-loaned_size loader sound id number at count bytes loaned =
-    let all = bytes_at loader.memory loaned.h.slot in
-    let inside : at + count ≤ length all = omega (arith, loaned.can.inside, block_room loader sound id number loaned.h loaned.can.is) in
-    ap length loaned.is ∙ length-take-le count (drop at all) (omega (arith, inside, length-drop at all))
+loaned_size loader sound id number at count bytes borrowed =
+    let all = bytes_at loader.memory borrowed.h.slot in
+    let inside : at + count ≤ length all = omega (arith, borrowed.can.inside, block_room loader sound id number borrowed.h borrowed.can.is) in
+    ap length borrowed.is ∙ length-take-le count (drop at all) (omega (arith, inside, length-drop at all))
 
 -- a dynamic segment of a user that runs can be made active
 pub passes_all : (seen : UserSeen) (number : ℕ) (head : SegmentHead) → seen.life ≡ Running → at_number seen.heads number ≡ Some head → is_skipped head.kind ≡ false → is_dynamic head.kind ≡ true

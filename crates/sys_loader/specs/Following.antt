@@ -29,7 +29,7 @@ jsl_reply (Err why) = Refused why
 -- a JSL to an address stands at an offset of an active segment
 pub record HasJsl (loader : Loaded) (id number at address : ℕ) : Type 0 where
   pub bytes : List ℕ
-  pub loaned : HasBorrowed loader id number at 4 bytes
+  pub borrowed : HasBorrowed loader id number at 4 bytes
   pub jsl : no_jsl bytes ≡ None
   pub address_is : address ≡ address_of bytes
 

@@ -102,7 +102,7 @@ impl Loader {
         self.recall_invariant();
         let four = self.borrow_bytes(user, segment, at, 4)?;
         let address = called_address(four)?;
-        match self.located(address) {
+        match self.find_address(address) {
             Some(place) => Ok(place),
             None => Err(LoaderFault::NoTarget),
         }

@@ -181,8 +181,8 @@ fn ids_from(alloc: Global, id: u16, count: usize) -> Result<Vec<u16>, AllocError
 
 /// Users that are put behind others, for which there is room.
 fn push_all(users: &mut Vec<Option<User>>, joined: Vec<User>)
-    requires { length users.old.items + length join_user.items ≤ vec_capacity users.old }
-    ensures pushed { map (option_map kept) users.new.items ≡ map (option_map kept) users.old.items ++ map (λ k. Some k) (map kept join_user.items) }
+    requires { length users.old.items + length joined.items ≤ vec_capacity users.old }
+    ensures pushed { map (option_map kept) users.new.items ≡ map (option_map kept) users.old.items ++ map (λ k. Some k) (map kept joined.items) }
     ensures room { vec_capacity users.new ≡ vec_capacity users.old }
 {
     'joined: for user in joined {
@@ -200,13 +200,13 @@ impl Loader {
         joined: Vec<User>,
         attached: Vec<u16>,
     ) -> Result<Started, LoaderFault>
-        requires few { length self.old.users + 1 + length join_user.items ≤ max_users }
+        requires few { length self.old.users + 1 + length joined.items ≤ max_users }
         requires loadable { (file : List ℕ) × IsLoadable file load.now }
         requires short { length load.now < 2 ^ 16 }
         requires plan { IsPlan load.now plan }
-        requires users { (all : List (List omf.Segment)) × AreJoinedUsers (paths_of load.now) all (map kept join_user.items) × (lost_refusal (map (map head_of) all) load.now ≡ None) }
+        requires users { (all : List (List omf.Segment)) × AreJoinedUsers (paths_of load.now) all (map kept joined.items) × (lost_refusal (map (map head_of) all) load.now ≡ None) }
         requires attached { attached.items ≡ state.ids_from (first_id + length self.old.users + 1) (length (paths_of load.now)) }
-        ensures begun { (all : List (List omf.Segment)) → AreJoinedUsers (paths_of load.now) all (map kept join_user.items)
+        ensures begun { (all : List (List omf.Segment)) → AreJoinedUsers (paths_of load.now) all (map kept joined.items)
             → IfOk result (λ started. HasBegun self.old (string_bytes path) load.now all started.user started.entry self.new) }
         ensures refused { IfErr result (IsBeginRefusal self.old.memory (first_id + length self.old.users) (map head_of load.now)) }
         ensures err { OnErr result (self.new ≡ self.old) }
@@ -251,10 +251,10 @@ impl Loader {
         path: &str,
         joined: Vec<User>,
     ) -> Result<Started, LoaderFault>
-        requires few { length self.old.users + 1 + length join_user.items ≤ max_users }
+        requires few { length self.old.users + 1 + length joined.items ≤ max_users }
         requires loadable { (file : List ℕ) × IsLoadable file load.now }
-        requires users { (all : List (List omf.Segment)) × AreJoinedUsers (paths_of load.now) all (map kept join_user.items) × (lost_refusal (map (map head_of) all) load.now ≡ None) }
-        ensures begun { (all : List (List omf.Segment)) → AreJoinedUsers (paths_of load.now) all (map kept join_user.items)
+        requires users { (all : List (List omf.Segment)) × AreJoinedUsers (paths_of load.now) all (map kept joined.items) × (lost_refusal (map (map head_of) all) load.now ≡ None) }
+        ensures begun { (all : List (List omf.Segment)) → AreJoinedUsers (paths_of load.now) all (map kept joined.items)
             → IfOk result (λ started. HasBegun self.old path.now load.now all started.user started.entry self.new) }
         ensures refused { IfErr result (λ why. (why ≡ LoaderFault.Memory) ⊎ IsBeginRefusal self.old.memory (first_id + length self.old.users) (map head_of load.now) why) }
         ensures err { OnErr result (self.new ≡ self.old) }

@@ -168,7 +168,7 @@ impl Loader {
         at: u32,
         count: u32,
     ) -> Result<&[u8], LoaderFault>
-        ensures loaned { IfOk result (λ bytes. HasBorrowed self.now user segment at count bytes.now) }
+        ensures borrowed { IfOk result (λ bytes. HasBorrowed self.now user segment at count bytes.now) }
         ensures refused { IfErr result (λ fault. bytes_refusal self.now.memory.slots (seen_by self.now user) segment at count ≡ Some fault) }
     {
         self.recall_invariant();
@@ -189,7 +189,7 @@ impl Loader {
             → Met RoomRule held state (Bytes user segment at length) (Refused fault) self.now) }
 
         // And so much is true of it over any files.
-        ensures loaned { IfOk result (λ bytes. HasBorrowed self.now user segment at length bytes.now) }
+        ensures borrowed { IfOk result (λ bytes. HasBorrowed self.now user segment at length bytes.now) }
         ensures refused { IfErr result (λ fault. bytes_refusal self.now.memory.slots (seen_by self.now user) segment at length ≡ Some fault) }
     {
         self.borrow_bytes(user, segment, at, length)

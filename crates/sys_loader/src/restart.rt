@@ -182,7 +182,7 @@ impl Loader {
         ensures ok { IfOk result (λ found. CanRestart self.now user (kept found.now)) }
         ensures err { IfErr result (λ fault. restart_refusal (is_attached (kept_outlines self.now.users) user) (seen_by self.now user) ≡ Some fault) }
     {
-        self.unattached(user)?;
+        self.check_unattached(user)?;
         match self.user(user) {
             Some(found) => match found.life {
                 Life::Running => Err(LoaderFault::Running),

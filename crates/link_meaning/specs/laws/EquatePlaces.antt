@@ -232,9 +232,9 @@ apart files list bytes resolved e f is other place at =
     there_in : (list : List Member) → IsPlaceIn list f.place f.member f.definition.place → IsIn list f.member
     there_in list p = subst (λ (l : List Member). IsIn l f.member) (sym p.parts) (following p.front)
       where
-        following : (first_record : List Member) → IsIn (first_record ++ f.member ∷ p.back) f.member
+        following : (front : List Member) → IsIn (front ++ f.member ∷ p.back) f.member
         following [] = inl refl
-        following (o ∷ first_record) = inr (following first_record)
+        following (o ∷ front) = inr (following front)
 
 -- The table of resolved files tells each equate its value, and nothing else does.
 pub table_of_values : TableOfValues

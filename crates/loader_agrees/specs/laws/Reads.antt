@@ -124,17 +124,17 @@ module _ (held : FileMap) (loader : Loaded) (state : Machine) (agrees : Agrees h
   module _ (Makes : MakesRoom) where
     -- the bytes that are borrowed are those of the machine
     pub borrowed_met : (id number at count : ℕ) (bytes : List ℕ) → HasBorrowed loader id number at count bytes → Met Makes held state (Bytes id number at count) (Shown bytes) loader
-    borrowed_met id number at count bytes loaned =
-        let is = loaned.can.is in
-        let whole = stands (setting_with (far_in loader id) id loader.memory.slots is.kept.handles) (held_at (user id number loaned.h is) number).pokes (its_segment id number loaned.h is).0 in
-        let front = begins id number loaned.h is in
-        let shown : bytes ≡ take count (drop at whole) = loaned.is ∙ ap (λ (bs : List ℕ). take count (drop at bs)) front.1
-        ∙ within_front whole front.0 at count (omega (arith, loaned.can.inside, stands_size id number loaned.h is)) in (
+    borrowed_met id number at count bytes borrowed =
+        let is = borrowed.can.is in
+        let whole = stands (setting_with (far_in loader id) id loader.memory.slots is.kept.handles) (held_at (user id number borrowed.h is) number).pokes (its_segment id number borrowed.h is).0 in
+        let front = begins id number borrowed.h is in
+        let shown : bytes ≡ take count (drop at whole) = borrowed.is ∙ ap (λ (bs : List ℕ). take count (drop at bs)) front.1
+        ∙ within_front whole front.0 at count (omega (arith, borrowed.can.inside, stands_size id number borrowed.h is)) in (
           state,
           does held loader state agrees id (λ seen. bytes_refusal state.slots seen number at count) (Shown bytes) state _
-              (ap (λ (t : Slots). bytes_refusal t (seen_by loader id) number at count) (sym agrees.slots) ∙ loaned.can.passes)
-              (user id number loaned.h is) (one id number loaned.h is).made
-              (whole, stands_there id number loaned.h is, ap (λ (bs : List ℕ). Shown bs) shown, refl),
+              (ap (λ (t : Slots). bytes_refusal t (seen_by loader id) number at count) (sym agrees.slots) ∙ borrowed.can.passes)
+              (user id number borrowed.h is) (one id number borrowed.h is).made
+              (whole, stands_there id number borrowed.h is, ap (λ (bs : List ℕ). Shown bs) shown, refl),
           agrees,
         )
 

@@ -149,12 +149,12 @@ some_same : (a b : HeaderFault) → some a ≡ some b → a ≡ b
 some_same a b e = cc
 
 -- no segment stands where a fault is
-no_segment : (at : ℕ) (file : List ℕ) (answer_of_reader : FaultAt) (s : Segment) → HasFault at file answer_of_reader → s.start ≡ at → IsSegment s file → ⊥
-no_segment at file answer_of_reader s (InHeader of is says) start segment =
+no_segment : (at : ℕ) (file : List ℕ) (reported : FaultAt) (s : Segment) → HasFault at file reported → s.start ≡ at → IsSegment s file → ⊥
+no_segment at file reported s (InHeader of is says) start segment =
     let none : header_fault (drop at file) ≡ None = ap (λ (n : ℕ). header_fault (drop n file)) (sym start) ∙ segment.header.passes in
     let clash : some of ≡ None = sym is ∙ none in
     cc
-no_segment at file answer_of_reader s (InRecord f before reader of header run is says) start segment =
+no_segment at file reported s (InRecord f before reader of header run is says) start segment =
     let fields : s.fields ≡ f = segment.header.fields ∙ ap (λ (n : ℕ). fields_of (drop n file)) start ∙ sym header.fields in
     let whole : body_reader s.start s.fields file ≡ body_reader at f file =
     ap (λ (n : ℕ). body_reader n s.fields file) start ∙ ap (λ (g : HeaderFields). body_reader at g file) fields in

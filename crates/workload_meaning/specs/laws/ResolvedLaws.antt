@@ -322,7 +322,7 @@ true_false e = cc
 no_layout_fault : (n : ℕ) (list : List Member) → n ≤ 64 → IsList n list → (before : List LayoutCheck) (check : LayoutCheck) (fault : LinkFault) → HasLayoutFault list before check fault → ⊥
 unfolding load_headers
 no_layout_fault n list few is before Orgs fault has =
-    never_in HasOrgFault list (λ front m reported among all_uses. all_uses.asks (all_in (λ (o : Member). IsOwn n o.segment) list m is.all among).org) fault has
+    never_in HasOrgFault list (λ front m reported among asked. asked.asks (all_in (λ (o : Member). IsOwn n o.segment) list m is.all among).org) fault has
 no_layout_fault n list few is before Count fault has =
     omega (arith, in_range (load_names list) 254 has.load_name has.there, few_names n list is, few)
 no_layout_fault n list few is before Lengths fault has =

@@ -6,4 +6,4 @@ use Rattle.list_lines.proofs.formula.append_capped.Goals as goal
 pub returns : goal.returns
 returns c =
     let room = put_cut 256 c.args.text.now c.args.bytes.now (256 - c.min-left.result) (omega (arith, c.min-left.ensures, ap length c.bytes.ensures)) in
-    on_ok_weaker c.append_capped.result (λ e. ap (take 256) (e ∙ ap (λ (l : List ℕ). c.args.text.now ++ l) c.first_bytes.ensures) ∙ room) c.append_capped.ensures.ok
+    on_ok_weaker c.put.result (λ e. ap (take 256) (e ∙ ap (λ (l : List ℕ). c.args.text.now ++ l) c.first_bytes.ensures) ∙ room) c.put.ensures.ok

@@ -9,11 +9,11 @@ returns-in-Some-clause-runs c = subst (AreRuns c.in-Some.runs.items) c.deref.ens
 
 pub returns-clause-runs : goal.returns-clause-runs
 returns-clause-runs c =
-    let sorted = c.in_ok-sort_by_offset.sort_by_offset in
-    subst (λ (l : List ℕ). AreRuns l sorted.items) (sym c.in_ok-runs-2.ensures) (one_run sorted.items c.len.result (omega (arith, c.len.ensures, sorted.ok)) c.in_ok-sort_by_offset.ensures.rise)
+    let sorted = c.in_ok-sorted.sorted in
+    subst (λ (l : List ℕ). AreRuns l sorted.items) (sym c.in_ok-runs-2.ensures) (one_run sorted.items c.len.result (omega (arith, c.len.ensures, sorted.ok)) c.in_ok-sorted.ensures.rise)
 
 pub returns-clause-last : goal.returns-clause-last
 returns-clause-last c = λ k.
-    c.in_ok-sort_by_offset.ensures.last k
+    c.in_ok-sorted.ensures.last k
     ∙ ap (λ (l : List PatchSpot). last_at (shown_spots l) k) c.deref-2.ensures.value
     ∙ ap (λ (l : List PatchSpot). last_at (shown_spots l) k) c.trim_capacity-spots.ensures

@@ -8,9 +8,9 @@ use Rattle.load_content.proofs.order.sort_by_offset.Goals as goal
 
 pub returns-clause-rise : goal.returns-clause-rise
 returns-clause-rise c =
-    IsNonDecreasingBy-from_sort offset_of c.sort_by_key.new.self.items (c.in_ok-sort_by_key.ensures.sort_by_offset offset_of (answers_always _ _ _ (λ f a r g h. search rules)))
+    IsNonDecreasingBy-from_sort offset_of c.sort_by_key.new.self.items (c.in_ok-sort_by_key.ensures.sorted offset_of (answers_always _ _ _ (λ f a r g h. search rules)))
 
 pub returns-clause-stable : goal.returns-clause-stable
 returns-clause-stable c =
-    subst (λ (l : List PatchSpot). IsStableByKey offset_of nat_cmp l c.sort_by_key.new.self.items) c.in_ok-sort_by_offset.ensures.items
+    subst (λ (l : List PatchSpot). IsStableByKey offset_of nat_cmp l c.sort_by_key.new.self.items) c.in_ok-sorted.ensures.items
     (c.in_ok-sort_by_key.ensures.stable offset_of (answers_always _ _ _ (λ f a r g h. search rules)))

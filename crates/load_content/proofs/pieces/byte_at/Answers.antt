@@ -5,7 +5,7 @@ use Rattle.load_content.proofs.pieces.byte_at.Goals as goal
 
 pub returns-then-count-eq0 : goal.returns-then-count-eq0
 returns-then-count-eq0 c = λ bytes are lt.
-    none_begins c.args.pieces.now bytes c.args.at are lt (λ i p is. c.count_up_to-count.ensures.split.items_after i p (omega (arith, c.if-count-eq0.true)) is)
+    none_begins c.args.pieces.now bytes c.args.at are lt (λ i p is. c.count_up_to-count.ensures.split.following i p (omega (arith, c.if-count-eq0.true)) is)
 
 pub overflow_sub-at : goal.overflow_sub-at
 overflow_sub-at c =
@@ -26,4 +26,4 @@ returns-in-None c = λ bytes are lt.
     let there = get_there c.args.pieces.now place _ (omega (arith, c.count_up_to-count.ensures.bound, c.if-count-eq0.false)) in
     let low = c.count_up_to-count.ensures.split.before place _ (omega (arith, c.if-count-eq0.false)) there in
     uncovered c.args.pieces.now bytes c.args.at place _ are lt there low (sym c.nth.ensures ∙ c.in-None.is)
-    (λ j q after is. c.count_up_to-count.ensures.split.items_after j q (omega (arith, after)) is)
+    (λ j q after is. c.count_up_to-count.ensures.split.following j q (omega (arith, after)) is)

@@ -7,8 +7,8 @@ use Rattle.loader_users.specs.View.{kept}
 use Rattle.sys_loader.proofs.Beginning.{none_left, pushed_more}
 use Rattle.sys_loader.proofs.load.push_all.Goals as goal
 
-pub join_user-init : goal.join_user-init
-join_user-init c =
+pub joined-init : goal.joined-init
+joined-init c =
     let gives = c.into_iter-user-iterator.ensures.into_iter_gives in (
       ap (λ (items : List User). map (option_map kept) c.args.users.now.items ++ map (λ (k : LoadedUser). Some k) (map kept items)) gives.0,
       refl,
@@ -17,24 +17,24 @@ join_user-init c =
     )
 
 pub push_reserved-requires : goal.push_reserved-requires
-push_reserved-requires c = omega (arith, c.join_user.invariant.2, ap length c.in-Some.ensures.steps.0)
+push_reserved-requires c = omega (arith, c.joined.invariant.2, ap length c.in-Some.ensures.steps.0)
 
-pub join_user-preserved : goal.join_user-preserved
-join_user-preserved c =
-    let inv = c.join_user.invariant in
+pub joined-preserved : goal.joined-preserved
+joined-preserved c =
+    let inv = c.joined.invariant in
     let steps = c.in-Some.ensures.steps in (
-      pushed_more c.join_user.users.items c.push_reserved.new.self.items c.join_user.user-iterator.rest.items c.next.new.self.rest.items c.in-Some.user _ c.push_reserved.ensures.items steps.0 inv.0,
+      pushed_more c.joined.users.items c.push_reserved.new.self.items c.joined.user-iterator.rest.items c.next.new.self.rest.items c.in-Some.user _ c.push_reserved.ensures.items steps.0 inv.0,
       c.push_reserved.ensures.capacity ∙ inv.1,
-      omega (arith, inv.2, ap length steps.0, ap length c.push_reserved.ensures.items ∙ length-append c.join_user.users.items (Some c.in-Some.user ∷ []), c.push_reserved.ensures.capacity),
+      omega (arith, inv.2, ap length steps.0, ap length c.push_reserved.ensures.items ∙ length-append c.joined.users.items (Some c.in-Some.user ∷ []), c.push_reserved.ensures.capacity),
       omega (arith, inv.3, steps.1, ap length steps.0),
     )
 
 pub returns-clause-pushed : goal.returns-clause-pushed
 returns-clause-pushed c =
-    let inv = c.join_user.invariant in
-    let none = none_left c.join_user.user-iterator.rest.items (omega (arith, inv.3, c.in-None.ensures.steps.0)) in
-    sym (append-nil (map (option_map kept) c.join_user.users.items))
-    ∙ ap (λ (items : List User). map (option_map kept) c.join_user.users.items ++ map (λ (k : LoadedUser). Some k) (map kept items)) (sym none) ∙ inv.0
+    let inv = c.joined.invariant in
+    let none = none_left c.joined.user-iterator.rest.items (omega (arith, inv.3, c.in-None.ensures.steps.0)) in
+    sym (append-nil (map (option_map kept) c.joined.users.items))
+    ∙ ap (λ (items : List User). map (option_map kept) c.joined.users.items ++ map (λ (k : LoadedUser). Some k) (map kept items)) (sym none) ∙ inv.0
 
 pub returns-clause-room : goal.returns-clause-room
-returns-clause-room c = c.join_user.invariant.1
+returns-clause-room c = c.joined.invariant.1

@@ -8,8 +8,8 @@ slice-requires c = record {
   within = rw c.deref.ensures.value (store_within c.self.inside.places.banks c.self.inside.bytes.items c.self.inside.places.slots c.know_arranged.ensures (vec_capacity c.self.inside.made) c.self.invariant.0 c.args.self.now c.self.view_is c.args.h c.in_ok-part.part c.in_ok-part.ensures.part);
 }
 
-pub returns-clause-loaned : goal.returns-clause-loaned
-returns-clause-loaned c = record {
+pub returns-clause-borrowed : goal.returns-clause-borrowed
+returns-clause-borrowed c = record {
   live = c.in_ok-part.ensures.part.live;
   is = c.slice.ensures ∙ rw c.deref.ensures.value (store_bytes c.self.inside.places.banks c.self.inside.bytes.items c.self.inside.places.slots c.know_arranged.ensures (vec_capacity c.self.inside.made) c.self.invariant.0 c.args.self.now c.self.view_is c.args.h c.in_ok-part.part c.in_ok-part.ensures.part);
 }

@@ -10,12 +10,12 @@ invariant_of-self-2 c =
     let inside = c.self.inside in
     let own = inside.own.items in
     let new = c.own_bytes.new.own.items in
-    let loaned = joined inside.borrowed.items in
+    let borrowed = joined inside.borrowed.items in
     let bytes = ap (λ (h : Holding). h.bytes) c.self.view_is in
     let settled = subst (λ (l : List (Bor (List ℕ))). new ≡ or_borrowed own (joined l) ++ replicate (inside.trailing_zeros + c.args.count) 0) c.as_slice.ensures.value c.in_ok-own_bytes.ensures.ok in (
       c.self.invariant.0,
-      (λ none. absurd (settled_some own new loaned inside.trailing_zeros c.args.count settled c.requires.some none)),
-      settled_patches own new loaned inside.trailing_zeros c.args.count c.args.self.now.bytes c.append_patch.result inside.patches.items c.append_patch.new.patches.items c.args.patch
+      (λ none. absurd (settled_some own new borrowed inside.trailing_zeros c.args.count settled c.requires.some none)),
+      settled_patches own new borrowed inside.trailing_zeros c.args.count c.args.self.now.bytes c.append_patch.result inside.patches.items c.append_patch.new.patches.items c.args.patch
           settled bytes c.requires.inside c.self.invariant.2 c.append_patch.ensures.ok c.append_patch.ensures.err,
       c.self.invariant.3,
       omega arith,

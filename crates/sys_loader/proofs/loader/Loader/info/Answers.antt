@@ -22,4 +22,4 @@ meets loader id number (Ok info) reported refused held state agrees = reported_m
 meets loader id number (Err fault) reported refused held state agrees = reported_refused held loader state agrees RoomRule id number fault refused
 
 pub returns-clause-meets : goal.returns-clause-meets
-returns-clause-meets c = meets c.args.self.now c.args.user c.args.segment c.report_segment.result c.report_segment.ensures.report_segment c.report_segment.ensures.refused
+returns-clause-meets c = meets c.args.self.now c.args.user c.args.segment c.report_segment.result c.report_segment.ensures.reported c.report_segment.ensures.refused

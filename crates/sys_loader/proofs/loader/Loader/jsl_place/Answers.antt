@@ -15,4 +15,4 @@ returns-in_err-address-clause-refused c =
 pub returns-in-None-clause-refused : goal.returns-in-None-clause-refused
 returns-in-None-clause-refused c =
     let jsl = c.in_ok-address.ensures.ok in
-    NoPlace c.in_ok-address.address (record { bytes = c.in_ok-four.four.now; loaned = c.in_ok-four.ensures.borrow_bytes; jsl = jsl.0; address_is = jsl.1 }) c.in-None.ensures refl
+    NoPlace c.in_ok-address.address (record { bytes = c.in_ok-four.four.now; borrowed = c.in_ok-four.ensures.borrow_bytes; jsl = jsl.0; address_is = jsl.1 }) c.in-None.ensures refl

@@ -17,8 +17,8 @@ returns-in_err-found-clause-refused c =
     rw (p.1, p.2) (ap (λ (o : Option LoadedUser). info_refusal (option_map seen_in o) c.args.segment) (sym c.in-Some.ensures)
     ∙ info_stops (seen_in (kept c.in-Some.kept.now)) c.args.segment c.in_err-found.field-0.0 c.in_err-found.ensures.err)
 
-pub returns-clause-report_segment : goal.returns-clause-report_segment
-returns-clause-report_segment c = record {
+pub returns-clause-reported : goal.returns-clause-reported
+returns-clause-reported c = record {
   passes = ap (λ (o : Option LoadedUser). info_refusal (option_map seen_in o) c.args.segment) (sym c.in-Some.ensures)
       ∙ info_passes (seen_in (kept c.in-Some.kept.now)) c.args.segment c.in_ok-found.found.head c.in_ok-found.ensures.ok.2;
   kept = kept c.in-Some.kept.now;
