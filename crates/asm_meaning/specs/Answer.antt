@@ -33,7 +33,7 @@ rank (Noted n) = 11
 rank TooLong = 11
 rank Memory = 11
 
--- of two faults of one statement the one that comes first in this order is told
+-- of two faults of one statement the one that is first in this order is reported
 abbrev pub earlier : AsmCause → AsmCause → AsmCause
 earlier cause other = if nat_lt (rank other) (rank cause) then other else cause
 

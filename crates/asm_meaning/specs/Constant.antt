@@ -11,8 +11,8 @@ Constants = List ℕ → Option ℕ
 
 -- ---- the number that a formula is
 
--- what a formula is worth: a number; none, since the location counter, an attribute or a name that is no known constant
--- stands in it; or a number divided by 0
+-- the value of a formula: a number; none, because it contains the location counter, an attribute or a name that is no known
+-- constant; or a number divided by 0
 pub data KnownValue : Type 0 where
   Number : (n : ℕ) → KnownValue
   Open : KnownValue
@@ -45,7 +45,7 @@ worth_of_two code Divided (Number b) = Divided
 worth_of_two code Divided Open = Open
 worth_of_two code Divided Divided = Divided
 
--- what a formula is worth where these names are known
+-- the value of a formula where these names are known
 unfoldable pub known_value : Constants → Tree → KnownValue
 known_value constants (Leaf term) = worth_of_term constants term
 known_value constants (Unary code a) = worth_of_one code (known_value constants a)

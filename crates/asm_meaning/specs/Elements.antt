@@ -19,7 +19,7 @@ use Rattle.asm_meaning.specs.Pieces.{Piece, Bytes, Whole, copies}
 
 -- ---- elements
 
--- how often an element stands: once, as often as decimal digits say, or as a formula in parentheses says
+-- the repeat count of an element: 1, or what decimal digits or a formula in parentheses say
 pub data Repeat : Type 0 where
   Once : Repeat
   Digits : (n : ℕ) → Repeat
@@ -39,7 +39,7 @@ pub record Element : Type 0 where
 
 -- ---- digits
 
--- the bytes of digits, so many a byte with the first of them highest; missing ones are 0
+-- the bytes of digits, a given number of digits to a byte with the first of them highest; missing ones are 0
 unfoldable pub bytes_of_group_digits : ℕ → ℕ → ℕ → List ℕ → List ℕ
 bytes_of_group_digits base each zero digits = []
 bytes_of_group_digits base each (suc n) digits = digits_value base (take each (digits ++ replicate each ascii.digit_0)) ∷ bytes_of_group_digits base each n (drop each digits)
@@ -62,7 +62,7 @@ bytes_of_digits base each text = packed_digits base each (without_spaces text)
 
 -- ---- values
 
--- the text up to the next `'`, and what stands after that
+-- the text up to the next `'`, and what follows that
 unfoldable pub closed_at : List ℕ → Found (List ℕ)
 closed_at text =
     let n = position_or_len (λ byte. byte == ascii.apostrophe) text in
@@ -72,7 +72,7 @@ abbrev pub with_byte : ℕ → Found (List ℕ) → Found (List ℕ)
 with_byte byte None = None
 with_byte byte (Some (text, rest)) = Some (byte ∷ text, rest)
 
--- the text up to the next `'` behind which no other one stands; two of them are one quote of the text
+-- the text up to the next `'` that no other one follows; two of them are one quote of the text
 unfoldable pub text_at : List ℕ → Found (List ℕ)
 text_at [] = None
 text_at (byte ∷ []) = if byte == ascii.apostrophe then Some ([], []) else None
@@ -80,7 +80,7 @@ text_at (byte ∷ next ∷ following) =
     if byte == ascii.apostrophe then (if next == ascii.apostrophe then with_byte ascii.apostrophe (text_at following) else Some ([], next ∷ following))
     else with_byte byte (text_at (next ∷ following))
 
--- the names, one at least, that commas part in a text
+-- the names, one at least, that commas separate in a text
 abbrev pub AreNames : List ℕ → List (List ℕ) → Type 0
 AreNames text [] = ⊥
 AreNames text (name ∷ []) = name_at text ≡ Some (name, [])
@@ -95,7 +95,7 @@ pub data ElementType : Type 0 where
   References : ElementType
   WeakReferences : ElementType
 
--- the number of bytes behind I and A, which is 2 where none stands there
+-- the number of bytes that is given after I and A, which is 2 where none is given
 abbrev pub width_at : List ℕ → ElementType × List ℕ
 width_at [] = (Number 2, [])
 width_at (digit ∷ following) = if nat_le ascii.digit_1 digit && nat_le digit ascii.digit_4 then (Number (digit - ascii.digit_0), following) else (Number 2, digit ∷ following)
@@ -113,7 +113,7 @@ kind_at (letter ∷ following) =
     else if capital == ascii.capital_s then Some (WeakReferences, following)
     else None
 
--- the value of a type stands at the start, behind its opening quote and with its closing one
+-- the value of a type is at the start, after its opening quote and with its closing one
 abbrev pub IsValueAt : ElementType → List ℕ → ElementValue → List ℕ → Type 0
 IsValueAt (Number width) text value rest =
     (inner : List ℕ) × (trees : List Tree) × (closed_at text ≡ Some (inner, rest)) × AreFormulas inner trees × (value ≡ Numbers width trees)
@@ -127,12 +127,12 @@ IsValueAt References text value rest =
 IsValueAt WeakReferences text value rest =
     (inner : List ℕ) × (names : List (List ℕ)) × (closed_at text ≡ Some (inner, rest)) × AreNames inner names × (value ≡ Weak names)
 
--- what stands after a parenthesis that opens at the start
+-- what follows a parenthesis that opens at the start
 abbrev pub after_parenthesis : List ℕ → Option (List ℕ)
 after_parenthesis [] = None
 after_parenthesis (byte ∷ following) = if byte == ascii.opening_round then Some following else None
 
--- how often an element stands, at the start: a formula in parentheses, decimal digits, or nothing
+-- the repeat count of an element, at the start: a formula in parentheses, decimal digits, or nothing
 abbrev pub IsRepeatBy : Option (List ℕ) → Found ℕ → List ℕ → Repeat → List ℕ → Type 0
 IsRepeatBy (Some following) digits text repeat rest = (tree : Tree) × MeansAt Labels following tree (ascii.closing_round ∷ rest) × (repeat ≡ Computed tree)
 IsRepeatBy None (Some found) text repeat rest = (repeat ≡ Digits found.0) × (rest ≡ found.1)
@@ -141,7 +141,7 @@ IsRepeatBy None None text repeat rest = (repeat ≡ Once) × (rest ≡ text)
 abbrev pub IsRepeatAt : List ℕ → Repeat → List ℕ → Type 0
 IsRepeatAt text repeat rest = IsRepeatBy (after_parenthesis text) (digits_at 10 text) text repeat rest
 
--- an element stands at the start: how often, its type, and its value in quotes
+-- an element is at the start: its repeat count, its type, and its value in quotes
 pub record IsElementAt (text : List ℕ) (element : Element) (rest : List ℕ) : Type 0 where
   pub after_repeat : List ℕ
   pub kind : ElementType
@@ -150,7 +150,7 @@ pub record IsElementAt (text : List ℕ) (element : Element) (rest : List ℕ) :
   pub of_kind : kind_at after_repeat ≡ Some (kind, ascii.apostrophe ∷ after_quote)
   pub value : IsValueAt kind after_quote element.value rest
 
--- the elements, one at least, that commas part in an operand
+-- the elements, one at least, that commas separate in an operand
 abbrev pub AreElements : List ℕ → List Element → Type 0
 AreElements text [] = ⊥
 AreElements text (element ∷ []) = IsElementAt text element []
@@ -168,7 +168,7 @@ count_of constants Once = Ok 1
 count_of constants (Digits n) = if nat_le (2 ^ 32) n then Err BadNumber else in_range n
 count_of constants (Computed tree) = number_of constants tree >>= in_range
 
--- a number of a given number of bytes, of which a constant is cut to them, and EXPR ($EB) stands for another
+-- a number of a given number of bytes: a constant is cut to them, and EXPR ($EB) represents any other
 abbrev pub number_piece : ℕ → Amount → Piece
 number_piece width (Known n) = Bytes (little_bytes width n)
 number_piece width (Written tree) = Whole (Formula 0xEB width 0 (expression_text tree))
@@ -194,7 +194,7 @@ value_pieces constants msb (Text bytes) = Ok (Bytes (map (text_byte msb) bytes) 
 value_pieces constants msb (Asked names) = Ok (map strong_piece names)
 value_pieces constants msb (Weak names) = Ok (map weak_piece names)
 
--- what an element gives: its value so often
+-- what an element gives: its value, repeated by its count
 unfoldable pub element_pieces : Constants → Bool → Element → Answer (List Piece)
 element_pieces constants msb element =
     pair_or_earlier_fault (count_of constants element.repeat) (value_pieces constants msb element.value) >>= λ found. Ok (copies found.0 found.1)

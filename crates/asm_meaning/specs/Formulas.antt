@@ -14,7 +14,7 @@ abbrev pub IsFormula : List ℕ → Option Tree → Type 0
 IsFormula text None = (tree : Tree) → MeansAt Labels text tree [] → ⊥
 IsFormula text (Some tree) = MeansAt Labels text tree []
 
--- the formulas, one at least, that commas part in a text
+-- the formulas, one at least, that commas separate in a text
 abbrev pub AreFormulas : List ℕ → List Tree → Type 0
 AreFormulas text [] = ⊥
 AreFormulas text (tree ∷ []) = MeansAt Labels text tree []
@@ -24,7 +24,7 @@ AreFormulas text (tree ∷ next ∷ trees) = (following : List ℕ) × MeansAt L
 unfoldable pub checked_formula : Tree → Answer Tree
 checked_formula tree = if nat_lt 64 (pending 1 tree) then Err BadOperand else if has_large tree then Err BadNumber else Ok tree
 
--- the formula that stands there
+-- the formula that was found
 abbrev pub formula_of : Option Tree → Answer Tree
 formula_of None = Err BadOperand
 formula_of (Some tree) = checked_formula tree

@@ -98,7 +98,7 @@ abbrev pub is_value : OperandKind → Bool
 is_value Value = true
 is_value _ = false
 
--- A prefix of an address asks for one of one byte (`<`), two (`|`, `!`) or three (`>`). Behind `#` it says which part of a
+-- A prefix of an address asks for one of one byte (`<`), two (`|`, `!`) or three (`>`). After `#` it says which part of a
 -- value is meant.
 abbrev pub is_asked : Prefix → OperandKind → Bool
 is_asked Bare kind = true
@@ -177,7 +177,7 @@ abbrev pub address_code : Mnemonic → ℕ → ℕ
 address_code mnemonic bytes =
     if bytes == 1 then 0xEC else if bytes == 2 then 0xED else if is_long_jump mnemonic then 0xF3 else 0xEB
 
--- The record of an operand of a given number of bytes: ZEXPR of an address of one byte, BEXPR of two, LEXPR of three behind JSL and
+-- The record of an operand of a given number of bytes: ZEXPR of an address of one byte, BEXPR of two, LEXPR of three after JSL and
 -- JML; RELEXPR of a distance, which is counted from its own end; EXPR of all others.
 abbrev pub operand_record : Mnemonic → OperandKind → ℕ → Tree → Record
 operand_record mnemonic Missing width tree = Formula 0xEB width 0 (expression_text tree)
@@ -204,7 +204,7 @@ abbrev pub with_number : Mnemonic → Mode → Prefix → ℕ → ℕ → List P
 with_number mnemonic mode prefix width n =
     Bytes (opcode_in mnemonic mode ∷ little_bytes width (n / 2 ^ shift_in (kind_of mode) prefix)) ∷ []
 
--- the opcode, and the record of an operand that stands one byte behind the instruction's start
+-- the opcode, and the record of an operand that lies one byte after the instruction's start
 abbrev pub with_tree : Mnemonic → Mode → Prefix → ℕ → Tree → List Piece
 with_tree mnemonic mode prefix width tree =
     Bytes (opcode_in mnemonic mode ∷ [])
@@ -235,11 +235,11 @@ abbrev pub bank : Amount → Answer Amount
 bank (Known n) = if nat_lt n 256 then Ok (Known n) else Err DoesNotFit
 bank (Written tree) = Ok (Written tree)
 
--- a bank that stands so many bytes after the instruction's start
+-- a bank that lies a given number of bytes after the instruction's start
 abbrev pub bank_record : ℕ → Amount → Record
 bank_record back a = Formula 0xEB 1 0 (expression_text (with_location_less back (tree_of_amount a)))
 
--- the bank of the destination stands first, and is written second in the source
+-- the bank of the destination is stored first, and is written second in the source
 abbrev pub banks_written : ℕ → Amount → Amount → List Piece
 banks_written opcode (Known source) (Known destination) = Bytes (opcode ∷ destination ∷ source ∷ []) ∷ []
 banks_written opcode (Known source) (Written destination) =

@@ -1,4 +1,4 @@
--- Where labels stand: a label's place is the sum of the lengths of the statements before it, and the linker takes it from there.
+-- Where labels are: a label's place is the sum of the lengths of the statements before it, and the linker takes it from there.
 use Rattle.std.proofs.Common.{◌≡◌, ◌≢◌, ℕ, ◌+◌, true, false, List, [], ◌∷◌, ◌++◌, length, map, Some, Ok}
 use Rattle.std.specs.Prelude.{slice_get, sum}
 use Rattle.std.specs.List.{AllByRecursion}
@@ -21,12 +21,12 @@ use Rattle.asm_meaning.specs.Object.{AreSteps}
 abbrev pub LengthsAdd : Type 0
 LengthsAdd = (label : List ℕ) (form : ℕ) (contents : List Record) (s : StartedSegment) → cells_of (with_local_record label form contents s) ≡ cells_of s + length_at (cells_of s) contents
 
--- a statement's LOCAL stands before its records, where the cells of the statements before it end
+-- a statement's LOCAL is before its records, where the cells of the statements before it end
 abbrev pub LocalStandsBefore : Type 0
 LocalStandsBefore = (byte : ℕ) (label : List ℕ) (form : ℕ) (contents : List Record) (s : StartedSegment)
     → (with_local_record (byte ∷ label) form contents s).body ≡ s.body ++ (local_of (byte ∷ label) form (length_at (cells_of s) contents) ++ contents)
 
--- in a segment with these records the linker finds the record behind others at the place where their cells end
+-- in a segment with these records the linker finds the record after others at the place where their cells end
 abbrev pub LinkerSeesPlace : Type 0
 LinkerSeesPlace = (s : format.Segment) (before following : List Record) (r : Record) → map (λ found. found.1) s.records ≡ before ++ r ∷ following
     → (l : Located) × (slice_get (records_with_offsets s) (length before) ≡ Some l) × (l.content ≡ r) × (l.location ≡ place_after 0 before)
@@ -63,8 +63,8 @@ AreWithin state s _ _ last t = ⊥
 abbrev pub HaveNoEnd : List Line → Type 0
 HaveNoEnd lines = AllByRecursion (λ line. operation_of (part line.text line.fields.operation) ≢ Some (Direct directives.End)) lines
 
--- Of a source's lines without a fault, behind the line that begins a segment and up to its END: the place at which a statement
--- begins, where its label stands, is the sum of the lengths of the statements before it in the segment.
+-- Of a source's lines without a fault, after the line that begins a segment and up to its END: the place at which a statement
+-- begins, where its label is, is the sum of the lengths of the statements before it in the segment.
 abbrev pub PlaceIsSum : Type 0
 PlaceIsSum = (before lines : List Line) (opening : Line) (class : Class) (last : State) → AreSteps start (before ++ opening ∷ lines) last
     → operation_of (part opening.text opening.fields.operation) ≡ Some (Direct (directives.Begin class)) → HaveNoEnd lines

@@ -72,7 +72,7 @@ cause_of macros.TooNested = TooNested
 cause_of (macros.Noted n) = Noted n
 cause_of macros.Memory = Memory
 
--- a line with a fault, behind lines that have none
+-- a line with a fault, after lines that have none
 pub record HasBadLine (source : List ℕ) (macros : List (List ℕ)) (line : Line) (cause : AsmCause) : Type 0 where
   pub before : List Line
   pub following : List Line
@@ -93,7 +93,7 @@ pub data IsFirstFault (source : List ℕ) (macros : List (List ℕ)) (fault : As
   InLength : (last : State) → HasLines source macros last → last.segment ≡ None → most_bytes < length (object_text last.ended)
       → fault ≡ record { cause = TooLong; file = 0; line = 0 } → IsFirstFault source macros fault
 
--- want of memory has no line; any other fault is the first
+-- an allocation failure has no line; any other fault is the first
 pub data IsAsmFault (source : List ℕ) (macros : List (List ℕ)) (fault : AsmFault) : Type 0 where
   OutOfMemory : fault ≡ record { cause = Memory; file = 0; line = 0 } → IsAsmFault source macros fault
   First : IsFirstFault source macros fault → IsAsmFault source macros fault

@@ -1,5 +1,5 @@
 -- The object is a file: its segments have the headers and the records that the lines leave, LENGTH is the number of cells, and
--- the linker takes the place of a label from where its LOCAL or GLOBAL stands.
+-- the linker takes the place of a label from where its LOCAL or GLOBAL is.
 use Rattle.std.proofs.Common.{◌≡◌, ℕ, ◌≤◌, List, [], ◌∷◌, length, map}
 use Rattle.omf_format.specs.Header.{written_fields}
 use Rattle.omf_format.specs.File as format

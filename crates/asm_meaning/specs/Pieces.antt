@@ -15,7 +15,7 @@ constant_records [] = []
 constant_records (byte ∷ bytes) =
     (if nat_le (length (byte ∷ bytes)) 223 then Const (byte ∷ bytes) else LongConst (byte ∷ bytes)) ∷ []
 
--- the records of pieces behind constant bytes that have no record yet
+-- the records of pieces after constant bytes that have no record yet
 unfoldable pub records_after : List ℕ → List Piece → List Record
 records_after bytes [] = constant_records bytes
 records_after bytes (Bytes more ∷ pieces) = records_after (bytes ++ more) pieces
@@ -24,14 +24,14 @@ records_after bytes (Whole content ∷ pieces) = constant_records bytes ++ conte
 abbrev pub records_of : List Piece → List Record
 records_of pieces = records_after [] pieces
 
--- pieces so often
+-- pieces, repeated a given number of times
 abbrev pub copies : ℕ → List Piece → List Piece
 copies zero pieces = []
 copies (suc n) pieces = pieces ++ copies n pieces
 
 -- ---- cells
 
--- the place behind these records, where the first stands at this place of its segment
+-- the place after these records, where the first is at this place of its segment
 unfoldable pub place_after : ℕ → List Record → ℕ
 place_after at [] = at
 place_after at (content ∷ contents) = place_after (at + size_at at content) contents

@@ -35,7 +35,7 @@ pub record FinishedSegment : Type 0 where
   pub body : List Record
 
 -- The widths, whether MSB is on, the constants of GEQU outside segments, what waits for the next segment (ORG, ALIGN, and the
--- records at its front), the segment that is open, and those that have ended.
+-- records at its start), the segment that is open, and those that have ended.
 pub record State : Type 0 where
   pub widths : Widths
   pub msb : Bool
@@ -140,17 +140,17 @@ abbrev pub with_label : List ℕ → Option ℕ → Names → Names
 with_label [] value names = names
 with_label (byte ∷ label) value names = with_name (byte ∷ label) value names
 
--- LOCAL for a label: its length is that of the statement, as far as two bytes hold it, its type tells instructions ($4D)
+-- LOCAL for a label: its length is that of the statement, as far as two bytes hold it, its type distinguishes instructions ($4D)
 -- from other statements ($4E), and it isn't private
 abbrev pub local_of : List ℕ → ℕ → ℕ → List Record
 local_of [] form size = []
 local_of (byte ∷ label) form size = Label false (byte ∷ label) (min size 0xFFFF) form 0 ∷ []
 
--- a statement's records are at the end of the segment, behind these for its label, which becomes one of its names
+-- a statement's records are at the end of the segment, after these for its label, which becomes one of its names
 abbrev pub with_records : List ℕ → Option ℕ → List Record → List Record → StartedSegment → StartedSegment
 with_records label value front contents s = record s { names = with_label label value s.names; body = s.body ++ (front ++ contents) }
 
--- the same with LOCAL for its label
+-- a statement's records are at the end of the segment, after LOCAL for its label
 abbrev pub with_local_record : List ℕ → ℕ → List Record → StartedSegment → StartedSegment
 with_local_record label form contents s = with_records label None (local_of label form (length_at (cells_of s) contents)) contents s
 

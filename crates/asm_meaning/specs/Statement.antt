@@ -30,7 +30,7 @@ use Rattle.asm_meaning.specs.State.{StartedSegment, State, state_after_start, st
 
 -- ---- inside and outside of segments
 
--- `*+` at the start, with which ORG moves the location counter, and what stands after it
+-- what follows `*+` at the start, with which ORG moves the location counter
 abbrev pub following_here : List ℕ → Option (List ℕ)
 following_here [] = None
 following_here (byte ∷ []) = None
@@ -44,7 +44,7 @@ abbrev pub is_labelled : List ℕ → Bool
 is_labelled [] = false
 is_labelled (byte ∷ label) = true
 
--- Which statements may not stand outside segments: those that give something to a segment, and those with a label that isn't
+-- Which statements must not be outside segments: those that give something to a segment, and those with a label that isn't
 -- the name of a segment or of a GEQU.
 abbrev pub needs_segment : Operation → List ℕ → List ℕ → Bool
 needs_segment (Instruct mnemonic) label operand = true
@@ -67,7 +67,7 @@ abbrev pub begins_segment : Operation → Bool
 begins_segment (Direct (directives.Begin class)) = true
 begins_segment _ = false
 
--- a statement stands on the wrong side
+-- a statement is outside segments and needs one, or is inside one and begins another
 abbrev pub is_misplaced : Option StartedSegment → Operation → List ℕ → List ℕ → Bool
 is_misplaced None operation label operand = needs_segment operation label operand
 is_misplaced (Some s) operation label operand = begins_segment operation
@@ -188,7 +188,7 @@ equating state global label found =
     pair_or_earlier_fault label (formula_of found >>= amount (constants_of state))
     >>= λ (name, a). Ok (in_segment (with_equate global name a) state)
 
--- outside segments GEQU is a constant, and waits for the front of the next segment
+-- outside segments GEQU is a constant, and waits for the start of the next segment
 abbrev pub equating_outside : State → Answer (List ℕ) → Option Tree → Answer State
 equating_outside state label found =
     pair_or_earlier_fault label (number_in state found)

@@ -3,7 +3,7 @@
 /// What is wrong with a line, or with the whole.
 #[derive(Clone, Copy, PartialEq, Eq, Debug)]
 pub enum AsmCause {
-    /// The line has more than 255 bytes, as it stands or with the texts of its symbols.
+    /// The line has more than 255 bytes, as it is written or with the texts of its symbols.
     LineTooLong,
     /// It is the 65,537th line of a file, or its visit is the 1,000,001st.
     TooManyLines,
@@ -26,7 +26,7 @@ pub enum AsmCause {
     Noted(u32),
     /// An operation that is none.
     UnknownOperation,
-    /// A statement that belongs inside a segment stands outside, or the other way round.
+    /// A statement that belongs inside a segment is outside, or the other way round.
     OutsideSegment,
     /// A label that is no name, or one that is missing.
     BadLabel,
@@ -48,7 +48,7 @@ pub enum AsmCause {
     SegmentTooLong,
     /// The object would exceed 16,777,216 bytes.
     TooLong,
-    /// Memory ran out.
+    /// Out of memory.
     Memory,
 }
 
@@ -56,8 +56,8 @@ pub enum AsmCause {
 #[derive(Clone, Copy, PartialEq, Eq, Debug)]
 pub struct AsmFault {
     pub cause: AsmCause,
-    /// The line's file: 0 is the source, and macro files count from 1. 0 where the object is too long or memory ran out.
+    /// The line's file: 0 is the source, and macro files count from 1. 0 where the object is too long, or when out of memory.
     pub file: u32,
-    /// The line's number, from 1. 0 where the object is too long or memory ran out.
+    /// The line's number, from 1. 0 where the object is too long, or when out of memory.
     pub line: u32,
 }

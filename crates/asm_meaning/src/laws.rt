@@ -19,7 +19,7 @@ pub fn objects_are_files()
     ensures { ObjectIsFile }
 {}
 
-/// A label's LOCAL stands before the records of its statement, where the cells of the statements before it end, and each
+/// A label's LOCAL is before the records of its statement, where the cells of the statements before it end, and each
 /// statement moves that place by its length; ENTRY, EQU and GEQU have none. So a label's place is the sum of the lengths of the
 /// statements before it in its segment. The linker finds a label at the place where the records before it end.
 pub fn labels_stand_at_their_places()

@@ -46,7 +46,7 @@ static PLAIN: [u8; 66] = [
     0x20, 0x20, 1, 0x41, 3, 0xA9, 1, 0x60, 0xF1, 5, 0, 0, 0, 0,
 ];
 
-/// The dictionary of the file `a`, which is that: its only row stands at $51, and says that A starts at $65.
+/// The dictionary of the file `a`, which is that file: its only row lies at $51, and says that A starts at $65.
 static ONE_ROW: [u8; 101] = [
     0x65, 0, 0, 0, 0, 0, 0, 0, 0x14, 0, 0, 0, 0, 0, 4, 2, 0, 0, 0, 0, 8, 0, 0, 0, 0, 0, 0, 0, 0, 0,
     0, 0, 0, 0, 1, 0, 0, 0, 0, 0, 0x2C, 0, 0x41, 0, 0x20, 0x20, 0x20, 0x20, 0x20, 0x20, 0x20, 0x20,
@@ -100,7 +100,7 @@ fn fault_of(alloc: Global, from: usize, to: usize, changes: &[(usize, u8)]) -> O
     }
 }
 
-/// The rows of that library: name, file, whether it is private, and where the segment starts; and none behind them.
+/// The rows of that library: name, file, whether it is private, and where the segment starts; and no row after them.
 static ROWS: [Option<Row<'static>>; 8] = [
     Some(Row {
         name: b"MAIN",
@@ -181,7 +181,7 @@ static FALSE: [(usize, usize, &[(usize, u8)], Option<DictFault>); 28] = [
     (0, 465, &[(128, 0)], Some(DictFault::BadLibrary(122))),
     (0, 465, &[(128, 2)], None),
     (0, 465, &[(128, 0), (129, 1)], None),
-    // Of two false rows the first is told.
+    // Of two false rows the first is reported.
     (
         0,
         465,
@@ -193,7 +193,7 @@ static FALSE: [(usize, usize, &[(usize, u8)], Option<DictFault>); 28] = [
     (0, 465, &[(72, 0x40)], Some(DictFault::BadLibrary(0))),
     (0, 465, &[(170, 0x18)], Some(DictFault::BadLibrary(0))),
     (0, 465, &[(193, 2)], Some(DictFault::BadLibrary(0))),
-    // No 0 behind the files, a row of 11 bytes, a fourth LCONST, and one record fewer: the dictionary is to blame.
+    // No 0 after the files, a row of 11 bytes, a fourth LCONST, and one record fewer: the dictionary is to blame.
     (0, 465, &[(79, 3)], Some(DictFault::BadLibrary(0))),
     (
         0,
@@ -219,7 +219,7 @@ static FALSE: [(usize, usize, &[(usize, u8)], Option<DictFault>); 28] = [
     (0, 465, &[(181, 0x4C)], Some(DictFault::BadLibrary(98))),
     (0, 465, &[(181, 0x45)], Some(DictFault::BadLibrary(98))),
     (0, 465, &[(181, 0x5A)], Some(DictFault::BadLibrary(98))),
-    // A segment behind the dictionary that is a dictionary too: its first row is to blame.
+    // A segment after the dictionary that is a dictionary too: its first row is to blame.
     (0, 465, &[(383, 8)], Some(DictFault::BadLibrary(134))),
     // LENGTH isn't looked at.
     (0, 465, &[(8, 0)], None),
@@ -299,7 +299,7 @@ fn alone(alloc: Global, a: &[u8]) -> Result<Result<Vec<u8>, LibFault>, NameFault
     Ok(made_of(alloc, first)?)
 }
 
-/// Whether a library is made of these bytes, or the fault that is told.
+/// Whether a library is made of these bytes, or the fault that is reported.
 fn is_made(
     made: Result<Result<Vec<u8>, LibFault>, NameFault>,
     bytes: &[u8],

@@ -156,7 +156,7 @@ fn written(alloc: Global, term: &Term) -> Result<Vec<u8>, ExprPutFault>
     Ok(text)
 }
 
-/// So many constants 1, and then so many additions, the last ones of them these bytes.
+/// 64 constants 1, then a given number of additions, and then these bytes.
 fn sum_of(alloc: Global, additions: u32, last: &[u8]) -> Result<Vec<u8>, Fail> {
     let constant = written(alloc, &Term::Constant(1))?;
     let addition = written(alloc, &Term::Operator(0x01))?;
@@ -179,7 +179,7 @@ fn is_all(text: &[u8]) -> bool {
     }
 }
 
-/// What is told of 64 constants, so many additions and these bytes, and whether they are one expression.
+/// What is reported of 64 constants, a given number of additions and these bytes, and whether they are one expression.
 fn reported_of_sum(alloc: Global, additions: u32, last: &[u8]) -> Result<(Reported, bool), Fail> {
     let text = sum_of(alloc, additions, last)?;
     Ok((value_of(&text, 0), is_all(&text)))

@@ -1,4 +1,4 @@
-// Headers: the first check that holds is the one that is told, and what is written is read.
+// Headers: the first check that holds is the one that is reported, and what is written is read.
 ghost use Rattle.std.specs.Prelude.{IfOk};
 ghost use Rattle.omf_format.specs.Header.{IsWritable};
 ghost use Rattle.omf_header.specs.View.{fields};
@@ -64,10 +64,10 @@ fn the_first_check_is_reported(rt: HostRuntime) {
     }
 }
 
-/// What is told of a header: whether it has the name, the alignment, and whether it stays in a bank.
+/// What is reported of a header: whether it has the name, the alignment, and whether it stays in a bank.
 type Reported = (bool, u32, bool);
 
-/// Bytes of that header that are changed, the name, and what is told.
+/// Bytes of that header that are changed, the name, and what is reported.
 static CHANGED: [(&[(usize, u8)], &[u8], Reported); 8] = [
     // With LABLEN 2 the name is the two bytes after the load name, here `A` and a space.
     (
@@ -110,7 +110,7 @@ static CHANGED: [(&[(usize, u8)], &[u8], Reported); 8] = [
     (&[(0x12, 0)], b"A", (true, 0x10000, false)),
 ];
 
-/// What is told of that header with bytes changed; and ORG, SEGNUM and ENTRY, where it has the load name.
+/// What is reported of that header with bytes changed; and ORG, SEGNUM and ENTRY, where it has the load name.
 fn reported(
     alloc: Global,
     changes: &[(usize, u8)],
@@ -212,7 +212,7 @@ fn made(alloc: Global) -> Result<Header, NameFault>
     })
 }
 
-/// Whether the header that is written in front of a body of a given number of bytes is the one that was read.
+/// Whether the header that is written before a body of a given number of bytes is the one that was read.
 fn written(alloc: Global, body: u32) -> Result<Result<bool, WriteHeaderFault>, NameFault> {
     let header = made(alloc)?;
     match write_header(alloc, &header, body) {
@@ -221,7 +221,7 @@ fn written(alloc: Global, body: u32) -> Result<Result<bool, WriteHeaderFault>, N
     }
 }
 
-/// Lengths of a body, and whether the header in front of it is that one. A segment above the limit is too long.
+/// Lengths of a body, and whether the header before it is that one. A segment above the limit is too long.
 static WRITTEN: [(u32, Result<bool, WriteHeaderFault>); 4] = [
     (1, Ok(true)),
     (16_777_216 - 56, Ok(false)),

@@ -27,10 +27,10 @@ static TWO_BYTES: [u8; 40] = [
     0, 0, 0, 0, 0, 0, 0, 0, // before the entries
     0, 0, 1, 0, 3, 0, 0x34, 0x12, 0, 0, 0x22, 0x00, 0xF0, 0xE1, // the first
     0, 0, 1, 0, 2, 1, 0xEF, 0xCD, 0xAB, 0x89, 0x22, 0x00, 0xF0, 0xE1, // the second
-    0, 0, 0, 0, // behind them
+    0, 0, 0, 0, // after them
 ];
 
-/// Behind 4,680 targets, the last of which went to 65524, one more has no place; those that are there keep theirs.
+/// After 4,680 targets, the last of which went to 65524, one more has no place; those that are there keep theirs.
 static FULL: [(u16, u32, Result<u32, TableFault>); 4] = [
     (2, 4679, Ok(65524)),
     (2, 4680, Err(TableFault::TooMany)),
@@ -122,7 +122,7 @@ static ENTRIES: [(&[u8], usize, Option<Entry>); 12] = [
             loaded: Some(0x02_1234),
         }),
     ),
-    // An entry alone, one byte on, far behind it, one byte too short, and no byte.
+    // An entry alone, one byte on, far past it, one byte too short, and no byte.
     (
         &[0, 0, 1, 0, 3, 0, 0, 0, 0, 0, 0x22, 0x00, 0xF0, 0xE1],
         0,

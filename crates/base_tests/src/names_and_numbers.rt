@@ -24,7 +24,7 @@ enum Piece {
     Text(&'static str),
     Bytes(&'static [u8]),
     Dec(u32),
-    /// A number in hexadecimal digits, at least so many.
+    /// A number in hexadecimal digits, and the least number of digits.
     Hex(u32, u32),
 }
 
@@ -86,7 +86,7 @@ fn names_and_lines_have_their_bytes(rt: HostRuntime) {
     }
 }
 
-/// Bytes, a place, a width, and the number that stands there, its lowest byte first.
+/// Bytes, a place, a width, and the number that is stored there, its lowest byte first.
 static NUMBERS: [(&[u8], usize, usize, Option<u32>); 10] = [
     (&[1, 2], 1, 2, None),
     (&[1, 2], 0, 2, Some(513)),

@@ -11,7 +11,7 @@ static ONE: [u8; 64] = [
     0x20, 0x20, 0, 0xF2, 3, 0, 0, 0, 0xA9, 0x01, 0x60, 0,
 ];
 
-/// A segment, and the cells of its data, with none behind them.
+/// A segment, and the cells of its data, with none after them.
 static CELLS: [(u32, &[Seen]); 3] = [
     (
         1,

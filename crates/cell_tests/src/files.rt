@@ -57,7 +57,7 @@ pub(crate) fn body_of_patches(alloc: Global, patches: &[u8]) -> Result<Vec<u8>, 
     Ok(body)
 }
 
-/// The file, whose size is that of a file; nothing is told where it isn't.
+/// The file, whose size is that of a file; no fault is reported where it isn't.
 pub(crate) fn read(alloc: Global, file: &[u8]) -> Result<LoadFile<'_>, Option<LoadFault>> {
     if file.len() > 0x100_0000 {
         return Err(None);

@@ -4,7 +4,7 @@ use crate::asserting::same;
 use omf_cells::{Places, PlacesFault};
 use std::alloc::Global;
 
-/// What stands at places 0 to 3 of places for two segments, before and after the second one is set.
+/// What places 0 to 3 of places for two segments hold, before and after the second one is set.
 fn seen(alloc: Global) -> Result<[[Option<u32>; 4]; 2], PlacesFault> {
     let mut places = Places::new(alloc, 2)?;
     let before = all_of(&places);

@@ -76,7 +76,7 @@ static FLAWS: [(usize, u8, Option<Fault>); 29] = [
     (DATA + 24, 0x00, Some((LoadCause::BadTable, 1, 24))),
     (DATA + 11, 0x21, None),
     (DATA + 12, 0x7E, None),
-    // No row follows the last one, and the number that ends the rows stands there whole.
+    // No row follows the last one, and the number that ends the rows is there whole.
     (DATA + 25, 1, Some((LoadCause::BadTable, 1, 25))),
     (DATA + 25, 4, Some((LoadCause::BadTable, 1, 27))),
     // Dynamic, skipped, and another LENGTH.
@@ -255,7 +255,7 @@ static KINDS: [([u8; 2], [u8; 2], Option<Fault>); 4] = [
         [0x00, 0x00],
         Some((LoadCause::NotLoadFile, 1, 0)),
     ),
-    // Phase 3 comes first: a name is at a place of a skipped segment.
+    // A fault of phase 3 is reported first: a name is at a place of a skipped segment.
     (
         [0x00, 0x00],
         [0x00, 0x82],

@@ -26,7 +26,7 @@ fn is_inside(patch: &Patch, from: usize, size: usize) -> bool
     from <= patch.at as usize && end <= size
 }
 
-/// The patches rise, don't overlap and lie inside so many bytes.
+/// The patches rise, don't overlap and lie inside `size` bytes.
 fn are_written(patches: &[Patch], size: usize) -> bool
     requires { size ≤ 0xFFFFFF }
     ensures { OnTrue result (AreWritten size 0 (map seen patches.now)) }
@@ -64,7 +64,7 @@ fn written(
     body_of(alloc, own, content, patches)
 }
 
-/// The bytes behind a place.
+/// The bytes from a place on.
 fn following(bytes: &[u8], at: usize) -> &[u8] {
     match bytes.get(at..) {
         Some(rest) => rest,
@@ -215,7 +215,7 @@ fn supers(alloc: Global) -> Result<Vec<u8>, AllocError> {
     Ok(out)
 }
 
-/// Whether one SUPER of each type stands after the data of a body with these patches, and how many zeros are left out.
+/// Whether one SUPER of each type follows the data of a body with these patches, and how many zeros are left out.
 fn records_of_types(alloc: Global) -> Result<(bool, u32), BodyFault> {
     let patches = patches_of_types(alloc)?;
     let body = written(alloc, 20, &[0; 56], &patches)?;
@@ -223,19 +223,18 @@ fn records_of_types(alloc: Global) -> Result<(bool, u32), BodyFault> {
     Ok((following(&body.bytes, 61) == wanted.as_slice(), body.zeros))
 }
 
-/// Whether this stands after the type in the SUPER of two locations of own references, in the first page and behind a gap of
-/// pages.
+/// Whether these bytes follow the type in the SUPER of two locations of own references, in the first page and after a gap of pages.
 fn is_gap(alloc: Global, pages: u32, want: &[u8]) -> Result<bool, BodyFault> {
     let content = vec![in alloc; 0u8; 0x10000]?;
     let second = pages.wrapping_add(1).wrapping_mul(256);
     let patches = patches_of(alloc, &[(0, 2, 0, 7, 0), (second, 2, 0, 7, 0)])?;
     let body = written(alloc, 7, &content, &patches)?;
-    // behind the code, the length and the data of LCONST, and the code, the length and the type of SUPER
+    // after the code, the length and the data of LCONST, and the code, the length and the type of SUPER
     let at = usize::wrapping_sub(0x10000 + 5 + 6, body.zeros as usize);
     Ok(following(&body.bytes, at) == want)
 }
 
-/// Gaps of pages, and what stands there.
+/// Gaps of pages, and the bytes that follow the type.
 static GAPS: [(u32, &[u8]); 6] = [
     (0, &[0, 0, 0, 0]),
     (1, &[0, 0, 0x81, 0, 0]),

@@ -1,4 +1,4 @@
-//! What is wrong with a load file is told as such.
+//! What is wrong with a load file is reported as such.
 
 use crate::asserting::same;
 use crate::files::{add, fault, one};

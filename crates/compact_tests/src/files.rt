@@ -53,7 +53,7 @@ pub(crate) fn one(
     Ok(file)
 }
 
-/// The canonical form of a file, whose size is that of a file; nothing is told where it isn't.
+/// The canonical form of a file, whose size is that of a file; no fault is reported where it isn't.
 pub(crate) fn reported(alloc: Global, file: &[u8]) -> Result<Vec<u8>, Option<CompactFault>> {
     if file.len() > 0x100_0000 {
         return Err(None);

@@ -89,12 +89,12 @@ static TWO: [u8; 16] = [
     0xF1, 0, 3, 0, 0, 0xF7, 5, 0, 0, 0, 0, 0x82, 1, 0xFD, 0xFE, 0,
 ];
 
-/// What stands after its data.
+/// What follows its data.
 static AFTER: [u8; 17] = [
     0xF5, 1, 0, 0xFD, 2, 0, 0, 0xF7, 4, 0, 0, 0, 0, 0x82, 0, 0xFE, 0,
 ];
 
-/// The records of $300 zeros, and these behind them.
+/// The record of `size` zeros, and these bytes after it.
 fn long_body(alloc: Global, size: u16, following: &[u8]) -> Result<Vec<u8>, AllocError> {
     let mut body = Vec::new(alloc);
     body.extend_from_slice(&[0xF2, 0, 0, 0, 0])?;
@@ -114,7 +114,7 @@ fn a_shared_byte_in_the_third_page(rt: HostRuntime) -> Result<(), Fail> {
     Ok(())
 }
 
-/// A file of one segment whose data are so many zeros, and a byte.
+/// A file of one segment whose data are `zeros` zeros, and a byte.
 fn spaced(alloc: Global, zeros: u32) -> Result<Vec<u8>, AllocError> {
     let mut body = Vec::new(alloc);
     body.push(0xF1)?;

@@ -1,4 +1,4 @@
--- Ranks and searches tell which vertices lead back to themselves.
+-- Ranks and searches show which vertices lead back to themselves.
 use Rattle.std.proofs.Common.{◌≡◌, ◌⊎◌, inl, inr, ℕ, zero, suc, ◌+◌, ◌≤◌, ◌<◌, Bool, true, false, List, [], ◌∷◌, ◌++◌, length, Some, refl, sym, ap, subst, ◌∙◌, arith}
 use Rattle.std.specs.Prelude.{slice_get, slice_set}
 use Rattle.cycles.specs.Graphs.{IsIn, row_at, Way, Last, Through, IsOnCycle}
@@ -148,7 +148,7 @@ visiting_new row vertex to left more seen new queue added parts other within at 
   measure = omega (arith, unseen_set new to at, length-append added (to ∷ []), v.measure);
 }
 
--- behind the last edge
+-- after the last edge
 pub visited : (row : List ℕ) (vertex : ℕ) (left : List ℕ) (seen new : List Bool) (queue added : List ℕ) → left ≡ [] → Visiting row vertex left seen new queue added → Visits row vertex seen new queue added
 visited row vertex left seen new queue added none v = record {
   others = λ x there. elim (v.others x there) [

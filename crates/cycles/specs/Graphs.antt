@@ -21,7 +21,7 @@ pub data Way (rows : List (List ℕ)) : ℕ → ℕ → Type 0 where
   Last : (from to : ℕ) → IsIn (row_at rows from) to → Way rows from to
   Through : (from next to : ℕ) → IsIn (row_at rows from) next → Way rows next to → Way rows from to
 
--- the vertex lies on a ring
+-- the vertex lies on a cycle
 abbrev pub IsOnCycle : List (List ℕ) → ℕ → Type 0
 IsOnCycle rows k = Way rows k k
 

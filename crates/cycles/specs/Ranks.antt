@@ -1,4 +1,4 @@
--- Ranks of a graph's vertices, and the search for a ring.
+-- Ranks of a graph's vertices, and the search for a cycle.
 use Rattle.std.specs.Prelude.{◌≡◌, ◌⊎◌, ◌+◌, ◌<◌, ◌≤◌, ℕ, Bool, true, false, List, [], ◌∷◌, length, Option, Some, None, slice_get}
 use Rattle.cycles.specs.Graphs.{IsIn, at_or, row_at, Way, IsOnCycle}
 
@@ -17,12 +17,12 @@ FallsFrom rows ranks from = (to : ℕ) → IsIn (row_at rows from) to → rank_a
 abbrev pub AreRanks : List (List ℕ) → List ℕ → Type 0
 AreRanks rows ranks = (from : ℕ) → Falls rows ranks from
 
--- the answer tells whether the vertex lies on a ring
+-- the answer says whether the vertex lies on a cycle
 abbrev pub ReportsCycle : List (List ℕ) → ℕ → Bool → Type 0
 ReportsCycle rows k true = IsOnCycle rows k
 ReportsCycle rows k false = IsOnCycle rows k → ⊥
 
--- the first vertex that lies on a ring, if there is one
+-- the first vertex that lies on a cycle, if there is one
 abbrev pub IsFirstCycle : List (List ℕ) → Option ℕ → Type 0
 IsFirstCycle rows None = (k : ℕ) → k < length rows → IsOnCycle rows k → ⊥
 IsFirstCycle rows (Some n) = (n < length rows) × IsOnCycle rows n × ((k : ℕ) → k < n → IsOnCycle rows k → ⊥)
@@ -60,7 +60,7 @@ pub record Visiting (row : List ℕ) (vertex : ℕ) (left : List ℕ) (seen new 
   pub size : length new ≡ length seen
   pub measure : unseen new + length added ≡ unseen seen + length queue
 
--- what is reached from a vertex stands in the queue, and what its first ones lead to was seen
+-- the queue holds the vertex and others that are reached from it, and the vertices to which its first ones lead were seen
 pub record Searching (rows : List (List ℕ)) (vertex : ℕ) (seen : List Bool) (queue : List ℕ) (next : ℕ) : Type 0 where
   pub first : IsIn queue vertex
   pub reached : (x : ℕ) → IsIn queue x → (x ≡ vertex) ⊎ Way rows vertex x

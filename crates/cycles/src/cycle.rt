@@ -1,4 +1,4 @@
-//! Rings of a graph.
+//! Cycles of a graph.
 
 ghost use Rattle.std.specs.Prelude.{◌≡◌, ◌<◌, ◌≤◌, true, false, ℕ, IfOk, length, OnOk};
 ghost use Rattle.std.specs.Bool.{OnTrue};

@@ -1,5 +1,5 @@
-//! Directed graphs by their edges: an order in which those to which a vertex leads come before it, and the first vertex that
-//! leads back to itself. Both take steps in proportion to the vertices and edges, and no recursion.
+//! Directed graphs by their edges: an order in which each vertex follows those to which it leads, and the first vertex that leads back to
+//! itself. Both take steps in proportion to the vertices and edges, and no recursion.
 #![tactic(auto)]
 
 mod cycle;

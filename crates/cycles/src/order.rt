@@ -1,10 +1,10 @@
-//! An order of a graph's vertices in which those to which one leads come before it, but for rings, and ranks of the rings: R. E.
-//! Tarjan's strongly connected components, without recursion. Nothing is promised: whoever uses them checks them.
+//! An order of a graph's vertices in which each follows those to which it leads, except on cycles, and ranks of the cycles: R. E. Tarjan's
+//! strongly connected components, without recursion. Nothing is promised: whoever uses them checks them.
 
 use crate::graph::Edges;
 use std::alloc::{AllocError, Global};
 
-/// An order of vertices, and their ranks: vertices of one ring have one rank.
+/// An order of vertices, and their ranks: vertices of one cycle have one rank.
 #[derive(Drop)]
 pub struct Order {
     pub order: Vec<usize>,
@@ -18,19 +18,19 @@ struct OrderStop {
     edge: usize,
 }
 
-/// How far the search came.
+/// How far the search got.
 #[derive(Drop)]
 struct Search {
     /// In which order vertices were entered, from 1; 0 for those that weren't.
     entered: Vec<usize>,
     /// The least such number that is known to be reached.
     lowest: Vec<usize>,
-    /// Vertices whose ring isn't known yet.
+    /// Vertices whose cycle isn't known yet.
     open: Vec<usize>,
     /// The way from the root.
     way: Vec<OrderStop>,
     order: Vec<usize>,
-    /// From 1; 0 for those whose ring isn't known.
+    /// From 1; 0 for those whose cycle isn't known.
     ranks: Vec<usize>,
     count: usize,
     cycle_order: usize,
@@ -80,7 +80,7 @@ impl Search {
         set(&mut self.lowest, vertex, least);
     }
 
-    /// The vertices of a ring, or a vertex on none, have their rank.
+    /// Gives their rank to the vertices of a cycle, or to a vertex on none.
     fn close(&mut self, vertex: usize) -> Result<(), AllocError> {
         self.cycle_order = self.cycle_order.saturating_add(1);
         for _ in 0..self.open.as_slice().len() {

@@ -20,7 +20,7 @@ quoted_name name = codes "\"" ++ map quoted_byte name ++ codes "\""
 unfoldable pub hex_bytes : List ℕ → List ℕ
 hex_bytes bytes = flat_map (λ byte. hexadecimal 2 byte) bytes
 
--- the first 16 bytes, and `..` behind them where there are more
+-- the first 16 bytes, and `..` after them where there are more
 unfoldable pub first_bytes : List ℕ → List ℕ
 first_bytes bytes = hex_bytes (take 16 bytes) ++ (if nat_lt 16 (length bytes) then codes ".." else [])
 
@@ -68,7 +68,7 @@ constant_text bytes = hex_field 8 (length bytes) ++ codes " " ++ first_bytes byt
 unfoldable pub patch_text : ℕ → ℤ → List ℕ
 patch_text count shift = hex_field 2 count ++ hex_field 2 (shift_byte shift)
 
--- a label's name, its length, which has so many bytes in the file, its type and its private byte
+-- a label's name, its length, which takes `width` bytes in the file, its type and its private byte
 unfoldable pub label_text : ℕ → List ℕ → ℕ → ℕ → ℕ → List ℕ
 label_text width name size form private = name_text name ++ hex_field (2 * width) size ++ hex_field 2 form ++ hex_field 2 private
 
@@ -85,8 +85,8 @@ formula_name code =
 unfoldable pub formula_text : ℕ → ℕ → ℕ → List ℕ → List ℕ
 formula_text code count n expr = formula_name code ++ hex_field 2 count ++ (if code == 0xEE then hex_field 8 n else []) ++ expression_text expr
 
--- a record's name and its fields, where the length of a label has so many bytes; of a SUPER the length, which counts its
--- type and its subrecords, and the type
+-- a record's name and its fields, where the length of a label takes `width` bytes; of a SUPER the length, which counts its type and its
+-- subrecords, and the type
 unfoldable pub record_text : ℕ → Record → List ℕ
 record_text width End = codes " END"
 record_text width (Const bytes) = codes " CONST" ++ constant_text bytes

@@ -56,7 +56,7 @@ fn front(bytes: &[u8]) -> &[u8]
     &bytes[..bytes.len().min(16)]
 }
 
-/// Appends the first 16 bytes, and `..` behind them where there are more.
+/// Appends the first 16 bytes, and `..` after them where there are more.
 #[tactic(auto, unfolding(crate::specs::Listing::first_bytes))]
 fn put_first(line: &mut Line, bytes: &[u8]) -> Result<(), LineFault>
     ensures { OnOk result (line.new ≡ line.old ++ first_bytes bytes.now) }
@@ -141,7 +141,7 @@ fn printable_byte(byte: u8) -> u8
     }
 }
 
-/// Appends a name behind a space. A byte of it outside $21 to $7E is shown as `?`.
+/// Appends a space and a name. A byte of the name outside $21 to $7E is shown as `?`.
 #[tactic(auto, unfolding(crate::specs::Listing::name_text))]
 pub fn put_name(line: &mut Line, name: &[u8]) -> Result<(), LineFault>
     ensures { OnOk result (line.new ≡ line.old ++ name_text name.now) }
@@ -260,7 +260,7 @@ fn put_reloc(
     put_field(line, 8, offset)
 }
 
-/// The same of an INTERSEG.
+/// Appends the name and the fields of an INTERSEG.
 fn put_interseg(
     line: &mut Line,
     patch: (u8, i8),
@@ -280,7 +280,7 @@ fn put_interseg(
     put_field(line, 8, offset)
 }
 
-/// The same of a cRELOC.
+/// Appends the name and the fields of a cRELOC.
 fn put_short_reloc(
     line: &mut Line,
     count: u8,
@@ -296,7 +296,7 @@ fn put_short_reloc(
     put_field(line, 4, u32::from(offset))
 }
 
-/// The same of a cINTERSEG.
+/// Appends the name and the fields of a cINTERSEG.
 fn put_short_interseg(
     line: &mut Line,
     patch: (u8, i8),
@@ -314,7 +314,7 @@ fn put_short_interseg(
     put_field(line, 4, u32::from(offset))
 }
 
-/// The same of a SUPER with so many bytes of subrecords.
+/// Appends the name, the length and the type of a SUPER with `size` bytes of subrecords.
 fn put_super(line: &mut Line, form: u8, size: u32) -> Result<(), LineFault>
     requires { size < 2 ^ 32 - 1 }
     ensures { OnOk result (line.new ≡ line.old ++ (codes " SUPER" ++ hex_field 8 (size + 1) ++ hex_field 2 form)) }
@@ -323,7 +323,7 @@ fn put_super(line: &mut Line, form: u8, size: u32) -> Result<(), LineFault>
     put_field(line, 2, u32::from(form))
 }
 
-/// The same of an ENTRY.
+/// Appends the name and the fields of an ENTRY.
 fn put_entry(line: &mut Line, segment: u16, offset: u32, name: &[u8]) -> Result<(), LineFault>
     ensures { OnOk result (line.new ≡ line.old ++ (codes " ENTRY" ++ hex_field 4 segment ++ hex_field 8 offset ++ name_text name.now)) }
 {

@@ -41,7 +41,7 @@ fn text_of(alloc: Global, lines: &Lines) -> Result<Line, LineFault>
     Ok(text)
 }
 
-/// Memory ran out.
+/// The fault when out of memory.
 fn no_memory() -> MacroFault
     ensures { result ≡ record { cause = MacroCause.Memory; file = 0; line = 0 } }
 {

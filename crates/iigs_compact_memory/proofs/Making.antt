@@ -31,7 +31,7 @@ use Rattle.iigs_compact_memory.specs.Needs.{NoneAfter, NeedsPurges}
 -- ---- the search
 
 module _ (banks : List ℕ) (slots : Slots) (want : Want) where
-  -- one slide of so many purges speaks for every one
+  -- if the want fits nowhere after one slide with `count` blocks purged, it fits nowhere after any such slide
   pub none_once : (count : ℕ) (room : Slots) → Slides banks (slots_after_purges slots count) room → ((address : ℕ) → ¬ Fits banks room want address) → NoneAfter banks slots want count
   none_once count room slides none other slides' address fits =
       none address (subst (λ (r : Slots). Fits banks r want address) (slides_once banks (slots_after_purges slots count) other room slides' slides) fits)

@@ -13,7 +13,7 @@ use Rattle.iigs_compact_memory.specs.Needs.{NeedsPurges}
 use Rattle.iigs_compact_memory.proofs.Settled.{settled_emptied, settled_slides, settled_puts, settled_anew}
 use Rattle.iigs_compact_memory.proofs.Making.{needs_left, left_empty, has_room, slide_then_place, slide_then_replace, place_at_once, replace_at_once, there_slid, there_puts, there_anew, kept_twice, not_first}
 
--- ---- so many are purged, and a slide that was planned is carried out
+-- ---- `count` blocks are purged, and a slide that was planned is carried out
 
 module _ (old purged : Memory) (plan : Slots) (want : Want) (count : ℕ) (needs : NeedsPurges old.banks old.slots want count plan) (slots : purged.slots ≡ slots_after_purges old.slots count) (kept : KeepsBut old purged []) where
   pub planned : Slides purged.banks purged.slots plan

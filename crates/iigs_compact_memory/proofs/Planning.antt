@@ -41,7 +41,7 @@ module _ (banks : List ℕ) (slots room : Slots) (want : Want) (count : ℕ) (ne
 pub plan_handle : (now : Slots) (wants : List Want) (k : ℕ) → k < length wants → length wants ≤ k + count_by is_free now → IsSome (new_handle now)
 plan_handle now wants k less free = some_handle now (λ zero. omega (arith, free, zero, less))
 
--- the first so many wants are placed
+-- the first `count` wants are placed
 abbrev Planned : List ℕ → ℕ → Slots → List Want → ℕ → Slots → Type 0
 Planned banks user start wants count last = (hs : List Handle) × PutsAll PurgesOrSlides banks user start (take count wants) hs last
 

@@ -13,7 +13,7 @@ use Rattle.iigs_compact_memory.proofs.Settled.{settled_emptied}
 use Rattle.iigs_compact_memory.proofs.Making.{none_once}
 use Rattle.iigs_compact_memory.proofs.Still.{none_still}
 
--- one trial: so many are purged on a copy, which is slid down then
+-- one trial: `count` blocks are purged on a copy, which is then slid down
 module _ (places start began purged slid : Arrangement) (banks : start.banks ≡ places.banks) (count : ℕ)
     (starts : began ≡ record start { slots = slots_for places.slots 0 false }) (purges : purged ≡ record began { slots = slots_after_purges began.slots count }) where
   purged_banks : purged.banks ≡ places.banks
@@ -54,7 +54,7 @@ module _ (places start began purged slid : Arrangement) (banks : start.banks ≡
       fewest = fewest;
     }
 
--- fewer than one more are fewer, or so many
+-- a number less than `count` + 1 is less than `count`, or is `count`
 pub none_more : (P : ℕ → Type 0) (count : ℕ) → ((k : ℕ) → k < count → P k) → P count → (k : ℕ) → k < count + 1 → P k
 none_more P count none here k less = elim (cases_lt k count) [
   | inl before ↦ none k before

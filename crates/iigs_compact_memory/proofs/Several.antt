@@ -210,7 +210,7 @@ drop_next [] k d less = absurd (omega (arith, less))
 drop_next (x ∷ xs) zero d less = refl
 drop_next (x ∷ xs) (suc k) d less = drop_next xs k d (omega (arith, less))
 
--- the want that is next can be placed, and so can those behind it
+-- the next want can be placed, and so can those after it
 pub can_next : (banks : List ℕ) (user : ℕ) (slots : Slots) (wants : List Want) (k : ℕ) (d : Want) → k < length wants → CanPutAll banks user slots (drop k wants)
     → (h : Handle) × (middle : Slots) × Puts PurgesOrSlides banks slots (get_or wants k d) user true 0 false h middle × CanPutAll banks user middle (drop (suc k) wants)
 can_next banks user slots wants k d less can = go can.0 (subst (λ (ws : List Want). PutsAll PurgesOrSlides banks user slots ws can.0 can.1) (drop_next wants k d less) can.2)

@@ -221,7 +221,7 @@ left_still old now limit are all place address holds = go (address_in (slot_at o
 
 -- ---- no room
 
--- a block that is there once so many are purged is so with fewer
+-- a block that is there once `count` blocks are purged is the same with fewer purged
 same_fewer : (slots : Slots) (count fewer place address : ℕ) → fewer ≤ count → HoldsByte address (slot_at (slots_after_purges slots count) place) → slot_at (slots_after_purges slots fewer) place ≡ slot_at (slots_after_purges slots count) place
 unfolding slots_after_purges is_gone
 same_fewer slots count fewer place address le holds =
@@ -251,7 +251,7 @@ apart_at address size slots all place = elim (cases_lt place (length slots)) [
   | inr past ↦ λ i from to held. subst (HoldsByte i) (get_or_past slots place new_slot past) held
 ]
 
--- where a want doesn't fit beside the blocks that stay once so many are purged, no slide makes room with as few
+-- where a want doesn't fit beside the blocks that stay once `count` blocks are purged, no slide makes room with `count` or fewer purged
 pub none_still : (banks : List ℕ) (slots still : Slots) (want : Want) (count : ℕ) → LeavesStill (slots_after_purges slots count) still → ((address : ℕ) → ¬ Fits banks still want address)
     → (fewer : ℕ) → fewer ≤ count → NoneAfter banks slots want fewer
 none_still banks slots still want count leaves none fewer le room slides address fits = none address (record {

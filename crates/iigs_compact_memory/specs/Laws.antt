@@ -19,7 +19,7 @@ SlidesOnce = (banks : List ℕ) (old one two : Slots) → Slides banks old one �
 abbrev pub StaySound : Type 0
 StaySound = (banks : List ℕ) (old new : Slots) → AreApart banks old → AreSettled banks old → Slides banks old new → AreApart banks new × AreSettled banks new
 
--- and they do so once the first so many purgeable ones are emptied
+-- and they do so once the first `count` purgeable ones are emptied
 abbrev pub StaySoundPurged : Type 0
 StaySoundPurged = (banks : List ℕ) (slots : Slots) (count : ℕ) → AreApart banks slots → AreSettled banks slots → AreApart banks (slots_after_purges slots count) × AreSettled banks (slots_after_purges slots count)
 

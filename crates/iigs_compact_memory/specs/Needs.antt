@@ -5,11 +5,11 @@ use Rattle.iigs_meaning.specs.Fits.{Slots, Fits}
 use Rattle.iigs_meaning.specs.Placement.{slots_after_purges}
 use Rattle.iigs_meaning.specs.Slide.{Slides}
 
--- with so many purged the want fits nowhere after a slide
+-- with `count` blocks purged the want fits nowhere after a slide
 abbrev pub NoneAfter : List ℕ → Slots → Want → ℕ → Type 0
 NoneAfter banks slots want count = (room : Slots) → Slides banks (slots_after_purges slots count) room → (address : ℕ) → ¬ Fits banks room want address
 
--- with so many purged the want fits somewhere after a slide, and with fewer it fits nowhere
+-- with `count` blocks purged the want fits somewhere after a slide, and with fewer it fits nowhere
 pub record NeedsPurges (banks : List ℕ) (slots : Slots) (want : Want) (count : ℕ) (room : Slots) : Type 0 where
   pub slides : Slides banks (slots_after_purges slots count) room
   pub address : ℕ

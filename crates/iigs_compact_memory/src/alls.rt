@@ -74,8 +74,8 @@ pub fn plan_all(
     Ok(())
 }
 
-/// Places blocks for wants in order, locked with level 0, which is known to succeed, and tells their handles. `trial` is scratch
-/// space.
+/// Places blocks for wants in order, locked with level 0, which is known to succeed, and stores their handles in `handles`. `trial` is
+/// scratch space.
 pub fn place_each(
     banks: &mut Banks,
     trial: &mut Places,

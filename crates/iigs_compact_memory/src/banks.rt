@@ -130,7 +130,7 @@ impl CompactBanks {
         self.banks.lend(h)
     }
 
-    /// What is told of a handle's block, whether it is there or was purged.
+    /// The state of a handle's block, whether it is there or was purged.
     pub fn state(&self, h: Handle) -> Result<BlockState, BlockFault>
         ensures state { result_ok result ≡ option_map state_of (get self.now.slots h) }
         ensures refused { IfErr result (IsStale self.now.slots h) }

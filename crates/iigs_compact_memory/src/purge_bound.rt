@@ -44,7 +44,7 @@ fn leave_still(places: &mut Places)
     places.purge_user(0);
 }
 
-// Whether a want fits somewhere beside the blocks that stay in a slide, once so many are purged. `trial` is scratch space.
+// Whether a want fits somewhere beside the blocks that stay in a slide, once `count` blocks are purged. `trial` is scratch space.
 fn fits_still(places: &Places, trial: &mut Places, want: &Want, count: u32) -> bool
     requires want { IsWant want.now }
     requires banks { trial.old.banks ≡ places.now.banks }

@@ -66,7 +66,7 @@ module _ {T : Type 0} where
   free_not_retired (Used value) e r = cc
   free_not_retired Retired e r = cc
 
-  -- a live handle's slot stands in the table
+  -- a live handle's slot is in the table
   inside_live : (slots : List (Slot T)) (h : Handle) → IsLive slots h → h.slot < length slots
   inside_live slots h live = elim (cases_lt h.slot (length slots)) [
     | inl lt ↦ lt

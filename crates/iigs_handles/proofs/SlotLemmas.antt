@@ -19,7 +19,7 @@ module _ {X : Type 0} (p : X → Bool) (d : X) where
   count_by-set : (xs : List X) (i : ℕ) (y : X) → i < length xs → count_by p (set xs i y) + cond (p (get_or xs i d)) 1 0 ≡ count_by p xs + cond (p y) 1 0
   count_by-set xs i y h = sum_by-set (λ x. cond (p x) 1 0) xs i y d h
 
-  -- the first place that passes isn't above one that comes to pass
+  -- once an element is set, nothing passes below both its place and the first that passed
   first_least : (xs : List X) (i m : ℕ) (y : X) → m ≤ position_or_len p xs → m ≤ i → (k : ℕ) → k < m → p (get_or (set xs i y) k d) ≡ false
   first_least xs i m y a b k below =
       let ne : k ≢ i = omega arith in
@@ -35,7 +35,7 @@ module _ {X : Type 0} (p : X → Bool) (d : X) where
       let inside : position_or_len p xs < length xs = omega arith in
       rw get_or-set_other (passes_at_first p xs d inside)
 
-  -- a place that comes to pass is the first where none below it passes
+  -- a place whose new element passes is the first that passes, where none below it passes
   first-above : (xs : List X) (i : ℕ) (y : X) → i < length xs → p y ≡ true → i ≤ position_or_len p xs → position_or_len p (set xs i y) ≡ i
   first-above xs i y h e le = position_or_len_is p (set xs i y) i d
       (omega (arith, length-set {A = X})) (first_least xs i i y le (omega arith)) (λ _. first_here xs i y h e)
@@ -94,7 +94,7 @@ module _ {T : Type 0} where
     unused = λ k le. let ne : k ≢ first = omega arith in rw get_or-set_other (sound.unused k (omega arith));
   }
 
-  -- a slot that isn't free stands below the end
+  -- a slot that isn't free lies below the end
   below_end : (slots : List (Slot T)) (first free end place : ℕ) → IsSound slots first free end → is_free (slot_at slots place) ≡ false → place < end
   below_end slots first free end place sound was = elim (cases_lt place end) [
     | inl lt ↦ lt

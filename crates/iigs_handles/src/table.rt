@@ -62,7 +62,7 @@ impl<T> Model for Handles<T> {
     ghost invariant = { λ s. IsSound s.slots.items s.first s.free s.end };
 }
 
-// So many free slots that were never used.
+// `count` free slots that were never used.
 fn free_slots<T: Drop>(alloc: Global, count: usize) -> Result<Vec<Slot<T>>, AllocError>
     ensures { IfOk result (λ v. v.items ≡ replicate count new_slot) }
 {
@@ -76,7 +76,7 @@ fn free_slots<T: Drop>(alloc: Global, count: usize) -> Result<Vec<Slot<T>>, Allo
     Ok(slots)
 }
 
-// The place of the first free slot, none of which stands below `from`, or the number of slots.
+// The place of the first free slot, where no slot below `from` is free, or the number of slots.
 fn next_free<T>(slots: &[Slot<T>], from: usize) -> usize
     requires within { from ≤ length slots.now }
     requires below { (k : ℕ) → k < from → passes_free (slot_at slots.now k) ≡ false }
@@ -181,7 +181,7 @@ impl<T: Drop> Handles<T> {
         })
     }
 
-    /// Puts a value into the lowest free slot. Where no slot is free, the value comes back.
+    /// Puts a value into the lowest free slot. Where no slot is free, the value is returned.
     pub fn take(&mut self, value: T) -> Result<Handle, T>
         ensures handle { result_ok result ≡ new_handle self.old }
         ensures after { self.new ≡ after_take self.old value }

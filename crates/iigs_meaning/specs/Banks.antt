@@ -17,7 +17,7 @@ pub record IsFirstTwice (banks : List ℕ) (bank : ℕ) : Type 0 where
   pub again : slice_index banks earlier ≡ bank
   pub distinct : AreDistinctTo place banks
 
--- why there are no banks: none is named, and else one is named again; want of memory has no cause here
+-- why there are no banks: none is named, and else one is named again; an allocation failure has no cause here
 abbrev pub IsBanksRefusal : List ℕ → BanksFault → Type 0
 IsBanksRefusal banks NoBanks = banks ≡ []
 IsBanksRefusal banks (BankTwice bank) = IsFirstTwice banks bank

@@ -24,7 +24,7 @@ abbrev pub HoldsByte : ℕ → Slot Block → Type 0
 HoldsByte address slot = IsSomeAnd (block_in slot) (λ block. IsSomeAnd block.at (λ first.
     (first ≤ address) × (address < first + block.want.size)))
 
--- so many bytes from an address on lie in no byte of the slot's block
+-- none of the `size` bytes from an address on is a byte of the slot's block
 abbrev pub IsApart : ℕ → ℕ → Slot Block → Type 0
 IsApart address size slot = (i : ℕ) → address ≤ i → i < address + size → ¬ HoldsByte i slot
 

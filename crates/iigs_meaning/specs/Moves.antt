@@ -1,4 +1,4 @@
--- Single blocks that are told of in order of address, purged and moved. These are this project's own rules.
+-- Single blocks that are listed in order of address, purged and moved. These are this project's own rules.
 use Rattle.std.specs.Prelude.{◌≡◌, ℕ, Bool, true, false, ◌<◌, ◌≤◌, nat_lt, List, [], count_by, None, Some, IsSome, IsSomeAnd, is_some}
 use Rattle.std.specs.Option.{option_map_or}
 use Rattle.iigs_meaning.specs.declared.handles.Handle.{Handle}
@@ -25,7 +25,7 @@ count_there slots = count_by (λ slot. is_some (address_in slot)) slots
 abbrev pub lies_below : ℕ → Slot Block → Bool
 lies_below address slot = option_map_or (λ at. nat_lt at address) (address_in slot) false
 
--- the handle's block is there, and so many others lie below it
+-- the handle's block is there, and `place` others lie below it
 pub record IsNth (slots : Slots) (place : ℕ) (h : Handle) : Type 0 where
   pub address : ℕ
   pub there : IsSomeAnd (get slots h) (λ block. block.at ≡ Some address)

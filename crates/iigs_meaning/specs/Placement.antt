@@ -24,7 +24,7 @@ rank slots block = count_by (λ slot. option_map_or (λ one. can_purge one && go
 abbrev pub count_purgeable : Slots → ℕ
 count_purgeable slots = count_by (λ slot. option_map_or can_purge (block_in slot) false) slots
 
--- the block is one of the first so many purgeable ones
+-- the block is one of the first `count` purgeable ones
 unfoldable pub is_gone : Slots → ℕ → Block → Bool
 is_gone slots count block = can_purge block && nat_lt (rank slots block) count
 
@@ -34,12 +34,12 @@ emptied_where test slot = option_map_or
     (λ block. if test block then (record { generation = slot.generation; content = Used (record block { at = None }) }) else slot)
     (block_in slot) slot
 
--- the slots with the first so many purgeable blocks emptied
+-- the slots with the first `count` purgeable blocks emptied
 unfoldable pub slots_after_purges : Slots → ℕ → Slots
 slots_after_purges slots count = map (emptied_where (is_gone slots count)) slots
 
--- the want goes to the least address that fits once the first so many purgeable blocks are emptied, for the fewest
--- with which any address fits
+-- the want goes to the least address that fits once the first `count` purgeable blocks are emptied, for the least `count` with which any
+-- address fits
 pub record GoesTo (banks : List ℕ) (slots : Slots) (want : Want) (count address : ℕ) : Type 0 where
   pub fits : Fits banks (slots_after_purges slots count) want address
   pub least : (other : ℕ) → Fits banks (slots_after_purges slots count) want other → address ≤ other

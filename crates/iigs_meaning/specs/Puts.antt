@@ -18,7 +18,7 @@ use Rattle.iigs_meaning.specs.Placement.{slots_after_purges, GoesTo, HasNoRoom}
 abbrev pub MakesRoom : Type 1
 MakesRoom = List ℕ → Slots → Want → ℕ → Slots → Type 0
 
--- room is made by purges: the want goes to the address once the first so many purgeable blocks are emptied
+-- room is made by purges: the want goes to the address once the first `count` purgeable blocks are emptied
 pub record Purges (banks : List ℕ) (slots : Slots) (want : Want) (address : ℕ) (room : Slots) : Type 0 where
   pub count : ℕ
   pub goes : GoesTo banks slots want count address
@@ -109,7 +109,7 @@ pub record LacksRoomAt (Makes : MakesRoom) (banks : List ℕ) (user : ℕ) (slot
   pub before : PutsAll Makes banks user slots (take i wants) handles last
   pub none : LacksRoom Makes banks last want
 
--- why not all wants are placed: fewer slots are free than wants stand there, and else there is no room for some want
+-- why not all wants are placed: fewer slots are free than there are wants, and else there is no room for some want
 abbrev pub IsPlaceAllRefusal : MakesRoom → List ℕ → ℕ → Slots → List Want → PlaceFault → Type 0
 IsPlaceAllRefusal Makes banks user slots wants Stale = ⊥
 IsPlaceAllRefusal Makes banks user slots wants NotEmpty = ⊥

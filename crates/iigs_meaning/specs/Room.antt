@@ -4,8 +4,8 @@ use Rattle.iigs_meaning.specs.Slots.{slot_at}
 use Rattle.iigs_meaning.specs.Free.{IsFree}
 use Rattle.iigs_meaning.specs.Fits.{Slots, HoldsByte}
 
--- of the numbers below a limit, so many have a property: below 0 none; where the limit itself has it one more of those
--- below the next limit, and else no more
+-- how many of the numbers below a limit have a property: below 0 none; where the limit itself has it, one more of those below the next
+-- limit, and else no more
 pub data CountsBelow (P : ℕ → Type 0) : ℕ → ℕ → Type 0 where
   none : CountsBelow P zero zero
   one_more : (limit count : ℕ) → CountsBelow P limit count → P limit → CountsBelow P (suc limit) (suc count)

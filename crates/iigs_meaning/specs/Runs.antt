@@ -34,7 +34,7 @@ pub record DeadStayDead (T : Type 0) : Type 0 where
   pub kept : (slots : List (Slot T)) (h : Handle) (calls : List (Call T)) → IsDead slots h → IsDead (after_all slots calls) h
   pub released : (slots : List (Slot T)) (h : Handle) → IsLive slots h → IsDead (after_release slots h) h
 
--- once a handle was released it reaches nothing, whatever calls come after
+-- once a handle was released it reaches nothing, whatever calls follow
 abbrev pub ReleasedReachesNothing : Type 0 → Type 0
 ReleasedReachesNothing T = (slots : List (Slot T)) (h : Handle) (calls : List (Call T)) → IsLive slots h
     → get (after_all (after_release slots h) calls) h ≡ None

@@ -71,8 +71,8 @@ count_moved old new = count_by (λ pair. is_moved pair.0 pair.1) (zip old new)
 
 -- ---- room
 
--- room is made by a slide: once the first so many purgeable blocks are emptied and the movable ones are slid down, the want goes
--- to the least address that fits, for the fewest with which any address fits
+-- room is made by a slide: once the first `count` purgeable blocks are emptied and the movable ones are slid down, the want goes to the
+-- least address that fits, for the least `count` with which any address fits
 pub record MakesBySlide (banks : List ℕ) (slots : Slots) (want : Want) (address : ℕ) (room : Slots) : Type 0 where
   pub count : ℕ
   pub slides : Slides banks (slots_after_purges slots count) room
@@ -96,8 +96,8 @@ pub record AreSettled (banks : List ℕ) (slots : Slots) : Type 0 where
   pub wants : (place : ℕ) (block : Block) → block_in (slot_at slots place) ≡ Some block → IsWant block.want
   pub fits : (place : ℕ) (block : Block) (at : ℕ) → block_in (slot_at slots place) ≡ Some block → block.at ≡ Some at → Fits banks [] block.want at
 
--- When a movable block's turn in a slide comes, its present address fits, so it doesn't rise: each stands afterwards at the least
--- address that fits then, which isn't above where it lay.
+-- When a movable block's turn in a slide occurs, its present address fits, so it doesn't rise: each lies afterwards at the least address
+-- that fits then, which isn't above where it lay.
 pub record NoAddressRises (banks : List ℕ) (old new : Slots) : Type 0 where
   pub present : (place : ℕ) (block : Block) → movable_block (slot_at old place) ≡ Some block → FitsBeside banks old new block (place_of block)
   pub low : (place : ℕ) (block : Block) → movable_block (slot_at old place) ≡ Some block

@@ -22,7 +22,7 @@ pub enum PlaceFault {
     NoHandle,
     /// The want at this place, from 0, has no room, whatever may be purged and, where movable blocks slide, slid down.
     NoRoom(u32),
-    /// Memory ran out. No call answers this, since placement takes none.
+    /// Out of memory. No call returns this, since placement allocates nothing.
     Memory,
 }
 

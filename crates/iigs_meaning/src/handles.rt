@@ -1,4 +1,4 @@
-//! Handles: names of blocks that outlive the block's place, and that tell a reused slot from the old one.
+//! Handles: names of blocks that outlive the block's place, and that distinguish a reused slot from the old one.
 
 ghost use Rattle.std.specs.Prelude.{Some};
 

@@ -36,7 +36,7 @@ pub struct Block {
     pub movable: bool,
 }
 
-/// What is told of a block.
+/// What is reported of a block.
 #[derive(Clone, Copy, PartialEq, Eq, Debug)]
 pub struct BlockState {
     /// Where its first byte lies; none where it was purged.

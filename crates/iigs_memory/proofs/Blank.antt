@@ -1,4 +1,4 @@
--- Each item of so many zeros is 0.
+-- Each item of a list of zeros is 0.
 use Rattle.std.proofs.Common.{◌≡◌, ℕ, zero, suc, replicate, slice_index, refl}
 
 pub all_zeros : (n i : ℕ) → slice_index (replicate n 0) i ≡ 0

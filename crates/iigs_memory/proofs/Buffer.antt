@@ -1,4 +1,4 @@
--- How the bytes of blocks stand in the buffer.
+-- How the bytes of blocks lie in the buffer.
 use Rattle.std.proofs.Common.{◌≡◌, ◌≢◌, ◌⊎◌, inl, inr, ℕ, ◌+◌, ◌<◌, ◌≤◌, ◌^◌, List, [], take, drop, All, Contains, length, Option, Some, None, IfSome, unwrap_or, arith, refl, sym, ap, ◌∙◌, max}
 use Rattle.std.specs.Option.{option_map_or, option_and_then}
 use Rattle.std.proofs.lemmas.Bool.{cases_lt}
@@ -51,7 +51,7 @@ module _ (banks buffer : List ℕ) (slots : List (Slot Block)) (bounded : All Is
       let inside : offset_of banks e.0 + e.1 ≤ bytes_below banks 256 = range_inside banks e.0 e.1 l.0 (has_banks place e is) l.1 in
       omega arith
 
-  -- the bytes of two blocks stand apart there
+  -- the bytes of two blocks lie apart there
   apart_in_buffer : (place other : ℕ) (e f : ℕ × ℕ) → place ≢ other → extent (slot_at slots place) ≡ Some e → extent (slot_at slots other) ≡ Some f
       → (offset_of banks f.0 + f.1 ≤ offset_of banks e.0) ⊎ (offset_of banks e.0 + e.1 ≤ offset_of banks f.0)
   apart_in_buffer place other e f ne is is' = elim (cases_lt f.0 (e.0 + e.1)) [

@@ -126,7 +126,7 @@ module _ (banks buffer : List ℕ) (slots : List (Slot Block)) (bounded : All Is
       let e = part_extent (memory_of banks slots buffer) h start end is_part in
       borrowed_alone banks buffer slots bounded sound room h e.0 e.1 ws len
 
--- what stands past a part doesn't matter for it
+-- what lies past a part doesn't matter for it
 part-refill : (start size n : ℕ) (xs ys : List ℕ) → start + size ≤ n → n ≤ length xs → part start size (take n (xs ++ ys)) ≡ part start size xs
 part-refill start size n xs ys inside le = same_lists (part start size (take n (xs ++ ys))) (part start size xs)
     (first ∙ sym second)
@@ -155,7 +155,7 @@ module _ (banks buffer : List ℕ) (slots : List (Slot Block)) (bounded : All Is
           let inside = in_buffer banks buffer slots bounded sound room place f there in
           part-refill (offset_of banks f.0) f.1 n xs ys (omega arith) (omega arith)
 
--- the same of a store's memory
+-- the parts of a store's memory
 module _ (banks buffer : List ℕ) (slots : List (Slot Block)) (arranged : IsArranged banks slots) (made : ℕ) (store : IsStore banks buffer made)
     (memory : Memory) (view : memory_of banks slots buffer ≡ memory) (h : Handle) (at : BlockPart) (is_part : IsPart memory h at) where
   part_here : IsPart (memory_of banks slots buffer) h (record { start = at.start; end = at.end })

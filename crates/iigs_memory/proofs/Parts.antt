@@ -8,7 +8,7 @@ use Rattle.std.proofs.lemmas.Bool.{cases_lt}
 use Rattle.std.proofs.lemmas.Bool.Decides.{nat_tests}
 use Rattle.iigs_memory.specs.Overlay.{written_over}
 
--- so many elements from a place on
+-- a number of elements from a place on
 abbrev pub part : ℕ → ℕ → List ℕ → List ℕ
 part start size xs = take size (drop start xs)
 

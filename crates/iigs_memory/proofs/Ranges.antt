@@ -60,7 +60,7 @@ module _ (banks : List ℕ) where
       let run : offset_of banks (a + (n - 1)) ≡ offset_of banks a + (n - 1) = offset_run a n (n - 1) has (omega arith) in
       rw shift (omega arith)
 
-  -- the bytes of a block stand in the buffer
+  -- the bytes of a block lie in the buffer
   pub range_inside : (a n : ℕ) → 0 < n → ((i : ℕ) → a ≤ i → i < a + n → Contains banks (bank_of i)) → a + n ≤ 2 ^ 24
       → offset_of banks a + n ≤ bytes_below banks 256
   range_inside a n some has limit =

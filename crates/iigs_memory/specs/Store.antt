@@ -1,4 +1,4 @@
--- How the bytes of blocks stand in one buffer. No public clause cites this module.
+-- How the bytes of blocks lie in one buffer. No public clause cites this module.
 use Rattle.std.specs.Prelude.{◌≡◌, ℕ, ◌+◌, ◌≤◌, Bool, true, List, [], map, take, drop, length, IsSome, IsSomeAnd, slice_index}
 use Rattle.std.specs.Option.{option_map_or}
 use Rattle.iigs_meaning.specs.declared.slots.Slot.{Slot}
@@ -22,7 +22,7 @@ bytes_in banks buffer slot = option_map_or (bytes_of banks buffer) (block_in slo
 abbrev pub IsBlank : Bool → List ℕ → Type 0
 IsBlank blank buffer = blank ≡ true → (i : ℕ) → slice_index buffer i ≡ 0
 
--- the memory that slots and a buffer stand for
+-- the memory that slots and a buffer represent
 abbrev pub memory_of : List ℕ → List (Slot Block) → List ℕ → Memory
 memory_of banks slots buffer = record { banks = banks; slots = slots; bytes = map (bytes_in banks buffer) slots }
 

@@ -37,7 +37,7 @@ pub struct Banks {
     made: Vec<PlacedBlock>,
     // The bytes of all configured banks.
     bytes: Vec<u8>,
-    // Whether they are all zeros: none was ever lent to be written.
+    // Whether they are all zeros: none was ever borrowed to be written.
     blank: bool,
 }
 
@@ -270,7 +270,7 @@ impl Banks {
         Ok(())
     }
 
-    /// What is told of a handle's block, whether it is there or was purged.
+    /// The state of a handle's block, whether it is there or was purged.
     pub fn state(&self, h: Handle) -> Result<BlockState, BlockFault>
         ensures state { result_ok result ≡ option_map state_of (get self.now.slots h) }
         ensures refused { IfErr result (IsStale self.now.slots h) }
@@ -423,7 +423,7 @@ impl Banks {
         self.places.empty(h)
     }
 
-    /// Purges the first so many purgeable blocks, whose handles stay.
+    /// Purges the first `count` purgeable blocks, whose handles stay.
     pub fn purge_first(&mut self, count: u32)
         ensures slots { self.new.slots ≡ slots_after_purges self.old.slots count }
         ensures kept { KeepsBut self.old self.new [] }

@@ -81,7 +81,7 @@ clear_limit banks want address small some clear =
     let bank : last / 0x10000 < 256 = subst (λ (b : ℕ). b < 256) free.configured.2 (small free.configured.0 (last / 0x10000) free.configured.1) in
     omega arith
 
--- nothing is open below an address, nor from there up to the next stand, nor from there up to where the bar ends
+-- nothing is open below an address, nor from there up to the next place at which a block may begin, nor from there up to where the bar ends
 pub none_open_to : (banks : List ℕ) (want : Want) (from at place later : ℕ)
     → ((other : ℕ) → from ≤ other → other < at → ¬ IsOpen banks want other)
     → IsNextStand want at place → BarredUpTo banks want place later

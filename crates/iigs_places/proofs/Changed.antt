@@ -52,7 +52,7 @@ live_in slots h some = elim (cases_lt h.slot (length slots)) [
 pub with_is : (slots : List (Slot Block)) (h : Handle) (slot : Slot Block) → IsSome (get slots h) → with_slot slots h slot ≡ set slots h.slot slot
 with_is slots h slot some = rw some refl
 
--- where the block in a slot comes to another whose place and size are the same, or to none, it stays
+-- where the block in a slot becomes another whose place and size are the same, or none, it stays
 pub set_stays : (slots : List (Slot Block)) (at : ℕ) (slot : Slot Block) → at < length slots → StaysIn (slot_at slots at) slot
     → (place : ℕ) → Stays slots (set slots at slot) place
 set_stays slots at slot inside stays place = elim (cases_eq place at) [

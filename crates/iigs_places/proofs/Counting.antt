@@ -20,7 +20,7 @@ use Rattle.iigs_places.proofs.Turns.{count-same}
 use Rattle.iigs_places.proofs.Once.{count-cons, count_none, count_one, once_apart}
 use Rattle.iigs_places.proofs.Marked.{past_none}
 
--- where a block begins is told by its extent
+-- the address at which a block begins is given by its extent
 address_block : (o : Option ℕ) (size : ℕ) → o ≡ option_map (λ (e : ℕ × ℕ). e.0) (extent_of_size size o)
 address_block None size = refl
 address_block (Some at) size = refl
@@ -217,7 +217,7 @@ count_place (m ∷ ms) (suc k) d inside rises =
       count_place ms k d (omega (arith, inside)) (λ i j less inside'. rises (suc i) (suc j) (omega (arith, less)) (omega (arith, inside'))),
     )
 
--- so many blocks lie below the one whose mark is at a place
+-- `k` blocks lie below the one whose mark is at place `k`
 pub below_is : (slots : List (Slot Block)) (marks : List BlockMark) → IsMarked slots marks → HaveMarks slots marks → All IsSized marks → (k : ℕ) (d : BlockMark) → k < length marks
     → count_by (lies_below (get_or marks k d).at) slots ≡ k
 below_is slots marks made have sized' k d inside =

@@ -121,7 +121,7 @@ cover_none = record {
   from = λ i r. absurd (omega (arith, r.1.1));
 }
 
--- the first so many marks are joined, and no run begins after a later one
+-- the first `count` marks are joined, and no run begins after a later one
 pub record Joined (marks : List BlockMark) (count : ℕ) (runs : List BlockSpot) : Type 0 where
   pub cover : Cover (take count marks) runs
   pub following : (k : ℕ) (d : BlockMark) → count ≤ k → k < length marks → All (λ (run : BlockSpot). run.at ≤ (get_or marks k d).at) runs
@@ -170,7 +170,7 @@ stretch_more marks first end place d inside sized s is = record {
     longer : end < (get_or marks place d).end
     longer = omega (arith, (sized place d inside).0, is)
 
--- so many first items
+-- the first `n` items contain each item before place `n`
 has_front : {X : Type 0} (xs : List X) (n k : ℕ) (d : X) → k < n → k < length xs → Contains (take n xs) (get_or xs k d)
 has_front xs n k d lt inside = (k, omega (arith, length-take n xs, lt, inside), get_or-take n xs k (get_or xs k d) lt ∙ get_or_default xs k (get_or xs k d) d inside)
 

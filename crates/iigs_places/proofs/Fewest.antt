@@ -55,7 +55,7 @@ module _ (banks : List ℕ) (want : Want) (spots : List BlockSpot) where
         absurd (none address (subst (λ (l : ℕ). FitsAmong banks want spots l address) (is ∙ first) fits))
   ]
 
-  -- where the want goes with so many purged, and fits nowhere with one less, these are the fewest
+  -- where the want goes with `count` blocks purged, and fits nowhere with one less, these are the fewest
   pub fewest_here : (turns : List ℕ) (none count limit address : ℕ) → IsNonDecreasingBy (λ turn. turn) turns → limit ≡ limit_of turns count
       → count ≤ length turns → count ≤ none + 1 → none < count → IsLeastAmong banks want spots (limit_of turns count) address
       → ((other : ℕ) → ¬ FitsAmong banks want spots (limit_of turns none) other)

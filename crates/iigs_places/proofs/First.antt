@@ -1,4 +1,4 @@
--- The first so many purgeable blocks are emptied by their turns.
+-- The first `count` purgeable blocks are emptied by their turns.
 use Rattle.std.proofs.Common.{◌≡◌, inl, inr, ℕ, Bool, true, false, cond, ◌&&◌, nat_lt, ◌+◌, ◌≤◌, min, List, [], ◌∷◌, map, All, length, get_or, count_by, Option, Some, None, IfSome, is_some, refl, sym, ap, ◌∙◌, arith}
 use Rattle.std.specs.Option.{option_map, option_map_or, option_and_then}
 use Rattle.std.proofs.lemmas.Bool.{cases_lt}
@@ -69,7 +69,7 @@ module _ (slots : List (Slot Block)) (spots : List BlockSpot) (turns : List ℕ)
       ∙ count-same (λ slot. option_map_or (λ spot. nat_lt spot.turn turn_of_unpurgeable) (spot_in slot) false) (λ slot. option_map_or can_purge (block_in slot) false) slots
       (λ k d inside. slot_kept (block_in (get_or slots k d)) (bounded k d inside))
 
-  -- those with a turn below the limit are the first so many, or all
+  -- those with a turn below the limit are the first `count`, or all
   pub first_emptied : (count within : ℕ) → within ≡ min (length turns) count → map (emptied_where (below (limit_of turns within))) slots ≡ slots_after_purges slots count
   first_emptied count within is = elim (cases_lt (length turns) count) [
     | inr le ↦

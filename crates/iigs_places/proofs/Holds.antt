@@ -17,7 +17,7 @@ use Rattle.iigs_places.proofs.Extents.{each_slot}
 use Rattle.iigs_places.proofs.Stays.{StaysIn, Stays, apart_stays, map_stays}
 use Rattle.iigs_places.proofs.Changed.{live_block, live_in, with_is, set_here, set_other, set_stays, set_bounded, map_bounded, release_stays, release_bounded}
 
--- the arrangement with other slots, in which no block comes to another place
+-- the arrangement with other slots, in which no block moves to another place
 pub arranged_stays : (banks : List ℕ) (old new : List (Slot Block)) → IsArranged banks old
     → length new ≡ length old → All IsBoundedSlot new → ((place : ℕ) → Stays old new place) → IsArranged banks new
 arranged_stays banks old new store len bounded stays = record {

@@ -200,7 +200,7 @@ marks_at slots h block marks was have = λ k d inside same.
     let start : unwrap_or (address_in (slot_at slots h.slot)) 0 ≡ one.0.0 = start_extent (slot_at slots h.slot) one.0 is in
     ap (λ (x : BlockMark). x.at) one.2 ∙ sym (rw there at start)
 
--- behind a mark behind the address no mark is at it
+-- where no mark before a place is the slot's, and the mark at the place lies after the address, no mark is the slot's
 pub none_after : (marks : List BlockMark) (slot address count place : ℕ) (d : BlockMark) → IsNonDecreasingBy (λ m. m.at) marks → All (λ m. m.slot ≡ slot → m.at ≡ address) marks
     → CountsBefore marks address count → count ≤ place → place < length marks → (get_or marks place d).at ≢ address
     → ((k : ℕ) (e : BlockMark) → k < place → (get_or marks k e).slot ≢ slot) → All (λ m. m.slot ≢ slot) marks
@@ -375,7 +375,7 @@ module _ (slots : List (Slot Block)) (marks : List BlockMark) (made : IsMarked s
   pub no_holder : ((m : BlockMark) → Contains marks m → address < m.at) → (h : Handle) → ¬ Has slots address h
   no_holder following h has = no_block slots marks made address following h.slot (has_byte slots address h has).1
 
-  -- what the last mark's slot tells is so of all
+  -- the result for the last mark's slot holds for all slots
   pub held_is : (last : BlockMark) → IsLast marks address last → (result : Option Handle)
       → MatchOption result (¬ HoldsByte address (slot_at slots last.slot)) (λ h. (h.slot ≡ last.slot) × Has slots address h)
       → MatchOption result ((h : Handle) → ¬ Has slots address h) (IsHolder slots address)

@@ -33,7 +33,7 @@ use Rattle.iigs_places.proofs.Placed.{fits_open, open_fits}
 pub some_and : {X : Type 0} (o : Option X) (x : X) (P : X → Type 0) → o ≡ Some x → P x → IsSomeAnd o P
 some_and o x P is holds = rw is holds
 
--- ---- what marks tell of blocks
+-- ---- what marks say of blocks
 
 module _ (slots : List (Slot Block)) (marks : List BlockMark) (have : HaveMarks slots marks) (slot address size : ℕ) where
   pub beside_apart : LiesBeside marks slot address size → (place : ℕ) → place ≢ slot → IsApart address size (slot_at slots place)
@@ -178,6 +178,6 @@ pub arranged_either : {E : Type 0} (banks : List ℕ) (old new : List (Slot Bloc
 arranged_either banks old new h (Ok a) did err arranged = subst (IsArranged banks) (sym did.next_is) (arranged_emptied old h did.block did.was banks arranged)
 arranged_either banks old new h (Err e) did err arranged = subst (IsArranged banks) (sym err) arranged
 
--- the first so many purgeable blocks are emptied
+-- the first `count` purgeable blocks are emptied
 pub arranged_gone : (banks : List ℕ) (slots : List (Slot Block)) (count : ℕ) → IsArranged banks slots → IsArranged banks (slots_after_purges slots count)
 arranged_gone banks slots count arranged = arranged_stays banks slots (slots_after_purges slots count) arranged (length-emptied slots count) (gone_bounded count slots arranged.bounded) (gone_stays slots count)

@@ -1,4 +1,4 @@
--- How often marks of a slot stand in a list.
+-- How many marks of a slot are in a list.
 use Rattle.std.proofs.Common.{◌≡◌, ◌≢◌, inl, inr, ℕ, Bool, true, false, cond, not, zero, suc, ◌==◌, ◌+◌, ◌<◌, ◌≤◌, List, [], ◌∷◌, ◌++◌, All, length, get_or, Contains, count_by, arith, refl, sym, ap, ◌∙◌}
 use Rattle.std.specs.List.{filter}
 use Rattle.std.specs.List.Sorted.{IsPermutation}
@@ -63,7 +63,7 @@ once_filter q marks once slot = omega (arith, count-filter (λ (m : BlockMark). 
 pub once_moved : (marks moved : List BlockMark) → IsPermutation marks moved → AreOnce marks → AreOnce moved
 once_moved marks moved same once slot = omega (arith, sum_by-IsPermutation (λ (m : BlockMark). cond (m.slot == slot) 1 0) marks moved same, once slot)
 
--- a mark of a slot that has none comes to them
+-- a mark of a slot that has none is added to them
 pub once_more : (marks : List BlockMark) (mark : BlockMark) → All (λ (m : BlockMark). m.slot ≢ mark.slot) marks → AreOnce marks → AreOnce (mark ∷ marks)
 once_more marks mark none once slot = elim (cases_eq mark.slot slot) [
   | inl same ↦
@@ -86,7 +86,7 @@ once_push marks mark none once slot =
     omega (arith, front, sum_by-append (λ (m : BlockMark). cond (m.slot == slot) 1 0) marks (mark ∷ []), count-cons (λ (m : BlockMark). m.slot == slot) mark marks, count-cons (λ (m : BlockMark). m.slot == slot) mark [])
 
 module _ (marks : List BlockMark) (once : AreOnce marks) where
-  -- two marks of one slot stand at one place
+  -- two marks of one slot are at one place
   once_place : (i j : ℕ) (d : BlockMark) → i < j → j < length marks → (get_or marks i d).slot ≡ (get_or marks j d).slot → ⊥
   once_place i j d less inside same =
       let slot : ℕ = (get_or marks j d).slot in

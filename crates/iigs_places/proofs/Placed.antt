@@ -51,7 +51,7 @@ module _ (slots : List (Slot Block)) (spots : List BlockSpot) (turns : List ℕ)
   gone_in None count within one = tt
   gone_in (Some block) count within one = sym (gone_is slots spots turns survey bounded block count one within)
 
-  -- emptying the first so many is emptying those below the limit
+  -- emptying the first `count` is emptying those below the limit
   pub emptied_is : (count : ℕ) → count ≤ length turns
       → map (emptied_where (λ block. nat_lt (turn_of block) (limit_of turns count))) slots ≡ slots_after_purges slots count
   unfolding slots_after_purges

@@ -81,7 +81,7 @@ pub record PutFacts (banks : List ℕ) (old : List (Slot Block)) (want : Want) (
 no_byte : (slot : Slot Block) (i : ℕ) → block_in slot ≡ None → ¬ HoldsByte i slot
 no_byte slot i none holds = let no : IsSomeAnd {T = Block} None (λ block. IsSomeAnd block.at (λ first. (first ≤ i) × (i < first + block.want.size))) = rw none at holds in absurd no
 
--- the same in the words of placement
+-- what was put, in the terms of placement
 pub put_is : (banks : List ℕ) (old new : List (Slot Block)) (want : Want) (user : ℕ) (locked : Bool) (level : ℕ) (movable : Bool) (put : PlacedBlock)
     → IsPut banks old want user locked level movable put new → Puts Purges banks old want user locked level movable put.handle new
 put_is banks old new want user locked level movable put done = record {

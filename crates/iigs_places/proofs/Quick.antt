@@ -88,7 +88,7 @@ module _ (slots : List (Slot Block)) (marks : List BlockMark) (have : HaveMarks 
           | inr following ↦ absurd (omega (arith, following, r.3, from))
         ]))
 
-    -- so a search among runs tells whether the want fits anywhere
+    -- so a search among runs decides whether the want fits anywhere
     pub has_yes : (o : Option ℕ) (b : Bool) → b ≡ is_some o → MatchOption o ((address : ℕ) → ¬ FitsAmong banks want runs 0 address) (IsLeastAmong banks want runs 0) → b ≡ true
         → (address : ℕ) × Fits banks slots want address
     has_yes None b is reported e = let clash : true ≡ false = sym e ∙ is in absurd cc
@@ -136,7 +136,7 @@ module _ (banks : List ℕ) (old : List (Slot Block)) (want : Want) (found : Fou
     slots = made ∙ ap (λ slots. with_value slots h (placed_block want found.at block.user block.locked block.level false)) is.empties;
   }
 
--- where no block is purged, the marks of the others stay and the new one's comes to them
+-- where no block is purged, the marks of the others stay and the new one's is added to them
 module _ (slots : List (Slot Block)) (limit : ℕ) (none : limit ≡ 0) (marks : List BlockMark) (have : HaveMarks slots marks) (want : Want) (address user : ℕ) (locked : Bool) (level : ℕ) (movable : Bool) (h : Handle) where
   pub have_taken : new_handle slots ≡ Some h
       → HaveMarks (after_take (map (emptied_where (below limit)) slots) (placed_block want address user locked level movable)) (mark h.slot (address, want.size) ∷ marks)

@@ -137,7 +137,7 @@ turn_below x small spot = elim (cases_lt spot.turn turn_of_unpurgeable) [
 ]
 
 module _ (slots : List (Slot Block)) (spots : List BlockSpot) (turns : List ℕ) (survey : IsSurvey slots spots turns) (bounded : All IsBoundedSlot slots) where
-  -- so many turns lie below a purgeable block's as purgeable blocks go before it
+  -- as many turns lie below a purgeable block's as purgeable blocks go before it
   rank_is : (block : Block) → IsBounded block → can_purge block ≡ true → rank slots block ≡ count_by (λ turn. nat_lt turn (turn_of block)) turns
   unfolding rank spots_of turns_of
   rank_is block second can =
@@ -246,7 +246,7 @@ module _ (slots : List (Slot Block)) (spots : List BlockSpot) (turns : List ℕ)
         rw (zero, limit_zero, first, second) refl
   ]
 
-  -- the first so many purgeable blocks are those with a turn below the limit
+  -- the first `count` purgeable blocks are those with a turn below the limit
   pub gone_is : All IsBoundedSlot slots → (block : Block) (count : ℕ) → IsBounded block → count ≤ length turns
       → is_gone slots count block ≡ nat_lt (turn_of block) (limit_of turns count)
   unfolding is_gone

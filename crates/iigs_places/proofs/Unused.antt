@@ -1,4 +1,4 @@
--- Lists whose items behind a place are all the same one, and count for nothing.
+-- Lists whose items from a place on are all the same one, and count for nothing.
 use Rattle.std.proofs.Common.{◌≡◌, ℕ, zero, suc, ◌≤◌, List, [], ◌∷◌, take, sum_by, get_or, Option, None, arith, refl, ap, ◌∙◌}
 use Rattle.std.specs.List.{filter_map, cons_option}
 use Rattle.std.proofs.lemmas.List.Sums.{sum_by-cons}

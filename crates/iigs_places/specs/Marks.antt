@@ -19,7 +19,7 @@ mark_in place slot = option_map (mark place) (extent slot)
 abbrev pub AreOnce : List BlockMark → Type 0
 AreOnce marks = (slot : ℕ) → count_by (λ m. m.slot == slot) marks ≤ 1
 
--- the blocks in the first so many slots that are there have their marks, each one, and each mark is one of a block that is there
+-- the blocks in the first `count` slots that are there have their marks, each one, and each mark is one of a block that is there
 pub record AreGathered (slots : List (Slot Block)) (count : ℕ) (marks : List BlockMark) : Type 0 where
   pub each : (place : ℕ) (e : ℕ × ℕ) → place < count → extent (slot_at slots place) ≡ Some e → Contains marks (mark place e)
   pub are : (m : BlockMark) → Contains marks m → (m.slot < count) × (e : ℕ × ℕ) × (extent (slot_at slots m.slot) ≡ Some e) × (m ≡ mark m.slot e)
@@ -46,18 +46,18 @@ pub record IsMarked (slots : List (Slot Block)) (marks : List BlockMark) : Type 
   pub each : (place : ℕ) (e : ℕ × ℕ) → extent (slot_at slots place) ≡ Some e → Contains marks (mark place e)
   pub apart : (place : ℕ) (e : ℕ × ℕ) (m : BlockMark) → extent (slot_at slots place) ≡ Some e → Contains marks m → m.slot ≢ place → ¬ Spans m.at e
 
--- so many first marks are at the address or before it, and the others behind it
+-- the first `count` marks are at the address or before it, and the others after it
 pub record CountsUpTo (marks : List BlockMark) (address count : ℕ) : Type 0 where
   pub before : (i : ℕ) (d : BlockMark) → i < count → (slice_index_or marks i d).at ≤ address
   pub following : (i : ℕ) (d : BlockMark) → count ≤ i → i < length marks → address < (slice_index_or marks i d).at
 
--- so many first marks are before the address, and the others at it or behind it
+-- the first `count` marks are before the address, and the others at it or after it
 pub record CountsBefore (marks : List BlockMark) (address count : ℕ) : Type 0 where
   pub within : count ≤ length marks
   pub before : (i : ℕ) (d : BlockMark) → i < count → (slice_index_or marks i d).at < address
   pub following : (i : ℕ) (d : BlockMark) → count ≤ i → i < length marks → address ≤ (slice_index_or marks i d).at
 
--- the first mark that is at the address or behind it
+-- the first mark that is at the address or after it
 pub record IsFirstFrom (marks : List BlockMark) (address : ℕ) (first : BlockMark) : Type 0 where
   pub is : Contains marks first
   pub from : address ≤ first.at
@@ -74,7 +74,7 @@ pub record IsLastOther (marks : List BlockMark) (address slot : ℕ) (last : Blo
 abbrev pub AreMarksApart : List BlockMark → Type 0
 AreMarksApart marks = (m o : BlockMark) → Contains marks m → Contains marks o → m.slot ≢ o.slot → (o.at < m.at) ⊎ (m.end ≤ o.at)
 
--- so many bytes from an address on lie in none of the blocks of other slots
+-- none of the `size` bytes from an address on lies in a block of another slot
 abbrev pub LiesBeside : List BlockMark → ℕ → ℕ → ℕ → Type 0
 LiesBeside marks slot address size = (m : BlockMark) → Contains marks m → m.slot ≢ slot → (address + size ≤ m.at) ⊎ (m.end ≤ address)
 

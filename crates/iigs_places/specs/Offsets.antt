@@ -1,4 +1,4 @@
--- Where the bytes of the configured banks stand in one buffer. No public clause cites this module.
+-- Where the bytes of the configured banks lie in one buffer. No public clause cites this module.
 use Rattle.std.specs.Prelude.{◌≡◌, ℕ, Bool, zero, suc, ◌+◌, ◌==◌, ◌<◌, ◌≤◌, List, All, length, slice_index, if◌then◌else◌}
 use Rattle.std.specs.List.{list_any}
 use Rattle.iigs_meaning.specs.Free.{bank_of, low_of}

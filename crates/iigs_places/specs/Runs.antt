@@ -19,7 +19,7 @@ pub record AreRuns (runs : List BlockSpot) : Type 0 where
   pub some : All (λ run. run.at < run.end) runs
   pub ends : All (λ run. run.end ≤ 2 ^ 24) runs
 
--- the first so many runs begin at the address or before it, and the others there or behind it
+-- the first `count` runs begin at the address or before it, and the others there or after it
 pub record StandsAt (runs : List BlockSpot) (count address : ℕ) : Type 0 where
   pub within : count ≤ length runs
   pub before : (k : ℕ) (d : BlockSpot) → k < count → (slice_index_or runs k d).at ≤ address

@@ -36,11 +36,11 @@ turn_in spot = if nat_lt spot.turn turn_of_unpurgeable then Some spot.turn else 
 unfoldable pub turns_of : List BlockSpot → List ℕ
 turns_of spots = filter_map turn_in spots
 
--- blocks with a turn below this one are purged when the first so many are
+-- blocks with a turn below this one are purged when the first `count` are
 unfoldable pub limit_of : List ℕ → ℕ → ℕ
 limit_of turns count = if count == 0 then 0 else slice_index turns (count - 1) + 1
 
--- so many bytes from an address on lie beside the block
+-- the `size` bytes from an address on lie beside the block
 abbrev pub IsBeside : ℕ → ℕ → BlockSpot → Type 0
 IsBeside address size spot = (address + size ≤ spot.at) ⊎ (spot.end ≤ address)
 
@@ -54,7 +54,7 @@ pub record IsLeastAmong (banks : List ℕ) (want : Want) (spots : List BlockSpot
   pub fits : FitsAmong banks want spots limit address
   pub least : (other : ℕ) → FitsAmong banks want spots limit other → address ≤ other
 
--- so many bytes at the address don't lie beside all blocks whose turn isn't below the limit
+-- the `size` bytes at the address don't lie beside all blocks whose turn isn't below the limit
 abbrev pub HasNoPlace : List BlockSpot → ℕ → ℕ → ℕ → Type 0
 HasNoPlace spots limit size address = ¬ All (λ spot. limit ≤ spot.turn → IsBeside address size spot) spots
 
@@ -92,7 +92,7 @@ pub record IsSurvey (slots : List (Slot Block)) (spots : List BlockSpot) (turns 
   pub counted : IsPermutation (turns_of spots) turns
   pub rises : IsNonDecreasingBy (λ turn. turn) turns
 
--- the want goes there once the blocks with a turn below the limit are emptied, which are the first so many
+-- the want goes there once the blocks with a turn below the limit are emptied, which are the first `count`
 pub record IsFound (banks : List ℕ) (slots : List (Slot Block)) (want : Want) (found : FoundAddress) : Type 0 where
   pub count : ℕ
   pub goes : GoesTo banks slots want count found.at

@@ -40,7 +40,7 @@ fn is_named(banks: &[u8], bank: u8) -> bool
     banks.iter().any(|other| bank == *other)
 }
 
-// Whether the bank at a place stands before it too.
+// Whether the bank at a place is in the list before it too.
 fn stands_before(banks: &[u8], place: usize) -> bool
     requires { place < length banks.now }
     ensures yes { IsTrue result → (k : ℕ) × (k < place) × (slice_index banks.now k ≡ slice_index banks.now place) }
@@ -167,7 +167,7 @@ impl BankMap {
         self.start_of(bank) < self.start_of(bank + 1)
     }
 
-    /// Where the byte at an address of a bank stands in the buffer.
+    /// Where the byte at an address of a bank lies in the buffer.
     pub fn offset(&self, address: u32) -> usize
         requires { address < 2 ^ 24 }
         ensures value { result ≡ offset_of self.now address }

@@ -41,7 +41,7 @@ fn mark_of(slots: &[Slot<Block>], place: usize) -> Option<BlockMark>
     })
 }
 
-// The marks of the blocks that are there in the first so many slots, in their order.
+// The marks of the blocks that are there in the first `count` slots, in their order.
 fn gather_marks(slots: &[Slot<Block>], count: usize, marks: &mut Vec<BlockMark>)
     requires few { length slots.now ≤ 4096 }
     requires inside { count ≤ length slots.now }
@@ -111,7 +111,7 @@ fn count_before(marks: &[BlockMark], address: u32) -> usize
     marks.partition_point(|mark| mark.at < address)
 }
 
-/// The first mark at an address or behind it.
+/// The first mark at an address or after it.
 pub fn first_from(marks: &[BlockMark], address: u32) -> Option<BlockMark>
     requires { IsNonDecreasingBy (λ mark. mark.at) marks.now }
     ensures { MatchOption result ((mark : declared.BlockMark) → Contains marks.now mark → mark.at < address) (IsFirstFrom marks.now address) }
@@ -142,7 +142,7 @@ fn last_other(marks: &[BlockMark], address: u32, slot: u16) -> Option<BlockMark>
     Some(marks[count - 2])
 }
 
-/// Whether so many bytes from an address on lie in none of the blocks of other slots.
+/// Whether none of the `size` bytes from an address on lies in a block of another slot.
 pub fn lies_beside(marks: &[BlockMark], slot: u16, address: u32, size: u32) -> bool
     requires order { IsNonDecreasingBy (λ mark. mark.at) marks.now }
     requires once { AreOnce marks.now }

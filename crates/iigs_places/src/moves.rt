@@ -48,7 +48,7 @@ pub fn count_purgeable(slots: &[Slot<Block>]) -> u32
     count
 }
 
-/// Empties the first so many purgeable blocks. `spots` and `turns` are scratch space.
+/// Empties the first `count` purgeable blocks. `spots` and `turns` are scratch space.
 pub fn purge_first(
     table: &mut Handles<Block>,
     layout: &mut BlockLayout,

@@ -274,8 +274,8 @@ impl Places {
         self.table.left()
     }
 
-    /// Places blocks for these wants in order, locked with level 0, and tells in `made` where they are. Where one has no
-    /// room those before it are placed.
+    /// Places blocks for these wants in order, locked with level 0, and stores in `made` where they are. Where one has no room those before
+    /// it are placed.
     pub fn place_all(
         &mut self,
         user: u16,
@@ -352,7 +352,7 @@ impl Places {
         count_purgeable(self.table.slots())
     }
 
-    /// Empties the first so many purgeable blocks, whose handles stay.
+    /// Empties the first `count` purgeable blocks, whose handles stay.
     pub fn purge_first(&mut self, count: u32)
         ensures { self.new ≡ record self.old { slots = slots_after_purges self.old.slots count } }
     {

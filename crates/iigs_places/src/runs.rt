@@ -9,7 +9,7 @@ ghost use Rattle.iigs_places.specs.Runs.{AreRuns, RunsAdd, StandsAt, IsStretch, 
 use crate::marks::BlockMark;
 use crate::spots::{BlockSpot, NEVER, insert_reserved};
 
-// Whether the last of the first so many runs ends at an address.
+// Whether the last of the first `count` runs ends at an address.
 fn ends_at(runs: &[BlockSpot], count: usize, address: u32) -> bool
     requires { count ≤ length runs.now }
     ensures { IsTrue result → (0 < count) × ((d : BlockSpot) → (slice_index_or runs.now (count - 1) d).end ≡ address) }
@@ -27,7 +27,7 @@ fn extend(runs: &mut Vec<BlockSpot>, place: usize, end: u32)
     runs[place].end = end;
 }
 
-// Adds the bytes of a block, before which the first so many runs begin, and behind which the others do.
+// Adds the bytes of a block. The first `count` runs begin before it, and the others after it.
 fn add_at(runs: &mut Vec<BlockSpot>, count: usize, at: u32, end: u32)
     requires runs { AreRuns runs.old.items }
     requires stands { StandsAt runs.old.items count at }
@@ -82,7 +82,7 @@ pub fn add_run(runs: &mut Vec<BlockSpot>, at: u32, end: u32)
 pub struct Stretch {
     /// The address after the last byte.
     pub end: u32,
-    /// The place of the mark of the block behind them.
+    /// The place of the mark of the block after them.
     pub next: usize,
 }
 

@@ -46,12 +46,12 @@ fn first_after(spots: &[BlockSpot], from: usize, limit: u32, address: u32) -> us
 struct Run {
     // Where the last of them ends.
     end: u32,
-    // The place of the block behind them.
+    // The place of the block after them.
     next: usize,
 }
 
-// The blocks that begin with the one at a place and leave no room for so many bytes between them. Those with a turn below
-// the limit don't count.
+// The blocks that begin with the one at a place and leave no room for `size` bytes between them. Those with a turn below the limit don't
+// count.
 fn run_from(spots: &[BlockSpot], first: usize, limit: u32, size: u32) -> Run
     requires inside { first < length spots.now }
     requires size { size ≤ 2 ^ 24 }
@@ -78,8 +78,7 @@ fn run_from(spots: &[BlockSpot], first: usize, limit: u32, size: u32) -> Run
     }
 }
 
-/// The least address at which the want fits beside all blocks whose turn isn't below the limit. The blocks stand in
-/// order of address.
+/// The least address at which the want fits beside all blocks whose turn isn't below the limit. The blocks are in order of address.
 pub fn least_among(map: &BankMap, want: &Want, spots: &[BlockSpot], limit: u32) -> Option<u32>
     requires want { IsWant want.now }
     requires order { IsNonDecreasingBy (λ spot. spot.at) spots.now }
@@ -104,7 +103,7 @@ pub fn least_among(map: &BankMap, want: &Want, spots: &[BlockSpot], limit: u32) 
     None
 }
 
-/// The turn below which the first so many purgeable blocks lie.
+/// The turn below which the first `count` purgeable blocks lie.
 #[tactic(auto, unfolding(crate::specs::Spots::limit_of))]
 pub fn limit_at(turns: &[u32], count: usize) -> u32
     requires count { count ≤ length turns.now }
@@ -114,8 +113,8 @@ pub fn limit_at(turns: &[u32], count: usize) -> u32
     if count == 0 { 0 } else { turns[count - 1] + 1 }
 }
 
-/// The least address at which the want fits, and the fewest blocks that are purged for it. The turns of those that may
-/// be purged stand in order.
+/// The least address at which the want fits, and the fewest blocks that are purged for it. The turns of those that may be purged are in
+/// order.
 pub fn fewest_purges(
     map: &BankMap,
     want: &Want,

@@ -327,8 +327,8 @@ pub fn lasting_bytes(table: &Handles<Block>) -> u64
     lasting_among(&table.slots()[..table.end()])
 }
 
-/// Places blocks for these wants in order, locked with level 0. `layout` is that of the table. `made` tells where they
-/// are; it, `spots` and `turns` are scratch space.
+/// Places blocks for these wants in order, locked with level 0. `layout` is that of the table. `made` says where they are; it, `spots` and
+/// `turns` are scratch space.
 pub fn put_all(
     map: &BankMap,
     table: &mut Handles<Block>,

@@ -1,4 +1,4 @@
-//! Entries of a jump table, read and changed where they stand.
+//! Entries of a jump table, read and changed in place.
 
 ghost use Rattle.std.specs.Prelude.{◌≡◌, ◌≢◌, ◌⊎◌, ◌↔◌, ◌+◌, ◌*◌, ◌<◌, ◌≤◌, ◌^◌, ℕ, Option, length, IsNone, IfSome, IfNone, MatchOption, None, Some};
 ghost use Rattle.byteorder.specs.Endian.{little_bytes};

@@ -13,7 +13,7 @@ use Rattle.lib_dict.specs.Library.{LibraryRow}
 use Rattle.lib_dict.specs.View.{outer_row}
 use Rattle.lib_dict.specs.Tables.{other_rows, following_rows}
 
--- so many segments were passed
+-- a given number of segments were passed
 pub record PassedRows (list : List Segment) (passed : ℕ) (rows : List Outer) : Type 0 where
   pub some : 1 ≤ passed
   pub within : passed ≤ length list + 1

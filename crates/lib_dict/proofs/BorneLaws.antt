@@ -63,7 +63,7 @@ defined_all : (s : Segment) → AllByRecursion (Defined s) (outer_names s)
 unfolding outer_names
 defined_all s = defined_from s (defined_in s) (all_in_rest [] (defined_in s))
 
--- a segment that stands further on defines the same names
+-- a segment that lies further on defines the same names
 names_up : (k : ℕ) (s : Segment) → outer_names (moved_segment k s) ≡ outer_names s
 unfolding title_of
 names_up k s =
@@ -89,7 +89,8 @@ names_up k s =
 
 -- ---- rows that are borne out
 
--- a segment behind the dictionary that isn't one starts where the row says and defines its name so, and its file has a number
+-- a segment after the dictionary that isn't one starts where the row says and defines its name as the row says, and its file's number is
+-- known
 pub record IsBorne (segments : List Segment) (numbers : List ℕ) (row : LibraryRow) : Type 0 where
   pub place : ℕ
   pub segment : Segment

@@ -65,14 +65,14 @@ suc_of : (fuel n : ℕ) → 2 ≤ n → n ≤ fuel → (m : ℕ) × (fuel ≡ su
 suc_of zero n some enough = absurd (omega arith)
 suc_of (suc m) n some enough = (m, refl)
 
--- its 0 stands at its very end
+-- its 0 is at its very end
 pub files_end : (bytes rest keys : List ℕ) → ReadFiles bytes rest keys → length rest ≡ 2 → number_at 2 0 rest ≡ 0 → AreNumbers (Some keys) bytes
 files_end bytes rest keys r two zero' =
     let fuel = suc_of r.fuel (length rest) (omega arith) r.enough in
     let ended : file_numbers r.fuel rest ≡ Some [] = ap (λ (n : ℕ). file_numbers n rest) fuel.1 ∙ step_end fuel.0 rest (omega arith) zero' ∙ rw (eq-eqb (length rest) 2 two) refl in
     (r.so_far, r.whole ∙ ap (after_numbers r.so_far) ended ∙ ap (λ (l : List ℕ). Some l) (append-nil r.so_far), r.keys')
 
--- or with something behind it
+-- or with something after it
 pub files_more : (bytes rest keys : List ℕ) → ReadFiles bytes rest keys → 2 ≤ length rest → (length rest ≡ 2 → ⊥) → number_at 2 0 rest ≡ 0 → file_numbers (length bytes) bytes ≡ None
 files_more bytes rest keys r long other zero' =
     let fuel = suc_of r.fuel (length rest) long r.enough in

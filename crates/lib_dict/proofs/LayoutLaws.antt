@@ -44,7 +44,7 @@ take-drop zero xs = refl
 take-drop (suc n) [] = refl
 take-drop (suc n) (x ∷ xs) = ap (λ (l : List ℕ). x ∷ l) (take-drop n xs)
 
--- how one step of the definition comes out
+-- the result of one step of the definition
 abbrev numbers_step : ℕ → List ℕ → Option (List ℕ)
 numbers_step n bytes =
     if nat_lt (length bytes) 2 then None
@@ -60,7 +60,7 @@ no_fuel : (bytes numbers : List ℕ) → file_numbers zero bytes ≡ Some number
 unfolding file_numbers
 no_fuel bytes numbers e = cc
 
--- the two ways in which numbers come
+-- the two cases in which there are numbers
 record LastNumber (bytes numbers : List ℕ) : Type 0 where
   none : numbers ≡ []
   two : length bytes ≡ 2

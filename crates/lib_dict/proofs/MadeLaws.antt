@@ -83,7 +83,7 @@ written_two : layout_of 2 0 ≡ written_layout
 unfolding length_width_of
 written_two = refl
 
--- the reader of its body stands before the three records
+-- the reader of its body is before the three records
 body_reader_is : (first second third rest : List ℕ)
     → body_reader 0 (dictionary_header first second third) (dictionary_text first second third ++ rest) ≡ reader_at (0x37 + 10 + length (dictionary_body first second third)) (dictionary_body first second third) false
 unfolding body_reader dictionary_text

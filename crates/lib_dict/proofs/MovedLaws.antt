@@ -1,4 +1,4 @@
--- The segments of a file stand in a longer one too, where other bytes are before the file and behind it.
+-- The segments of a file are in a longer one too, where other bytes are before the file and after it.
 use Rattle.std.proofs.Common.{◌≡◌, ℕ, ◌+◌, ◌-◌, ◌<◌, ◌≤◌, Bool, true, false, cond, List, [], ◌∷◌, ◌++◌, length, take, drop, map, Some, None, Result, Ok, Err, refl, sym, ap, subst, ◌∙◌, append_assoc, arith}
 use Rattle.std.specs.Prelude.{◌==◌, if◌then◌else◌}
 use Rattle.std.specs.List.{flat_map, AllByRecursion}
@@ -133,12 +133,12 @@ passes_more xs ys none =
     let each = each_false (checks_of (fields_of xs) xs) none in
     (ap (λ (f : HeaderFields). first_of (checks_of f (xs ++ ys))) same ∙ none_holds (checks_of (fields_of xs) (xs ++ ys)) (checks_more xs ys e each), same)
 
--- ---- a reader that stands further on
+-- ---- a reader that is further on
 
 abbrev pub moved_found : ℕ → ℕ × Record → ℕ × Record
 moved_found k found = (k + found.0, found.1)
 
--- a segment, so many bytes further on
+-- a segment, a given number of bytes further on
 abbrev pub moved_segment : ℕ → Segment → Segment
 moved_segment k s = record { start = k + s.start; fields = s.fields; records = map (moved_found k) s.records }
 

@@ -14,7 +14,7 @@ use Rattle.omf_format.specs.laws.BodyLaws.{found_by, none_at_end}
 use Rattle.load_meaning.specs.Pathnames.{long_bytes}
 use Rattle.lib_dict.specs.Parts.{DictionaryTexts, TakesLong, TakesLast, HasParts}
 
--- a record that was taken is the first of those that come
+-- a record that was taken is the first of those that remained
 record Took (new last : Reader) (at : ℕ) (bytes : List ℕ) (founds : List (ℕ × Record)) : Type 0 where
   record' : Record
   rest : List (ℕ × Record)
@@ -94,7 +94,7 @@ none_last r r1 r2 r3 last at1 at2 at3 first second third founds run ended one tw
     let over : next_answer (after_next r3) ≡ Ok None = none_at_end (after_next r3) (ap (λ (m : Reader). m.ended) h.1 ∙ ended) in
     not_end has.e h.0 over
 
--- ---- where the second record stands
+-- ---- where the second record is
 
 abbrev some_text : List ℕ → Option (List ℕ)
 some_text x = Some x

@@ -133,7 +133,7 @@ false_first list file s is here form none = record {
   false' = rows_are list s here ∙ no_parts s.start s.records (drop 1 list) none;
 }
 
--- its rows are told
+-- its rows are returned
 pub row_views : (list : List Segment) (file : List ℕ) (s : Segment) (parts : DictionaryTexts) (rows : List declared.Row) → IsFile list file → Some s ≡ segment_at list 1 → form_of s.fields.kind ≡ 0x08
     → HasParts parts s.records → AreRowsIn list (rows_in s.start parts.at parts.first parts.second parts.third (drop 1 list)) rows → HasRows file (map seen_row rows)
 row_views list file s parts rows is here form has are = record {

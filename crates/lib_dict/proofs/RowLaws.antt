@@ -492,7 +492,7 @@ row_known t bytes fits any number known =
         at_row : ℕ → LibraryRow
         at_row n = record { name = text_at t bytes; file = number_at 2 4 bytes; private = private_of bytes; at = n }
 
--- ---- rows as they are told
+-- ---- rows as they are returned
 
 pub rows_equal : (name name' : List ℕ) (file file' : ℕ) (private private' : Bool) (at at' : ℕ) → name ≡ name' → file ≡ file' → private ≡ private' → at ≡ at'
     → made name file private at ≡ made name' file' private' at'

@@ -24,7 +24,7 @@ pub list_any-append : {T : Type 0} (P : T → Bool) (xs ys : List T) → list_an
 list_any-append P [] ys = refl
 list_any-append P (x ∷ xs) ys = ap (λ (b : Bool). P x || b) (list_any-append P xs ys) ∙ sym (or_assoc (P x) (list_any P xs) (list_any P ys))
 
--- a test that doesn't tell a key from one that is equal to it knows it already
+-- where a key is there already, adding it changes nothing for a test that doesn't distinguish equal keys
 known_key : {T : Type 0} (eq : T → T → Bool) (P : T → Bool) (k : T) (ks : List T) → ((x : T) → eq k x ≡ true → P x ≡ P k) → list_any (eq k) ks ≡ true
     → (list_any P ks || P k) ≡ list_any P ks
 known_key eq P k [] same e = absurd cc

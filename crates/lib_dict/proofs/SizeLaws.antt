@@ -62,7 +62,7 @@ names_moved base (row ∷ rows) =
     ∙ ap (λ (l : List ℕ). name_text row ++ l) (names_moved base rows)
     ∙ sym (flat_map-cons name_text row rows)
 
--- the library's rows are those of its files, moved behind the dictionary
+-- the library's rows are those of its files, moved to after the dictionary
 pub library_moved : (files : List LibraryFile) → library_rows files ≡ map (moved_row (dictionary_size files)) (rows_from 1 0 files)
 unfolding library_rows
 library_moved files =

@@ -1,5 +1,5 @@
--- A dictionary as positions: what stands in its three records, and what each row says of the library (GS/OS Reference,
--- appendix F, "Library Dictionary Segment"; the 0 that ends the first record is this project's own choice).
+-- A dictionary as positions: what its three records hold, and what each row says of the library (GS/OS Reference, appendix F, "Library
+-- Dictionary Segment"; the 0 that ends the first record is this project's own choice).
 use Rattle.std.specs.Prelude.{◌≡◌, ◌≢◌, ◌<◌, ℕ, Bool, true, not, List, [], ◌∷◌, ◌++◌, length, Some, Ok, ◌==◌}
 use Rattle.std.specs.List.{flat_map}
 use Rattle.omf_format.specs.Number.{number_at}

@@ -22,7 +22,7 @@ pub record LibraryRow : Type 0 where
 
 -- ---- a dictionary that is read
 
--- a row as it is told, with the start of its segment
+-- a row as it is returned, with the start of its segment
 abbrev pub row_view : List Segment → OfferedRow → LibraryRow
 row_view segments row = record {
   name = row.name;
@@ -98,12 +98,12 @@ names_text rows = flat_map (λ row. length row.name ∷ row.name) rows
 unfoldable pub row_text : ℕ → LibraryRow → List ℕ
 row_text name row = little_bytes 4 name ++ (little_bytes 2 row.file ++ (little_bytes 2 (if row.private then 1 else 0) ++ little_bytes 4 row.at))
 
--- the second record: the rows, where the first one's name stands there in the third
+-- the second record: the rows, where the first one's name is at this place in the third record
 abbrev pub rows_text : ℕ → List LibraryRow → List ℕ
 rows_text name [] = []
 rows_text name (row ∷ rows) = row_text name row ++ rows_text (name + 1 + length row.name) rows
 
--- the dictionary's header, where the three records have so many bytes together
+-- the header of a dictionary whose three records have n bytes together
 abbrev pub dictionary_fields : ℕ → HeaderFields
 dictionary_fields n = record {
   byte_count = 0;
@@ -133,8 +133,8 @@ dictionary_text first second third =
     let body = dictionary_body first second third in
     header_bytes (dictionary_fields (length first + length second + length third)) (length body) ++ body
 
--- how many bytes the dictionary of these files has: its header of $37 bytes and its name of 10, the codes and the lengths of three
--- records, what stands in them, and END
+-- how many bytes the dictionary of these files has: its header of $37 bytes and its name of 10, the codes and the lengths of three records,
+-- their content, and END
 unfoldable pub dictionary_size : List LibraryFile → ℕ
 dictionary_size files =
     let rows = rows_from 1 0 files in
@@ -160,7 +160,7 @@ pub record LibraryInput : Type 0 where
 abbrev pub is_dictionary : Segment → Bool
 is_dictionary s = form_of s.fields.kind == 0x08
 
--- the file is the one that was given, and each segment of it may stand in a library: none is a dictionary
+-- the file is the one that was given, and each segment of it may be in a library: none is a dictionary
 pub record IsMember (given : LibraryInput) (file : LibraryFile) : Type 0 where
   pub name : file.name ≡ given.name
   pub bytes : file.bytes ≡ given.bytes

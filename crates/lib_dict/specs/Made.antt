@@ -28,7 +28,7 @@ pub record IsNowhere (spot : Spot) : Type 0 where
   pub segment : spot.segment ≡ 0
   pub at : spot.at ≡ 0
 
--- the cause of a file's fault, as the library tells it
+-- the cause of a file's fault, as a cause of the library's
 abbrev pub lib_cause : FileCause → LibCause
 lib_cause file_cause.Truncated = Truncated
 lib_cause file_cause.BadHeader = BadHeader
@@ -52,7 +52,7 @@ pub record IsFirstMemberFault (given : List LibraryInput) (fault : LibFault) : T
   pub number : fault.spot.file ≡ length before + 1
   pub here : HasMemberFault file.bytes fault.cause fault.spot.segment fault.spot.at
 
--- a fault of a file, a library that is too long, and want of memory
+-- a fault of a file, a library that is too long, and lack of memory
 abbrev pub ByCause : LibCause → Type 0 → Type 0 → Type 0 → Type 0
 ByCause Truncated file long memory = file
 ByCause BadHeader file long memory = file
@@ -61,7 +61,7 @@ ByCause BadRecord file long memory = file
 ByCause TooLong file long memory = long
 ByCause Memory file long memory = memory
 
--- no library is made of the files, for this reason, or memory ran out
+-- no library is made of the files, for this reason, unless out of memory
 abbrev pub IsLibRefused : LibFault → List LibraryInput → Type 0
 IsLibRefused fault given = ByCause fault.cause (IsFirstMemberFault given fault) (IsTooLong given × IsNowhere fault.spot) (IsNowhere fault.spot)
 
@@ -72,7 +72,7 @@ MadeIsRefusedForMemoryAlone = (given : List LibraryInput) (bytes : List ℕ) (fa
 
 -- ---- on the way
 
--- the file with this number is refused so, or memory ran out
+-- the file with this number is refused so, unless out of memory
 abbrev pub IsMemberRefused : LibFault → ℕ → List ℕ → Type 0
 IsMemberRefused fault file bytes =
     ByCause fault.cause ((fault.spot.file ≡ file) × HasMemberFault bytes fault.cause fault.spot.segment fault.spot.at) ⊥ (IsNowhere fault.spot)
@@ -87,6 +87,6 @@ FirstDictionary segments (Some found) =
     (before : List Segment) × (d : Segment) × (following : List Segment) × (segments ≡ before ++ d ∷ following) × (list_any is_dictionary before ≡ false)
     × (is_dictionary d ≡ true) × (found.0 ≡ length before + 1) × (found.1 ≡ d.start)
 
--- the library of these files would be too long, or memory ran out
+-- the library of these files would be too long, unless out of memory
 abbrev pub IsTooLongOrMemory : List LibraryFile → LibFault → Type 0
 IsTooLongOrMemory files fault = ByCause fault.cause ⊥ ((most_bytes < length (library_bytes files)) × IsNowhere fault.spot) (IsNowhere fault.spot)

@@ -7,8 +7,8 @@ use Rattle.lib_dict.specs.declared.fault.DictFault.TheVariants as dict
 use Rattle.lib_dict.specs.Library.{LibraryRow, HasRows, LibraryInput, LibraryFile, dictionary_size, library_rows, IsLibraryOf}
 use Rattle.lib_dict.specs.Rows.{HasNoRows}
 
--- the bytes are read as a library with the rows of these files, and in no other way, and behind the dictionary the bytes of the
--- given files stand as they were
+-- the bytes are read as a library with the rows of these files, and in no other way, and the bytes of the given files follow the dictionary
+-- unchanged
 pub record IsReadBack (given : List LibraryInput) (files : List LibraryFile) (bytes : List ℕ) : Type 0 where
   pub rows : HasRows bytes (library_rows files)
   pub no_others : (others : List LibraryRow) → HasRows bytes others → others ≡ library_rows files

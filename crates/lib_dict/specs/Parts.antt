@@ -20,7 +20,7 @@ abbrev pub TakesLong : Reader → Reader → Option (ℕ × List ℕ) → Type 0
 TakesLong old new (Some found) = (record' : Record) × (next_answer old ≡ Ok (Some (found.0, record'))) × (long_bytes record' ≡ Some found.1) × (new ≡ after_next old)
 TakesLong old new None = (found : ℕ × Record) → next_answer old ≡ Ok (Some found) → long_bytes found.1 ≡ None
 
--- one record more comes, and none behind it
+-- one more record follows, and none after it
 abbrev pub TakesLast : Reader → Bool → Type 0
 TakesLast old true = (found : ℕ × Record) × (next_answer old ≡ Ok (Some found)) × (next_answer (after_next old) ≡ Ok None)
 TakesLast old false = (found : ℕ × Record) → next_answer old ≡ Ok (Some found) → next_answer (after_next old) ≡ Ok None → ⊥

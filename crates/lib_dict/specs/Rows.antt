@@ -17,7 +17,7 @@ pub record AreReadFrom (segments : List Segment) (file : List ℕ) : Type 0 wher
   pub bytes : IsBytes file
   pub short : length file < 2 ^ 32
 
--- the file has no dictionary, for this reason, or memory ran out
+-- the file has no dictionary, for this reason, unless out of memory
 abbrev pub HasNoRows : DictFault → List ℕ → Type 0
 HasNoRows (dict.File fault) file = IsFirstFault file fault
 HasNoRows dict.NotLibrary file = IsNoLibrary file

@@ -72,7 +72,7 @@ pub record FitsTables (t : Tables) : Type 0 where
   pub known : HoldsRows (map outer_row t.known.keys) (following_rows t.list.now)
   pub file : IsInFile t.list.now
 
--- a name's length stands there, and the whole name after it
+-- a name's length is at this place, and the whole name after it
 pub record IsNameAt (third : List ℕ) (at : ℕ) : Type 0 where
   pub length' : at + 1 ≤ length third
   pub whole : at + 1 + number_at 1 at third ≤ length third
@@ -85,23 +85,23 @@ abbrev pub IsRowAnswer : Tables → List ℕ → Option LibraryRow → Type 0
 IsRowAnswer t bytes None = (at : ℕ) → row_in t at bytes ≡ Err at
 IsRowAnswer t bytes (Some row) = (found : OfferedRow) × ((at : ℕ) → row_in t at bytes ≡ Ok found) × (row ≡ row_view t.list.now found)
 
--- the rows of the second record, which stands there
+-- the rows of the second record, whose bytes are at this displacement
 abbrev pub rows_at : Tables → ℕ → List ℕ → Result (List OfferedRow) ℕ
 rows_at t at second = rows_from (length second / 12) (numbers_in t.first.now) (names_in t.third.now) (numbered_from 2 (drop 1 t.list.now)) at second
 
--- these rows are told
+-- these rows are returned
 pub record AreRowsIn (segments : List Segment) (answer : Result (List OfferedRow) ℕ) (rows : List declared.Row) : Type 0 where
   pub found : List OfferedRow
   pub read : answer ≡ Ok found
   pub reported : map seen_row rows ≡ map (row_view segments) found
 
--- the dictionary is false there, or memory ran out
+-- the dictionary is false there, unless out of memory
 abbrev pub IsRowFault : DictFault → Result (List OfferedRow) ℕ → Type 0
 IsRowFault (dict.File fault) answer = ⊥
 IsRowFault dict.NotLibrary answer = ⊥
 IsRowFault (dict.BadLibrary at) answer = answer ≡ Err at
 IsRowFault dict.Memory answer = Unit {0}
 
--- a file's fault as it is told of its dictionary
+-- a file's fault as it is reported of its dictionary
 abbrev pub FaultOf : FileFault → DictFault → Type 0
 FaultOf fault reported = (file : List ℕ) → IsRefused fault file → HasNoRows reported file

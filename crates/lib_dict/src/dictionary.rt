@@ -10,7 +10,7 @@ use std::marker::Model;
 pub struct Row<'a> {
     /// The name, a slice of the library.
     pub name: &'a [u8],
-    /// The number that the dictionary gives the file from which the segment comes.
+    /// The number that the dictionary gives the segment's file.
     pub file: u16,
     /// The name is seen in that file alone.
     pub private: bool,

@@ -22,7 +22,7 @@ fn known_rows<'a>(alloc: Global, rows: &Vec<Outer<'a>>) -> Result<IndexSet<Outer
     Ok(known)
 }
 
-/// What a library's segments behind its dictionary define for others.
+/// What a library's segments after its dictionary define for others.
 pub fn known_in<'a>(
     alloc: Global,
     list: &'a SegmentList<'a>,

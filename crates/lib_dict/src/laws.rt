@@ -12,8 +12,8 @@ pub fn rows_are_laid_out()
     ensures read { LaidOutIsRead }
 {}
 
-/// What is made of files is read as a library, with exactly their rows, and in no other way; behind the dictionary the files'
-/// bytes stand unchanged.
+/// What is made of files is read as a library, with exactly their rows, and in no other way; the files' bytes follow the dictionary
+/// unchanged.
 pub fn made_is_read()
     ensures { MadeIsRead }
 {}

@@ -1,5 +1,5 @@
-//! Libraries: files of object segments behind a dictionary of the names that they define (GS/OS Reference, appendix F, "Library
-//! Dictionary Segment").
+//! Libraries: files of object segments after a dictionary of the names that they define (GS/OS Reference, appendix F, "Library Dictionary
+//! Segment").
 #![tactic(auto)]
 
 mod dictionary;

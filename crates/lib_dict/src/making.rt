@@ -42,7 +42,7 @@ fn place_of(first: usize, rows: usize, third: usize, total: u64) -> Option<u32>
     Some(place as u32)
 }
 
-/// The dictionary's header, where its three records have so many bytes together.
+/// The header of a dictionary whose three records have `length` bytes together.
 fn dictionary_header(alloc: Global, length: u32) -> Result<Header, AllocError>
     ensures { IfOk result (λ header. fields header ≡ dictionary_fields length) }
 {
@@ -89,7 +89,7 @@ fn put_end(out: &mut Vec<u8>) -> Result<(), AllocError>
     }
 }
 
-/// The header of a dictionary whose three records have so many bytes together.
+/// The bytes of the header of a dictionary whose three records have `length` bytes together.
 fn header_text(alloc: Global, length: u32) -> Result<Vec<u8>, AllocError>
     requires { length ≤ 16777216 - 81 }
     ensures { IfOk result (λ out. out.items ≡ header_bytes (dictionary_fields length) (16 + length)) }
@@ -102,7 +102,7 @@ fn header_text(alloc: Global, length: u32) -> Result<Vec<u8>, AllocError>
     }
 }
 
-/// The dictionary with these three records, and the files behind it.
+/// The dictionary with these three records, and the files after it.
 fn library_of(
     alloc: Global,
     first: &[u8],
@@ -153,9 +153,9 @@ fn too_long() -> LibFault
     }
 }
 
-/// The library of these files: a dictionary of the names that their segments have for others, and then each file's bytes as they
-/// are. File numbers count from 1 in the order of the files. A file's own first fault comes first, and then a dictionary among
-/// its segments (BadRecord, at that segment's start), file by file; then TooLong, where the library would exceed 16,777,216
+/// The library of these files: a dictionary of the names that their segments have for others, and then each file's bytes as they are. File
+/// numbers count from 1 in the order of the files. The first fault is returned: file by file, a file's own first fault, and then a
+/// dictionary among its segments (BadRecord, at that segment's start); after all files TooLong, where the library would exceed 16,777,216
 /// bytes.
 pub fn make_library(alloc: Global, members: &Vec<Member>) -> Result<Vec<u8>, LibFault>
     requires few { length members.now.items ≤ 65535 }

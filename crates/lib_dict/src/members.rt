@@ -68,7 +68,7 @@ fn file_fault(fault: FileFault, file: u32) -> LibFault
     }
 }
 
-/// The file with this number, read: its own first fault comes first, and then a dictionary among its segments.
+/// The file with this number, read. Its own first fault is reported first, and then a dictionary among its segments.
 fn read_member<'a>(alloc: Global, member: &'a Member, file: u32) -> Result<MemberRead<'a>, LibFault>
     requires { length member.now.bytes.items < 2 ^ 32 }
     ensures ok { IfOk result (λ read. IsMember (given_file member.now) (library_file read)) }

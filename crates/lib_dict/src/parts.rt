@@ -8,7 +8,7 @@ ghost use Rattle.lib_dict.specs.Parts.{seen_parts, TakesLong, TakesLast, ArePart
 
 use omf_records::{Rec, Records};
 
-/// What stands in the three records.
+/// What the three records hold.
 #[derive(Clone, Copy)]
 pub struct Parts<'a> {
     /// File numbers with names.

@@ -89,7 +89,7 @@ fn rows_in<'a>(
     rows
 }
 
-/// The dictionary of a library whose segments were read. `NotLibrary` and `BadLibrary` come as of `read_dictionary`.
+/// The dictionary of a library whose segments were read. `NotLibrary` and `BadLibrary` are returned as by `read_dictionary`.
 pub fn dictionary_of_list<'a>(
     alloc: Global,
     list: &SegmentList<'a>,
@@ -114,9 +114,9 @@ pub fn dictionary_of_list<'a>(
     Ok(Dictionary { rows })
 }
 
-/// The dictionary of a library. `File` is the file's first fault; `NotLibrary` comes where the file is sound and doesn't begin
-/// with a segment of type $08; `BadLibrary` comes where its dictionary isn't laid out as one, or has a row that the library
-/// doesn't bear out. LENGTH of the dictionary isn't looked at.
+/// The dictionary of a library. `File` is the file's first fault; `NotLibrary` is returned where the file is sound and doesn't begin with a
+/// segment of type $08; `BadLibrary` is returned where its dictionary isn't laid out as one, or has a row that the library doesn't bear
+/// out. LENGTH of the dictionary isn't checked.
 pub fn read_dictionary<'a>(alloc: Global, file: &'a [u8]) -> Result<Dictionary<'a>, DictFault>
     requires { length file.now < 2 ^ 32 }
     ensures rows { IfOk result (λ dictionary. HasRows file.now dictionary) }

@@ -37,7 +37,7 @@ pub fn file_numbers(alloc: Global, bytes: &[u8]) -> Result<Option<IndexSet<u16>>
     }
 }
 
-/// Where the names of the third record start, where it has its form: names one after another, each behind its length.
+/// Where the names of the third record start, where it has its form: names one after another, each after its length.
 pub fn name_starts(alloc: Global, bytes: &[u8]) -> Result<Option<IndexSet<u32>>, AllocError>
     requires { length bytes.now < 2 ^ 32 }
     ensures { IfOk result (λ found. AreStarts (option_map (λ set. set.keys) found) bytes.now) }

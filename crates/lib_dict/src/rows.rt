@@ -18,8 +18,8 @@ use std::alloc::Global;
 /// The bytes of a row.
 pub const ROW: usize = 12;
 
-/// What is looked up for each row: the first record and its file numbers, the third record and where its names start, the
-/// segments, and what those behind the dictionary define for others.
+/// What is looked up for each row: the first record and its file numbers, the third record and where its names start, the segments, and
+/// what those after the dictionary define for others.
 #[derive(Drop)]
 pub struct Tables<'a, 'b> {
     pub first: &'a [u8],
@@ -76,7 +76,7 @@ fn row_of<'a>(tables: &Tables<'a, '_>, bytes: &[u8]) -> Option<Row<'a>>
     })
 }
 
-/// The rows of the second record, whose bytes stand there in the file.
+/// The rows of the second record, whose bytes are at this displacement in the file.
 pub fn rows_of<'a>(
     alloc: Global,
     tables: &Tables<'a, '_>,

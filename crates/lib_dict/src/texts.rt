@@ -12,7 +12,7 @@ use crate::listed::Outer;
 use crate::members::MemberRead;
 use std::alloc::{AllocError, Global};
 
-/// Appends a name behind its length.
+/// Appends a name's length, and the name after it.
 fn put_name(out: &mut Vec<u8>, name: &[u8]) -> Result<(), AllocError>
     requires { length name.now ≤ 255 }
     ensures { OnOk result (out.new.items ≡ out.old.items ++ (length name.now ∷ name.now)) }
@@ -30,7 +30,7 @@ fn put_file(out: &mut Vec<u8>, file: u16, name: &[u8]) -> Result<(), AllocError>
     put_name(out, name)
 }
 
-/// What stands in the first record.
+/// The content of the first record.
 pub fn files_record(alloc: Global, reads: &Vec<MemberRead>) -> Result<Vec<u8>, AllocError>
     requires { length reads.now.items ≤ 65535 }
     ensures { IfOk result (λ out. out.items ≡ files_text 1 (map library_file reads.now.items)) }
@@ -45,7 +45,7 @@ pub fn files_record(alloc: Global, reads: &Vec<MemberRead>) -> Result<Vec<u8>, A
     Ok(out)
 }
 
-/// What stands in the third record.
+/// The content of the third record.
 pub fn names_record(alloc: Global, rows: &Vec<Outer>) -> Result<Vec<u8>, AllocError>
     ensures { IfOk result (λ out. out.items ≡ names_text (map outer_row rows.now.items)) }
 {
@@ -70,7 +70,7 @@ fn put_u32(out: &mut Vec<u8>, n: u32) -> Result<(), AllocError>
     out.extend_from_slice(&n.to_le_bytes())
 }
 
-/// Appends a row whose name stands there in the third record; the first file begins at the displacement `base`.
+/// Appends a row whose name is at this place in the third record; the first file begins at the displacement `base`.
 fn put_row(out: &mut Vec<u8>, name: u32, row: &Outer, base: u32) -> Result<(), AllocError>
     requires { base + row.now.at < 2 ^ 32 }
     ensures { OnOk result (out.new.items ≡ out.old.items ++ row_text name (moved_row base (outer_row row.now))) }
@@ -84,7 +84,7 @@ fn put_row(out: &mut Vec<u8>, name: u32, row: &Outer, base: u32) -> Result<(), A
     Ok(())
 }
 
-/// What stands in the second record, where the first file begins at the displacement `base`.
+/// The content of the second record, where the first file begins at the displacement `base`.
 pub fn rows_record(alloc: Global, rows: &Vec<Outer>, base: u32) -> Result<Vec<u8>, AllocError>
     requires names { length (names_text (map outer_row rows.now.items)) < 2 ^ 32 }
     requires places { StartBefore (2 ^ 32 - base) (map outer_row rows.now.items) }

@@ -1,4 +1,4 @@
--- The last byte of lists that stand one after another.
+-- The last byte of lists that follow one another.
 use Rattle.std.proofs.Common.{◌≡◌, ℕ, suc, ◌-◌, List, [], ◌∷◌, ◌++◌, length, refl, sym, ap, ◌∙◌, append-nil, arith}
 use Rattle.std.specs.Prelude.{slice_get}
 use Rattle.link_content.specs.Holding.{or_before, last_of}

@@ -117,7 +117,7 @@ none_inside p at index (suc n) le =
     let first : patch_at at (Part p.file p.segment p.offset p.shift index) more ≡ [] = rw (ne_eqb index 0 (λ (e : index ≡ 0). absurd (omega (arith, e, le)))) refl in
     ap (λ (l : List Patch). l ++ patches_from (at + 1) more) first ∙ none_inside p (at + 1) (index + 1) n (omega arith)
 
--- they don't depend on where the patch stands
+-- they don't depend on where the patch is
 moved : (at count segment offset : ℕ) (shift : ℤ) (index n : ℕ) → parts_from (sized 0 1 segment offset shift count) index n ≡ parts_from (sized at 1 segment offset shift 1) index n
 moved at count segment offset shift index zero = refl
 moved at count segment offset shift index (suc n) = ap (λ (l : List Cell). Part 1 segment offset shift index ∷ l) (moved at count segment offset shift (index + 1) n)

@@ -34,7 +34,7 @@ same_is a b e =
 distinct_rest : (x : Target) (xs : List Target) → AreDistinct (x ∷ xs) → AreDistinct xs
 distinct_rest x xs distinct i j t p q = omega (arith, distinct (suc i) (suc j) t p q)
 
--- a target stands first where it stands
+-- the place of a target is the first one at which it is found
 first_there : (xs : List Target) (t : Target) (k : ℕ) → AreDistinct xs → IsAtPlace xs t k → position_or_len (is_same t) xs ≡ k
 first_there [] t k distinct there = absurd cc
 first_there (x ∷ xs) t zero distinct there =

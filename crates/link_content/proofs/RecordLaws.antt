@@ -73,7 +73,7 @@ module _ (list : List Member) (reported : List EquateAnswer) (state : LinkState)
       ap (frame site.own site.bank_size (site.offset + location)) (sym stands.setting')
       ∙ frame_is list i site location stands.site' stands.location'
 
-  -- the fit is the same in the words of the list
+  -- the fit is the same in terms of the list
   same_fit : (r : Result Fit LinkCause) → fit_value (load_headers list) (frame site.own site.bank_size (site.offset + location) setting) targets (cells_before state i) formula.code formula.count formula.n v ≡ r
       → fit_value (load_headers list) (frame_of list i) state.targets (cells_before state i) formula.code formula.count formula.n v ≡ r
   same_fit r is =

@@ -1,4 +1,4 @@
--- Zeros behind a content: the body is the same without them, and they are after its data in memory.
+-- Zeros after a content: the body is the same without them, and they are after its data in memory.
 use Rattle.std.proofs.Common.{◌≡◌, ℕ, zero, suc, ◌+◌, ◌-◌, ◌≤◌, Bool, true, false, List, [], ◌∷◌, ◌++◌, length, map, take, drop, replicate, Option, Some, Result, Ok, Err, refl, sym, ap, subst, ◌∙◌, append-nil, append_assoc, arith}
 use Rattle.std.specs.Prelude.{◌&&◌, OnOk, OnErr}
 use Rattle.std.specs.List.{list_all, flat_map}
@@ -208,7 +208,7 @@ settled_patches {A = A} {E = E} own new borrowed n count bytes r old after p is 
     go (Ok x) added same = subst (AreInside (length new)) (sym added) (inside_snoc (length new) old p (inside_more (length own) (length new) old longer olds) (omega (arith, inside, size)))
     go (Err e) added same = subst (AreInside (length new)) (sym same) (inside_more (length own) (length new) old longer olds)
 
--- the last byte where zeros stand after
+-- the last byte where zeros follow
 last_zeros : (n : ℕ) → last_of (replicate (suc n) 0) ≡ Some 0
 last_zeros zero = refl
 last_zeros (suc n) = last_zeros n

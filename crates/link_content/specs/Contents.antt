@@ -13,7 +13,8 @@ pub record HoldsCells (cells : List Cell) (content : Holding) : Type 0 where
   pub bytes' : content.bytes ≡ map byte_under cells
   pub patches' : map seen content.patches ≡ patches_of_cells cells
 
--- its bytes stand there, but for so many zeros after them, under which no patch lies; where they are borrowed, there is no patch
+-- this storage holds its bytes, except for a given number of zeros after them, under which no patch lies; where they are borrowed, there is
+-- no patch
 abbrev pub IsPlaced : ByteStorage → ℕ → Holding → Type 0
 IsPlaced (Borrowed pieces) following content = (content.bytes ≡ joined pieces.now ++ replicate following 0) × (content.patches ≡ [])
 IsPlaced (Own bytes) following content = (content.bytes ≡ bytes.now ++ replicate following 0) × AreInside (length bytes.now) content.patches

@@ -7,7 +7,7 @@ pub record Holding : Type 0 where
   pub bytes : List ℕ
   pub patches : List Patch
 
--- the patches lie inside so many bytes
+-- the patches lie inside a given number of bytes
 abbrev pub AreInside : ℕ → List Patch → Type 0
 AreInside size patches = AllByRecursion (λ p. p.at + p.count ≤ size) patches
 

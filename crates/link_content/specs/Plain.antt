@@ -5,7 +5,7 @@ use Rattle.load_meaning.specs.Cells.{Cell, Byte}
 use Rattle.omf_format.specs.Number.{padding}
 use Rattle.link_meaning.specs.LinkedCells.{zeros}
 
--- the cells of a record that is at this place of its segment; those of an expression come from its value
+-- the cells of a record that is at this place of its segment; those of an expression follow from its value
 abbrev pub plain_cells : ℕ → Record → List Cell
 plain_cells at (Const bytes) = map Byte bytes
 plain_cells at (LongConst bytes) = map Byte bytes

@@ -29,7 +29,7 @@ pub record PutsFit (number count : ℕ) (old new : List Target) (fit : meaning.F
   pub targets' : new ≡ targets_after old fit
   pub cells' : (cells : List Cell) → HoldsCells cells before → HoldsCells (cells ++ fit_cells number count new fit) after
 
--- those of what the value became in the record
+-- the bytes of what the value became in the record were put
 pub record PutsValue (headers : List HeaderFields) (frame : meaning.PatchPlace) (following : List Cell) (formula : FormulaRecord) (value : Value) (number : ℕ) (old new : List Target) (before after : Holding) : Type 0 where
   pub fit : meaning.Fit
   pub fits : fit_value headers frame old following formula.code formula.count formula.n value ≡ Ok fit

@@ -1,4 +1,4 @@
--- Where a record stands that is put, and what is there behind it.
+-- Where a record is that is put, and what there is after it.
 use Rattle.std.specs.Prelude.{◌≡◌, ℕ, ◌++◌, true, List, length, map, Result, Ok}
 use Rattle.omf_format.specs.Record.{Record, Equate, Formula}
 use Rattle.omf_format.specs.Field.{is_count}
@@ -22,7 +22,7 @@ abbrev pub IsCounted : Record → Type 0
 IsCounted (Formula code count n expr) = is_count count ≡ true
 IsCounted _ = Unit {0}
 
--- this is what the record's expression stands for, if it has one
+-- this is the value, or the fault, of the record's expression, if it has one
 abbrev pub IsWorth : List Member → List EquateAnswer → Item → Record → Result Value ValueFault → Type 0
 IsWorth list reported i (Equate global name size form private expr) worth = value_in list reported i.place i.member i.here.location expr ≡ worth
 IsWorth list reported i (Formula code count n expr) worth = value_in list reported i.place i.member i.here.location expr ≡ worth
@@ -35,8 +35,8 @@ pub record IsSite (list : List Member) (place : ℕ) (m : Member) (site : Member
   pub bank_size' : site.bank_size ≡ bank_of (load_headers list) (load_of list m)
   pub offset' : site.offset ≡ offset_of list place m
 
--- a record of the member at a site stands at this location, behind what the records before it left: their targets, and the cells of
--- the load segment, of which so many are in front of the member
+-- a record of the member at a site is at this location, after what the records before it left: their targets, and the cells of the load
+-- segment, of which `front` are those before the member
 pub record StandsAt (list : List Member) (reported : List EquateAnswer) (state : LinkState) (i : Item) (site : MemberTarget) (setting : LinkSetting) (loads : List LoadLimits) (targets : List Target) (front : List Cell) (location : ℕ) (content : Holding) : Type 0 where
   pub setting' : setting_in list ≡ setting
   pub loads' : loads ≡ map to_load_limits (load_headers list)
@@ -46,7 +46,7 @@ pub record StandsAt (list : List Member) (reported : List EquateAnswer) (state :
   pub front' : length front ≡ site.offset
   pub holds : HoldsCells (front ++ cells_before state i) content
 
--- these cells stand after the others, and these are the targets then
+-- these cells follow the others, and these are the targets then
 pub record PutsMade (made : Result Made LinkCause) (before : List Cell) (targets : List Target) (content : Holding) : Type 0 where
   pub gives : Made
   pub is : made ≡ Ok gives

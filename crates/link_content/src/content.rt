@@ -23,7 +23,7 @@ pub struct LoadContent<'a> {
     borrowed_size: usize,
     /// All bytes, if there are any here.
     own: Vec<u8>,
-    /// How many zeros stand after these, and aren't held.
+    /// How many zeros follow these, and aren't held.
     trailing_zeros: usize,
     patches: Vec<Patch>,
 }
@@ -41,7 +41,7 @@ impl<'a> Model for LoadContent<'a> {
         × AreInside (length content.own.items) content.patches.items × (content.borrowed_size < 2 ^ 33) × (content.trailing_zeros < 2 ^ 33) };
 }
 
-/// Where the bytes of a content stand.
+/// Where the bytes of a content are.
 pub enum ByteStorage<'h, 'a> {
     /// In inputs, piece by piece.
     Borrowed(&'h [&'a [u8]]),
@@ -67,7 +67,7 @@ fn append_all(out: &mut Vec<u8>, pieces: &[&[u8]]) -> Result<(), AllocError>
     Ok(())
 }
 
-/// Appends so many zeros.
+/// Appends `count` zeros.
 fn append_zeros(out: &mut Vec<u8>, count: usize) -> Result<(), AllocError>
     requires { count < 2 ^ 34 }
     ensures ok { OnOk result (out.new.items ≡ out.old.items ++ replicate count 0) }
@@ -88,7 +88,7 @@ fn take_in(own: &mut Vec<u8>, borrowed: &[&[u8]]) -> Result<(), AllocError>
     Ok(())
 }
 
-/// Copies what is borrowed, unless there are bytes of one's own, and appends so many zeros.
+/// Copies what is borrowed, unless there are bytes of one's own, and appends a given number of zeros.
 fn own_bytes(own: &mut Vec<u8>, borrowed: &[&[u8]], zeros: usize) -> Result<(), AllocError>
     requires { zeros < 2 ^ 34 }
     ensures ok { OnOk result (own.new.items ≡ or_borrowed own.old.items (joined borrowed.now) ++ replicate zeros 0) }
@@ -144,7 +144,7 @@ fn last_in(pieces: &[&[u8]]) -> Option<u8>
     found
 }
 
-/// Room for so many bytes, where there is so much memory; where there isn't, it is taken as the bytes come.
+/// Room for `count` bytes, where there is enough memory; where there isn't, memory is taken as the bytes are added.
 fn room_for(alloc: Global, count: usize) -> Vec<u8>
     ensures { result.items ≡ [] }
 {
@@ -155,7 +155,7 @@ fn room_for(alloc: Global, count: usize) -> Vec<u8>
 }
 
 impl<'a> LoadContent<'a> {
-    /// Without cells, with room for so many.
+    /// Without cells, with room for `count` of them.
     pub fn with_room(alloc: Global, count: usize) -> LoadContent<'a>
         ensures { HoldsCells [] result }
     {
@@ -254,7 +254,7 @@ impl<'a> LoadContent<'a> {
         self.append(bytes)
     }
 
-    /// Appends so many zeros with a patch over them.
+    /// Appends `count` zeros with a patch over them.
     fn append_patched(&mut self, patch: Patch, count: usize) -> Result<(), AllocError>
         requires some { 1 ≤ count }
         requires small { length (self.old).bytes + count < 2 ^ 33 }
@@ -286,7 +286,7 @@ impl<'a> LoadContent<'a> {
         self.append_borrowed(bytes)
     }
 
-    /// So many zeros more, which take no memory.
+    /// Appends `count` zeros, which take no memory.
     pub fn put_zeros(&mut self, count: usize)
         requires { length (self.old).bytes + count < 2 ^ 32 }
         ensures { (cells : List Cell) → HoldsCells cells self.old → HoldsCells (cells ++ zeros count) self.new }
@@ -294,7 +294,7 @@ impl<'a> LoadContent<'a> {
         self.trailing_zeros += count;
     }
 
-    /// So many bytes of a place more.
+    /// Appends `count` bytes of a place.
     pub fn put_place(
         &mut self,
         count: u8,

@@ -35,7 +35,7 @@ pub enum FitOutcome {
         offset: u32,
         shift: i8,
     },
-    /// Those of the jump table's entry for a target.
+    /// The bytes of the place of the jump table's entry for a target.
     Entry(Target),
 }
 
@@ -47,7 +47,7 @@ pub struct LoadLimits {
     pub bank_size: u32,
 }
 
-/// Where an expression record stands.
+/// Where an expression record is.
 #[derive(Clone, Copy)]
 pub struct PatchPlace {
     /// Its load segment's number, from 1.
@@ -67,7 +67,7 @@ pub struct FormulaRecord {
     ghost counted: { IsTrue (is_count count) },
 }
 
-/// How many numbers so many bytes hold.
+/// How many numbers `count` bytes can hold.
 fn numbers_of(count: u8) -> u64
     requires { IsTrue (is_count count) }
     ensures value { result ≡ 256 ^ count }
@@ -213,7 +213,7 @@ fn may_call(form: LinkForm) -> bool
     }
 }
 
-/// Whether a record calls: LEXPR of three bytes, without a shift, behind a byte $22.
+/// Whether a record is a call: LEXPR of three bytes, without a shift, after a byte $22.
 fn is_call(formula: FormulaRecord, shift: i8, jsl: bool) -> bool
     ensures { (before : List Cell) → ends_in_jsl before ≡ jsl → result ≡ is_call formula.code formula.count shift before }
 {
@@ -244,8 +244,7 @@ fn or_does_not_fit(fit: Option<FitOutcome>) -> Result<FitOutcome, LinkCause>
     }
 }
 
-/// What a value becomes in a record that stands there, behind a byte $22 or not; whether the jump table has room for its
-/// target isn't asked.
+/// What a value becomes in a record at this place, after a byte $22 or not; whether the jump table has room for its target isn't checked.
 pub fn fit_value(
     program: &Program,
     loads: &[LoadLimits],

@@ -47,7 +47,7 @@ fn entry(table: &mut Table, target: Target) -> Result<u32, LinkCause>
     ensures ok { IfOk result (λ at. EntersTarget table.old table.new target at) }
     ensures err { IfErr result (λ cause. (cause ≡ causes.Memory) ⊎ LacksRoom table.old target cause) }
 
-    // Where there is no room, this and no want of memory is told.
+    // Where there is no room, this is reported, and not lack of memory.
     ensures full { LacksRoom table.old target causes.TooManyEntries → IsErrOf result causes.TooManyEntries }
 {
     let _most = table.count();
@@ -60,7 +60,7 @@ fn entry(table: &mut Table, target: Target) -> Result<u32, LinkCause>
     Ok(at)
 }
 
-/// So many bytes of a place.
+/// Puts `count` bytes of a place.
 fn put_place(
     content: &mut LoadContent<'_>,
     count: u8,
@@ -106,8 +106,8 @@ fn put_fit(
     }
 }
 
-/// Puts what the value of an expression record becomes that stands there, behind a byte $22 or not. The jump table is the load
-/// segment with this number.
+/// Puts what the value of an expression record at this place becomes, after a byte $22 or not. The jump table is the load segment with this
+/// number.
 pub fn put_formula(
     content: &mut LoadContent<'_>,
     table: &mut Table,

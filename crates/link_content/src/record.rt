@@ -26,7 +26,7 @@ use omf_records::Rec;
 /// Where the records of a member go.
 #[derive(Clone, Copy)]
 pub struct MemberTarget {
-    /// The number of the load segment that is the jump table, behind all others.
+    /// The number of the load segment that is the jump table, after all others.
     pub table: u16,
     /// The number of the member's load segment.
     pub own: u16,
@@ -47,7 +47,7 @@ fn cause_of(fault: ValueFault) -> LinkCause
     }
 }
 
-/// The last cell behind a member's start is the byte $22.
+/// Whether there are cells after a member's start, and the last one is the byte $22.
 fn ends_in_jsl(content: &LoadContent<'_>, start: usize) -> bool
     ensures { (front cells : List Cell) → HoldsCells (front ++ cells) content.now → length front ≡ start → result ≡ ends_in_jsl cells }
 {
@@ -91,8 +91,7 @@ fn put_value(
     )
 }
 
-/// Puts what a record gives that is at this place of its member. If it has an expression, this is what the expression stands
-/// for.
+/// Puts what a record at this place of its member gives. If it has an expression, `value` is the expression's value, or its fault.
 pub fn put_record<'a>(
     content: &mut LoadContent<'a>,
     table: &mut Table,

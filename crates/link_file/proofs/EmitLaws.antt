@@ -1,4 +1,4 @@
--- What the phases behind layout answer.
+-- What the phases after layout return.
 use Rattle.std.proofs.Common.{◌≡◌, inl, inr, ℕ, ◌≤◌, ◌<◌, List, [], ◌∷◌, ◌++◌, length, Ok, None, refl, sym, ap, subst, arith}
 use Rattle.link_meaning.specs.declared.fault.LinkCause.TheVariants.{FileTooLong}
 use Rattle.link_meaning.specs.declared.fault.LinkFault.{LinkFault}

@@ -125,7 +125,7 @@ number_there list s first k d b at =
     let own : slice_get (defined_in b.m.segment) k ≡ Some d = ap (λ (t : Segment). slice_get (defined_in t) k) b.segment ∙ at in
     (_, counts_there list (first + k) (length b.front) k c b.m b.back d refl own, refl)
 
--- the first definition behind some records
+-- the first definition after some records
 pub next_there : (s : Segment) (done back : List (ℕ × Record)) (found : ℕ × Record) (d : Definition) → s.records ≡ done ++ found ∷ back → defined_by found.0 (place_after 0 done) found.1 ≡ d ∷ []
     → slice_get (defined_in s) (length (defined_so_far s done)) ≡ Some d
 next_there s done back found d parts own =
@@ -136,7 +136,7 @@ next_there s done back found d parts own =
     ∙ ap (λ (l : List Definition). defined_so_far s done ++ l) (flat_map-cons of_located (one_located found loc) (located_from (loc + size_at loc found.1) back) ∙ ap (λ (l : List Definition). l ++ rest) own) in
     ap (λ (l : List Definition). slice_get l (length (defined_so_far s done))) whole ∙ get_at (defined_so_far s done) rest d (length (defined_so_far s done)) refl
 
--- the name of a segment stands first
+-- the name of a segment is its first definition
 pub title_there : (s : Segment) (d : Definition) → title_of s ≡ d ∷ [] → slice_get (defined_in s) 0 ≡ Some d
 title_there s d is =
     let rest = flat_map of_located (located_from 0 s.records) in
@@ -197,12 +197,12 @@ name_fits l (Entry segment offset name) d at place small is e = absurd cc
 
 -- ---- a segment
 
--- behind the name
+-- after the name
 pub exporting_all : (list : List Member) (reported : List EquateAnswer) (s : Segment) (first number : ℕ) (at : Reader) (out : List ℕ) → Coming at s.records → number ≡ first + length (title_of s) → IsExported list reported number out → Exporting list reported s first number at out
 exporting_all list reported s first number at out coming is exported =
     record { done = []; back = s.records; parts = refl; coming = coming; count = omega (arith, is, length-append (title_of s) []); exported = exported }
 
--- behind a record that defines nothing
+-- after a record that defines nothing
 pub exporting_more : (list : List Member) (reported : List EquateAnswer) (s : Segment) (first number : ℕ) (at after : Reader) (found : ℕ × Record) (more : List (ℕ × Record)) (out : List ℕ) (e : Exporting list reported s first number at out) → e.back ≡ found ∷ more → Coming after more
     → ((loc : ℕ) → DefinesSeen (defined_by found.0 loc found.1) None) → Exporting list reported s first number after out
 exporting_more list reported s first number at after found more out e back coming none = record {
@@ -214,7 +214,7 @@ exporting_more list reported s first number at after found more out e back comin
   exported = e.exported;
 }
 
--- behind one that defines a name
+-- after one that defines a name
 pub exporting_named : (list : List Member) (reported : List EquateAnswer) (s : Segment) (first number : ℕ) (at after : Reader) (found : ℕ × Record) (more : List (ℕ × Record)) (seen : SeenName) (out new : List ℕ) (e : Exporting list reported s first number at out) → e.back ≡ found ∷ more
     → Coming after more → ((loc : ℕ) → DefinesSeen (defined_by found.0 loc found.1) (Some seen)) → IsExported list reported (number + 1) new → Exporting list reported s first (number + 1) after new
 exporting_named list reported s first number at after found more seen out new e back coming some exported = record {
@@ -235,7 +235,7 @@ exporting_there list reported s first number at found more seen out e b back som
     let f = number_there list s first (length (defined_so_far s e.done)) own.0 b there in
     (f.0, ap (slice_get (entries list)) e.count ∙ f.1, subst (λ (d : Definition). IsSeen d seen) (sym f.2) own.2)
 
--- behind the last
+-- after the last
 pub exporting_end : (list : List Member) (reported : List EquateAnswer) (s : Segment) (first number : ℕ) (at : Reader) (out : List ℕ) (e : Exporting list reported s first number at out) → e.back ≡ [] → number ≡ first + length (defined_in s)
 exporting_end list reported s first number at out e none =
     let whole = so_far-all s e.done [] (e.parts ∙ ap (λ (l : List (ℕ × Record)). e.done ++ l) none) in
@@ -292,7 +292,7 @@ module _ (list : List Member) (reported : List EquateAnswer) (place number : ℕ
         exported = exported;
       }
 
--- behind the last member
+-- after the last member
 pub exports_all : (list : List Member) (reported : List EquateAnswer) (place number : ℕ) (out : List ℕ) → ExportsTo list reported place number out → length list ≤ place → form_in list ≡ LibraryForm → out ≡ spelled_records (exports_for (form_in list) 1 (exports list reported))
 unfolding exports entries
 exports_all list reported place number out e past form =

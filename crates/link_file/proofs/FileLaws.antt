@@ -120,7 +120,7 @@ module _ (number n : ℕ) (ts : List Target) (f : HeaderFields) (content : Holdi
       by_targets [] some = absurd (some refl)
       by_targets (u ∷ us) some = sym (text_one (table_image number (map file_entry (u ∷ us))))
 
--- ---- behind the load segments
+-- ---- after the load segments
 
 pub tables_none : (number : ℕ) (ts : List Target) → length ts ≡ 0 → number ≡ number + length (table_images number ts)
 tables_none number [] none = omega arith
@@ -130,7 +130,7 @@ pub tables_some : (number : ℕ) (ts : List Target) → (length ts ≡ 0 → ⊥
 tables_some number [] some = absurd (some refl)
 tables_some number (t ∷ ts) some = omega arith
 
--- the table, and the pathnames behind it
+-- the table, and the pathnames after it
 pub rest_text : (number paths : ℕ) (ts : List Target) (rs : List RuntimeFile) (old mid new : List ℕ) → mid ≡ old ++ file_text (table_images number ts) → paths ≡ number + length (table_images number ts)
     → new ≡ mid ++ file_text (path_images paths rs) → new ≡ old ++ file_text (images_after number ts rs)
 rest_text number paths ts rs old mid new first at more =

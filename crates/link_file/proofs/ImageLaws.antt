@@ -26,7 +26,7 @@ zeros_fit content patches are = omega (arith, zeros-le (written_cells content pa
 abbrev pub image : HeaderFields → List ℕ → List Patch → List Record → Image
 image f content patches exports = record { fields = f; content = content; patches = patches; exports = exports; whole = false }
 
--- what a body and what is exported behind it spell
+-- what a body and the exports after it spell
 body_whole : (own : ℕ) (content : List ℕ) (patches : List Patch) (exports : List Record) → body_text own content patches ++ spelled_records exports ≡ flat_map (spelling written_layout) (body_records own content patches ++ exports)
 unfolding body_text
 body_whole own content patches exports = sym (flat_map-append (spelling written_layout) (body_records own content patches) exports)
@@ -103,7 +103,7 @@ pub more_ready : (headers more_headers : List Header) (contents more_contents : 
 more_ready headers more_headers contents more_contents h content hs cs ready =
     subst (λ (l : List Holding). AreReady (h ∷ more_headers) l) cs (subst (λ (l : List Header). AreReady l contents) hs ready)
 
--- behind the last nothing is left
+-- after the last nothing is left
 pub none_left : (exports : List Record) (out all : List ℕ) (headers : List Header) (contents : List Holding) (k : ℕ) → length headers ≤ k → out ++ file_text (images_in exports (drop k headers) contents) ≡ all → out ≡ all
 unfolding file_text
 none_left exports out all headers contents k none whole =
@@ -117,11 +117,11 @@ none_left exports out all headers contents k none whole =
     all_dropped (h ∷ l) zero le = absurd (omega (arith, le))
     all_dropped (h ∷ l) (suc k) le = all_dropped l k (omega (arith, le))
 
--- behind the first place no ENTRY records are left
+-- after the first place no ENTRY records are left
 pub none_after : (k : ℕ) (exports : List Record) → left_from (k + 1) exports ≡ []
 none_after k exports = let next : k + 1 ≡ suc k = omega arith in ap (λ (n : ℕ). left_from n exports) next
 
--- what stands from a place on
+-- what a list holds from a place on
 pub drop_next : {A : Type 0} (l : List A) (i : ℕ) (x : A) → slice_get l i ≡ Some x → drop i l ≡ x ∷ drop (i + 1) l
 drop_next {A = A} [] i x is = absurd cc
 drop_next {A = A} (y ∷ l) zero x is = let same : y ≡ x = cc in ap (λ (z : A). z ∷ l) same

@@ -40,7 +40,7 @@ unfolding image_of
 image_same f cells content exports holds =
     ap (λ (l : List ℕ). image f l (map seen content.patches) exports) holds.bytes' ∙ ap (λ (l : List Patch). image f (map byte_under cells) l exports) holds.patches'
 
--- behind the first load segment none exports anything
+-- after the first load segment none exports anything
 none_later : (form : LinkForm) (number : ℕ) (all : List Record) → 1 ≤ number → exports_for form (number + 1) all ≡ []
 none_later Program number all some = refl
 none_later LibraryForm number all some = ap (λ (b : Bool). cond b all []) (ne_eqb (number + 1) 1 (λ (e : number + 1 ≡ 1). absurd (omega (arith, e, some))))

@@ -93,7 +93,7 @@ module _ (list : List Member) (reported : List EquateAnswer) (front : List Membe
         member' = refl;
       }
 
-  -- where a record stands
+  -- where a record is
   pub stands_at : (back : List Member) (member_place : MemberPlace) (s : Segment) (first targets : List Target) (before : List Cell) (begin content : Holding) (done : List (ℕ × Record)) (found : ℕ × Record) (loads : List LoadLimits) (site : MemberTarget) (location : ℕ)
       → Begins list reported front m back member_place s first before begin → Puts list reported front m done targets before content → loads ≡ map to_load_limits (load_headers list)
       → site.table ≡ table_number list → site.own ≡ member_place.load_segment → site.bank_size ≡ bank_of (load_headers list) member_place.load_segment → site.offset ≡ member_place.offset → location ≡ place_after 0 done
@@ -146,7 +146,7 @@ module _ (list : List Member) (of : IsOfFiles list) (reported : List EquateAnswe
     holds = holds;
   }
 
-  -- and RESSPC zeros behind its records
+  -- and RESSPC zeros after its records
   pub puts_member : (new : List Target) (mid after : Holding) → Puts list reported front m s.records new (cells ++ zeros (member_place.offset - length cells)) mid
       → ((l : List Cell) → HoldsCells l mid → HoldsCells (l ++ zeros s.fields.res_spc) after) → PutsMember list reported front m new cells after
   unfolding records_with_offsets body_size
@@ -183,7 +183,7 @@ module _ (list : List Member) (of : IsOfFiles list) (reported : List EquateAnswe
       body : place_after 0 s.records ≡ body_size m.segment
       body = ap (λ (t : Segment). place_after 0 t.records) (sym stands.segment)
 
--- RESSPC zeros fit behind its records
+-- RESSPC zeros fit after its records
 pub room_after : (list : List Member) → IsOfFiles list → (reported : List EquateAnswer) (front : List Member) (m : Member) (back : List Member) (member_place : MemberPlace) (s : Segment) (first new : List Target) (before : List Cell) (begin mid : Holding)
     → Begins list reported front m back member_place s first before begin → Puts list reported front m s.records new before mid → length mid.bytes + s.fields.res_spc ≤ 0xFFFFFF
 unfolding body_size

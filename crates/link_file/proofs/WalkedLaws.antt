@@ -54,7 +54,7 @@ bytes_other x y e = by_test (bytes_eq y x) refl
     by_test false is = is
     by_test true is = absurd (true_false (sym (bytes_refl x) ∙ ap (bytes_eq x) (sym (bytes_same y x is)) ∙ e))
 
--- no text stands twice
+-- no text occurs twice
 abbrev Apart : List (List ℕ) → Type 0
 Apart [] = Unit {0}
 Apart (x ∷ xs) = AllByRecursion (λ (y : List ℕ). bytes_eq y x ≡ false) xs × Apart xs

@@ -1,4 +1,4 @@
--- What linking answers, want of memory aside.
+-- What linking returns, lack of memory aside.
 use Rattle.std.specs.Prelude.{◌≡◌, ◌⊎◌, List}
 use Rattle.link_meaning.specs.declared.fault.LinkFault.{LinkFault}
 use Rattle.link_meaning.specs.Member.{Member}
@@ -6,7 +6,7 @@ use Rattle.link_meaning.specs.LinkFaults.{LinkInput}
 use Rattle.link_meaning.specs.EmitFaults.{IsFirstEmitFault, IsFirstLinkFault}
 use Rattle.link_program.specs.Memory.{memory_fault}
 
--- it is the first fault of the list in the phases behind layout, unless out of memory
+-- it is the first fault of the list in the phases after layout, unless out of memory
 abbrev pub IsEmitRefused : List Member → LinkFault → Type 0
 IsEmitRefused list fault = (fault ≡ memory_fault) ⊎ IsFirstEmitFault list fault
 

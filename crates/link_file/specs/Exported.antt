@@ -43,11 +43,11 @@ abbrev pub entry_with : List ℕ → Option (ℕ × ℕ) → List Record
 entry_with name None = []
 entry_with name (Some place) = Entry place.0 place.1 name ∷ []
 
--- these are the ENTRY records of the first definitions, so many of all
+-- these are the ENTRY records of the first `number` definitions of all
 abbrev pub IsExported : List Member → List EquateAnswer → ℕ → List ℕ → Type 0
 IsExported list reported number out = out ≡ spelled_records (flat_map (export_of list reported) (take number (entries list)))
 
--- a member of the list has this segment, and so many definitions stand before its own
+-- a member of the list has this segment, and `number` definitions are before its own
 pub record StandsBefore (list : List Member) (s : Segment) (number : ℕ) : Type 0 where
   pub front : List Member
   pub m : Member
@@ -56,7 +56,8 @@ pub record StandsBefore (list : List Member) (s : Segment) (number : ℕ) : Type
   pub segment : m.segment ≡ s
   pub count : number ≡ length (entries_from defined_in 1 front)
 
--- the records of some of a segment's definitions were put, of which the first one has this number, and the other records are still to come
+-- the ENTRY records of a segment's first definitions were put, of which the first one has the number `first`, and the other records of the
+-- segment remain
 pub record Exporting (list : List Member) (reported : List EquateAnswer) (s : Segment) (first number : ℕ) (at : Reader) (out : List ℕ) : Type 0 where
   pub done : List (ℕ × Record)
   pub back : List (ℕ × Record)
@@ -65,7 +66,7 @@ pub record Exporting (list : List Member) (reported : List EquateAnswer) (s : Se
   pub count : number ≡ first + length (defined_so_far s done)
   pub exported : IsExported list reported number out
 
--- those of so many members were put, and so many definitions are theirs
+-- the ENTRY records of the first `place` members were put, and `number` definitions are theirs
 pub record ExportsTo (list : List Member) (reported : List EquateAnswer) (place number : ℕ) (out : List ℕ) : Type 0 where
   pub front : List Member
   pub back : List Member

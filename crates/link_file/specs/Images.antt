@@ -18,7 +18,7 @@ use Rattle.load_writer.specs.WrittenParts.{seen}
 use Rattle.link_content.specs.Holding.{Holding}
 use Rattle.link_content.specs.Contents.{HoldsCells}
 
--- the fields with so many zeros after the body
+-- the fields with a given number of zeros after the body
 abbrev pub with_space : HeaderFields → ℕ → HeaderFields
 with_space f zeros = record f { res_spc = zeros }
 
@@ -52,7 +52,7 @@ pub record IsReady (f : HeaderFields) (content : Holding) : Type 0 where
   pub small : f.length ≤ 0xFFFFFF
   pub patches' : AreWritten (length content.bytes) 0 (map seen content.patches)
 
--- so it is of each, and there are as many of the ones as of the others
+-- each is ready, and there are as many headers as contents
 abbrev pub AreReady : List Header → List Holding → Type 0
 AreReady [] [] = Unit {0}
 AreReady [] (content ∷ contents) = ⊥
@@ -77,7 +77,7 @@ pub record AreLoads (list : List Member) (table : List EquateAnswer) (headers : 
 abbrev pub linked_exports : List Member → List EquateAnswer → List ℕ
 linked_exports list table = spelled_records (exports_for (form_in list) 1 (exports list table))
 
--- what stands after the load segments: the table, where there is an entry, and the pathnames, where there are run-time library files
+-- what follows the load segments: the table, where there is an entry, and the pathnames, where there are run-time library files
 abbrev pub images_after : ℕ → List Target → List RuntimeFile → List Image
 images_after number targets runtimes =
     let tables = table_images number targets in

@@ -10,7 +10,7 @@ pub record Valued : Type 0 where
   pub list : List Member
   pub table : List EquateAnswer
 
--- a member has this place in the list, and the place so many bytes from its start has 32 bits
+-- a member has this place in the list, and the place `at` bytes from its start has 32 bits
 pub record HasPlace (list : List Member) (place at : ℕ) : Type 0 where
   pub member : Member
   pub there : member_at list place ≡ Some member

@@ -44,8 +44,8 @@ pub record IsWhole (list : List Member) (slots : List ValueSlot) (loads : List L
 
 -- ---- the records of one member
 
--- a member of the list stands there, which has this segment; before its first record the load segment holds these cells, up to the
--- member's offset, and these are the targets
+-- the member of the list at this place has this segment; before its first record the load segment holds these cells, up to the member's
+-- offset, and these are the targets
 pub record Begins (list : List Member) (reported : List EquateAnswer) (front : List Member) (m : Member) (back : List Member) (member_place : MemberPlace) (s : Segment) (targets : List Target) (before : List Cell) (content : Holding) : Type 0 where
   pub parts : list ≡ front ++ m ∷ back
   pub place : member_place.place ≡ length front + 1
@@ -55,7 +55,7 @@ pub record Begins (list : List Member) (reported : List EquateAnswer) (front : L
   pub size : length before ≡ member_place.offset
   pub holds : HoldsCells before content
 
--- some member does
+-- there is such a member
 pub record HasBegun (list : List Member) (reported : List EquateAnswer) (member_place : MemberPlace) (s : Segment) (targets : List Target) (content : Holding) : Type 0 where
   pub front : List Member
   pub m : Member
@@ -67,7 +67,7 @@ pub record HasBegun (list : List Member) (reported : List EquateAnswer) (member_
 abbrev pub cells_there : LinkState → ℕ → List Cell
 cells_there state place = if state.place == place then state.cells else []
 
--- what is there behind the member's first records
+-- what there is after the member's first records
 abbrev pub state_after_records : List Member → List EquateAnswer → List Member → Member → List (ℕ × Record) → LinkState
 state_after_records list reported front m done = state_from list reported (state_of list reported front) (map (item (length front + 1) m) (located_from 0 done))
 
@@ -78,7 +78,7 @@ pub record Puts (list : List Member) (reported : List EquateAnswer) (front : Lis
   pub size : length (cells_there (state_after_records list reported front m done) (length front + 1)) ≡ place_after 0 done
   pub holds : HoldsCells (before ++ cells_there (state_after_records list reported front m done) (length front + 1)) content
 
--- some records gave their cells, up to this place, and the others are still to come
+-- some records gave their cells, up to this place, and the others remain
 pub record Putting (records : List (ℕ × Record)) (at : Reader) (location : ℕ) : Type 0 where
   pub done : List (ℕ × Record)
   pub back : List (ℕ × Record)
@@ -97,8 +97,8 @@ pub record Unmade (list : List Member) (reported : List EquateAnswer) (front : L
   pub at' : item'.here.at ≡ at
   pub member' : item'.member ≡ m
 
--- a member of the list stands there, which has this segment; its load segment holds these cells, those of the members before it, and
--- these are the targets
+-- the member of the list at this place has this segment; its load segment holds these cells, those of the members before it, and these are
+-- the targets
 pub record StandsAfter (list : List Member) (reported : List EquateAnswer) (front : List Member) (m : Member) (back : List Member) (member_place : MemberPlace) (s : Segment) (targets : List Target) (cells : List Cell) (content : Holding) : Type 0 where
   pub parts : list ≡ front ++ m ∷ back
   pub place : member_place.place ≡ length front + 1
@@ -109,7 +109,7 @@ pub record StandsAfter (list : List Member) (reported : List EquateAnswer) (fron
   pub size : length cells ≤ member_place.offset
   pub holds : HoldsCells cells content
 
--- some member does
+-- there is such a member
 pub record HasStood (list : List Member) (reported : List EquateAnswer) (member_place : MemberPlace) (s : Segment) (targets : List Target) (content : Holding) : Type 0 where
   pub front : List Member
   pub m : Member
@@ -135,7 +135,7 @@ pub record HoldsAfter (list : List Member) (reported : List EquateAnswer) (front
   pub cells' : HoldsCells (linked_after list reported load_name front) content
   pub size : length (linked_after list reported load_name front) ≡ end_from 0 load_name front
 
--- so each does
+-- each content holds those of its load segment
 abbrev pub HoldAfter : List Member → List EquateAnswer → List Member → List (List ℕ) → List Holding → Type 0
 HoldAfter list reported front [] [] = Unit {0}
 HoldAfter list reported front [] (content ∷ contents) = ⊥
@@ -148,7 +148,7 @@ pub record IsWalked (list : List Member) (reported : List EquateAnswer) (front :
   pub targets' : targets ≡ (state_of list reported front).targets
   pub holds : HoldAfter list reported front (load_names list) contents
 
--- so those of so many members did
+-- the records of the first `count` members gave their cells
 pub record IsWalkedTo (list : List Member) (reported : List EquateAnswer) (count : ℕ) (targets : List Target) (contents : List Holding) : Type 0 where
   pub front : List Member
   pub back : List Member
@@ -160,7 +160,7 @@ pub record IsWalkedTo (list : List Member) (reported : List EquateAnswer) (count
 abbrev pub IsValueRefused : List Member → List EquateAnswer → LinkFault → Type 0
 IsValueRefused list reported fault = (fault ≡ memory_fault) ⊎ IsFirst (HasValueFault list reported) (items list) fault
 
--- so many load segments without cells
+-- a given number of load segments without cells
 abbrev pub AreEmpty : ℕ → List Holding → Type 0
 AreEmpty count contents = (length contents ≡ count) × AllByRecursion (HoldsCells []) contents
 

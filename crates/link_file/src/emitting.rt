@@ -1,4 +1,4 @@
-//! The second half of linking: from a resolved program to the load file, or the first fault of the phases behind layout.
+//! The second half of linking: from a resolved program to the load file, or the first fault of the phases after layout.
 
 ghost use Rattle.std.specs.Prelude.{◌≡◌, ◌<◌, ◌^◌, Ok, IfOk, IfErr, List, length, map};
 ghost use Rattle.omf_header.specs.View.{fields};

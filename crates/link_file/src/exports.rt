@@ -1,5 +1,4 @@
-//! What a run-time library file exports: an ENTRY record for each of its public names that stands for a place (this project's own
-//! choice).
+//! What a run-time library file exports: an ENTRY record for each of its public names whose value is a place (this project's own choice).
 
 ghost use Rattle.std.specs.Prelude.{◌≡◌, ◌+◌, ◌++◌, ◌<◌, Some, List, ℕ, length, map, option_map, slice_get, IfSome, IfOk, OnOk};
 ghost use Rattle.omf_format.specs.Field.{IsName, written_layout};
@@ -100,7 +99,7 @@ fn title_seen<'s>(segment: &'s SegmentView) -> Option<ExportsSeen<'s>>
     })
 }
 
-/// The place that a value stands for, where a name with it is exported: it has no shift, and is below LENGTH of its load segment.
+/// The place that a value is, where a name with this value is exported: it has no shift, and is below LENGTH of its load segment.
 fn exported_place(loads: &[LoadLimits], value: Value) -> Option<(u16, u32)>
     ensures { (headers : List HeaderFields) (name : List ℕ) → loads.now ≡ map to_load_limits headers → export_at headers name (Ok value) ≡ entry_with name result }
 {
@@ -186,7 +185,7 @@ fn put_seen(
     Ok(())
 }
 
-/// Appends the ENTRY record of a segment's name, and tells the number behind it.
+/// Appends the ENTRY record of a segment's name, and returns the number after it.
 fn put_title(
     out: &mut Vec<u8>,
     whole: &LinkContext,
@@ -209,8 +208,8 @@ fn put_title(
     }
 }
 
-/// Appends the ENTRY records of what a member's segment defines, whose first definition has this number, and tells the number behind
-/// the last.
+/// Appends the ENTRY records of what a member's segment defines, whose first definition has this number, and returns the number after the
+/// last.
 fn put_segment(
     out: &mut Vec<u8>,
     whole: &LinkContext,
@@ -242,8 +241,8 @@ fn put_segment(
     }
 }
 
-/// The ENTRY records of a program, one after another: of a run-time library file those of its public names that stand for places, in
-/// list and record order.
+/// The ENTRY records of a program, one after another: of a run-time library file those of its public names whose values are places, in list
+/// and record order.
 pub fn exports_text(alloc: Global, whole: &LinkContext) -> Result<Vec<u8>, PutFault>
     requires { IsWhole whole.now.program.now whole.now.slots.now whole.now.loads.now whole.now.table }
     ensures { IfOk result (λ text. text.items ≡ spelled_records (exports_for (form_in whole.now.program.now) 1

@@ -1,4 +1,4 @@
-//! The load file: its load segments, the jump table behind them, and the pathnames behind all.
+//! The load file: its load segments, the jump table after them, and the pathnames after all.
 
 ghost use Rattle.std.specs.Prelude.{◌≡◌, ◌≤◌, ◌+◌, ◌<◌, ◌^◌, ◌++◌, IfOk, IfErr, OnOk, IsErrOf, length, map, List};
 ghost use Rattle.omf_header.specs.View.{fields};
@@ -80,7 +80,7 @@ fn put_table(alloc: Global, out: &mut Vec<u8>, number: u16, table: &Table) -> Re
     put_image(alloc, out, &header, &content, &[])
 }
 
-/// The number of the load segment behind the jump table, which would have this number and is there where it has an entry.
+/// The number of the load segment after the jump table. The table would have the number `number`, and is there where it has an entry.
 fn number_after(number: u16, table: &Table) -> u16
     requires { number + 1 < 2 ^ 16 }
     ensures { result ≡ number + length (table_images number table.now) }

@@ -59,7 +59,7 @@ impl From<BodyFault> for ImageFault {
     }
 }
 
-/// The header with so many zeros after the body.
+/// The header with a given number of zeros after the body.
 fn with_reserved_zeros(alloc: Global, header: &Header, zeros: u32) -> Result<Header, ImageFault>
     ensures ok { IfOk result (λ written. fields written ≡ with_space (fields header.now) zeros) }
     ensures memory_alone { IfErr result (λ fault. fault ≡ ImageFault.Memory) }
@@ -88,7 +88,7 @@ fn with_reserved_zeros(alloc: Global, header: &Header, zeros: u32) -> Result<Hea
     })
 }
 
-/// The bytes of a header before a body of a given number of bytes with END behind it; RESSPC is as the body has it.
+/// The bytes of a header before a body of a given number of bytes with END after it; RESSPC is as the body has it.
 pub fn front_of(
     alloc: Global,
     header: &Header,
@@ -119,7 +119,7 @@ pub fn header_size(header: &Header) -> usize
     0x37 + header.name.bytes().len()
 }
 
-/// Appends so many zeros.
+/// Appends `room` zeros.
 fn put_room(out: &mut Vec<u8>, room: usize) -> Result<(), ImageFault>
     requires { length out.old.items + room < 2 ^ 33 }
     ensures ok { OnOk result (out.new.items ≡ out.old.items ++ replicate room 0) }
@@ -155,8 +155,8 @@ fn put_content(
     }
 }
 
-/// Appends room for a header, a body behind it, and after that what the segment exports. The answer is how many zero bytes are
-/// after the body's data in memory.
+/// Appends room for a header, a body after it, and after that what the segment exports. The answer is how many zero bytes are after the
+/// body's data in memory.
 fn put_after(
     alloc: Global,
     out: &mut Vec<u8>,
@@ -186,8 +186,8 @@ fn put_front(out: &mut [u8], start: usize, front: &[u8])
     out[start..start + front.len()].copy_from_slice(front);
 }
 
-/// Writes a header into the room before a body, and END behind the body. It is too long where there would be more than
-/// 16,777,216 bytes.
+/// Writes a header into the room before a body, and END after the body. The file is too long where it would have more than 16,777,216
+/// bytes.
 fn close(out: &mut Vec<u8>, start: usize, front: &[u8]) -> Result<(), ImageFault>
     requires { start + length front.now ≤ length out.old.items }
     ensures ok { OnOk result (out.new.items ≡ take start out.old.items ++ front.now ++ drop (start + length front.now) out.old.items ++ 0 ∷ []) }

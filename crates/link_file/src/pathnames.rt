@@ -29,7 +29,7 @@ fn word(n: u16) -> [u8; 2]
     n.to_le_bytes()
 }
 
-/// Appends the row of a file: its number, eight zeros, and its path behind a length byte.
+/// Appends the row of a file: its number, eight zeros, and its path after a length byte.
 fn put_row(out: &mut Vec<u8>, number: u16, path: &[u8]) -> Result<(), AllocError>
     requires { length path.now ≤ 255 }
     ensures { OnOk result (out.new.items ≡ out.old.items ++ (little_bytes 2 number ++ (replicate 8 0 ++ (length path.now ∷ path.now)))) }
@@ -40,7 +40,7 @@ fn put_row(out: &mut Vec<u8>, number: u16, path: &[u8]) -> Result<(), AllocError
     Ok(())
 }
 
-/// The rows of the program's run-time library files, and the number 0 behind them.
+/// The rows of the program's run-time library files, and the number 0 after them.
 fn rows_of(alloc: Global, program: &Program) -> Result<Vec<u8>, AllocError>
     requires { IsOfFiles program.now }
     ensures { IfOk result (λ text. text.items ≡ paths_text (paths_of program.now)) }
@@ -100,7 +100,7 @@ fn put_long(out: &mut Vec<u8>, bytes: &[u8]) -> Result<(), ImageFault>
     }
 }
 
-/// Appends what stands before a body, an LCONST, and END.
+/// Appends what is before a body, an LCONST, and END.
 fn put_parts(out: &mut Vec<u8>, front: &[u8], bytes: &[u8]) -> Result<(), ImageFault>
     requires { length bytes.now < 2 ^ 32 }
     ensures ok { OnOk result (out.new.items ≡ out.old.items ++ (front.now ++ (spelling written_layout (LongConst bytes.now) ++ 0 ∷ []))) }

@@ -57,7 +57,7 @@ impl<'e, 'a> EquateValues<'e, 'a> {
         self.program
     }
 
-    /// The place so many bytes from the start of the member at a place of the list, from 1.
+    /// The place `at` bytes from the start of the member at a place of the list, from 1.
     pub fn place_in(&self, place: u32, at: u32) -> Value
         requires { HasPlace self.now.list place at }
         ensures { (m : Member) → member_at self.now.list place ≡ Some m → result ≡ place_value self.now.list place m at }
@@ -69,7 +69,7 @@ impl<'e, 'a> EquateValues<'e, 'a> {
         place_at(member_place, at)
     }
 
-    /// What an expression is worth in the member at a place of the list, from 1, where so many of its cells are before the record.
+    /// What an expression is worth in the member at a place of the list, from 1, where `location` of its cells are before the record.
     pub fn value_in(&self, place: u32, location: u32, expr: &[u8]) -> Result<Value, ValueFault>
         requires here { HasPlace self.now.list place location }
         requires spelled { (m : Member) → member_at self.now.list place ≡ Some m → IsExpression m.segment.fields.lab_len expr.now }

@@ -32,11 +32,11 @@ pub struct LinkContext<'e, 'a> {
     pub slots: &'e [ValueSlot],
     /// What is kept of the load segments' headers.
     pub loads: &'e [LoadLimits],
-    /// The number of the load segment that is the jump table, behind all others.
+    /// The number of the load segment that is the jump table, after all others.
     pub table: u16,
 }
 
-/// What a record's expression stands for; a number, where the record has none.
+/// The value of a record's expression; a number, where the record has none.
 fn value_of(
     whole: &LinkContext,
     member_place: MemberPlace,
@@ -96,8 +96,8 @@ fn bank_of(loads: &[LoadLimits], number: u16) -> u32
 
 ghost use Rattle.omf_format.specs.Header.{HeaderFields};
 
-/// Puts what the records of a member give, behind what its load segment holds up to the member's offset. The fault is the first
-/// one's, with its displacement.
+/// Puts what the records of a member give, after what its load segment holds up to the member's offset. The fault is the first one's, with
+/// its displacement.
 fn put_records<'a>(
     whole: &LinkContext<'_, 'a>,
     member_place: MemberPlace,
@@ -229,7 +229,7 @@ ghost use Rattle.std.specs.Prelude.{Some, None};
 ghost use Rattle.link_meaning.specs.LinkFaults.{spot_in};
 ghost use Rattle.link_program.specs.Linked.{member_at};
 
-/// Puts what the member at a place, from 1, gives, behind what the members before it gave.
+/// Puts what the member at a place, from 1, gives, after what the members before it gave.
 fn put_member<'a>(
     whole: &LinkContext<'_, 'a>,
     place: u32,

@@ -41,7 +41,7 @@ load_item list k f there =
     let next : suc k ≡ k + 1 = omega arith in
     ap (header_at (load_headers list)) next ∙ there
 
--- ---- what a program tells of a member
+-- ---- what a program reports of a member
 
 abbrev link_of : List Member → ℕ → Member → LinkMember
 link_of list place m = record { file = m.file; segment = m.number; load_segment = load_of list m; offset = offset_of list place m }
@@ -74,7 +74,7 @@ place_in list (suc k) m at there inside =
 pub near_there : (list : List Member) → IsOfFiles list → (place : ℕ) (m : Member) (at : ℕ) → member_at list place ≡ Some m → at ≤ body_size m.segment → offset_of list place m + at < 2 ^ 32
 near_there list of place m at there inside = near_of list of place m at (place_in list place m at there inside)
 
--- so many cells as stand after some of a segment's first records are no more than it has
+-- after some of a segment's first records there are no more cells than it has
 pub after_within : (s : Segment) (done back : List (ℕ × Record)) → s.records ≡ done ++ back → place_after 0 done ≤ body_size s
 unfolding body_size
 after_within s done back parts =

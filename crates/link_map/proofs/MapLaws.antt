@@ -45,7 +45,7 @@ table_some number (t ∷ ts) size name some is named =
 
 -- ---- the map
 
--- the load segments, and the table behind them
+-- the load segments, and the table after them
 pub map_is : (list : List Member) (table : List EquateAnswer) (loads text : List ℕ) (number : ℕ) (ts : List Target) → loads ≡ numbered_texts (load_text list table) 1 (load_headers list)
     → text ≡ loads ++ table_text number ts → number ≡ table_number list → ts ≡ targets list table → text ≡ map_text list table
 unfolding map_text
@@ -55,6 +55,6 @@ map_is list table loads text number ts drawn more counted called =
     ∙ ap (λ (n : ℕ). numbered_texts (load_text list table) 1 (load_headers list) ++ table_text n ts) counted
     ∙ ap (λ (l : List Target). numbered_texts (load_text list table) 1 (load_headers list) ++ table_text (table_number list) l) called
 
--- that of files that are linked
+-- the map of files that are linked
 pub mapped_is : (given : LinkInput) (list : List Member) (text : List ℕ) → IsResolved given list → IsDrawn list text → IsMapOf given text
 mapped_is given list text resolved drawn = record { list = list; table = drawn.table; linkable = record { resolved = resolved; emitted = drawn.emitted }; is = drawn.is }

@@ -92,7 +92,7 @@ equate_spelled list place location m global name size form private expr has ther
 
 -- ---- the walk over the records
 
--- the lines of what the name and the first records define stand after a text, and the other records are still to come
+-- the lines of what the name and the first records define follow a text, and the other records remain
 pub record IsTelling (v : Valued) (place : ℕ) (s : Segment) (at : Reader) (location : ℕ) (before text : List ℕ) : Type 0 where
   pub done : List (ℕ × Record)
   pub back : List (ℕ × Record)
@@ -113,7 +113,7 @@ telling_none v place s at before text coming titled = record {
   is = λ m there. titled m there ∙ ap (λ (ds : List Definition). before ++ lines_of v place m ds) (sym (append-nil (title_of s)));
 }
 
--- behind one record more
+-- after one record more
 pub telling_more : (v : Valued) (place : ℕ) (s : Segment) (at next : Reader) (location following : ℕ) (before text after : List ℕ) (found : ℕ × Record) (more : List (ℕ × Record)) (t : IsTelling v place s at location before text)
     → t.back ≡ found ∷ more → Coming next more → following ≡ location + size_at location found.1
     → ((m : Member) (at : ℕ) → member_at v.list place ≡ Some m → after ≡ text ++ lines_of v place m (defined_by at location found.1)) → IsTelling v place s next following before after
@@ -135,7 +135,7 @@ telling_more v place s at next location following before text after found more t
       ∙ ap (λ (ds : List Definition). before ++ flat_map f ds) (sym (so_far-more s t.done found));
 }
 
--- behind the last
+-- after the last
 pub telling_all : (v : Valued) (place : ℕ) (s : Segment) (at : Reader) (location : ℕ) (before text : List ℕ) (t : IsTelling v place s at location before text) → t.back ≡ []
     → (m : Member) → member_at v.list place ≡ Some m → text ≡ before ++ lines_of v place m (defined_in s)
 telling_all v place s at location before text t none m there =

@@ -1,4 +1,4 @@
--- Numbered texts, as far as they have come.
+-- Numbered texts of the first items.
 use Rattle.std.proofs.Common.{◌≡◌, ℕ, zero, suc, ◌+◌, ◌<◌, ◌≤◌, List, [], ◌∷◌, ◌++◌, length, take, Option, Some, None, refl, sym, ap, ◌∙◌, append_assoc, append-nil, arith}
 use Rattle.std.specs.Prelude.{slice_get}
 use Rattle.std.proofs.lemmas.List.{take_all}
@@ -35,7 +35,7 @@ numbered-more {A} text_of number (suc k) (y ∷ xs) x found =
     ∙ ap (λ (l : List ℕ). text_of number y ++ l) (numbered-more text_of (number + 1) k xs x found)
     ∙ ap (λ (n : ℕ). numbered_texts text_of number (take n (y ∷ xs))) (sym more)
 
--- behind a text, those of the first items, so many: of none
+-- after a text, those of the first items: of none
 pub reported_none : {A : Type 0} (text_of : ℕ → A → List ℕ) (number : ℕ) (xs : List A) (before : List ℕ) → before ≡ before ++ numbered_texts text_of number (take 0 xs)
 reported_none text_of number [] before = sym (append-nil before)
 reported_none text_of number (x ∷ xs) before = sym (append-nil before)
@@ -56,7 +56,7 @@ pub reported_all : {A : Type 0} (text_of : ℕ → A → List ℕ) (number k : �
     → text ≡ before ++ numbered_texts text_of number (take k xs) → text ≡ before ++ numbered_texts text_of number xs
 reported_all {A} text_of number k xs before text most is = is ∙ ap (λ (l : List A). before ++ numbered_texts text_of number l) (take_all k xs most)
 
--- ---- texts behind a text
+-- ---- texts after a text
 
 -- what is appended to a text, in two pieces
 pub both : (before one other text after : List ℕ) → text ≡ before ++ one → after ≡ text ++ other → after ≡ before ++ (one ++ other)

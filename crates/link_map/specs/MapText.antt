@@ -45,11 +45,11 @@ value_text (Ok (Fixed n)) = labelled_number (codes " is ") n
 value_text (Ok (At file segment offset shift)) = codes " at" ++ hex_field 4 segment ++ hex_field 8 offset ++ shift_text shift
 value_text (Err fault) = []
 
--- a definition: who sees it, its name, and what it stands for
+-- a definition: who sees it, its name, and its value
 unfoldable pub symbol_text : List ℕ → List ℕ → Result Value ValueFault → List ℕ
 symbol_text scope name value = line (scope ++ name_text name ++ value_text value)
 
--- a label stands for its place in the member, and an equate for what its expression is worth where it stands
+-- the value of a label is its place in the member, and that of an equate the value of its expression where it is
 abbrev pub meant_by : List Member → List EquateAnswer → ℕ → Member → Definition → Result Value ValueFault
 meant_by list table place m d = elim d.expr [
   | None ↦ Ok (place_value list place m d.place)
@@ -72,7 +72,7 @@ abbrev pub member_text : List Member → List EquateAnswer → ℕ → Member �
 member_text list table place m =
     member_line m.file m.number (offset_of list place m) m.segment.fields ++ flat_map (symbol_line list table place m) (defined_in m.segment)
 
--- the same where it is one of the load segment with this number, and nothing where it isn't
+-- the text of a member where it is one of the load segment with this number, and nothing where it isn't
 abbrev pub text_in : List Member → List EquateAnswer → ℕ → ℕ → Member → List ℕ
 text_in list table number place m = if load_of list m == number then member_text list table place m else []
 
@@ -82,7 +82,7 @@ load_line number size kind align name =
     line (codes "load " ++ decimal number ++ labelled_number (codes " length ") size ++ codes " kind " ++ hexadecimal 4 kind ++ labelled_number (codes " align ") align
     ++ codes " name " ++ quoted_name name)
 
--- that of a header
+-- the line of a load segment with this header
 abbrev pub header_line : ℕ → HeaderFields → List ℕ
 header_line number f = load_line number f.length f.kind f.align f.name
 
@@ -105,7 +105,7 @@ table_text number (t ∷ targets) =
 
 -- ---- the map
 
--- the load segments in order of number, the table behind the others
+-- the load segments in order of number, the table after the others
 unfoldable pub map_text : List Member → List EquateAnswer → List ℕ
 map_text list table = numbered_texts (load_text list table) 1 (load_headers list) ++ table_text (table_number list) (targets list table)
 

@@ -13,7 +13,7 @@ use Rattle.link_tables.specs.Uses.{HasSpelling}
 use Rattle.link_file.specs.Valued.{HasPlace}
 use Rattle.link_map.specs.MapText.{map_text}
 
--- a member stands there
+-- there is a member at this place
 abbrev pub HasMember : List Member → ℕ → Type 0
 HasMember list place = (m : Member) × (member_at list place ≡ Some m)
 
@@ -27,7 +27,7 @@ pub record HasSegment (list : List Member) (place : ℕ) (s : Segment) : Type 0 
   pub there : member_at list place ≡ Some member
   pub segment : member.segment ≡ s
 
--- it has this record, before which so many of its cells are
+-- it has this record, before which there are `location` of its cells
 pub record HasRecord (list : List Member) (place location : ℕ) (r : Record) : Type 0 where
   pub here : HasPlace list place location
   pub spelled : HasSpelling here.member.segment.fields.lab_len r

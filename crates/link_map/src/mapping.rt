@@ -42,7 +42,7 @@ fn map_values(alloc: Global, values: &EquateValues) -> Result<Line, LinkFault>
     }
 }
 
-/// The map of a program, where it can be written to a load file. Otherwise the first fault of the phases behind layout.
+/// The map of a program, where it can be written to a load file. Otherwise the first fault of the phases after layout.
 fn map_program(alloc: Global, program: &Program) -> Result<Line, LinkFault>
     ensures drawn { IfOk result (λ text. IsDrawn program.now text) }
     ensures refused { IfErr result (λ fault. IsEmitRefused program.now fault) }
@@ -52,7 +52,7 @@ fn map_program(alloc: Global, program: &Program) -> Result<Line, LinkFault>
     map_values(alloc, &values)
 }
 
-/// The map of the link of files, which are objects and libraries in any order. Otherwise their first fault, as `link` tells it.
+/// The map of the link of files, which are objects and libraries in any order. Otherwise their first fault, as `link` returns it.
 pub fn map_files(alloc: Global, inputs: &Vec<Vec<u8>>) -> Result<Line, LinkFault>
     requires { AreFew (all_bytes inputs.now.items) }
     ensures mapped { IfOk result (λ text. IsMapOf (plain (all_bytes inputs.now.items)) text) }

@@ -75,7 +75,7 @@ fn put_answer(line: &mut Line, answer: Result<Value, ValueFault>) -> Result<(), 
     }
 }
 
-/// Appends the line of a definition: who sees it, its name, and what it stands for.
+/// Appends the line of a definition: who sees it, its name, and its value.
 #[tactic(auto, unfolding(crate::specs::MapText::symbol_text))]
 fn put_symbol(
     line: &mut Line,
@@ -110,7 +110,7 @@ fn put_title(
     put_symbol(line, scope, name, Ok(values.place_in(place, 0)))
 }
 
-/// Appends the line of what a record of a member defines, if it defines something. So many of the member's cells are before it.
+/// Appends the line of what a record of a member defines, if it defines something. `location` of the member's cells are before it.
 fn put_defined(
     line: &mut Line,
     values: &EquateValues,

@@ -14,7 +14,7 @@ use Rattle.link_meaning.specs.LinkedCells.{Item, items, state_after, made}
 use Rattle.link_meaning.specs.LinkWritten.{AreMade, start, images, written_file, linked_cells, HaveCells}
 use Rattle.link_meaning.specs.LinkFaults.{LinkInput, HasBytes, no_spot, spot_in, IsFirstResolveFault, IsResolved}
 
--- ---- rings
+-- ---- cycles
 
 -- the equate leads back to itself
 pub record HasCycleFault (list : List Member) (before : List FoundDefinition) (e : FoundDefinition) (fault : LinkFault) : Type 0 where
@@ -23,7 +23,7 @@ pub record HasCycleFault (list : List Member) (before : List FoundDefinition) (e
 
 -- ---- values
 
--- the record, behind those before it, gives no cells: its expression has no value, or the value doesn't fit
+-- the record, after those before it, gives no cells: its expression has no value, or the value doesn't fit
 pub record HasValueFault (list : List Member) (table : List EquateAnswer) (before : List Item) (i : Item) (fault : LinkFault) : Type 0 where
   pub cause : made list table (state_after list table before) i ≡ Err fault.cause
   pub name : fault.name ≡ None
@@ -31,7 +31,7 @@ pub record HasValueFault (list : List Member) (table : List EquateAnswer) (befor
 
 -- ---- the file
 
--- a load file has at most so many bytes
+-- the most bytes that a load file has
 abbrev pub most_bytes : ℕ
 most_bytes = 0x1000000
 
@@ -42,7 +42,7 @@ pub record HasSizeFault (list : List Member) (table : List EquateAnswer) (fault 
 
 -- ---- the phases
 
--- the phases behind layout, in their order
+-- the phases after layout, in their order
 pub data EmitPhase : Type 0 where
   Cycles : EmitPhase
   Values : EmitPhase
@@ -69,7 +69,7 @@ pub record IsEmitted (list : List Member) (table : List EquateAnswer) : Type 0 w
 
 -- ---- all phases
 
--- the first fault of all phases: of those in which the files are resolved, and where these find none, of those behind them
+-- the first fault of all phases: of those in which the files are resolved, and where these find none, of those after them
 pub data IsFirstLinkFault (given : LinkInput) (fault : LinkFault) : Type 0 where
   OfResolving : IsFirstResolveFault given fault → IsFirstLinkFault given fault
   OfEmitting : (list : List Member) → IsResolved given list → IsFirstEmitFault list fault → IsFirstLinkFault given fault
@@ -104,7 +104,7 @@ IsLinkAnswer given (Err fault) = IsFirstLinkFault given fault
 abbrev pub OneLinkAnswer : Type 0
 OneLinkAnswer = (given : LinkInput) (a b : Result (List ℕ) LinkFault) → IsLinkAnswer given a → IsLinkAnswer given b → a ≡ b
 
--- And so has a linked list, for the phases behind layout.
+-- A linked list has one answer at most too, for the phases after layout.
 abbrev pub OneEmitAnswer : Type 0
 OneEmitAnswer = (list : List Member) (a b : Result (List ℕ) LinkFault) → IsEmitAnswer list a → IsEmitAnswer list b → a ≡ b
 
@@ -116,8 +116,7 @@ LinkAnswersAsEmit = (given : LinkInput) (list : List Member) (a : Result (List �
 abbrev pub MadeWhereSound : Type 0
 MadeWhereSound = (list : List Member) (table : List EquateAnswer) → HasNone (HasValueFault list table) (items list) ↔ AreMade list table start (items list)
 
--- The load file of files without a fault is a file of the load segments and the table, and each of them stands for its linked
--- cells.
+-- The load file of files without a fault is a file of the load segments and the table, and each of them represents its linked cells.
 abbrev pub LinkableStandsFor : Type 0
 LinkableStandsFor = (given : LinkInput) (list : List Member) (table : List EquateAnswer) → HasBytes given → IsLinkable given list table
     → (segments : List Segment) × IsFile segments (written_file list table) × AreReadAs (images list table) segments

@@ -9,13 +9,12 @@ use Rattle.link_meaning.specs.Cycles.{is_equate, equates, LeadsTo, IsCircular}
 use Rattle.link_meaning.specs.LinkValues.{EquateAnswer, value_of_definition, equate_value, IsTable}
 use Rattle.link_meaning.specs.LinkFaults.{LinkInput, HasBytes, IsResolved}
 
--- An equate has its value, or its fault, once those to which it leads have theirs: it is what the expression stands for where a
--- table tells them.
+-- An equate has its value, or its fault, once those to which it leads have theirs: it is that of its expression where a table gives theirs.
 pub data HasValue (list : List Member) : FoundDefinition → Result Value ValueFault → Type 0 where
   ByOthers : (e : FoundDefinition) (table : List EquateAnswer) (answer : Result Value ValueFault) → answer ≡ equate_value list table e
       → ((f : FoundDefinition) → LeadsTo list e f → HasValue list f (value_of_definition table f.place f.definition.at)) → HasValue list e answer
 
--- each row tells the value of its equate
+-- each row gives the value of its equate
 abbrev pub GiveValues : List Member → List FoundDefinition → List EquateAnswer → Type 0
 GiveValues list [] [] = Unit {0}
 GiveValues list [] (t ∷ rows) = ⊥
@@ -35,7 +34,7 @@ OneValue = (list : List Member) (e : FoundDefinition) (a b : Result Value ValueF
 abbrev pub NoneOnCycle : Type 0
 NoneOnCycle = (list : List Member) (e : FoundDefinition) (a : Result Value ValueFault) → HasValue list e a → IsCircular list e → ⊥
 
--- In resolved files the table of values is the one that tells each equate its value.
+-- In resolved files the table of values is the one that gives each equate its value.
 abbrev pub TableOfValues : Type 0
 TableOfValues = (given : LinkInput) (list : List Member) (table : List EquateAnswer) → HasBytes given → IsResolved given list
     → GiveValues list (equates list) table ↔ IsTable list table

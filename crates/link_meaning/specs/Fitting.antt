@@ -21,14 +21,14 @@ use Rattle.link_meaning.specs.declared.fault.LinkCause.TheVariants.{DivideByZero
 
 -- ---- the table of what fits
 
--- where an expression record stands: its load segment's number and BANKSIZE, and its place in the load segment
+-- where an expression record is: its load segment's number and BANKSIZE, and its place in the load segment
 pub record PatchPlace : Type 0 where
   pub own : ℕ
   pub bank_size : ℕ
   pub place : ℕ
   pub setting : LinkSetting
 
--- what a value becomes: the low bytes of a number, the bytes of a place, or those of the table's entry for a target
+-- what a value becomes: the low bytes of a number, the bytes of a place, or those of the place of the table's entry for a target
 pub data Fit : Type 0 where
   Number : (n : ℕ) → Fit
   Place : (segment offset : ℕ) (shift : ℤ) → Fit
@@ -78,7 +78,7 @@ ends_in_jsl [] = false
 ends_in_jsl (c ∷ []) = is_jsl_byte c
 ends_in_jsl (c ∷ d ∷ cells) = ends_in_jsl (d ∷ cells)
 
--- LEXPR of three bytes, without a shift, behind a byte $22
+-- LEXPR of three bytes, without a shift, after a byte $22
 abbrev pub is_call : ℕ → ℕ → ℤ → List Cell → Bool
 is_call code count shift before = code == 0xF3 && count == 3 && is_unshifted shift && ends_in_jsl before
 

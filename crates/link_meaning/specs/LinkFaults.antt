@@ -118,7 +118,7 @@ AreInputs (bytes ∷ files) (input ∷ inputs) = IsInput bytes input × AreInput
 
 -- ---- run-time library files
 
--- how a run-time library file's cause is told: one that every file may have keeps its name
+-- how a run-time library file's cause is reported: one that every file may have keeps its name
 abbrev pub runtime_cause : LoadCause → LinkCause
 runtime_cause loads.Truncated = Truncated
 runtime_cause loads.BadHeader = BadHeader

@@ -24,7 +24,7 @@ use Rattle.link_meaning.specs.EmitFaults.{most_bytes, IsLinkable, IsLinkedTo}
 
 -- ---- headers and cells
 
--- the fields of a header; those that tell how it is written are 0
+-- the fields of a header; those that describe how it is written are 0
 abbrev pub plain_fields : HeaderFields → HeaderFields
 plain_fields f = record f { byte_count = 0; res_spc = 0; lab_len = 0; disp_name = 0; disp_data = 0 }
 
@@ -38,21 +38,21 @@ abbrev pub path_headers : ℕ → List RuntimeFile → List HeaderFields
 path_headers number [] = []
 path_headers number (r ∷ runtimes) = pathnames_fields number (length (paths_text (map (λ one. one.path) (r ∷ runtimes)))) ∷ []
 
--- the headers of the load segments in order of number, the table's behind them, and the pathnames' behind all
+-- the headers of the load segments in order of number, the table's after them, and the pathnames' after all
 unfoldable pub linked_headers : List Member → List EquateAnswer → List HeaderFields
 linked_headers list table =
     let tables = table_headers (table_number list) (targets list table) in
     load_headers list ++ (tables ++ path_headers (table_number list + length tables) (setting_in list).runtimes)
 
--- the segments are the load segments in order of number, and the table behind them: each has the header of the layout, and
--- stands for its linked cells
+-- the segments are the load segments in order of number, and the table after them: each has the header of the layout, and represents its
+-- linked cells
 pub record StandFor (list : List Member) (table : List EquateAnswer) (segments : List Segment) : Type 0 where
   pub headers : map (λ s. plain_fields s.fields) segments ≡ linked_headers list table
   pub cells' : map cells segments ≡ linked_cells list table
 
 -- ---- what is named
 
--- so many load segments have this number among theirs
+-- the number is that of one of `loads` load segments
 abbrev pub IsLoad : ℕ → ℕ → Type 0
 IsLoad loads number = (1 ≤ number) × (number ≤ loads)
 
@@ -102,7 +102,7 @@ pub record NamesNoSkipped (list : List Member) (table : List EquateAnswer) : Typ
 
 -- ---- laws
 
--- What the linker writes for files stands for the linked cells, and has the headers of the layout.
+-- What the linker writes for files represents the linked cells, and has the headers of the layout.
 abbrev pub StandsForLinkedCells : Type 0
 StandsForLinkedCells = (given : LinkInput) (output : List ℕ) → HasBytes given → (is : IsLinkedTo given output)
     → (segments : List Segment) × IsFile segments output × StandFor is.list is.table segments

@@ -1,4 +1,4 @@
--- What names and expressions stand for once the members have their places.
+-- What names and expressions mean once the members have their places.
 use Rattle.std.specs.Prelude.{◌≡◌, ℕ, ◌+◌, Bool, ◌&&◌, pos, List, [], ◌∷◌, Option, Some, None, Result, Ok, Err, nat_le, ◌==◌, if◌then◌else◌}
 use Rattle.omf_format.specs.declared.value.Value.{Value}
 use Rattle.omf_format.specs.declared.value.Value.TheVariants.{Fixed, At}
@@ -31,7 +31,7 @@ place_value list place m at = At 1 (load_of list m) (offset_of list place m + at
 abbrev pub outside_value : FoundDefinition → Value
 outside_value f = At f.member.file f.member.number f.definition.place (pos 0)
 
--- a label is a place, of a member or of a run-time library file, and an equate what the table tells
+-- a label is a place, of a member or of a run-time library file, and an equate what the table says
 abbrev pub found_value : List Member → List EquateAnswer → FoundDefinition → Result Value ValueFault
 found_value list table f = elim f.definition.expr [
   | None ↦ Ok (if f.place == 0 then outside_value f else place_value list f.place f.member f.definition.place)
@@ -53,7 +53,7 @@ attribute_value code [] = if code == 0x86 then Some 0 else None
 attribute_value code (f ∷ found) =
     if code == 0x84 then Some f.definition.size else if code == 0x85 then Some f.definition.form else Some 1
 
--- what an expression meets in the member at this place of the list, where so many of its cells are before the record
+-- what an expression meets in the member at this place of the list, where `location` of its cells are before the record
 unfoldable pub member_environment : List Member → List EquateAnswer → ℕ → Member → ℕ → Environment
 member_environment list table place m location = record {
   label = λ name weak. label_value list table weak (finds list place m name);
@@ -71,7 +71,7 @@ abbrev pub fault_named : List Member → List EquateAnswer → ℕ → Member �
 fault_named list table place m fault (Some (Named code name)) = if nat_le code 0x83 then fault_found list table fault (finds list place m name) else fault
 fault_named _ _ _ _ fault _ = fault
 
--- a name whose equate has a fault has that fault: `Unknown` says at which term of the expression the name stands
+-- a name whose equate has a fault has that fault: `Unknown` says at which term of the expression the name is
 abbrev pub value_or_equate_fault : List Member → List EquateAnswer → ℕ → Member → Tree → Result Value ValueFault → Result Value ValueFault
 value_or_equate_fault list table place m tree (Ok v) = Ok v
 value_or_equate_fault list table place m tree (Err DivideByZero) = Err DivideByZero
@@ -94,7 +94,7 @@ equate_value list table e = elim e.definition.expr [
   | Some text ↦ value_in list table e.place e.member e.definition.place text
 ]
 
--- each row tells what its equate's expression stands for, the names in it being told by the same table
+-- each row has the value, or the fault, of its equate's expression, where the names in it have theirs from the same table
 abbrev pub AreReported : List Member → List EquateAnswer → List FoundDefinition → List EquateAnswer → Type 0
 AreReported list table [] [] = Unit {0}
 AreReported list table [] (t ∷ rows) = ⊥

@@ -1,5 +1,5 @@
--- The load file that the linker writes (GS/OS Reference, appendix F; where a header's fields come from, and the names, are
--- this project's own choice).
+-- The load file that the linker writes (GS/OS Reference, appendix F; the source of a header's fields, and the names, are this project's own
+-- choice).
 use Rattle.std.specs.Prelude.{◌≡◌, ◌≤◌, ℕ, ◌+◌, ◌&&◌, List, [], ◌∷◌, ◌++◌, length, map, Ok, ◌==◌, if◌then◌else◌, Result, Err, false, nat_lt}
 use Rattle.std.specs.List.{flat_map}
 use Rattle.std.specs.Ordering.{int_eq}
@@ -51,7 +51,7 @@ patches_from at (c ∷ cells) = patch_at at c cells ++ patches_from (at + 1) cel
 unfoldable pub patches_of_cells : List Cell → List Patch
 patches_of_cells cells = patches_from 0 cells
 
--- the bytes under the patches; where a patch stands they don't count
+-- the bytes under the patches; where a patch is they don't count
 abbrev pub byte_under : Cell → ℕ
 byte_under (Byte b) = b
 byte_under (Part file segment offset shift index) = 0
@@ -104,7 +104,7 @@ abbrev pub path_images : ℕ → List RuntimeFile → List Image
 path_images number [] = []
 path_images number (r ∷ runtimes) = pathnames_image number (map (λ one. one.path) (r ∷ runtimes)) ∷ []
 
--- the load segments in order of number, the table behind them, and the pathnames behind all
+-- the load segments in order of number, the table after them, and the pathnames after all
 unfoldable pub images : List Member → List EquateAnswer → List Image
 images list table =
     let tables = table_images (table_number list) (targets list table) in
@@ -114,7 +114,7 @@ images list table =
 unfoldable pub written_file : List Member → List EquateAnswer → List ℕ
 written_file list table = file_text (images list table)
 
--- ---- what the file stands for
+-- ---- what the file represents
 
 -- the table's cells, where there is an entry
 abbrev pub table_cells : List Target → List (List Cell)
@@ -126,7 +126,7 @@ abbrev pub path_cells : List RuntimeFile → List (List Cell)
 path_cells [] = []
 path_cells (r ∷ runtimes) = map Byte (paths_text (map (λ one. one.path) (r ∷ runtimes))) ∷ []
 
--- the linked cells of the load segments in order of number, the table's behind them, and the pathnames' behind all
+-- the linked cells of the load segments in order of number, the table's after them, and the pathnames' after all
 unfoldable pub linked_cells : List Member → List EquateAnswer → List (List Cell)
 linked_cells list table = map (linked list table) (load_names list) ++ (table_cells (targets list table) ++ path_cells (setting_in list).runtimes)
 
@@ -146,7 +146,7 @@ AreMade list table state (i ∷ is) =
 abbrev pub start : LinkState
 start = record { targets = []; place = 0; cells = [] }
 
--- The file that the linker writes is a file of the load segments and the table, and each of them stands for its cells.
+-- The file that the linker writes is a file of the load segments and the table, and each of them represents its cells.
 abbrev pub LinkedStandsFor : Type 0
 LinkedStandsFor = (given : LinkInput) (list : List Member) (table : List EquateAnswer) → HasBytes given → IsResolved given list
     → IsTable list table → AreMade list table start (items list) → length (written_file list table) ≤ 0x1000000

@@ -30,7 +30,7 @@ items list = items_from 1 list
 
 -- ---- the cells of a record
 
--- the number of the load segment that is the table, behind all others
+-- the number of the load segment that is the table, after all others
 abbrev pub table_number : List Member → ℕ
 table_number list = length (load_names list) + 1
 
@@ -52,7 +52,7 @@ pub record LinkState : Type 0 where
 abbrev pub cells_before : LinkState → Item → List Cell
 cells_before state i = if state.place == i.place then state.cells else []
 
--- what a record gives: its cells, and the targets behind it
+-- what a record gives: its cells, and the targets after it
 abbrev pub Made : Type 0
 Made = List Cell × List Target
 
@@ -77,7 +77,7 @@ made_by _ _ state _ _ = Ok ([], state.targets)
 unfoldable pub made : List Member → List EquateAnswer → LinkState → Item → Result Made LinkCause
 made list table state i = made_by list table state i i.here.content
 
--- ---- behind records
+-- ---- after records
 
 abbrev pub state_after_item : LinkState → Item → Result Made LinkCause → LinkState
 state_after_item state i (Err cause) = state

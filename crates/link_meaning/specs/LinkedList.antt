@@ -73,7 +73,7 @@ all_uses list = asked_from 1 list
 unfoldable pub wanted : List Offer → List Member → Option Member
 wanted library_offers list = first_some (λ a. wanted_by library_offers list a.place a.member a.use') (all_uses list)
 
--- each of these is wanted by those before it, and behind the last nothing is wanted
+-- each of these is wanted by those before it, and after the last nothing is wanted
 abbrev pub Follow : List Offer → List Member → List Member → Type 0
 Follow library_offers before [] = wanted library_offers before ≡ None
 Follow library_offers before (m ∷ members) = (wanted library_offers before ≡ Some m) × Follow library_offers (before ++ m ∷ []) members

@@ -6,20 +6,20 @@ ghost use Rattle.link_meaning.specs.EmitFaults.{OneLinkAnswer, OneEmitAnswer, Li
 ghost use Rattle.link_meaning.specs.LinkLoadable.{StandsForLinkedCells, OnlyCallsReachDynamic, IsLoadedWhereNoneSkipped, IsRuntimeOfForm, HasNoPathnames, HasNoLoadFault, IsReadWhole};
 ghost use Rattle.link_meaning.specs.EquateValues.{OneValue, NoneOnCycle, TableOfValues, TableWithoutCycles, OneNumber};
 
-/// Where a member stands in its load segment is settled: at the least multiple of its alignment behind the members before it.
+/// The offset of a member in its load segment is settled: it is the least multiple of its alignment at or after the end of the members
+/// before it.
 pub fn offsets_are_least()
     ensures least { OffsetIsLeast }
     ensures one { OneOffset }
 {}
 
-/// The file that the linker writes is a file of the load segments and the table, and each of them stands for its linked
-/// cells.
+/// The file that the linker writes is a file of the load segments and the table, and each of them represents its linked cells.
 pub fn linked_files_stand_for_their_cells()
     ensures { LinkedStandsFor }
 {}
 
-/// Files have one answer at most, a load file or a first fault, and so has a linked list for the phases behind layout. The
-/// one is the other where the files are resolved.
+/// Files have one answer at most, a load file or a first fault, and so has a linked list for the phases after layout. The one is the other
+/// where the files are resolved.
 pub fn files_have_one_answer()
     ensures files { OneLinkAnswer }
     ensures list { OneEmitAnswer }
@@ -31,8 +31,7 @@ pub fn records_without_a_fault_give_cells()
     ensures { MadeWhereSound }
 {}
 
-/// The load file of files without a fault is a file of the load segments and the table, and each of them stands for its
-/// linked cells.
+/// The load file of files without a fault is a file of the load segments and the table, and each of them represents its linked cells.
 pub fn linkable_files_stand_for_their_cells()
     ensures { LinkableStandsFor }
 {}
@@ -47,9 +46,9 @@ pub fn equates_have_one_value()
     ensures one_number { OneNumber }
 {}
 
-/// The load file that the linker writes stands for the linked cells: its segments are the load segments in order of number and
-/// the table behind them, each with the header of the layout and its linked cells. Their cells name the segment itself, static
-/// ones and the table alone, and the table's entries lead into dynamic ones.
+/// The load file that the linker writes represents the linked cells: its segments are the load segments in order of number and the table
+/// after them, each with the header of the layout and its linked cells. Their cells name only the segment itself, static ones and the
+/// table, and the table's entries lead into dynamic ones.
 pub fn linked_files_have_their_headers_and_cells()
     ensures stand_for { StandsForLinkedCells }
     ensures reach { OnlyCallsReachDynamic }

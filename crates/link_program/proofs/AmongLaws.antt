@@ -1,4 +1,4 @@
--- The members and offers of inputs come from their files, and there are few of them.
+-- The members and offers of inputs are from their files, and there are few of them.
 use Rattle.std.proofs.Common.{◌≡◌, ◌⊎◌, inl, inr, ℕ, suc, ◌+◌, Bool, true, false, List, [], ◌∷◌, map, Option, Some, None, refl, sym, ap, subst, ◌∙◌, arith}
 use Rattle.std.specs.Prelude.{slice_get, option_and_then, if◌then◌else◌}
 use Rattle.std.specs.List.{filter_map, cons_option}

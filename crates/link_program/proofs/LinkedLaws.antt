@@ -106,7 +106,7 @@ usings_more list m old new names place holds at are more other = more none other
     settle true e = are ∙ sym (ap usings_in (at_end list m place other at e).1)
     settle false e = holds.usings other ∙ ap usings_in (before_end list m place other at e)
 
--- the same of the name of a data segment
+-- the names of data segments, with one member more
 names_more : (list : List Member) (m : Member) (old new : Linked) (title : Option (List ℕ)) (place : ℕ) → Holds list old → place ≡ 1 + length list → title ≡ title_of_data m.segment
     → (name_at old.names place ≡ None → (other : ℕ) → name_at new.names other ≡ (if nat_eq place other then title else name_at old.names other))
     → (other : ℕ) → name_at new.names other ≡ title_in (member_at (list ++ m ∷ []) other)
@@ -196,7 +196,7 @@ member_is list kept k m x holds at there =
     let is : x ≡ origin_of m = some_same x (origin_of m) (sym there ∙ ap (λ (l : List Origin). slice_get l k) holds.members ∙ slice_get-map origin_of list k ∙ ap (option_map origin_of) at) in
     (sym (ap (λ (o : Origin). o.file) is), sym (ap (λ (o : Origin). o.segment) is), sym (ap (λ (o : Origin). o.from) is))
 
--- ---- where a member comes from
+-- ---- the origin of a member
 
 place_as : (place : ℕ) → 0 < place → (k : ℕ) × (place ≡ suc k)
 place_as zero some = absurd (omega arith)

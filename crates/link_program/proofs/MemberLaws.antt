@@ -1,4 +1,4 @@
--- What the uses of a member find, and where its segment stands among the inputs.
+-- What the uses of a member find, and where its segment is among the inputs.
 use Rattle.std.proofs.Common.{◌≡◌, ◌⊎◌, inl, inr, ℕ, zero, suc, ◌+◌, ◌≤◌, Bool, true, false, List, [], ◌∷◌, length, map, Option, Some, None, Result, Ok, refl, sym, ap, subst, ◌∙◌, arith}
 use Rattle.std.specs.Prelude.{slice_get, option_map, option_and_then, if◌then◌else◌, IfSome}
 use Rattle.omf_format.specs.File.{Segment, IsFile, segment_at}
@@ -65,7 +65,7 @@ uses_find_only list (suc k) m u name of there is same =
     let none = use_resolves list of (asked_of (suc k) m u) (subst (λ (n : ℕ). IsIn (asked_from 1 list) (asked_of n m u)) at here) in
     subst (λ (n : List ℕ). FindsOnly u.want (finds list (suc k) m n)) same (finds_only list (suc k) m u.name u.at u.want none)
 
--- ---- where a segment stands
+-- ---- where a segment is
 
 abbrev fine : List OfferedRow → Result (List OfferedRow) ℕ
 fine rows = Ok rows
@@ -73,7 +73,7 @@ fine rows = Ok rows
 ok_same : (x y : List OfferedRow) → fine x ≡ fine y → x ≡ y
 ok_same x y e = cc
 
--- what was read is sound, and each row stands in it
+-- what was read is sound, and the segment of each row is in it
 input_sound : RowsAreLaidOut → (bytes : List ℕ) (i : Input) → IsInput bytes i → IsSoundInput i
 input_sound law bytes i is = (is.sound, by_library (is_library i.segments) refl)
   where

@@ -136,7 +136,7 @@ none_titled_opens list m none u name n is =
     titles_more list m ∙ ap (λ (ds : List Definition). data_titles list ++ founds_in (1 + length list) m ds) none ∙ append-nil (data_titles list) in
     subst (λ (l : List FoundDefinition). IsIn (only_place (first_step_found (outer_steps u) (with_this_name name l))) n) (sym same) is
 
--- what the search for a title's name finds with the title behind the others
+-- what the search for a title's name finds is still found with the title after the others
 abbrev Stays : List Member → Member → Definition → Type 0
 Stays list m d = (u : Member) (n : ℕ) → IsIn (only_place (first_step_found (outer_steps u) (with_this_name d.name (data_titles list)))) n
     → IsIn (only_place (first_step_found (outer_steps u) (with_this_name d.name (data_titles list) ++ record { place = 1 + length list; member = m; definition = d } ∷ []))) n
@@ -239,7 +239,7 @@ both_nothing : (xs ys : List FoundDefinition) → or_else xs ys ≡ [] → (xs �
 both_nothing [] ys e = (refl, e)
 both_nothing (x ∷ xs) ys e = absurd cc
 
--- no member behind the others changes the setting, and without members there is no run-time library file
+-- no member after the others changes the setting, and without members there is no run-time library file
 outside_before : (list : List Member) (m : Member) (name : List ℕ) → with_this_name name (outside (setting_in (list ++ m ∷ []))) ≡ [] → with_this_name name (outside (setting_in list)) ≡ []
 unfolding with_this_name outside
 outside_before [] m name e = refl

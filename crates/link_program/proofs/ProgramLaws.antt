@@ -82,7 +82,7 @@ end_from-append : (end : ℕ) (x : List ℕ) (front back : List Member) → end_
 end_from-append end x [] back = refl
 end_from-append end x (m ∷ front) back = end_from-append (if in_load x m then aligned_from (alignment_of m.segment.fields.align) end + m.segment.fields.length else end) x front back
 
--- a member stands before the end of its load segment
+-- a member starts at or before the end of its load segment
 offset_within : (list : List Member) (k : ℕ) (m : Member) → slice_get list k ≡ Some m
     → (end_from 0 m.segment.fields.load_name (take k list) ≤ load_length m.segment.fields.load_name list) × (offset_of list (k + 1) m ≤ load_length m.segment.fields.load_name list)
 unfolding load_length offset_of
@@ -179,7 +179,7 @@ header_none headers fs (suc k) are some' at =
     let less : suc k - 1 ≡ k = omega arith in
     sym (ap (λ (l : List HeaderFields). slice_get l k) (sym are) ∙ slice_get-map fields headers k ∙ ap (option_map fields) (ap (slice_get headers) (sym less) ∙ at))
 
--- the member whose origin was told
+-- the member whose origin was returned
 pub record IsReported (list : List Member) (place : ℕ) (origin : Origin) : Type 0 where
   pub k : ℕ
   pub place' : place ≡ suc k

@@ -1,4 +1,4 @@
--- What numbers of definitions and of exported names stand for, as a program tells it.
+-- What numbers of definitions and of exported names mean, as a program reports it.
 use Rattle.std.proofs.Common.{◌≡◌, inl, inr, ℕ, zero, suc, ◌+◌, ◌-◌, ◌<◌, ◌≤◌, Bool, false, eqb, cond, List, [], ◌∷◌, ◌++◌, length, Option, Some, None, refl, sym, ap, subst, ◌∙◌, arith}
 use Rattle.std.specs.Prelude.{slice_get, option_map, ◌==◌, if◌then◌else◌}
 use Rattle.std.specs.List.{AllByRecursion}
@@ -67,7 +67,7 @@ entry_place list k f at =
       there = ap (member_at list) next ∙ ap (λ (l : List Member). slice_get l (length is.front)) is.parts ∙ get_parts is.front f.member is.back;
     }
 
--- ---- what is told
+-- ---- what is reported
 
 abbrev symbol : List Member → ℕ → Member → ℕ → Option (List ℕ) → ℕ → ℕ → SymbolView
 symbol list place m at expr size form = record {

@@ -39,7 +39,7 @@ cause_is wants.Data (f ∷ g ∷ more) o e = sym (ap (cause_of wants.Data) e.1)
 cause_is wants.One (f ∷ g ∷ more) o e = sym (ap (cause_of wants.One) e.1)
 cause_is wants.Any (f ∷ g ∷ more) o e = sym (ap (cause_of wants.Any) e.1)
 
--- ---- where a use stands
+-- ---- where a use is
 
 abbrev uses_at : ℕ → Member → List Use → List PlacedUse
 uses_at place m uses = map (λ u. record { place = place; member = m; use' = u }) uses
@@ -155,7 +155,7 @@ first_use list k u o cause is shape fails none = record {
   fails = fails_so list k u o is shape ∙ fails;
 }
 
--- so many or more are all
+-- as many as there are, or more, are all
 pub take_past : {A : Type 0} → (xs : List A) (n : ℕ) → length xs ≤ n → take n xs ≡ xs
 take_past [] zero less = refl
 take_past [] (suc n) less = refl

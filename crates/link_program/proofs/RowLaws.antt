@@ -43,7 +43,7 @@ offer_is setting file segments row o k s is number here =
     let place : row.segment - 1 ≡ k = omega (arith, number) in
     offer_same o (offer_with setting file row s) (sym is ∙ ap (λ (x : Option Segment). option_map (offer_with setting file row) x) (ap (slice_get segments) place ∙ here))
 
--- ---- each row stands there
+-- ---- the segment of each row is there
 
 row_stands : (segments : List Segment) (numbers : List ℕ) (names : List (List ℕ)) (rows : List OfferedRow) (bytes : List ℕ) → AreRows segments numbers names rows bytes → AllStand segments rows
 row_stands segments numbers names [] bytes are row is = absurd is

@@ -51,7 +51,7 @@ seen_named T s name fs o seen = subst (λ (l : List FoundDefinition). Seen T l o
 pub seen_definitions : (fs : List FoundDefinition) (s : SearchStep) (name : List ℕ) (answer o : Matches) → Sees fs (filter (is_found (record { step = s; name = name })) fs) answer → answer ≡ o → Sees fs (filter (is_seen_by_step s) (with_this_name name fs)) o
 seen_definitions fs s name answer o seen is = seen_named (λ f number. slice_get fs number ≡ Some f) s name fs o (subst (λ (a : Matches). Sees fs (filter (is_found (key s name)) fs) a) is seen)
 
--- a step that finds nothing leaves the decision to those behind it
+-- a step that finds nothing leaves the decision to those after it
 pub step_none : (T : FoundDefinition → ℕ → Type 0) (s : SearchStep) (steps : List SearchStep) (xs : List FoundDefinition) → Seen T (filter (is_seen_by_step s) xs) Nothing → first_step_found (s ∷ steps) xs ≡ first_step_found steps xs
 step_none T s steps xs seen = settle (filter (is_seen_by_step s) xs) seen
   where

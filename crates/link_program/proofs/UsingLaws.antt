@@ -178,7 +178,7 @@ used_by_name list m d t (n ∷ names) at = use_numbered-cons list m d n names �
         let head : found_by list m d n ≡ false = false_if (found_by list m d n) (λ f. clash e (same_name n t (sym (named_at list m d n f) ∙ at))) in
         ap (λ (b : Bool). b || (is_among t names && found_by list m d t)) head
 
--- the same as the tables tell it
+-- whether a segment is among those that a member uses, as the tables report it
 pub used_so : (list : List Member) (kept : Linked) (place other : ℕ) (m : Member) (t : List ℕ) (has : Bool) → Holds list kept → 0 < place → slice_get list (place - 1) ≡ Some m → title_in (member_at list other) ≡ Some t
     → has ≡ has_using kept.usings place t → list_any (nat_eq other) (used_places list m (usings_of m.segment)) ≡ (has && list_any (nat_eq other) (only_place (finds_data list m t)))
 used_so list kept place other m t has holds some at named_so is =

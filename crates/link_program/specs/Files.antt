@@ -9,7 +9,7 @@ abbrev pub segment_in : List (List Segment) → ℕ → ℕ → Option Segment
 segment_in files zero segment = None
 segment_in files (suc k) segment = option_and_then (λ segments. segment_at segments segment) (slice_get files k)
 
--- the member's segment is the one that stands there
+-- the member's segment is the one with its number in its file
 abbrev pub IsAmong : List (List Segment) → Member → Type 0
 IsAmong files m = segment_in files m.file m.number ≡ Some m.segment
 

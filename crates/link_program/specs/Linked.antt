@@ -18,7 +18,7 @@ use Rattle.link_tables.specs.Names.{Row, Indexes}
 use Rattle.link_tables.specs.Definitions.{Seen, AreDefinitions, IsOf, key_of_found, founds_in}
 use Rattle.link_tables.specs.Uses.{use_view, HaveShortNames}
 
--- where a member comes from
+-- the origin of a member
 abbrev pub origin_of : Member → Origin
 origin_of m = record { file = m.file; segment = m.number; from = m.from }
 
@@ -31,7 +31,7 @@ abbrev pub member_at : List Member → ℕ → Option Member
 member_at list zero = None
 member_at list (suc k) = slice_get list k
 
--- where that member comes from, if there is one
+-- the origin of that member, if there is one
 abbrev pub OriginOf : Option Member → Option Origin → Type 0
 OriginOf None None = Unit {0}
 OriginOf None (Some origin) = ⊥
@@ -71,7 +71,7 @@ pub record Holds (list : List Member) (kept : Linked) : Type 0 where
 abbrev pub GainsTitle : NameTable → NameTable → Origin → ℕ → List Definition → Type 0
 GainsTitle old new origin place ds = (fs : List FoundDefinition) (m : Member) → IsOf m origin → Indexes (place_rows fs) old → Indexes (place_rows (fs ++ founds_in place m ds)) new
 
--- what a look-up answers that tells places
+-- what a look-up answers that reports places
 abbrev pub SeesPlace : List FoundDefinition → Matches → Type 0
 SeesPlace found answer = Seen (λ f number. number ≡ f.place) found answer
 

@@ -1,4 +1,4 @@
--- Want of memory.
+-- Lack of memory.
 use Rattle.std.specs.Prelude.{None}
 use Rattle.link_meaning.specs.declared.fault.LinkCause.TheVariants.{Memory}
 use Rattle.link_meaning.specs.declared.fault.LinkFault.{LinkFault}

@@ -15,7 +15,7 @@ use Rattle.link_tables.specs.Definitions.{numbered_rows}
 abbrev pub all_found : List Member → List FoundDefinition
 all_found list = entries list ++ outside (setting_in list)
 
--- the place in a run-time library file that a name stands for
+-- the place of a name in a run-time library file
 abbrev pub far_of : FoundDefinition → Far
 far_of f = record { file = f.member.file; segment = f.member.number; offset = f.definition.place }
 
@@ -41,13 +41,13 @@ IsTable table = (fs : List FoundDefinition) × AreOutside fs table
 abbrev pub IsOutsideOf : List Member → OutsideNames → Type 0
 IsOutsideOf list table = AreOutside (outside (setting_in list)) table
 
--- an answer tells a number below this one
+-- an answer reports a number below this one
 abbrev pub IsBelow : ℕ → Matches → Type 0
 IsBelow n Nothing = Unit {0}
 IsBelow n (One number) = number < n
 IsBelow n (Several number) = number < n
 
--- an answer whose number counts on behind so many
+-- an answer with its number increased by n
 abbrev pub with_number_after : ℕ → Matches → Matches
 with_number_after n Nothing = Nothing
 with_number_after n (One number) = One (n + number)

@@ -37,7 +37,7 @@ member_in setting files origin =
 abbrev pub list_of : ResolvedProgram → List Member
 list_of kept = filter_map (member_in (setting_of kept) kept.files.items) kept.linked.members.items
 
--- where the member with this number, from 0, stands
+-- where the member with this number, from 0, is
 pub record StandsAt (list : List Member) (k : ℕ) (m : Member) (place : LoadOffset) : Type 0 where
   pub load : place.load + 1 ≡ load_of list m
   pub few : place.load + 1 < 2 ^ 16
@@ -59,7 +59,7 @@ pub record IsKept (list : List Member) (kept : ResolvedProgram) : Type 0 where
   pub few_runtimes : length kept.given.now < 2 ^ 32
   pub of_files : IsOfFiles list
 
--- a definition as a program tells it: of a member its load segment in the file itself, else the file and the segment of its value
+-- a definition as a program reports it: of a member its load segment in the file itself, else the file and the segment of its value
 pub record SymbolView : Type 0 where
   pub member : ℕ
   pub file : ℕ

@@ -14,7 +14,7 @@ use Rattle.link_tables.specs.declared.names.Matches.TheVariants.{Nothing, One, S
 use Rattle.link_program.specs.declared.linked.Linked.{Linked}
 use Rattle.link_program.specs.Linked.{Holds}
 
--- the answer tells whether nothing was found, one thing or several
+-- the answer says whether nothing was found, one thing or several
 abbrev pub IsShape : List FoundDefinition → Matches → Type 0
 IsShape [] answer = answer ≡ Nothing
 IsShape (f ∷ []) answer = (number : ℕ) × (answer ≡ One number)

@@ -8,7 +8,7 @@ use Rattle.link_meaning.specs.LinkedList.{PlacedUse, all_uses, wanted_by, wanted
 abbrev pub wanted_at : List Offer → List Member → PlacedUse → Option Member
 wanted_at os list a = wanted_by os list a.place a.member a.use'
 
--- the first uses, so many, want nothing
+-- the first k uses want nothing
 abbrev pub WantsNothing : List Offer → List Member → ℕ → Type 0
 WantsNothing os list k = first_some (wanted_at os list) (take k (all_uses list)) ≡ None
 

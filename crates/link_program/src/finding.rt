@@ -11,8 +11,8 @@ use crate::program::Program;
 use omf_header::Header;
 
 impl<'a> Program<'a> {
-    /// The number, from 0 among all definitions and the names of the run-time library files behind them, of the first that a name finds
-    /// in the member at a place, from 1, used there or not. None where the place is no member's, or the name finds none.
+    /// The number of the first definition that a name finds in the member at a place, from 1, used there or not. Numbers count from 0 over
+    /// all definitions, and on over the names of the run-time library files. None where the place is no member's, or the name finds none.
     pub fn find(&self, place: u32, name: &[u8]) -> Option<usize>
         ensures { IsFirstOf (all_found self.now) (found_in self.now place name.now) result }
     {

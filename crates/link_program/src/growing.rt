@@ -11,7 +11,7 @@ use link_tables::Offers;
 use omf_records::SegmentList;
 use std::alloc::{AllocError, Global};
 
-/// So many flags, none of which is set.
+/// `count` flags, none of which is set.
 fn flags(alloc: Global, count: usize) -> Result<Vec<bool>, AllocError>
     ensures { IfOk result (λ flags. flags.items ≡ replicate count false) }
 {

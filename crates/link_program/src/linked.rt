@@ -35,7 +35,7 @@ use link_tables::{
 use omf_records::SegmentView;
 use std::alloc::{AllocError, Global};
 
-/// The members of the linked list in order, each by where it comes from, with what they define and use.
+/// The members of the linked list in order, each by its origin, with what they define and use.
 #[derive(Drop)]
 pub struct Linked<'a> {
     members: Vec<Origin>,
@@ -132,7 +132,7 @@ impl<'a> Linked<'a> {
         self.members.as_slice().len() as u32
     }
 
-    /// Where the member at a place of the list, from 1, comes from.
+    /// The origin of the member at a place of the list, from 1.
     pub fn origin(&self, place: u32) -> Option<Origin>
         ensures { (list : List Member) → Holds list self.now → OriginOf (member_at list place) result }
     {
@@ -145,7 +145,7 @@ impl<'a> Linked<'a> {
         }
     }
 
-    /// The use with this number, from 0: where its member comes from, its name, and the displacement of its record.
+    /// The use with this number, from 0: the origin of its member, its name, and the displacement of its record.
     pub fn use_numbered(&self, number: usize) -> (Origin, &'a [u8], u32)
         requires held { IsHeld self.now }
         requires within { number < length self.now.uses }
@@ -158,8 +158,8 @@ impl<'a> Linked<'a> {
         (origin, found.name, found.at)
     }
 
-    /// Whether a segment that is to be the next member may open a use again that finds something: it is a data segment with
-    /// the name of one other, which it stands beside or hides. Where several have the name already, none is found by it.
+    /// Whether a segment that is to be the next member may open a use again that finds something: it is a data segment with the name of one
+    /// other, beside which it is found or which it hides. Where several have the name already, none is found by it.
     pub fn opens(&self, segment: &SegmentView, origin: Origin) -> bool
         ensures { result ≡ false → (list : List Member) (m : Member) → Holds list self.now → IsOf m origin → m.segment ≡ segment_of_view segment.now
             → OpensNothing list m }
@@ -178,8 +178,8 @@ impl<'a> Linked<'a> {
         }
     }
 
-    /// The data segments, by their places in the list, beside which one more of that name would stand, or which it would hide:
-    /// where it is private those that its unit finds, else those that all see.
+    /// The data segments, by their places in the list, beside which one more of that name would be found, or which it would hide: where it
+    /// is private those that its unit finds, else those that all see.
     fn find_rivals(&self, private: bool, origin: Origin, name: &[u8]) -> Matches
         ensures own { private ≡ true → (list : List Member) (m : Member) → Holds list self.now → IsOf m origin → SeesPlace (finds_data list m name.now) result }
         ensures every { private ≡ false → (list : List Member) → Holds list self.now → SeesPlace (filter (is_seen_by_step Everyone) (with_this_name name.now (data_titles list))) result }
@@ -193,7 +193,7 @@ impl<'a> Linked<'a> {
         })
     }
 
-    /// One more member, behind the others.
+    /// Adds a member after the others.
     pub fn add(
         &mut self,
         alloc: Global,
@@ -379,8 +379,8 @@ impl<'a> Linked<'a> {
         }
     }
 
-    /// What a name finds that is used in the member at this place, from 1: by number the definitions of the members, and counted on
-    /// behind them the names of the run-time library files.
+    /// What a name finds that is used in the member at this place, from 1: the definitions of the members by their numbers, and the names
+    /// of the run-time library files by numbers that count on after those.
     pub fn find(&self, outside: &OutsideNames, place: u32, name: &[u8]) -> Matches
         requires positive { 0 < place }
         requires within { place ≤ length self.now.members.items }

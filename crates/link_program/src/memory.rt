@@ -1,4 +1,4 @@
-//! Want of memory as a fault.
+//! Lack of memory as a fault.
 
 ghost use Rattle.std.specs.Prelude.{◌≡◌};
 ghost use Rattle.link_program.specs.Memory.{memory_fault};
@@ -6,7 +6,7 @@ ghost use Rattle.link_program.specs.Memory.{memory_fault};
 use link_meaning::{LinkCause, LinkFault};
 use omf_base::Spot;
 
-/// Want of memory has no place.
+/// The fault when out of memory, which has no place.
 pub fn memory_fault() -> LinkFault
     ensures { result ≡ memory_fault }
 {

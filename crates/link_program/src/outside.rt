@@ -32,7 +32,7 @@ pub struct OutsideNames<'a> {
 }
 
 impl<'a> OutsideNames<'a> {
-    /// Of no file.
+    /// No name.
     pub fn new(alloc: Global) -> OutsideNames<'a>
         ensures { AreOutside [] result }
     {
@@ -53,7 +53,7 @@ impl<'a> OutsideNames<'a> {
         })
     }
 
-    /// The place that the name with this number, from 0, stands for.
+    /// The place of the name with this number, from 0.
     pub fn get(&self, number: usize) -> Option<Far>
         ensures { (fs : List FoundDefinition) → AreOutside fs self.now → result ≡ option_map far_of (slice_get fs number) }
     {
@@ -63,7 +63,7 @@ impl<'a> OutsideNames<'a> {
         }
     }
 
-    /// One more name, behind the others.
+    /// Adds a name after the others.
     fn push(&mut self, name: &'a [u8], place: Far) -> Result<(), AllocError>
         ensures { OnOk result ((fs : List FoundDefinition) (f : FoundDefinition) → AreOutside fs self.old → IsFar f → f.definition.name ≡ name.now → far_of f ≡ place
             → AreOutside (fs ++ f ∷ []) self.new) }
@@ -121,7 +121,7 @@ impl<'a> OutsideNames<'a> {
     }
 }
 
-/// What was found, with its number counted on behind so many.
+/// What was found, with its number increased by `count`.
 pub fn with_number_after(count: usize, found: Matches) -> Matches
     requires few { count < 2 ^ 63 }
     requires below { IsBelow (2 ^ 63) found }

@@ -37,7 +37,7 @@ pub struct LinkMember {
     pub offset: u32,
 }
 
-/// What a name stands for: a definition of a member of the linked list, or a place in a run-time library file.
+/// What a name means: a definition of a member of the linked list, or a place in a run-time library file.
 #[derive(Clone, Copy, Debug, PartialEq, Eq)]
 pub struct Definition<'a> {
     /// The member's place in the linked list, from 1; 0 for a name of a run-time library file.
@@ -111,7 +111,7 @@ fn definition_of(defined: Defined, load_segment: u16) -> Definition
     }
 }
 
-/// A name that stands for a place in a run-time library file.
+/// A name that means a place in a run-time library file.
 fn definition_at<'a>(far: Far) -> Definition<'a>
     ensures { result ≡ record {
       member = 0;

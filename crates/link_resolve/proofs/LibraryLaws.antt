@@ -167,7 +167,7 @@ offered_row setting file segments row reported o number v titled stands is offer
 
 -- ---- the loop
 
--- the row that is told at a place
+-- the row that is reported at a place
 pub record IsRowAt (segments : List Segment) (rows : List OfferedRow) (k : ℕ) (reported : LibraryRow) : Type 0 where
   pub row : OfferedRow
   pub at : slice_get rows k ≡ Some row

@@ -25,7 +25,7 @@ use Rattle.link_resolve.specs.Runtimes.{files_of, to_link_cause, IsFileRefused, 
 use Rattle.link_program.specs.Programs.{runtimes_of}
 use Rattle.link_tables.proofs.Lists.{drop_at, take_more}
 
--- want of memory has no cause that is told, and no other cause is told as that
+-- lack of memory has no cause that is reported, and no other cause is reported as that
 pub not_memory : (cause : LoadCause) (reported : LinkCause) → to_link_cause cause ≡ Some reported → reported ≡ causes.Memory → ⊥
 not_memory Truncated reported e memory = cc
 not_memory BadHeader reported e memory = cc
@@ -119,7 +119,7 @@ read_more given place loads old new m segments so at is adds =
           (adds (outside_from 2 runtimes) r refl so.table'));
     }
 
--- the file behind those so far is at fault
+-- the file after those so far is at fault
 pub first_refused : (given : List Member) (inputs place : ℕ) (loads : List (List Segment)) (table : OutsideNames) (m : Member) (fault : LinkFault) → ReadSoFar given place loads table → slice_get given place ≡ Some m
     → IsFileRefused (inputs + place + 1) m.bytes.items fault → IsFirstRefused inputs (files_of given) fault
 first_refused given inputs place loads table m fault so at (inl e) = inl e

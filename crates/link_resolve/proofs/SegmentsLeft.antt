@@ -1,4 +1,4 @@
--- The first segment at fault, as far as a loop has come.
+-- The first segment at fault, where a loop has passed some.
 use Rattle.std.proofs.Common.{◌≡◌, ℕ, ◌+◌, ◌≤◌, List, length, drop, Option, Some, None, sym, ap, ◌∙◌}
 use Rattle.std.specs.Prelude.{slice_get, option_map, ◌==◌}
 use Rattle.std.specs.Option.{option_or}

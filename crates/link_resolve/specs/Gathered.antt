@@ -19,7 +19,7 @@ pub record IsGathered (inputs : List Input) (kept : kept.Gathered) : Type 0 wher
   pub offers' : (setting : LinkSetting) → AreOffers (library_offers setting inputs) kept.offers
   pub sound : (input : Input) → IsIn inputs input → IsSoundInput input
 
--- these rows are told of a library
+-- these rows are reported of a library
 pub record AreRows (segments : List Segment) (reported : List LibraryRow) : Type 0 where
   pub rows : List OfferedRow
   pub read : rows_of segments ≡ Ok rows

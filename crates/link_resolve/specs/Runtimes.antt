@@ -18,7 +18,7 @@ use Rattle.link_program.specs.Programs.{runtimes_of}
 abbrev pub files_of : List Member → List (List ℕ × List ℕ)
 files_of given = map (λ m. (m.name, m.bytes.items)) given
 
--- how a run-time library file's cause is told, unless out of memory
+-- how a run-time library file's cause is reported, unless out of memory
 abbrev pub to_link_cause : LoadCause → Option LinkCause
 to_link_cause Memory = None
 to_link_cause cause = Some (runtime_cause cause)
@@ -33,7 +33,7 @@ pub record AreRead (given : List Member) (loads : List (List Segment)) (table : 
   pub are : AreRuntimes (files_of given) (runtimes_of loads given)
   pub table' : AreOutside (outside_from 2 (runtimes_of loads given)) table
 
--- the files before one were read, and that one has this fault, where they are numbered behind so many inputs
+-- the files before one were read, and that one has this fault, where they are numbered after a given number of inputs
 pub record IsFirstFile (inputs : ℕ) (files : List (List ℕ × List ℕ)) (fault : LinkFault) : Type 0 where
   pub before : List (List ℕ × List ℕ)
   pub item : List ℕ × List ℕ

@@ -93,7 +93,7 @@ fn dictionary_of<'a>(
 }
 
 impl<'a> Gathered<'a> {
-    /// Of no input.
+    /// Nothing, before any input is read.
     pub fn new(alloc: Global) -> Gathered<'a>
         ensures { IsGathered [] result }
     {

@@ -82,7 +82,7 @@ fn empty_fault() -> LinkFault
     }
 }
 
-/// Reads all files: the inputs, of which some are object files, and the run-time library files behind them.
+/// Reads all files: the inputs, of which some are object files, and the run-time library files after them.
 fn read_all<'a>(
     alloc: Global,
     inputs: &'a Vec<Vec<u8>>,
@@ -115,7 +115,7 @@ fn read_all<'a>(
     })
 }
 
-/// Grows the list of what was gathered until no use wants a member. The rows are let go behind it.
+/// Grows the list of what was gathered until no use wants a member. The rows are freed after that.
 fn grow_whole<'a>(alloc: Global, read: InputsRead<'a>) -> Result<Grown<'a>, AllocError>
     requires { (given : LinkInput) × FewGiven given × IsReadAll given read }
     ensures { IfOk result (λ grown. (given : LinkInput) → FewGiven given → IsReadAll given read.entry → IsListOf given grown) }
@@ -298,8 +298,8 @@ pub fn resolve<'a>(alloc: Global, inputs: &'a Vec<Vec<u8>>) -> Result<Program<'a
     resolve_all(alloc, inputs, &[], LinkForm::Program)
 }
 
-/// The same with run-time library files, each with the path by which it is known, for a program; and a run-time library file, which has
-/// none.
+/// The program of files whose names and load segments have no fault. A program is linked with run-time library files, each with the path by
+/// which it is known; a run-time library file is linked with none.
 pub fn resolve_with<'a>(
     alloc: Global,
     inputs: &'a Vec<Vec<u8>>,

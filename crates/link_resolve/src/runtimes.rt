@@ -20,7 +20,7 @@ pub struct Runtimes<'a> {
     pub outside: OutsideNames<'a>,
 }
 
-/// How a run-time library file's cause is told; None when out of memory.
+/// How a run-time library file's cause is reported; None when out of memory.
 fn to_link_cause(cause: LoadCause) -> Option<LinkCause>
     ensures { result ≡ to_link_cause cause }
 {
@@ -51,7 +51,7 @@ fn file_fault(fault: LoadFault, file: u32) -> LinkFault
     }
 }
 
-/// Reads the run-time library files, which are numbered behind so many inputs; in values the first is 2.
+/// Reads the run-time library files, which are numbered after the given number of inputs; in values the first is 2.
 pub fn read_runtimes<'a>(
     alloc: Global,
     given: &'a [Member],

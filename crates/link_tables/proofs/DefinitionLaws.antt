@@ -69,7 +69,7 @@ got fs table number answer are is = is ∙ ap (λ (l : List DefinitionRow). slic
 
 -- ---- what segments have for themselves
 
--- no row tells this place
+-- no row has this place
 abbrev Apart : ℕ → List Row → Type 0
 Apart place rows = AllByRecursion (λ row. row.1 ≡ place → ⊥) rows
 
@@ -173,7 +173,7 @@ gains_both old middle new origin place xs ys p q fs m of are =
 abbrev pub defined_at : Located → List Definition
 defined_at r = defined_by r.at r.location r.content
 
--- the records so far were added, and the others are still to come
+-- the records so far were added, and the others remain
 pub record Defining (all : List (ℕ × Record)) (at : Reader) (location : ℕ) (old new : Definitions) (origin : Origin) (place : ℕ) : Type 0 where
   pub back : List (ℕ × Record)
   pub coming : Coming at back

@@ -1,4 +1,4 @@
--- The first fault of records, as far as they have come.
+-- The first fault of records, where some were read.
 use Rattle.std.proofs.Common.{◌≡◌, ℕ, List, Option, Some, None, sym, ap, ◌∙◌}
 use Rattle.std.specs.Prelude.{option_map}
 use Rattle.std.specs.Option.{option_or}
@@ -8,7 +8,7 @@ use Rattle.link_meaning.specs.declared.fault.LinkCause.{LinkCause}
 use Rattle.link_meaning.specs.LinkFaults.{with_place, record_fault, records_fault}
 use Rattle.link_tables.specs.Coming.{Coming, Walks}
 
--- those so far have none, so the first is that of those that are still to come
+-- those so far have none, so the first is that of those that remain
 pub record FirstLeft (align : ℕ) (all : List (ℕ × Record)) (at : Reader) : Type 0 where
   pub back : List (ℕ × Record)
   pub coming : Coming at back

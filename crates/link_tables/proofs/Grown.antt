@@ -1,4 +1,4 @@
--- Cells so far, and those of the records that are still to come.
+-- Cells so far, and those of the records that remain.
 use Rattle.std.proofs.Common.{◌≡◌, ℕ, ◌+◌, ◌≤◌, ◌^◌, Bool, Option, List, [], ◌∷◌, Some, None, sym, ap, arith}
 use Rattle.std.specs.Prelude.{if◌then◌else◌}
 use Rattle.std.proofs.lemmas.Bool.{le-ltb}

@@ -51,7 +51,7 @@ or_right a b e = ap (λ (x : Bool). x || b) e
 or_left : (a b : Bool) → a ≡ true → (a || b) ≡ true
 or_left a b e = ap (λ (x : Bool). x || b) e
 
--- an end that is kept tells whether the end is too far
+-- an end that is kept says whether the end is too far
 long_same : (bank end : ℕ) → long_by bank (min end 16777216) ≡ too_long_by bank end
 long_same bank end = settle (le_or_less end 0xFFFFFF)
   where
@@ -203,7 +203,7 @@ pub no_long : (list : List Member) (layout : kept.LinkLayout) (before : List Lay
 no_long list layout before its laid short p =
     none_bad is_long is_too_long (HasLengthFault list) list layout (load_headers list) (long_test list) (long_fails list) laid (λ j f e. e) (λ j load within there. short j load there) p.before p.item p.after its p.parts p.here
 
--- of a program no kind is a fault, and of a run-time library file none is where all may stand
+-- of a program no kind is a fault, and of a run-time library file none is where all are allowed
 abbrev pub FineKinds : LinkForm → List LoadLayout → Type 0
 FineKinds Program loads = Unit {0}
 FineKinds LibraryForm loads = AllDynamic loads

@@ -1,4 +1,4 @@
--- Definitions in order, whose expressions lie apart.
+-- Definitions in order, whose expressions are kept apart.
 use Rattle.std.proofs.Common.{◌≡◌, ℕ, zero, suc, ◌+◌, ◌<◌, List, [], ◌∷◌, ◌++◌, length, Option, Some, None, refl, sym, ap, ◌∙◌, arith}
 use Rattle.std.specs.Prelude.{slice_get, option_map, if◌then◌else◌}
 use Rattle.link_tables.specs.declared.listed.DefinitionMark.{DefinitionMark}

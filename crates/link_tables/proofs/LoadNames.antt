@@ -95,7 +95,7 @@ has_names x list = has-distinct x (map name_of list) ∙ over list
     over [] = refl
     over (m ∷ list) = ap (λ (b : Bool). bytes_eq (name_of m) x || b) (over list)
 
--- ---- each stands once
+-- ---- each occurs once
 
 abbrev AllApart : List Text → Type 0
 AllApart [] = Unit {0}
@@ -165,7 +165,7 @@ pub load_number : (list : List Member) (k : ℕ) (x : Text) → slice_get (load_
 unfolding load_names
 load_number list k x e = number_at (distinct (map name_of list)) k x (distinct_apart (map name_of list)) e
 
--- more names behind change no number
+-- more names at the end change no number
 pub number_stays : (xs ys : List Text) (x : Text) → contains_text x xs ≡ true → number_in (xs ++ ys) x ≡ number_in xs x
 number_stays [] ys x e = absurd cc
 number_stays (y ∷ xs) ys x e = settle (bytes_eq y x) e (λ rest. number_stays xs ys x rest)

@@ -1,4 +1,4 @@
--- Tables of names: a look-up finds what the rows have, and one more row goes behind the others.
+-- Tables of names: a look-up finds what the rows have, and one more row is added after the others.
 use Rattle.std.proofs.Common.{◌≡◌, ◌⊎◌, inl, inr, ℕ, Bool, true, false, List, [], ◌∷◌, ◌++◌, Some, refl, sym, ap, subst, ◌∙◌}
 use Rattle.std.specs.Prelude.{filter, if◌then◌else◌, ◌==◌, ◌&&◌}
 use Rattle.std.proofs.lemmas.Bool.{and_parts, eqb-true}
@@ -142,7 +142,7 @@ keeps_again old mid new k first now once again = λ key. again key ∙ settle ke
         ∙ ap (λ (b : Bool). if b then Some first else kept_under key.step key.name old) e
         ∙ sym (ap (λ (b : Bool). if b then Some now else kept_under key.step key.name old) e)
 
--- behind one that was found, or the first of several, one more is no first one
+-- after one that was found, or the first of several, one more is not the first
 pub one_more : (before : Matches) (first number : ℕ) → (before ≡ One first) ⊎ (before ≡ Several first) → Several first ≡ with_one_more before number
 one_more before first number (inl one) = ap (λ (o : Matches). with_one_more o number) (sym one)
 one_more before first number (inr several) = ap (λ (o : Matches). with_one_more o number) (sym several)

@@ -32,7 +32,7 @@ lies_by false l at bytes =
     let pad = replicate (length xs - length w) 32 in
     front_of ys w (pad ++ drop l ys) (sym (take-append-drop l ys) ∙ ap (λ (z : List ℕ). z ++ drop l ys) (sym (padded-trim 32 xs)) ∙ append_assoc w pad (drop l ys))
 
--- where it stands, and that it ends in the file
+-- where it is, and that it ends in the file
 pub record Lies (start : ℕ) (f : HeaderFields) (file : List ℕ) : Type 0 where
   pub text : take (length f.name) (drop (start + from_by (f.lab_len == 0) (f.disp_name + 10)) file) ≡ f.name
   pub within : start + from_by (f.lab_len == 0) (f.disp_name + 10) + length f.name ≤ length file

@@ -1,4 +1,4 @@
--- Uses whose wants lie apart, and the names of USING among uses.
+-- Uses whose wants are kept apart, and the names of USING among uses.
 use Rattle.std.proofs.Common.{◌≡◌, ℕ, zero, suc, ◌+◌, ◌≤◌, List, [], ◌∷◌, ◌++◌, length, map, drop, Some, refl, sym, ap, ◌∙◌, arith, add-one, append_assoc, append-nil}
 use Rattle.std.specs.Prelude.{slice_get}
 use Rattle.std.specs.Option.{option_map}

@@ -5,7 +5,7 @@ use Rattle.omf_format.specs.Reading.{Reader, HandsOut}
 use Rattle.omf_records.specs.declared.record.Rec.{Rec}
 use Rattle.omf_records.specs.View.{view}
 
--- these records are still to come, END being the last
+-- these records remain, END being the last
 pub record Coming (at : Reader) (back : List (ℕ × Record)) : Type 0 where
   pub last : Reader
   pub run : HandsOut at back last
@@ -18,7 +18,7 @@ IsComing at = (back : List (ℕ × Record)) × Coming at back
 abbrev pub seen_record : ℕ × Rec → ℕ × Record
 seen_record found = (found.0, view found.1)
 
--- the first of the records came, and the others are still to come; or there was none
+-- the first of the records was returned, and the others remain; or there was none
 abbrev pub Walks : Reader → List (ℕ × Record) → Option (ℕ × Record) → Type 0
 Walks at back None = back ≡ []
 Walks at back (Some found) = (more : List (ℕ × Record)) × (back ≡ found ∷ more) × Coming at more

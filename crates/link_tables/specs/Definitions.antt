@@ -44,7 +44,7 @@ pub record AreDefinitions (fs : List FoundDefinition) (table : Definitions) : Ty
   pub locals : Indexes (local_rows fs) table.locals
   pub items : table.items ≡ map definition_view fs
 
--- what a look-up answers where these are found, of which a number tells the first
+-- what a look-up answers where these are found, of which a number reports the first
 abbrev pub Seen : (FoundDefinition → ℕ → Type 0) → List FoundDefinition → Matches → Type 0
 Seen Reports [] answer = answer ≡ Nothing
 Seen Reports (f ∷ []) answer = (number : ℕ) × (answer ≡ One number) × Reports f number
@@ -54,17 +54,17 @@ Seen Reports (f ∷ g ∷ more) answer = (number : ℕ) × (answer ≡ Several n
 abbrev pub Sees : List FoundDefinition → List FoundDefinition → Matches → Type 0
 Sees all found answer = Seen (λ f number. slice_get all number ≡ Some f) found answer
 
--- of the places that an answer tells, this isn't one: it tells none, or another alone
+-- of the places that an answer reports, this isn't one: it reports none, or another alone
 abbrev pub IsElsewhere : ℕ → Matches → Type 0
 IsElsewhere place Nothing = Unit {0}
 IsElsewhere place (One other) = other ≡ place → ⊥
 IsElsewhere place (Several first) = ⊥
 
--- a member that this doesn't tell has nothing of that name for itself
+-- a member that this doesn't report has nothing of that name for itself
 abbrev pub AreHolders : List FoundDefinition → List ℕ → Matches → Type 0
 AreHolders fs name answer = (place : ℕ) → IsElsewhere place answer → filter (is_seen_by_step (Within place)) (with_this_name name fs) ≡ []
 
--- the member comes from there
+-- the member has this origin
 abbrev pub IsOf : Member → Origin → Type 0
 IsOf m origin = (m.file ≡ origin.file) × (m.number ≡ origin.segment) × (m.from ≡ origin.from)
 

@@ -139,7 +139,7 @@ pub record IsFirstLong (loads : List LoadLayout) (spot : Spot) : Type 0 where
   pub spot' : spot ≡ load.first
   pub before : AllShort (take k loads)
 
--- the load segment may not stand in a run-time library file
+-- the load segment may not be in a run-time library file
 abbrev pub is_other : LoadLayout → Bool
 is_other load = not (is_dynamic load.kind.bits && not (is_skipped load.kind.bits))
 

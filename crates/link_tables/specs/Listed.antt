@@ -1,4 +1,4 @@
--- Definitions in order, whose expressions lie apart.
+-- Definitions in order, whose expressions are kept apart.
 use Rattle.std.specs.Prelude.{ℕ, ◌+◌, List, [], ◌∷◌, Option, None, option_map, nat_eq, if◌then◌else◌}
 use Rattle.std.specs.Borrow.{Bor}
 use Rattle.indexmap.specs.IndexMap.{IndexMap, get}

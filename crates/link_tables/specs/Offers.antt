@@ -31,7 +31,7 @@ abbrev pub titled_rows : ℕ → List Offer → List Row
 titled_rows n [] = []
 titled_rows n (o ∷ os) = if is_titled o then (key_of_offer o, n) ∷ titled_rows (n + 1) os else titled_rows (n + 1) os
 
--- where the member comes from that a row would bring in
+-- the origin of the member that a row would bring in
 abbrev pub origin_view : Offer → Origin
 origin_view o = record { file = o.member.file; segment = o.member.number; from = o.member.from }
 

@@ -14,7 +14,7 @@ use Rattle.link_tables.specs.declared.uses.UseSite.{UseSite}
 abbrev pub use_of_site : SearchKind × UseSite → ℕ × Use
 use_of_site p = (p.1.place, record { want = p.0; name = p.1.name.now; at = p.1.at })
 
--- uses whose wants lie apart
+-- uses whose wants are kept apart
 abbrev pub uses_of_sites : List SearchKind → List UseSite → List (ℕ × Use)
 uses_of_sites wants sites = map use_of_site (zip wants sites)
 
@@ -29,11 +29,11 @@ use_view a = (a.place, a.use')
 abbrev pub at_place : ℕ → List Use → List (ℕ × Use)
 at_place place uses = map (λ u. (place, u)) uses
 
--- each name is one that a length byte can tell
+-- each name is one whose length fits a length byte
 abbrev pub HaveShortNames : List (ℕ × Use) → Type 0
 HaveShortNames uses = AllByRecursion (λ u. length u.1.name ≤ 255) uses
 
--- the same for the name of a term
+-- and so is the name of a term
 abbrev pub IsShortTerm : Term → Type 0
 IsShortTerm (Named code name) = length name ≤ 255
 IsShortTerm _ = Unit {0}

@@ -17,7 +17,7 @@ use link_meaning::SearchStep;
 use omf_records::{Rec, SegmentView};
 use std::alloc::{AllocError, Global};
 
-/// A definition of a member, without where the member stands.
+/// A definition of a member, without the member's load segment and offset.
 #[derive(Clone, Copy, Debug, PartialEq, Eq)]
 pub struct Defined<'a> {
     /// The member's place in the linked list, from 1.
@@ -32,8 +32,8 @@ pub struct Defined<'a> {
     pub form: u8,
 }
 
-/// Where a member comes from: its file among the inputs and its number there, both from 1, and the file number of the
-/// dictionary's row that brought it in, or 0 in an object file.
+/// The origin of a member: its file among the inputs and its number there, both from 1, and the file number of the dictionary's row that
+/// brought it in, or 0 in an object file.
 #[derive(Clone, Copy, Debug, PartialEq, Eq)]
 pub struct Origin {
     pub file: u32,

@@ -1,4 +1,4 @@
-//! Load segments: which members one has, where in it each stands, and its header's fields.
+//! Load segments: which members one has, where in it each lies, and its header's fields.
 
 ghost use Rattle.std.specs.Prelude.{◌≡◌, ◌+◌, ◌<◌, ◌≤◌, ◌^◌, ◌/◌, ◌*◌, ◌%◌, ◌++◌, ◌∷◌, [], List, ℕ, Some, None, map, false, slice_get, min, length, MatchOption, OnOk, IfOk};
 ghost use Rattle.omf_records.specs.Segments.{IsSound, IsPlaced, placed_view, segment_of_view};
@@ -19,7 +19,7 @@ use omf_header::{Header, Kind};
 use omf_records::SegmentView;
 use std::alloc::{AllocError, Global};
 
-/// One more than the most bytes of a load segment: greater ends are told apart from lesser ones, and not from each other.
+/// One more than the most bytes of a load segment: greater ends are distinguished from lesser ones, and not from each other.
 const TOO_LONG: u32 = 0x0100_0000;
 
 /// The most load segments.
@@ -40,7 +40,7 @@ pub struct LoadLayout {
     length: u32,
 }
 
-/// Where a member stands: its load segment, from 0, and its offset there.
+/// The place of a member: its load segment, from 0, and its offset there.
 #[derive(Clone, Copy)]
 pub struct LoadOffset {
     pub load: usize,
@@ -53,7 +53,7 @@ pub struct LinkLayout<'a> {
     names: NameTable<'a>,
     pub loads: Vec<LoadLayout>,
     pub places: Vec<LoadOffset>,
-    /// Where the first member starts that asks for an address behind another one of its load segment.
+    /// Where the first member starts that asks for an address after another one of its load segment.
     conflict: Option<Spot>,
 }
 
@@ -79,7 +79,7 @@ fn load_segment_kind(kind: Kind) -> Kind
     }
 }
 
-/// The least multiple of an alignment at or behind an end.
+/// The least multiple of an alignment at or after an end.
 fn align_up(end: u32, align: u32) -> u64
     requires some { 0 < align }
     requires small { align ≤ 2 ^ 16 }
@@ -97,7 +97,7 @@ fn end_of(offset: u64, length: u32) -> u32
     (offset + u64::from(length)).min(u64::from(TOO_LONG)) as u32
 }
 
-/// Where the first conflict is: the one so far, or that of a member that asks for an address behind another one.
+/// Where the first conflict is: the one so far, or that of a member that asks for an address after another one.
 fn conflict_with(so_far: Option<Spot>, org: u32, spot: Spot) -> Option<Spot>
     ensures { result ≡ conflict_with so_far org spot }
 {
@@ -197,7 +197,7 @@ impl<'a> LinkLayout<'a> {
         Ok(())
     }
 
-    /// One more member, behind the others.
+    /// Adds a member after the others.
     pub fn add(&mut self, segment: &SegmentView<'a>, origin: Origin) -> Result<(), AllocError>
         requires placed { IsPlaced (placed_view segment.now) }
         requires laid { (list : List Member) × Laid list self.old }
@@ -232,7 +232,7 @@ impl<'a> LinkLayout<'a> {
         None
     }
 
-    /// The first load segment that may not stand in a run-time library file: it isn't dynamic, or is skipped.
+    /// The first load segment that may not be in a run-time library file: it isn't dynamic, or is skipped.
     fn not_dynamic(&self) -> Option<Spot>
         ensures { MatchOption result (AllDynamic self.now.loads.items) (λ spot. IsFirstOther self.now.loads.items spot) }
     {

@@ -18,7 +18,7 @@ struct DefinitionMark {
     is_equate: bool,
 }
 
-/// Definitions in order. The expressions of equates lie apart, by number, since most definitions are none.
+/// Definitions in order. The expressions of equates are kept apart, by number, since most definitions are none.
 #[derive(Drop)]
 pub struct Listed<'a> {
     marks: Vec<DefinitionMark>,
@@ -34,7 +34,7 @@ impl<'a> Model for Listed<'a> {
     ghost view = { λ listed. rows_from (expr_at listed.exprs) 0 listed.marks.items };
 }
 
-/// Keeps the expression, if there is one, of the definition with this number, and tells whether there is.
+/// Keeps the expression, if there is one, of the definition with this number, and returns whether there is.
 fn keep_expr<'a>(
     exprs: &mut IndexMap<usize, &'a [u8]>,
     number: usize,
@@ -104,7 +104,7 @@ impl<'a> Listed<'a> {
         }
     }
 
-    /// One more definition, behind the others.
+    /// Adds a definition after the others.
     pub fn push(&mut self, definition: Defined<'a>) -> Result<(), AllocError>
         ensures { OnOk result (self.new ≡ self.old ++ definition_of definition.entry ∷ []) }
     {

@@ -44,9 +44,9 @@ pub enum Matches {
     Several(usize),
 }
 
-/// Names in order, each seen by one step and with the number of what it names. A look-up takes no pass over them. What all
-/// see, what members have for themselves and what units have lie apart: where there is none of a kind, as often, a name isn't
-/// hashed to look for it there, and a key holds no more than it says.
+/// Names in order, each seen by one step and with the number of what it names. A look-up takes no pass over them. What all see, what
+/// members have for themselves and what units have are kept apart: where there is none of a kind, as is common, a name isn't hashed to look
+/// for it there, and a key holds no more than it says.
 #[derive(Drop)]
 pub struct NameTable<'a> {
     public: IndexMap<PublicName<'a>, Matches>,
@@ -121,14 +121,14 @@ impl<'a> NameTable<'a> {
         found_or(self.units.get(&UnitName { file, from, name }).copied())
     }
 
-    /// Room for so many more names that all see.
+    /// Makes room for `count` more names that all see.
     pub fn reserve(&mut self, count: usize) -> Result<(), AllocError>
         ensures { (rows : List Row) → Indexes rows self.old → Indexes rows self.new }
     {
         self.public.reserve(count)
     }
 
-    /// One more name, behind the others. It is kept as the only one, and as one of several where others were there.
+    /// Adds a name after the others. It is kept as the only one, and as one of several where others were there.
     pub fn add(&mut self, key: Key<'a>, number: usize) -> Result<(), AllocError>
         ensures { OnOk result ((rows : List Row) → Indexes rows self.old → Indexes (rows ++ (key_of key.entry, number) ∷ []) self.new) }
     {

@@ -94,7 +94,7 @@ impl<'a> Offers<'a> {
         self.origins[number]
     }
 
-    /// Room for so many more rows.
+    /// Makes room for `count` more rows.
     pub fn reserve(&mut self, count: usize) -> Result<(), AllocError>
         ensures { (os : List Offer) → AreOffers os self.old → AreOffers os self.new }
     {
@@ -102,8 +102,8 @@ impl<'a> Offers<'a> {
         self.names.reserve(count)
     }
 
-    /// One more row, behind the others: its name, whether it is private, the member that it would bring in, and whether that
-    /// is a data segment with this SEGNAME and privacy.
+    /// Adds a row after the others: its name, whether it is private, the member that it would bring in, and whether that is a data segment
+    /// with this SEGNAME and privacy.
     pub fn add(
         &mut self,
         name: &'a [u8],

@@ -7,7 +7,7 @@ ghost use Rattle.link_tables.specs.Coming.{Coming, IsComing, Walks, seen_record}
 
 use omf_records::{Rec, Records};
 
-/// The next record, with its displacement in the file, and None behind END.
+/// The next record, with its displacement in the file, and None after END.
 #[inline(always)]
 pub fn next_record<'a>(records: &mut Records<'a>) -> Option<(u32, Rec<'a>)>
     requires { IsComing records.old }

@@ -5,7 +5,7 @@ ghost use Rattle.omf_records.specs.Segments.{placed_view, IsPlaced};
 
 use omf_records::SegmentView;
 
-/// So many bytes from a displacement on.
+/// `size` bytes from a displacement on.
 fn bytes_at(bytes: &[u8], from: usize, size: usize) -> &[u8]
     requires { from + size ≤ length bytes.now }
     ensures { result.now ≡ take size (drop from bytes.now) }

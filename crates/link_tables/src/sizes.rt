@@ -34,7 +34,7 @@ pub fn size_at(rec: &Rec, location: u32) -> u64
     }
 }
 
-/// How many cells there are with a record behind so many, where these numbers have 32 bits.
+/// How many cells there are with one more record after `size` of them, where these numbers have 32 bits.
 pub fn size_after(size: Option<u32>, rec: &Rec) -> Option<u32>
     ensures { (n : ℕ) → size ≡ in_32_bits n → result ≡ in_32_bits (n + size_at n (view rec.now)) }
 {

@@ -32,7 +32,7 @@ struct UseSite<'a> {
     place: u32,
 }
 
-/// Uses in order. What each wants lies apart, since one byte beside 24 takes less memory than both together.
+/// Uses in order. What each wants is kept apart, since one byte beside 24 takes less memory than both together.
 #[derive(Drop)]
 pub struct Uses<'a> {
     wants: Vec<SearchKind>,
@@ -83,7 +83,7 @@ impl<'a> Uses<'a> {
         }
     }
 
-    /// One more use, behind the others.
+    /// Adds a use after the others.
     fn push(&mut self, used: Use<'a>) -> Result<(), AllocError>
         ensures { OnOk result (self.new ≡ self.old ++ use_of used.entry ∷ []) }
     {
@@ -173,7 +173,7 @@ pub fn add_record<'a>(
     let (want, name) = match rec {
         Rec::Using { name } => (SearchKind::Data, *name),
         Rec::Strong { name } => (SearchKind::One, *name),
-        // An arm each: one for both would have each record stand in memory, whatever its type.
+        // An arm each: one for both would keep each record in memory, whatever its type.
         Rec::Equate { expr, .. } => return add_terms(uses, expr, lab_len, at, place),
         Rec::Formula { expr, .. } => return add_terms(uses, expr, lab_len, at, place),
         Rec::End

@@ -38,7 +38,7 @@ fn add_each<'a>(
 }
 
 impl<'a> Usings<'a> {
-    /// Of no member.
+    /// No name.
     pub fn new(alloc: Global) -> Usings<'a>
         ensures none { (place : ℕ) → usings_at result place ≡ [] }
         ensures empty { (place : ℕ) (name : List ℕ) → has_using result place name ≡ false }

@@ -86,7 +86,7 @@ inside_equate list k f e equate = elim (in_part (entries list) (outside (setting
   | inr h ↦ absurd (true_false (sym equate ∙ ap has_expr (is_outer (outside (setting_in list)) f (outer (setting_in list)) h).1))
 ]
 
--- and so is what stands at a place
+-- and so is what has a place in the list
 pub inside_place : (list : List Member) (k : ℕ) (f : FoundDefinition) → slice_get (all_found list) k ≡ Some f → (f.place ≡ 0 → ⊥) → slice_get (entries list) k ≡ Some f
 inside_place list k f e some = elim (in_part (entries list) (outside (setting_in list)) k f e) [
   | inl h ↦ h

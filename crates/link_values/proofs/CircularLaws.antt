@@ -112,7 +112,7 @@ counting_more s number left at after found more c back coming none = record {
   count = omega (arith, c.count, ap length (so_far-more s c.done found), length-append (defined_so_far s c.done) (defined_by found.0 (place_after 0 c.done) found.1), ap length (none (place_after 0 c.done)));
 }
 
--- one that defines a name, behind which numbers are left
+-- one that defines a name, after which numbers are left
 pub counting_named : (s : Segment) (number left rest : ℕ) (at after : Reader) (found : ℕ × Record) (more : List (ℕ × Record)) (name : List ℕ) (c : Counting s number left at) → left ≡ rest + 1 → c.back ≡ found ∷ more → Coming after more
     → ((loc : ℕ) → DefinesName found.0 (defined_by found.0 loc found.1) (Some name)) → Counting s number rest after
 counting_named s number left rest at after found more name c less back coming some = record {
@@ -135,7 +135,7 @@ counted s number left at found more name c none back some =
     ∙ ap (λ (l : List Definition). defined_so_far s c.done ++ l) (flat_map-cons of_located (one_located found loc) (located_from (loc + size_at loc found.1) more) ∙ ap (λ (l : List Definition). l ++ rest) own.1) in
     (own.0, ap (λ (l : List Definition). slice_get l number) whole ∙ get_at (defined_so_far s c.done) rest own.0 number (omega (arith, c.count, none)), sym own.2, sym own.3)
 
--- behind the last
+-- after the last
 pub counted_all : (s : Segment) (number left : ℕ) (at : Reader) (c : Counting s number left at) → c.back ≡ [] → number ≡ length (defined_in s) + left
 counted_all s number left at c none =
     let whole = so_far-all s c.done [] (c.parts ∙ ap (λ (l : List (ℕ × Record)). c.done ++ l) none) in
@@ -192,7 +192,7 @@ counts_there list number place left c m back d is at =
     ∙ get_back (entries_from defined_in 1 c.front) (entries_from defined_in (1 + length c.front) (m ∷ back)) number left c.count
     ∙ get_front (founds (1 + length c.front) m (defined_in m.segment)) (entries_from defined_in (1 + length c.front + 1) back) left _ (get_map (1 + length c.front) m (defined_in m.segment) left d at)
 
--- and behind the last member no number is left
+-- and after the last member no number is left
 pub counts_all : (list : List Member) (number place left : ℕ) → CountsTo list number place left → length list ≤ place → number < length (entries list) → ⊥
 unfolding entries
 counts_all list number place left c past less =
@@ -205,7 +205,7 @@ counts_all list number place left c past less =
     empty [] e = refl
     empty (x ∷ l) e = absurd (omega (arith, e))
 
--- the member behind so many
+-- the member after the first `place` ones
 pub next_member : (list : List Member) (number place left : ℕ) (c : CountsTo list number place left) → place < length list → (m : Member) × (back : List Member) × (c.back ≡ m ∷ back)
 next_member list number place left c less = some c.back (omega (arith, ap length c.parts, length-append c.front c.back, c.place', less))
   where

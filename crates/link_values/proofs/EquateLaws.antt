@@ -58,7 +58,7 @@ text_of list d f text is same = sym (ap (λ (t : SymbolView). t.expr) same) ∙ 
 pub no_text : (list : List Member) (d : kept.Definition) (f : FoundDefinition) → d.expr ≡ None → symbol_of d ≡ symbol_view list f → f.definition.expr ≡ None
 no_text list d f is same = sym (ap (λ (t : SymbolView). t.expr) same) ∙ ap (option_map (λ (x : Bor (List ℕ)). x.now)) is
 
--- a name of a run-time library file tells its place
+-- a name of a run-time library file has its place as its value
 pub outside_reported : (list : List Member) (d : kept.Definition) (f : FoundDefinition) → f.place ≡ 0 → symbol_of d ≡ symbol_view list f → At d.file d.segment d.at (pos 0) ≡ outside_value f
 outside_reported list d f none same =
     let zero' : eqb f.place 0 ≡ true = eq-eqb f.place 0 none in
@@ -269,7 +269,7 @@ all_valued list slots of are closed = record {
     valued : (k : ℕ) (f : FoundDefinition) (s : ValueSlot) → slice_get (all_found list) k ≡ Some f → slice_get slots k ≡ Some s → is_equate f ≡ true → (a : Result Value ValueFault) × (answer_of s ≡ Some a) × HasValue list f a
     valued k f s there slot equate = by_slot k f s s there slot equate refl
 
--- ---- rings
+-- ---- cycles
 
 module _ (list : List Member) (rows : List (List ℕ)) (are : AreRows list (all_found list) rows) where
   -- a way is a path
@@ -302,7 +302,7 @@ module _ (list : List Member) (rows : List (List ℕ)) (are : AreRows list (all_
       let equate = ends_equate x x cycle in
       subst (Way rows a) (once w.0 a x x w.1 here equate equate refl refl) w.2
 
-  -- a number on a ring is an equate's
+  -- a number on a cycle is an equate's
   cycle_there : (a b : ℕ) → Way rows a b → (x : FoundDefinition) × (slice_get (all_found list) b ≡ Some x)
   cycle_there a b (cycle_order.Last from to is) = let t = (row_found list (all_found list) rows from to are is).2.sound to is in (t.0, t.1)
   cycle_there a b (cycle_order.Through from next to is way) = cycle_there next to way
@@ -313,7 +313,7 @@ module _ (list : List Member) (rows : List (List ℕ)) (are : AreRows list (all_
       let e = cycle_there n n cycle in
       get_within (entries list) n e.0 (inside_equate list n e.0 e.1 (ends_equate e.0 e.0 (path_of n n e.0 e.0 cycle e.1 e.1)))
 
-  -- without rings no slot stays unset
+  -- without cycles no slot stays unset
   pub none_open : (slots : List ValueSlot) → IsOfFiles list → AreTrue list slots → AreSettled rows slots → ((k : ℕ) → k < length rows → cycle_order.IsOnCycle rows k → ⊥) → (k : ℕ) → IsOpen slots k → ⊥
   unfolding equates
   none_open slots of true' settled none k unset =
@@ -335,7 +335,7 @@ module _ (list : List Member) (rows : List (List ℕ)) (are : AreRows list (all_
           let t = (row_is list (all_found list) rows n g are here).sound m.0 m.1 in
           go t.0 t.2 m.0 t.1 m.2
 
-  -- the first number on a ring is the first equate that leads back to itself
+  -- the first number on a cycle is the first equate that leads back to itself
   pub first_circular : (n : ℕ) (fault : LinkFault) → AreOnce (all_found list) → cycle_order.IsOnCycle rows n → ((k : ℕ) → k < n → cycle_order.IsOnCycle rows k → ⊥) → IsCircularAt list n fault → IsCycleRefused list fault
   unfolding equates
   first_circular n fault once cycle none is =
@@ -390,7 +390,7 @@ module _ (list : List Member) (rows : List (List ℕ)) (are : AreRows list (all_
             here = record { cycle = path; value_of_definition = reported' };
           })
 
--- ---- where an equate stands
+-- ---- where an equate is
 
 pub reported_there : (list : List Member) (k : ℕ) (d : SymbolView) → Some d ≡ option_map (symbol_view list) (slice_get (all_found list) k) → (f : FoundDefinition) × (slice_get (all_found list) k ≡ Some f) × (d ≡ symbol_view list f)
 reported_there list k d e = by_found (slice_get (all_found list) k) refl e

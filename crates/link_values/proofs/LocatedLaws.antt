@@ -42,7 +42,7 @@ pub state-more : (list : List Member) (reported : List EquateAnswer) (state : Li
     → state_from list reported state (xs ++ i ∷ []) ≡ state_after_item (state_from list reported state xs) i (Ok x)
 state-more list reported state xs i x is = state_from-append list reported state xs (i ∷ []) ∙ ap (state_after_item (state_from list reported state xs) i) is
 
--- behind a record of the member the cells are the member's
+-- after a record of the member the cells are the member's
 pub state-there : (list : List Member) (reported : List EquateAnswer) (state : LinkState) (place : ℕ) (m : Member) (rs : List Located) → AreMade list reported state (map (item place m) rs) → (state.place ≡ place) ⊎ ((r : Located) × (more : List Located) × (rs ≡ r ∷ more))
     → (state_from list reported state (map (item place m) rs)).place ≡ place
 state-there list reported state place m [] are (inl is) = is

@@ -1,4 +1,4 @@
--- Where members stand, and what expressions meet there.
+-- Where members are, and what expressions meet there.
 use Rattle.std.proofs.Common.{◌≡◌, ℕ, List, Option, Some, None, refl, sym, ap, ◌∙◌}
 use Rattle.std.specs.Prelude.{option_map}
 use Rattle.omf_format.specs.declared.value.Value.{Value}
@@ -27,7 +27,7 @@ some_none x e = cc
 same_some : {A : Type 0} (x y : A) → something x ≡ something y → x ≡ y
 same_some x y e = cc
 
--- ---- seats
+-- ---- places of members
 
 abbrev link_of : List Member → ℕ → Member → LinkMember
 link_of list place m = record { file = m.file; segment = m.number; load_segment = load_of list m; offset = offset_of list place m }

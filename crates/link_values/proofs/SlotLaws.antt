@@ -1,4 +1,4 @@
--- What the rows tell of an equate is what its slot has.
+-- What the rows say of an equate is what its slot has.
 use Rattle.std.proofs.Common.{◌≡◌, ℕ, zero, suc, Bool, true, false, eqb, cond, List, [], ◌∷◌, ◌++◌, Option, Some, None, Result, Ok, Err, refl, sym, ap, ◌∙◌, arith}
 use Rattle.std.specs.Prelude.{◌&&◌, slice_get}
 use Rattle.std.proofs.lemmas.Bool.{and_parts, and_from, eqb-true, eq-eqb}
@@ -96,7 +96,7 @@ reported_value Open = refl
 reported_value (Done v) = refl
 reported_value (Failed fault) = refl
 
--- what a name that found it stands for
+-- the value of a name that found it
 pub found_slot : (list : List Member) (fs : List FoundDefinition) (slots : List ValueSlot) (n : ℕ) (f : FoundDefinition) (s : ValueSlot) → AreOnce fs → AreSlots list fs slots → slice_get fs n ≡ Some f → slice_get slots n ≡ Some s
     → if_ok (found_value list (rows_of fs slots) f) ≡ value_of s
 found_slot list fs slots n f s once are here there = by_expr f.definition.expr refl
@@ -113,7 +113,7 @@ has_slot list (g ∷ fs) [] n f are here = absurd are
 has_slot list (g ∷ fs) (t ∷ slots) zero f are here = (t, refl)
 has_slot list (g ∷ fs) (t ∷ slots) (suc k) f are here = has_slot list fs slots k f are.1 here
 
--- what a name stands for whose first definition has this number
+-- the value of a name whose first definition has this number
 pub label_is : (list : List Member) (all founds : List FoundDefinition) (slots : List ValueSlot) (n : ℕ) (s : ValueSlot) (weak : Bool) → AreOnce all → AreSlots list all slots → IsFirstOf all founds (Some n) → slice_get slots n ≡ Some s
     → value_of s ≡ label_value list (rows_of all slots) weak founds
 label_is list all [] slots n s weak once are first there = absurd first

@@ -20,12 +20,12 @@ abbrev pub DefinesName : ℕ → List Definition → Option (List ℕ) → Type 
 DefinesName at ds None = ds ≡ []
 DefinesName at ds (Some name) = (d : Definition) × (ds ≡ d ∷ []) × (d.name ≡ name) × (d.at ≡ at)
 
--- the number is that of the segment's name; or so many are left behind it
+-- the number is that of the segment's name; or `left` numbers are left after it
 abbrev pub IsAfterTitle : Segment → ℕ → Option ℕ → Type 0
 IsAfterTitle s number None = (number ≡ 0) × (s.fields.name ≡ [] → ⊥)
 IsAfterTitle s number (Some left) = number ≡ length (title_of s) + left
 
--- the definition with a number, from 0: its name and displacement; or how many numbers are left behind the last
+-- the definition with a number, from 0: its name and displacement; or how many numbers are left after the last
 abbrev pub IsNth : List Definition → ℕ → Result (Bor (List ℕ) × ℕ) ℕ → Type 0
 IsNth ds number (Ok found) = (d : Definition) × (slice_get ds number ≡ Some d) × (found.0.now ≡ d.name) × (found.1 ≡ d.at)
 IsNth ds number (Err left) = number ≡ length ds + left
@@ -39,7 +39,7 @@ IsCircularAt list number fault = (e : FoundDefinition) → slice_get (entries li
 abbrev pub defined_so_far : Segment → List (ℕ × Record) → List Definition
 defined_so_far s done = title_of s ++ flat_map (λ r. defined_by r.at r.location r.content) (located_from 0 done)
 
--- so many numbers are left behind these, and the other records are still to come
+-- `left` numbers are left after what these records define, and the other records remain
 pub record Counting (s : Segment) (number left : ℕ) (at : Reader) : Type 0 where
   pub done : List (ℕ × Record)
   pub back : List (ℕ × Record)
@@ -47,7 +47,7 @@ pub record Counting (s : Segment) (number left : ℕ) (at : Reader) : Type 0 whe
   pub coming : Coming at back
   pub count : number ≡ length (defined_so_far s done) + left
 
--- so many numbers are left behind the members before this place
+-- `left` numbers are left after the members before this place
 pub record CountsTo (list : List Member) (number place left : ℕ) : Type 0 where
   pub front : List Member
   pub back : List Member

@@ -1,4 +1,4 @@
--- Where a member stands, and what an expression meets there.
+-- Where a member is, and what an expression meets there.
 use Rattle.std.specs.Prelude.{◌≡◌, ℕ, List, Option, Some, None}
 use Rattle.omf_format.specs.declared.value.Value.{Value}
 use Rattle.omf_format.specs.Value.{Environment}
@@ -12,21 +12,21 @@ use Rattle.link_values.specs.declared.member_place.MemberPlace.{MemberPlace}
 use Rattle.link_values.specs.declared.slots.ValueSlot.{ValueSlot}
 use Rattle.link_values.specs.Slots.{AreOnce, AreSlots, rows_of}
 
--- the member stands there
+-- this is the member's place
 pub record IsMemberPlace (list : List Member) (m : Member) (member_place : MemberPlace) : Type 0 where
   pub there : member_at list member_place.place ≡ Some m
   pub lab_len' : member_place.lab_len ≡ m.segment.fields.lab_len
   pub load : member_place.load_segment ≡ load_of list m
   pub offset' : member_place.offset ≡ offset_of list member_place.place m
 
--- so does the member at this place, if there is one
+-- this is that of the member at this place of the list, if there is one
 abbrev pub MemberPlaceOf : List Member → ℕ → Option Member → Option MemberPlace → Type 0
 MemberPlaceOf list place None None = Unit {0}
 MemberPlaceOf list place None (Some member_place) = ⊥
 MemberPlaceOf list place (Some m) None = ⊥
 MemberPlaceOf list place (Some m) (Some member_place) = (member_place.place ≡ place) × IsMemberPlace list m member_place
 
--- there is a slot for each definition, and no two equates are told by one place and displacement
+-- there is a slot for each definition, and no two equates have the same place and displacement
 pub record AreKnown (list : List Member) (slots : List ValueSlot) : Type 0 where
   pub once : AreOnce (all_found list)
   pub are : AreSlots list (all_found list) slots

@@ -38,7 +38,7 @@ fn defined_name<'a>(rec: &Rec<'a>) -> Option<&'a [u8]>
     }
 }
 
-/// How many numbers are left behind the name of a segment; None where the number is the name's.
+/// How many numbers are left after the name of a segment; None where the number is the name's.
 fn after_title(segment: &SegmentView, number: usize) -> Option<usize>
     ensures { IsAfterTitle (segment_of_view segment.now) number result }
 {
@@ -51,8 +51,7 @@ fn after_title(segment: &SegmentView, number: usize) -> Option<usize>
     Some(number - 1)
 }
 
-/// The name and the displacement of the definition of a segment with this number, from 0; or how many numbers are left behind
-/// the last one.
+/// The name and the displacement of the definition of a segment with this number, from 0; or how many numbers are left after the last one.
 fn nth<'s, 'a>(segment: &'s SegmentView<'a>, number: usize) -> Result<(&'s [u8], u32), usize>
     requires { IsSound segment.now }
     ensures { IsNth (defined_in (segment_of_view segment.now)) number result }

@@ -24,7 +24,7 @@ use link_program::{Definition, Program, memory_fault};
 use omf_format::{Value, ValueFault};
 use std::alloc::{AllocError, Global};
 
-/// The place that a name of a run-time library file stands for.
+/// The place of a name of a run-time library file.
 fn place_outside(definition: &Definition) -> Value
     ensures { result ≡ At definition.now.file definition.now.segment definition.now.at (pos 0) }
 {

@@ -1,5 +1,5 @@
-//! What the expressions of a program are worth: where its members stand, the values of its definitions, and of the terms of an
-//! expression in a member; or the first equate that leads back to itself.
+//! What the expressions of a program are worth: where its members are, the values of its definitions, and of the terms of an expression in
+//! a member; or the first equate that leads back to itself.
 #![tactic(auto)]
 
 mod circular;

@@ -10,7 +10,7 @@ use omf_expr::Env;
 use omf_format::Value;
 use std::marker::Model;
 
-/// What names, the location counter and the segment's start stand for in a member. Contracts see where that is.
+/// What names, the location counter and the segment's start mean in a member. Contracts see where that is.
 #[derive(Drop)]
 pub struct MemberEnv<'e, 'a> {
     program: &'e Program<'a>,

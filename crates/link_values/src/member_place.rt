@@ -1,12 +1,12 @@
-//! Where a member of the program stands.
+//! Where a member of the program is.
 
 ghost use Rattle.link_program.specs.Linked.{member_at};
 ghost use Rattle.link_values.specs.MemberPlaces.{MemberPlaceOf};
 
 use link_program::Program;
 
-/// Where a member stands: its place in the linked list, from 1, and its load segment, from 1, with the offset there; and the
-/// LABLEN of its names.
+/// Where a member is: its place in the linked list, from 1, and its load segment, from 1, with the offset there; and the LABLEN of its
+/// names.
 #[derive(Clone, Copy)]
 pub struct MemberPlace {
     pub place: u32,
@@ -15,7 +15,7 @@ pub struct MemberPlace {
     pub offset: u32,
 }
 
-/// Where the member at a place, from 1, stands.
+/// Where the member at a place of the list, from 1, is.
 pub fn place_of_member(program: &Program, place: u32) -> Option<MemberPlace>
     ensures { MemberPlaceOf program.now place (member_at program.now place) result }
 {

@@ -113,7 +113,7 @@ fn fault_at(
 
 ghost use Rattle.link_program.specs.Linked.{member_at};
 
-/// The value of an expression of a member, where so many of its cells are before the record.
+/// The value of an expression of a member, where `location` of its cells are before the record.
 pub fn value_in(
     program: &Program,
     slots: &[ValueSlot],

@@ -1,4 +1,4 @@
--- What is kept behind the end of a line.
+-- What is kept after the end of a line.
 use Rattle.std.proofs.Common.{◌≡◌, ℕ, zero, suc, ◌+◌, Bool, true, false, cond, List, [], ◌∷◌, ◌++◌, length, take, drop, Some, None, refl, sym, ap, ◌∙◌, append_assoc, append-nil, length-append}
 use Rattle.std.specs.Prelude.{◌&&◌, nat_lt, option_map}
 use Rattle.std.proofs.lemmas.List.{take_at}
@@ -40,7 +40,7 @@ room false text start lines fits =
     some : List ℕ → ℕ → Kept
     some l n = Some (l, n)
 
--- behind the last line
+-- after the last line
 pub whole_text : (over : Bool) (text : List ℕ) (start lines : ℕ) → over ≡ false → drop start text ≡ [] → option_map (λ found. found.0) (kept_by over (take start text) lines) ≡ Some text
 whole_text true text start lines is none = absurd cc
 whole_text false text start lines is none =

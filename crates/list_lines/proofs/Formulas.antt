@@ -1,4 +1,4 @@
--- Operands behind a space, and formulas of which the first 256 bytes are written.
+-- Operands after a space, and formulas of which the first 256 bytes are written.
 use Rattle.std.proofs.Common.{◌≡◌, ℕ, zero, suc, ◌*◌, ◌<◌, ◌≤◌, Bool, true, false, List, [], ◌∷◌, ◌++◌, length, take, refl, sym, ap, ◌∙◌, arith, append_assoc, append-nil, length-append}
 use Rattle.std.specs.Prelude.{codes, Result, Ok, Err, OnOk}
 use Rattle.std.proofs.lemmas.Bool.{lt-leb}
@@ -105,7 +105,7 @@ sum_long count t formula b is line long =
     let size : length formula ≤ length (formula_text t) = omega (arith, ap length is, length-take 256 (formula_text t)) in
     lt-leb (length (said_text (FormulaIs count t))) 255 (omega (arith, ap length (sum_text count t), sum_same count formula (formula_text t) size, ap length line, long))
 
--- the same of an answer
+-- `sum_wrote` for a line whose end may fail
 pub sum_answer : {U E : Type 0} (r : Result U E) (count : ℕ) (formula : List ℕ) (a b c : ListingText) → open_line b ≡ sum_line count formula → finished_lines b ≡ finished_lines a → OnOk r (finished_lines c ≡ with_line (open_line b) (finished_lines b)) → OnOk r (open_line c ≡ [])
     → OnOk r (length (open_line b) ≤ 255) → OnOk r ((t : Tree) → formula ≡ take 256 (formula_text t) → Wrote (FormulaIs count t) a c)
 sum_answer (Ok u) count formula a b c line same whole end short = λ t is. sum_wrote count t formula a b c is line same whole end short

@@ -23,7 +23,7 @@ less (suc n) (x ∷ a) (y ∷ b) e =
     let tail : take (suc n) a ≡ take (suc n) b = cc in
     ap (λ (z : ℕ). z ∷ take n a) head ∙ ap (λ (l : List ℕ). y ∷ l) (less n a b tail)
 
--- with the same first bytes behind
+-- texts that begin with the same n bytes, after the same text
 pub cut_after : (n : ℕ) (x a b : List ℕ) → take n a ≡ take n b → take n (x ++ a) ≡ take n (x ++ b)
 cut_after n [] a b e = e
 cut_after zero (c ∷ x) a b e = refl
@@ -161,7 +161,7 @@ over_both code trees items middle rest left right part view are then two text al
     ∙ ap (λ (x : List ℕ × Bool). all_reported q.others ++ x ∷ []) (reported_two code part left right q.tree p.tree q.last p.last text alone)
     ∙ ap all_reported (sym (ap (λ (ts : List Tree). with_term ts (Operator code)) (p.are ∙ ap (λ (ts : List Tree). p.tree ∷ ts) q.are) ∙ two_after code q.tree p.tree q.others two))
 
--- the same of answers
+-- `over_last` for a part that may be missing
 pub one_answer : {E : Type 0} (r : Result FormulaPart E) (code : ℕ) (items rest : List FormulaPart) (right : FormulaPart) → items ≡ rest ++ right ∷ [] → eqb (operand_count code) 1 ≡ true
     → IfOk r (λ part. take 256 part.text ≡ take 256 (operator_text code ++ parenthesized right.alone right.text)) → IfOk r (λ part. part.alone ≡ false)
     → (trees : List Tree) → map part_view items ≡ all_reported trees → IfOk r (λ part. map part_view rest ++ part_view part ∷ [] ≡ all_reported (with_term trees (Operator code)))

@@ -253,7 +253,7 @@ number_is (Leaf (Offset n)) = refl
 number_is (Unary code a) = number_none (Unary code a) (terms_of (Unary code a)) refl refl
 number_is (Binary code a b) = number_none (Binary code a b) (terms_of (Binary code a b)) refl refl
 
--- ---- the same of what was read
+-- ---- the same for terms that were read
 
 module _ (e : Expression) (tree : Tree) (spells : Spells e.lab_len e.text tree) where
   place_0 : term_at (terms_in e.lab_len 0 e.text) 0 ≡ first (terms_of tree)

@@ -29,7 +29,7 @@ term_at placed k = option_map (λ p. p.1) (slice_get placed k)
 
 -- ---- the first terms
 
--- what a name with a number behind it means by its operator
+-- what a name followed by a number means, by its operator
 abbrev pub moved_by : List ℕ → ℕ → ℕ → Option listed.Wanted
 moved_by name n operator =
     if operator == 0x01 then Some (listed.Moved name true n) else if operator == 0x02 then Some (listed.Moved name false n) else None
@@ -71,7 +71,7 @@ part_view part = (take 256 part.text, part.alone)
 abbrev pub part_of_tree : Tree → List ℕ × Bool
 part_of_tree tree = (take 256 (formula_text tree), is_leaf tree)
 
--- the parts of trees, of which the last comes first
+-- the parts of trees, in reverse order
 abbrev pub all_reported : List Tree → List (List ℕ × Bool)
 all_reported [] = []
 all_reported (tree ∷ trees) = all_reported trees ++ part_of_tree tree ∷ []

@@ -1,4 +1,4 @@
--- A text line by line, as long as it may have so many bytes and lines.
+-- A text line by line, as long as it may have that many bytes and lines.
 use Rattle.std.specs.Prelude.{ℕ, ◌+◌, ◌&&◌, nat_lt, List, [], ◌∷◌, ◌++◌, length, Option, Some, None, if◌then◌else◌}
 use Rattle.omf_format.specs.Ascii as ascii
 use Rattle.list_meaning.specs.Listed.{ListedStatement, said_text, listing_text}

@@ -26,7 +26,7 @@ pub struct FormulaFacts {
     pub named: bool,
     /// It has names, numbers, `*` and operators that are written in a formula, and no other terms.
     pub written: bool,
-    /// A name or `*` stands in it.
+    /// It contains a name or `*`.
     pub varies: bool,
 }
 
@@ -190,11 +190,11 @@ impl<'a> Front<'a> {
 #[derive(Drop)]
 struct FormulaPart {
     text: Line,
-    /// As an operand it stands without parentheses.
+    /// As an operand it is written without parentheses.
     alone: bool,
 }
 
-/// The first bytes, so many at most.
+/// The first bytes, `most` at most.
 pub fn first_bytes(bytes: &[u8], most: usize) -> &[u8]
     ensures { result.now ≡ take most bytes.now }
 {
@@ -246,7 +246,7 @@ fn operator_text(code: u8) -> &'static str
     }
 }
 
-/// Appends an operator and the operand behind it.
+/// Appends an operator and the operand after it.
 fn put_right(text: &mut Line, code: u8, part: &FormulaPart) -> Result<(), LineFault>
     ensures { OnOk result (take 256 text.new ≡ take 256 (text.old ++ (operator_text code ++ parenthesized part.now.alone part.now.text))) }
 {

@@ -41,7 +41,7 @@ fn statement(out: &mut ListingText, label: &[u8], operation: &str) -> Result<(),
     out.word(operation)
 }
 
-/// Writes an operand behind a space, or nothing where there is none.
+/// Writes an operand after a space, or nothing where there is none.
 fn operand(out: &mut ListingText, text: &[u8]) -> Result<(), LineFault>
     ensures line { OnOk result (open_line out.new ≡ open_line out.old ++ with_leading_space text.now) }
     ensures kept { OnOk result (finished_lines out.new ≡ finished_lines out.old) }
@@ -257,7 +257,7 @@ fn is_nothing(wanted: Wanted) -> bool
     }
 }
 
-/// Writes an operand with what stands before and behind its formula.
+/// Writes an operand with the text before and after its formula.
 fn whole_operand(
     out: &mut ListingText,
     front: &str,
@@ -273,7 +273,7 @@ fn whole_operand(
     out.word(back)
 }
 
-/// Writes the operand of an instruction behind a space, or nothing where there is none.
+/// Writes the operand of an instruction after a space, or nothing where there is none.
 #[tactic(auto, using(crate::proofs::Formulas::spaced_none, crate::proofs::Formulas::spaced_some))]
 fn spaced_operand(
     out: &mut ListingText,

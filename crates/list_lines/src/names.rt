@@ -63,7 +63,7 @@ fn are_upper(name: &[u8]) -> bool
     name.iter().all(|&byte| is_upper(byte))
 }
 
-/// Whether a name is written as it stands: it begins with no digit, and all its letters are in upper case.
+/// Whether a name can be written unchanged: it begins with no digit, and all its letters are in upper case.
 #[tactic(auto, using(crate::proofs::NameLaws::listable_split, crate::proofs::NameLaws::not_listable))]
 pub fn is_listable(name: &[u8]) -> bool
     ensures { result ≡ is_listable name.now }

@@ -65,7 +65,7 @@ impl ListingText {
         self.text.text(piece)
     }
 
-    /// Appends a number in hexadecimal digits, at least so many, of which there are at most 8.
+    /// Appends a number in at least `digits` hexadecimal digits. `digits` is at most 8.
     pub(crate) fn digits(&mut self, value: u32, digits: u32) -> Result<(), LineFault>
         requires { digits ≤ 8 }
         ensures line { OnOk result (open_line self.new ≡ open_line self.old ++ hexadecimal digits value) }
@@ -103,7 +103,7 @@ impl ListingText {
         Ok(())
     }
 
-    /// The text is too long: the lines behind are only looked at, and what was written needn't be kept.
+    /// The text is too long: the lines that follow are only looked at, and what was written needn't be kept.
     fn give_up(&mut self)
         ensures kept { finished_lines self.new ≡ None }
         ensures line { open_line self.new ≡ [] }

@@ -108,7 +108,7 @@ pub(crate) fn spelling(mnemonic: Mnemonic) -> &'static str
     }
 }
 
-/// What stands before and behind the formula of an operand.
+/// The text before and after the formula of an operand.
 #[tactic(auto, unfolding(list_meaning::specs::Listed::shape_of))]
 pub(crate) fn shape(mode: Mode) -> (&'static str, &'static str)
     ensures { (result.0.now, result.1.now) ≡ shape_of mode }

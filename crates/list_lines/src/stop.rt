@@ -6,9 +6,9 @@ use std::alloc::AllocError;
 /// Why writing stops.
 #[derive(Clone, Copy, Debug, PartialEq, Eq)]
 pub enum LineStop {
-    /// There is no line for what stands here.
+    /// There is no line for what is here.
     NotListable,
-    /// Memory ran out.
+    /// Out of memory.
     Memory,
 }
 

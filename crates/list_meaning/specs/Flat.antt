@@ -11,12 +11,12 @@ use Rattle.asm_meaning.specs.Formulas.{expression_text}
 
 -- ---- flat
 
--- a place: a byte, or a byte of the number that an expression record stands for
+-- a place: a byte, or a byte of the number that an expression record represents
 pub data FlatCell : Type 0 where
   One : (byte : ℕ) → FlatCell
   Part : (code count n : ℕ) (expr : List ℕ) (index : ℕ) → FlatCell
 
--- the expression with its names behind a length byte (LABLEN 0)
+-- the expression with its names after a length byte (LABLEN 0)
 abbrev pub text_or : List ℕ → Option Tree → List ℕ
 text_or expr None = expr
 text_or expr (Some tree) = expression_text tree
@@ -25,12 +25,12 @@ text_or expr (Some tree) = expression_text tree
 abbrev pub respelled : ℕ → List ℕ → List ℕ
 respelled lab_len expr = text_or expr (tree_in lab_len expr)
 
--- the bytes of the number that an expression record stands for
+-- the bytes of the number that an expression record represents
 abbrev pub parts_from : ℕ → ℕ → ℕ → List ℕ → ℕ → ℕ → List FlatCell
 parts_from code count n expr index zero = []
 parts_from code count n expr index (suc left) = Part code count n expr index ∷ parts_from code count n expr (index + 1) left
 
--- so many bytes 0
+-- n bytes 0
 abbrev pub zeros : ℕ → List FlatCell
 zeros n = replicate n (One 0)
 
@@ -54,7 +54,7 @@ places_at lab_len at (Equate global name size form private expr) = []
 places_at lab_len at (Formula code count n expr) = parts_from code count n (respelled lab_len expr) 0 count
 places_at lab_len at (Entry segment offset name) = []
 
--- the places that records give, of which the first stands at this one
+-- the places that records give, of which the first is at this one
 unfoldable pub places_from : ℕ → ℕ → List Record → List FlatCell
 places_from lab_len at [] = []
 places_from lab_len at (content ∷ contents) = places_at lab_len at content ++ places_from lab_len (at + size_at at content) contents
@@ -109,7 +109,7 @@ strongs s = flat_map asked_by (contents_of s)
 
 -- ---- the same content
 
--- two segments stand for the same: header, places, definitions, USING and STRONG names
+-- two segments represent the same: header, places, definitions, USING and STRONG names
 pub record AreAlike (a b : Segment) : Type 0 where
   pub name : a.fields.name ≡ b.fields.name
   pub load_name : a.fields.load_name ≡ b.fields.load_name

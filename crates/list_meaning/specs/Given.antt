@@ -1,4 +1,4 @@
--- What a line of a listing stands for: the records that it gives to its segment, the name that it defines, and what it leaves.
+-- What a line of a listing represents: the records that it gives to its segment, the name that it defines, and what it leaves.
 use Rattle.std.specs.Prelude.{◌≡◌, ℕ, ◌-◌, Bool, true, false, List, [], ◌∷◌, ◌++◌, length, replicate, Some, None, if◌then◌else◌}
 use Rattle.byteorder.specs.Endian.{little_bytes}
 use Rattle.omf_format.specs.Ascii as ascii
@@ -46,7 +46,7 @@ instruction_records w mnemonic mode (Banks source destination) = Const (opcode_i
 instruction_records w mnemonic mode (Label name) = held_records w (opcode_in mnemonic mode) mnemonic mode (Label name)
 instruction_records w mnemonic mode (Moved name adds n) = held_records w (opcode_in mnemonic mode) mnemonic mode (Moved name adds n)
 
--- the records that a line stands for, at these widths
+-- the records that a line represents, at these widths
 abbrev pub records_said : Widths → ListedStatement → List Record
 records_said w (Ds n) = Space n ∷ []
 records_said w (Aligns n) = Align n ∷ []
@@ -64,13 +64,13 @@ records_said _ _ = []
 
 -- ---- names, widths and the header
 
--- the name that a line defines, which is a constant behind EQU and GEQU
+-- the name that a line defines; EQU and GEQU define it as a constant
 abbrev pub name_said : ListedStatement → List (List ℕ)
 name_said (Labels global name) = name ∷ []
 name_said (Equates global name n) = name ∷ []
 name_said _ = []
 
--- the names behind a line, of which an equate's has its value
+-- the names after a line, of which an equate's has its value
 abbrev pub names_said : ListedStatement → Names → Names
 names_said (Labels global name) names = with_name name None names
 names_said (Equates global name n) names = with_name name (Some n) names
@@ -82,7 +82,7 @@ with_width_set LongA on w = record w { long_a = on }
 with_width_set LongI on w = record w { long_i = on }
 with_width_set Msb on w = w
 
--- the widths behind a line
+-- the widths after a line
 abbrev pub widths_said : ListedStatement → Widths → Widths
 widths_said (SwitchIs switch on) w = with_width_set switch on w
 widths_said _ w = w

@@ -1,4 +1,4 @@
--- The lines of a listing: how each is written, and what it stands for.
+-- The lines of a listing: how each is written, and what it represents.
 use Rattle.std.specs.Prelude.{ℕ, ◌*◌, ◌==◌, Bool, true, false, List, [], ◌∷◌, ◌++◌, codes, Option, Some, None, if◌then◌else◌}
 use Rattle.std.specs.List.{flat_map, find}
 use Rattle.omf_format.specs.Ascii as ascii
@@ -51,7 +51,7 @@ pub data ListedStatement : Type 0 where
 
 -- ---- how it is written
 
--- a blank before what stands there
+-- a text with a space before it, unless it is empty
 abbrev pub with_leading_space : List ℕ → List ℕ
 with_leading_space [] = []
 with_leading_space (byte ∷ text) = ascii.space ∷ byte ∷ text
@@ -73,7 +73,7 @@ second_or (Some row) = row.0
 unfoldable pub spelling_of : Mnemonic → List ℕ
 spelling_of mnemonic = second_or (find (λ row. sameb mnemonic_type.the_type row.1 mnemonic) mnemonics)
 
--- what stands before and behind the formula in a mode
+-- the text before and after the formula in a mode
 unfoldable pub shape_of : Mode → List ℕ × List ℕ
 shape_of Implied = ([], [])
 shape_of Accumulator = (codes "A", [])
@@ -101,7 +101,7 @@ shape_of Relative16 = ([], [])
 shape_of Move = ([], [])
 shape_of Signature = ([], [])
 
--- the sign before a number behind a name
+-- the sign between a name and the number after it
 abbrev pub sign_text : Bool → List ℕ
 sign_text true = codes "+"
 sign_text false = codes "-"
@@ -159,7 +159,7 @@ switch_text LongA = codes "LONGA"
 switch_text LongI = codes "LONGI"
 switch_text Msb = codes "MSB"
 
--- a value in quotes behind the type of a DC
+-- a value in quotes after the type of a DC
 abbrev pub quoted_value : List ℕ → List ℕ → List ℕ
 quoted_value form value = form ++ (codes "'" ++ (value ++ codes "'"))
 

@@ -24,25 +24,25 @@ use Rattle.list_meaning.specs.Listed as listed
 
 -- ---- names
 
--- a name that is written as it stands
+-- a name that can be written unchanged
 abbrev pub is_listable : List ℕ → Bool
 is_listable name = is_name name && bytes_eq (folded name) name
 
--- LOADNAME without the spaces behind it
+-- LOADNAME without the spaces after it
 abbrev pub without_padding : List ℕ → List ℕ
 without_padding text = take (position_or_len (λ byte. byte == ascii.space) text) text
 
--- behind the first space all are spaces
+-- after the first space all are spaces
 abbrev pub is_padded : List ℕ → Bool
 is_padded text = list_all (λ byte. byte == ascii.space) (drop (position_or_len (λ byte. byte == ascii.space) text) text)
 
--- ---- the front of a segment
+-- ---- the lines before a segment's records
 
 -- code, data, initialization, and direct page and stack
 abbrev pub is_listed_form : ℕ → Bool
 is_listed_form form = list_any (λ t. t == form) (0x00 ∷ 0x01 ∷ 0x10 ∷ 0x12 ∷ [])
 
--- LOADNAME is spaces, or a name that is written as it stands with spaces behind it
+-- LOADNAME is spaces, or a name that can be written unchanged with spaces after it
 abbrev pub is_listable_load_name : List ℕ → Bool
 is_listable_load_name text = is_padded text && (bytes_eq (without_padding text) [] || is_listable (without_padding text))
 
@@ -55,7 +55,7 @@ abbrev pub is_lost : ℕ → Record → Bool
 is_lost at (Align n) = n == 0 && not (at == 0)
 is_lost at _ = false
 
--- an ALIGN of 0 stands away from place 0
+-- an ALIGN of 0 is at another place than 0
 abbrev pub has_lost_place : Segment → Bool
 has_lost_place s = list_any (λ l. is_lost l.location l.content) (records_with_offsets s)
 
@@ -100,7 +100,7 @@ width_by on bit operand old = if bit_and operand bit == 0 then old else on
 abbrev pub widths_by : Bool → ℕ → Widths → Widths
 widths_by on operand w = record { long_a = width_by on 0x20 operand w.long_a; long_i = width_by on 0x10 operand w.long_i }
 
--- the widths behind an instruction with constant bytes
+-- the widths after an instruction with constant bytes
 unfoldable pub widths_following : Mnemonic → List ℕ → Widths → Widths
 widths_following Rep bytes w = widths_by true (little_number 1 bytes) w
 widths_following Sep bytes w = widths_by false (little_number 1 bytes) w
@@ -130,7 +130,7 @@ abbrev pub written_or : Mnemonic → Mode → List ℕ → Option Wanted → Lis
 written_or mnemonic way bytes None = Bytes bytes ∷ []
 written_or mnemonic way bytes (Some wanted) = Instructs mnemonic way wanted ∷ []
 
--- an instruction with the bytes behind its opcode, of which the rest may have fewer than it should
+-- an instruction with the bytes after its opcode; at the end there may be fewer than it should have
 unfoldable pub said_instruction : Widths → ℕ → List ℕ → List ListedStatement
 said_instruction w opcode bytes =
     let found = instruction_of_opcode opcode in
@@ -138,11 +138,11 @@ said_instruction w opcode bytes =
     then written_or found.0 found.1 (opcode ∷ bytes) (operand_by (kind_of found.1) bytes) ++ turns_between w (widths_following found.0 bytes w)
     else Bytes (opcode ∷ bytes) ∷ []
 
--- the widths behind it
+-- the widths after it
 abbrev pub widths_past : Widths → ℕ → List ℕ → Widths
 widths_past w opcode bytes = if length bytes == after_opcode w opcode then widths_following (instruction_of_opcode opcode).0 bytes w else w
 
--- the rest of a run, of which the first so many bytes were taken already
+-- the rest of a run, of which the first `taken` bytes were taken already
 unfoldable pub said_rest : Widths → ℕ → List ℕ → List ListedStatement
 said_rest w taken [] = []
 said_rest w (suc taken) (byte ∷ following) = said_rest w taken following
@@ -150,7 +150,7 @@ said_rest w zero (opcode ∷ following) =
     let bytes = take (after_opcode w opcode) following in
     said_instruction w opcode bytes ++ said_rest (widths_past w opcode bytes) (length bytes) following
 
--- the widths behind the rest of a run
+-- the widths after the rest of a run
 unfoldable pub widths_rest : Widths → ℕ → List ℕ → Widths
 widths_rest w taken [] = w
 widths_rest w (suc taken) (byte ∷ following) = widths_rest w taken following
@@ -193,7 +193,7 @@ is_record code count n (Some (a, b, c)) = a == code && b == count && c == n
 
 -- ---- what lines so far leave, and one more record
 
--- the present widths, the constant bytes that stand directly before, and the names that were defined
+-- the present widths, the constant bytes directly before, and the names that were defined
 pub record PendingRun : Type 0 where
   pub widths : Widths
   pub run : List ℕ
@@ -240,7 +240,7 @@ abbrev pub dc_of_formula : ℕ → Tree → Option (List ℕ) → ListedStatemen
 dc_of_formula count tree None = FormulaIs count tree
 dc_of_formula count tree (Some name) = WeakIs name
 
--- the last byte is an opcode that has this record, at the widths behind the run without it
+-- the last byte is an opcode that has this record, at the widths after the run without it
 abbrev pub is_held : PendingRun → ℕ → ℕ → ℕ → List ℕ × ℕ → Bool
 is_held b code count n found = is_record code count n (record_of_opcode (widths_rest b.widths 0 found.0) found.1)
 
@@ -253,7 +253,7 @@ formula_given b code count n tree None wanted = then_said (dc_of_formula count t
 
 -- ---- which records can be listed
 
--- a name in an expression is written as it stands, and is no equate of the segment
+-- a name in an expression can be written unchanged, and is no equate of the segment
 abbrev pub term_listable : List (List ℕ) → Term → Bool
 term_listable equates (Operator code) = true
 term_listable equates Location = true
@@ -287,7 +287,7 @@ abbrev pub is_some_wanted : Option Wanted → Bool
 is_some_wanted None = false
 is_some_wanted (Some wanted) = true
 
--- an EXPR is one weak name with count 2, or a formula in which a name or the location counter stands
+-- an EXPR is one weak name with count 2, or a formula that contains a name or the location counter
 abbrev pub expr_listable : ℕ → Tree → Bool
 expr_listable count tree =
     if is_some_name (weak_of tree) then count == 2
@@ -388,7 +388,7 @@ listing_of s =
 
 -- ---- a file
 
--- a place that can't be listed is told with the number of its segment
+-- a place that can't be listed is reported with the number of its segment
 abbrev pub in_segment : {A : Type 0} → ℕ → Result A ℕ → Result A (ℕ × ℕ)
 in_segment number (Ok a) = Ok a
 in_segment number (Err at) = Err (number, at)

@@ -1,4 +1,4 @@
--- The laws of listings: each line is read as it was meant, and the whole is assembled to segments that stand for the same.
+-- The laws of listings: each line is read as it was meant, and the whole is assembled to segments that represent the same.
 use Rattle.std.specs.Prelude.{◌≡◌, ℕ, ◌+◌, ◌≤◌, List, [], ◌∷◌, ◌++◌, length, map, Ok}
 use Rattle.omf_format.specs.File.{Segment, IsFile}
 use Rattle.omf_format.specs.Number.{IsBytes}
@@ -18,8 +18,7 @@ LineIsRead = (file : List ℕ) (segments : List Segment) (before following : Lis
     → listing_from 1 segments ≡ Ok (before ++ said ∷ following) → AreSteps start (numbered_lines 0 1 (map said_text before)) state
     → (next : State) × IsStep state (line_of 0 (1 + length before) (said_text said)) (Ok next) × IsLeft said state next
 
--- assembled without macros, a text gives an object whose segments stand for the same as these, unless that object would be too
--- long
+-- assembled without macros, a text gives an object whose segments represent the same as these, unless that object would be too long
 pub data IsReadAgain (text : List ℕ) (segments : List Segment) : Type 0 where
   Whole : (object : List ℕ) → IsObject text [] object → (others : List Segment) → IsFile others object → AreAllAlike segments others → IsReadAgain text segments
   TooLong : IsFirstFault text [] (record { cause = causes.TooLong; file = 0; line = 0 }) → IsReadAgain text segments

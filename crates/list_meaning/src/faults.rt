@@ -15,7 +15,7 @@ pub enum ListCause {
     NotListable,
     /// The text would have more than 16,777,216 bytes, or more than 65,536 lines.
     TooLong,
-    /// Memory ran out.
+    /// Out of memory.
     Memory,
 }
 
@@ -23,8 +23,8 @@ pub enum ListCause {
 #[derive(Clone, Copy, PartialEq, Eq, Debug)]
 pub struct ListFault {
     pub cause: ListCause,
-    /// The number of the segment, from 1. 0 where the text is too long or memory ran out.
+    /// The number of the segment, from 1. 0 where the text is too long or when out of memory.
     pub segment: u32,
-    /// The displacement in the file. 0 where the text is too long or memory ran out.
+    /// The displacement in the file. 0 where the text is too long or when out of memory.
     pub at: u32,
 }

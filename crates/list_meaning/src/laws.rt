@@ -3,9 +3,9 @@
 ghost use Rattle.list_meaning.specs.ListingLaws.{LineIsRead, ListingIsReadAgain};
 ghost use Rattle.list_meaning.specs.Worked.{AreWorked};
 
-/// Each line of a file's listing, read by the assembler with what the lines before it left, has no fault and leaves what it was
-/// written for. And assembled without macros the whole gives an object whose segments stand for the same, unless that object
-/// would exceed 16,777,216 bytes.
+/// Each line of a file's listing, read by the assembler with what the lines before it left, has no fault and leaves what it was written
+/// for. And assembled without macros the whole gives an object whose segments represent the same, unless that object would exceed
+/// 16,777,216 bytes.
 pub fn listings_are_read_again()
     ensures line { LineIsRead }
     ensures whole { ListingIsReadAgain }

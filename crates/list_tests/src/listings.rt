@@ -164,7 +164,7 @@ static BODIES: [(u8, &[u8], u32); 22] = [
         b"\xF0\x01B\x00\x00N\x00\x81\x01\x00\x00\x00\x00\xEB\x02\x83\x01B\x00\x00",
         0x45,
     ),
-    // ZEXPR, BEXPR, LEXPR and RELEXPR without an opcode, and one behind the opcode of another.
+    // ZEXPR, BEXPR, LEXPR and RELEXPR without an opcode, and one after the opcode of another.
     (1, b"\xEC\x01\x83\x01B\x00\x00", 0x38),
     (2, b"\xED\x02\x83\x01B\x00\x00", 0x38),
     (3, b"\xF3\x03\x83\x01B\x00\x00", 0x38),

@@ -1,4 +1,4 @@
--- No phase says that memory ran out.
+-- No phase reports the cause Memory.
 use Rattle.std.proofs.Common.{◌≡◌, ℕ, ◌+◌, Bool, true, false, List, [], ◌∷◌, Option, Some, None, refl, sym, ap, ◌∙◌}
 use Rattle.std.specs.Prelude.{◌&&◌, not, nat_lt, ◌==◌, option_map, if◌then◌else◌}
 use Rattle.std.specs.Option.{option_or}
@@ -59,7 +59,7 @@ some_cause cause = Some cause
 fault_same : (a b : LoadFault) → Some a ≡ Some b → a ≡ b
 fault_same a b e = cc
 
--- what phase 3 finds in records isn't want of memory
+-- a fault that phase 3 finds in records never has the cause Memory
 pub named_targets : (segments : List Segment) (s : Segment) (founds : List (ℕ × Record)) (number : ℕ) (fault : LoadFault)
     → option_map (in_segment number) (first_target_fault segments s founds) ≡ Some fault → fault.cause ≡ Memory → ⊥
 named_targets segments s [] number fault e memory = cc

@@ -69,7 +69,7 @@ ordered_spots s spots sorted runs is are last =
     let all : shown_spots spots ≡ spread_all (patch_list s) = is ∙ ap spread_all (sym (patch_list-from s)) in
     record { are = are; last = λ k. last k ∙ ap (λ l. last_at l k) all }
 
--- ---- cells by what stands at an offset
+-- ---- cells by what is at an offset
 
 nothing : (found : ℕ × Cell) (k : ℕ) (cell : Cell) → eqb found.0 k ≡ false → (if eqb found.0 k then Some found.1 else None) ≡ Some cell → ⊥
 nothing found k cell apart e = let none : (if eqb found.0 k then Some found.1 else None) ≡ None = rw apart refl in absurd cc
@@ -92,7 +92,7 @@ some_here found founds = by_rest (last_at founds found.0)
     by_rest (Some other) = (other, refl)
     by_rest None = (found.1, rw (eq-eqb found.0 found.0 refl) refl)
 
--- cells that stand below an offset, as what stands at each offset says
+-- cells that lie below an offset, by the cell at each offset
 pub below_by_last : (size : ℕ) (founds : List (ℕ × Cell)) → ((k : ℕ) (cell : Cell) → last_at founds k ≡ Some cell → k < size) → AreBelow size founds
 below_by_last size [] below = tt
 below_by_last size (found ∷ founds) below =

@@ -14,7 +14,7 @@ get-zeros zero k lt = absurd (omega arith)
 get-zeros (suc n) zero lt = refl
 get-zeros (suc n) (suc k) lt = get-zeros n k (omega arith)
 
--- bytes, and more of them behind
+-- bytes, and more of them after those
 pub more_bytes : (bytes more : List ℕ) (at n upto : ℕ) → upto ≡ at + n → upto ≤ length bytes → length more ≡ n → ((m : ℕ) → m < n → slice_get bytes (at + m) ≡ slice_get more m)
     → take at bytes ++ more ≡ take upto bytes
 more_bytes bytes more at n upto is fits size each = same_list (take at bytes ++ more) (take upto bytes) there
@@ -40,7 +40,7 @@ more_zeros bytes at upto le fits each =
     more_bytes bytes (replicate (upto - at) 0) at (upto - at) upto (omega (arith, le)) fits (length-replicate {A = ℕ} (upto - at) 0)
     (λ m lt. each (at + m) (omega arith) (omega (arith, lt)) ∙ sym (get-zeros (upto - at) m lt))
 
--- how far the first pieces, so many, fill so many bytes
+-- how far the first `n` pieces fill `size` bytes
 pub record IsFilled (pieces : List BytePiece) (n size at : ℕ) : Type 0 where
   pub inside : at ≤ size
   pub passed : (i : ℕ) (p : BytePiece) → i < n → IsAt pieces i p → (p.start + length p.bytes.now ≤ at) ⊎ (at ≡ size)
@@ -147,7 +147,7 @@ lone_is p bytes are first = same_list bytes (p.bytes.now ++ replicate (length by
         past k from zero q at = subst (λ (x : BytePiece). x.start + length x.bytes.now ≤ k) (piece_is p q at) (omega (arith, first, from))
         past k from (suc i) q at = absurd cc
 
--- ---- behind what stood there
+-- ---- after the old bytes
 
 pub put_more : (pieces : List BytePiece) (old so_far new bytes : List ℕ) (n size at next : ℕ) (p : BytePiece) → ArePieces pieces bytes → IsFilled pieces n size at → size ≤ length bytes → IsAt pieces n p → next ≡ next_of p size
     → so_far ≡ old ++ take at bytes → new ≡ so_far ++ (replicate (min p.start size - at) 0 ++ take (next - min p.start size) p.bytes.now) → new ≡ old ++ take next bytes

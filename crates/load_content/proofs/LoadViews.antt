@@ -39,7 +39,7 @@ found_from-next phase views i number v fault lt is of =
     ∙ ap (λ (w : SegmentView). found_from phase number (w ∷ drop (suc i) views)) (sym is)
     ∙ ap (λ (o : Option LoadFault). option_or o (found_from phase (number + 1) (drop (suc i) views))) (sym of)
 
--- behind the last view there is none
+-- after the last view there is none
 pub found_from-past : (phase : ℕ → Segment → Option Fault) (views : List SegmentView) (i number : ℕ) → length views ≤ i → found_from phase number (drop i views) ≡ None
 found_from-past phase views i number past = ap (found_from phase number) (drop-past i views past)
   where
@@ -49,7 +49,7 @@ found_from-past phase views i number past = ap (found_from phase number) (drop-p
     drop-past (suc k) [] h = refl
     drop-past (suc k) (x ∷ xs) h = drop-past k xs (omega arith)
 
--- a step of a loop over the views: so many were passed, so the first fault is that of those that are left
+-- a step of a loop over the views: the first `i` were passed, so the first fault is that of those that are left
 pub record Passed (phase : ℕ → Segment → Option Fault) (views : List SegmentView) (i number : ℕ) : Type 0 where
   pub place : number ≡ i + 1
   pub so_far : found_from phase 1 views ≡ found_from phase number (drop i views)

@@ -15,7 +15,7 @@ index-drop (suc at) j [] = none j (suc at + j)
     none (suc i) (suc k) = refl
 index-drop (suc at) j (b ∷ bytes) = let same : suc at + j ≡ suc (at + j) = omega arith in index-drop at j bytes ∙ ap (slice_index (b ∷ bytes)) (sym same)
 
--- so many bytes from a place on
+-- the byte at an index from a place on
 abbrev byte : List ℕ → ℕ → ℕ → ℕ
 byte bytes at j = slice_index bytes (at + j)
 

@@ -1,4 +1,4 @@
--- The bytes that the patches of a body give, as far as its reader has come.
+-- The bytes that the patches of a body give, up to its reader's place.
 use Rattle.std.proofs.Common.{◌≡◌, ℕ, true, List, [], ◌∷◌, ◌++◌, Some, None, Ok, refl, sym, ap, ◌∙◌, append_assoc}
 use Rattle.std.proofs.lemmas.List.{append-nil}
 use Rattle.std.proofs.lemmas.List.Concat.{flat_map-cons}
@@ -10,7 +10,7 @@ use Rattle.load_meaning.specs.Cells.{Cell, Patch, patches_in}
 use Rattle.load_content.specs.Walk.{patches_from}
 use Rattle.load_content.specs.Content.{cells_of_patch, spread_all}
 
--- what was added so far to the front, with what the records that are left give, is what all records give
+-- what was appended so far, with what the records that are left give, is what was there before and what all records give
 pub record Given (s : Segment) (start at : Reader) (front so_far : List (ℕ × Cell)) : Type 0 where
   pub back : List (ℕ × Record)
   pub last : Reader

@@ -118,7 +118,7 @@ past (b ∷ bytes) (suc k) e = let rest = past bytes k e in omega arith
 piece_same : (p q : BytePiece) → Some p ≡ Some q → p ≡ q
 piece_same p q e = cc
 
--- behind a piece and before the next one the bytes are 0
+-- after a piece and before the next one the bytes are 0
 pub uncovered : (pieces : List BytePiece) (bytes : List ℕ) (at i : ℕ) (p : BytePiece) → ArePieces pieces bytes → at < length bytes → slice_get pieces i ≡ Some p → start_of p ≤ at → slice_get p.bytes.now (at - p.start) ≡ None
     → ((j : ℕ) (q : BytePiece) → i < j → slice_get pieces j ≡ Some q → at < start_of q) → slice_get bytes at ≡ Some 0
 uncovered pieces bytes at i p are lt there low none after = are.zeros at lt (λ j q is. elim (cases_order j i) [
@@ -131,7 +131,7 @@ uncovered pieces bytes at i p are lt there low none after = are.zeros at lt (λ 
   ]
 ])
 
--- the pieces stand in the order of their offsets
+-- the pieces are in the order of their offsets
 pub rising : (pieces : List BytePiece) (bytes : List ℕ) → ArePieces pieces bytes → IsNonDecreasingBy start_of pieces
 rising pieces bytes are = λ i j d le lt. elim (cases_order i j) [
   | inl same ↦ let e : start_of (get_or pieces i d) ≡ start_of (get_or pieces j d) = ap (λ (n : ℕ). start_of (get_or pieces n d)) same in omega (arith, e)

@@ -13,7 +13,7 @@ use Rattle.load_content.proofs.SpotLists.{shown-append, last_at-append, or_assoc
 
 -- ---- making runs
 
--- so many spots at the start lie apart
+-- the first `n` spots lie apart, so they rise
 pub front_rises : (spots : List PatchSpot) (n : ℕ) → ((i j : ℕ) (s t : PatchSpot) → i < j → j < n → slice_get spots i ≡ Some s → slice_get spots j ≡ Some t → end_of s ≤ t.at) → AreRising (take n spots)
 front_rises spots n apart = apart_rise (take n spots) (λ i j s t lt is there.
     let inside : j < n = omega (arith, within (take n spots) j t there, length-take n spots) in
@@ -54,7 +54,7 @@ no_runs : (runs : List ℕ) (left : List PatchSpot) → length runs ≡ 0 → Ar
 no_runs [] left none are = are
 no_runs (n ∷ runs) left none are = absurd (omega (arith, none))
 
--- behind the last run there are no spots
+-- after the last run there are no spots
 pub last_run : (runs : List ℕ) (i : ℕ) (left : List PatchSpot) → length runs ≤ i → AreRuns (drop i runs) left → left ≡ []
 last_run runs i left past are = no_runs (drop i runs) left (omega (arith, length-drop i runs, past)) are
 

@@ -19,7 +19,7 @@ pub record Same {A : Type 0} (find : List (ℕ × Record) → A) (start at : Rea
 pub same_all : {A : Type 0} (find : List (ℕ × Record) → A) (r : Reader) → IsBody r → Same find r r
 same_all find r is = record { back = records_of r; last = is.last; run = is.run; ended = is.ended; same = refl }
 
--- the record that comes next is the first that is left
+-- the next record is the first that is left
 pub same_next : {A : Type 0} (find : List (ℕ × Record) → A) (start at : Reader) (found : ℕ × Record) → Same find start at → next_answer at ≡ Ok (Some found)
     → (more : List (ℕ × Record)) × (last : Reader) × HandsOut (after_next at) more last × (last.ended ≡ true) × (find (records_of start) ≡ find (found ∷ more))
 same_next find start at found s e = by_back s.back s.run s.same

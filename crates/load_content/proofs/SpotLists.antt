@@ -139,7 +139,7 @@ get-parts p index (suc n) (suc k) lt =
     let place : index + 1 + k ≡ index + suc k = omega arith in
     get-parts p (index + 1) n k (omega arith) ∙ ap (λ (i : ℕ). Some (Part p.file p.segment p.offset p.shift i)) place
 
--- what one patch gives at an offset, or else what stood there
+-- what one patch gives at an offset, or else what was there
 over_one : (p : Patch) (k : ℕ) (o : Option Cell)
     → (if leb p.location k && ltb k (p.location + p.count) then slice_get (parts_from p 0 p.count) (k - p.location) else o) ≡ option_or (last_at (cells_of_patch p) k) o
 over_one p k o = elim (cases_Bool (leb p.location k && ltb k (p.location + p.count))) [

@@ -11,7 +11,7 @@ use Rattle.load_meaning.specs.Loadable.{patch_refusal, first_refusal}
 use Rattle.omf_records.specs.View.{first, bytes_after_first}
 use Rattle.load_content.specs.Content.{super_count, cells_of_patch, spread_all}
 
--- where a patch of a SUPER stands, and how many bytes it has
+-- where a patch of a SUPER is, and how many bytes it has
 super_place : (s : Segment) (form at : ℕ) → ((super_patch s form at).location ≡ at) × ((super_patch s form at).count ≡ super_count form)
 super_place s form at = elim (cases_Bool (eqb form 0)) [
   | inl is ↦ subst (λ (n : ℕ). ((super_patch s n at).location ≡ at) × ((super_patch s n at).count ≡ super_count n)) (sym (eqb-true form 0 is)) (refl, refl)
@@ -40,7 +40,7 @@ outside_super segments s form at e =
 
 -- ---- one after another
 
--- where the first patch may stand there, the others decide
+-- where the first patch is allowed there, the others decide
 pub passed_one : (segments : List Segment) (s : Segment) (p : Patch) (patches : List Patch) → first_refusal segments s (p ∷ []) ≡ None → first_refusal segments s (p ∷ patches) ≡ first_refusal segments s patches
 passed_one segments s p patches e = by_cause (patch_refusal segments s p) e
   where

@@ -1,4 +1,4 @@
--- The bytes that a body puts into its segment, as far as its reader has come.
+-- The bytes that a body puts into its segment, up to its reader's place.
 use Rattle.std.proofs.Common.{◌≡◌, ℕ, ◌+◌, ◌≤◌, true, List, [], ◌∷◌, ◌++◌, length, take, drop, Some, None, Ok, Err, refl, sym, ap, ◌∙◌, append_assoc, arith}
 use Rattle.std.specs.List.{flat_map}
 use Rattle.std.proofs.Math.Seq.{take-append_seam}
@@ -24,7 +24,7 @@ pub record Left (start at : Reader) (bytes : List ℕ) : Type 0 where
   pub ended : last.ended ≡ true
   pub whole : content start ≡ bytes ++ flat_map (λ (found : ℕ × Record). content_of found.1) back
 
--- so many bytes
+-- the reader has passed `size` bytes of the content
 abbrev pub SoFar : Reader → Reader → ℕ → Type 0
 SoFar start at size = (bytes : List ℕ) × Left start at bytes × (size ≡ length bytes)
 
@@ -65,7 +65,7 @@ left_fault start at bytes fault left e = by_back left.back left.run
     by_back [] run = open_at_fault at fault e (ap (λ (r : Reader). r.ended) run ∙ left.ended)
     by_back (other ∷ back) run = let clash : gave other ≡ failed fault = sym run.0 ∙ e in cc
 
--- what came so far isn't more than the whole
+-- the bytes so far aren't more than the whole
 pub left_within : (start at : Reader) (bytes : List ℕ) → Left start at bytes → length bytes ≤ length (content start)
 left_within start at bytes left = omega (arith, ap length left.whole, length-append bytes (bytes_of left.back))
 
@@ -79,7 +79,7 @@ left_full start at bytes left full = by_rest (bytes_of left.back) left.whole
 
 -- ---- places in lists
 
--- a front that was written, and what was written behind it
+-- bytes that were written at the start, and bytes that were written after them
 pub written_more : (out bytes c : List ℕ) (at : ℕ) → take at out ≡ bytes → at ≡ length bytes
     → take (at + length c) (take at out ++ c ++ drop (at + length c) out) ≡ bytes ++ c
 written_more out bytes c at written size =

@@ -16,7 +16,7 @@ use Rattle.load_content.specs.declared.targets.SegmentContent.{SegmentContent}
 
 -- ---- searches
 
--- the items up to a place have a number that is at most this one, and those behind have a greater one
+-- the items before a place have a number that is at most this one, and those from the place on have a greater one
 pub record IsSplit {A : Type 0} (n : A → ℕ) (xs : List A) (most place : ℕ) : Type 0 where
   pub before : (i : ℕ) (x : A) → i < place → slice_get xs i ≡ Some x → n x ≤ most
   pub following : (i : ℕ) (x : A) → place ≤ i → slice_get xs i ≡ Some x → most < n x
@@ -39,7 +39,7 @@ IsAt pieces i p = slice_get pieces i ≡ Some p
 abbrev pub IsElsewhere : BytePiece → ℕ → Type 0
 IsElsewhere p k = (k < p.start) ⊎ (p.start + length p.bytes.now ≤ k)
 
--- the pieces stand one after another, the bytes have theirs, and are 0 elsewhere
+-- the pieces lie one after another; the bytes contain theirs, and are 0 elsewhere
 pub record ArePieces (pieces : List BytePiece) (bytes : List ℕ) : Type 0 where
   pub apart : (i j : ℕ) (p q : BytePiece) → i < j → IsAt pieces i p → IsAt pieces j q → p.start + length p.bytes.now ≤ q.start
   pub inside : (i n : ℕ) (p : BytePiece) → IsAt pieces i p → n < length p.bytes.now → slice_get bytes (p.start + n) ≡ slice_get p.bytes.now n
@@ -58,11 +58,11 @@ IsNear v at near = (n : ℕ) → n < length near → number_at 1 (at + n) (segme
 
 -- ---- patches
 
--- a patch, in the format's words
+-- a patch, as the format defines it
 abbrev pub patch_of : Relocation → Patch
 patch_of r = record { location = r.location; count = r.count; file = r.file; segment = r.segment; offset = r.offset; shift = r.shift }
 
--- so many cells that a patch gives, each with its offset, from an offset and an index on
+-- n cells that a patch gives, each with its offset, from an offset and an index on
 abbrev pub spread_from : Patch → ℕ → ℕ → ℕ → List (ℕ × Cell)
 spread_from p at index zero = []
 spread_from p at index (suc n) = (at, Part p.file p.segment p.offset p.shift index) ∷ spread_from p (at + 1) (index + 1) n
@@ -130,7 +130,7 @@ pub record AreRising (spots : List PatchSpot) : Type 0 where
   pub starts : IsNonDecreasingBy offset_of spots
   pub ends : (i j : ℕ) (s t : PatchSpot) → i < j → slice_get spots i ≡ Some s → slice_get spots j ≡ Some t → end_of s ≤ end_of t
 
--- runs of so many spots, one after another, in each of which no spot begins or ends before an earlier one
+-- runs of the given numbers of spots, one after another; in each of them no spot begins or ends before an earlier one
 abbrev pub AreRuns : List ℕ → List PatchSpot → Type 0
 AreRuns [] spots = spots ≡ []
 AreRuns (n ∷ runs) spots = (n ≤ length spots) × AreRising (take n spots) × AreRuns runs (drop n spots)
@@ -139,17 +139,17 @@ AreRuns (n ∷ runs) spots = (n ≤ length spots) × AreRising (take n spots) ×
 abbrev pub IsSingle : PatchSpot → Type 0
 IsSingle s = s.end ≡ suc s.first
 
--- spots of one byte, which give these cells, were put behind the old ones
+-- spots of one byte, which give these cells, were put after the old ones
 pub record IsCut (old : List PatchSpot) (founds : List (ℕ × Cell)) (new : List PatchSpot) : Type 0 where
   pub shown' : shown_spots new ≡ shown_spots old ++ founds
   pub single : AllByRecursion IsSingle old → AllByRecursion IsSingle new
 
--- the spots come in runs, and at each offset the last is that of the patches
+-- the spots are in runs, and at each offset the last cell is that of the patches
 pub record AreSpots (patches : List Patch) (spots : List PatchSpot) (runs : List ℕ) : Type 0 where
   pub are : AreRuns runs spots
   pub last : (k : ℕ) → last_at (shown_spots spots) k ≡ last_at (spread_all patches) k
 
--- the bytes with those that the cells stand for written over them, in order
+-- the bytes with those that the cells represent written over them, in order
 abbrev pub with_cells : (ℕ → ℕ) → List (ℕ × Cell) → List ℕ → List ℕ
 with_cells places [] bytes = bytes
 with_cells places (found ∷ founds) bytes = with_cells places founds (slice_set bytes found.0 (byte_of places found.1))

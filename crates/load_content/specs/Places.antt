@@ -12,6 +12,6 @@ place_in places (suc k) = option_and_then (λ address. address) (slice_get place
 abbrev pub address_in : List (Option ℕ) → ℕ → ℕ
 address_in places number = unwrap_or (place_in places number) 0
 
--- the bytes are what stands in memory for the segment with a number, where the segments lie at these addresses
+-- the bytes are those in memory of the segment with a number, where the segments lie at these addresses
 abbrev pub Stands : List Segment → ℕ → List (Option ℕ) → List ℕ → Type 0
 Stands segments number places bytes = IsSomeAnd (segment_at segments number) (λ s. bytes ≡ stands (address_in places) s)

@@ -1,4 +1,4 @@
--- Views of the segments of a load file, and faults that a file has unless memory runs out.
+-- Views of the segments of a load file, and faults that a file has unless out of memory.
 use Rattle.std.specs.Prelude.{◌≡◌, ◌<◌, ◌+◌, ◌^◌, ℕ, List, length, All, Option, Some}
 use Rattle.load_meaning.specs.declared.load.LoadCause.{LoadCause}
 use Rattle.load_meaning.specs.declared.load.LoadCause.TheVariants.{Memory}
@@ -8,7 +8,7 @@ use Rattle.load_meaning.specs.Loadable.{IsLoadSegment}
 use Rattle.omf_records.specs.declared.segment.SegmentView.{SegmentView}
 use Rattle.omf_records.specs.Segments.{segment_of_view}
 
--- a fault of want of memory has no place, and every other one is this
+-- a fault with the cause Memory has no place, and every other one is this
 abbrev pub UnlessMemory : LoadCause → LoadFault → Type 0 → Type 0
 UnlessMemory Memory fault P = (fault.segment ≡ 0) × (fault.at ≡ 0)
 UnlessMemory _ _ P = P

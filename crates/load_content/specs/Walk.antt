@@ -10,7 +10,7 @@ use Rattle.load_meaning.specs.Cells.{Patch, patches_in}
 use Rattle.load_meaning.specs.Loadable.{Fault, record_refusal, answer_fault}
 use Rattle.omf_records.specs.View.{first}
 
--- the records from there on come to END, and a load segment may have each of them
+-- the records from there on end with END, and a load segment may have each of them
 pub record IsLoadBody (reader : Reader) : Type 0 where
   pub body : IsBody reader
   pub pass : AllByRecursion (λ found. record_refusal found.1 ≡ None) (records_of reader)

@@ -28,8 +28,8 @@ pub fn is_longer(records: Records, most: u32) -> bool
     }
 }
 
-/// Writes the bytes that the records put into the segment, and tells how many they are. Where they fill it, the records that are
-/// left aren't read.
+/// Writes the bytes that the records put into the segment, and returns how many they are. Where they fill `out`, the records that are left
+/// aren't read.
 fn write_records(records: Records, out: &mut [u8]) -> usize
     requires body { IsBody records }
     requires fits { length (content records) ≤ length out.old }

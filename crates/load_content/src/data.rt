@@ -18,8 +18,8 @@ pub fn data_u8(view: &SegmentView, pieces: &[BytePiece], at: u32) -> u8
     byte_at(pieces, at)
 }
 
-/// The bytes of the data from an offset on that stand together in the file, of which there may be none, and the place of their
-/// piece, which is tried first at the place `last`.
+/// The bytes of the data from an offset on that lie together in the file, of which there may be none, and the place of their piece, which
+/// is tried first at the place `last`.
 #[inline(always)]
 pub fn data_from<'a>(
     view: &SegmentView<'a>,
@@ -33,7 +33,7 @@ pub fn data_from<'a>(
     bytes_from(pieces, last, at)
 }
 
-/// The byte of the data there, where these bytes are those from an offset on that stand together.
+/// The byte of the data at `at + place`, where `near` are the bytes from an offset on that lie together in the file.
 #[inline(always)]
 pub fn near_u8(near: &[u8], place: u32, view: &SegmentView, pieces: &[BytePiece], at: u32) -> u8
     requires near { IsNear view.now at near.now }
@@ -48,7 +48,7 @@ pub fn near_u8(near: &[u8], place: u32, view: &SegmentView, pieces: &[BytePiece]
     }
 }
 
-/// The number in the two bytes of the data there, where these bytes are those that stand together.
+/// The number in the two bytes of the data there, where `near` are the bytes from there on that lie together in the file.
 #[inline(always)]
 pub fn near_u16(near: &[u8], view: &SegmentView, pieces: &[BytePiece], at: u32) -> u16
     requires near { IsNear view.now at near.now }

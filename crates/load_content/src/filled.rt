@@ -7,7 +7,7 @@ use crate::pieces::BytePiece;
 use omf_base::first_items;
 use std::alloc::AllocError;
 
-/// Appends so many zeros.
+/// Appends `count` zeros.
 fn put_zeros(out: &mut Vec<u8>, count: u32) -> Result<(), AllocError>
     ensures { OnOk result (out.new.items ≡ out.old.items ++ replicate count 0) }
 {
@@ -25,8 +25,8 @@ fn put_front(out: &mut Vec<u8>, bytes: &[u8], most: u32) -> Result<u32, AllocErr
     Ok(count as u32)
 }
 
-/// Appends zeros up to the start of a piece, and then the piece, where so many bytes are before them and there are to be no
-/// more than `size`. The answer is how many there are then.
+/// Appends zeros up to the start of a piece, and then the piece, where `at` bytes are before them and there are to be no more than `size`.
+/// The result is how many there are then.
 fn put_piece(piece: &BytePiece, at: u32, size: u32, out: &mut Vec<u8>) -> Result<u32, AllocError>
     ensures put { IfOk result (λ next. out.new.items ≡ out.old.items ++ (replicate (min (piece.now).start size - at) 0 ++ take (next - min (piece.now).start size) (piece.now).bytes.now)) }
     ensures next { IfOk result (λ next. next ≡ min (piece.now).start size + min (length (piece.now).bytes.now) (size - min (piece.now).start size)) }
@@ -37,7 +37,7 @@ fn put_piece(piece: &BytePiece, at: u32, size: u32, out: &mut Vec<u8>) -> Result
     Ok(start + count)
 }
 
-/// Appends the first bytes, so many, of those that have these pieces and are 0 elsewhere.
+/// Appends the first `size` of the bytes that have these pieces and are 0 elsewhere.
 pub fn put_bytes(pieces: &[BytePiece], size: u32, out: &mut Vec<u8>) -> Result<(), AllocError>
     ensures { OnOk result ((bytes : List ℕ) → ArePieces pieces.now bytes → size ≤ length bytes → out.new.items ≡ out.old.items ++ take size bytes) }
 {

@@ -25,7 +25,7 @@ fn are_apart(spots: &[PatchSpot]) -> bool
     true
 }
 
-/// The spots in the order of their offsets, and those at one offset as they stood.
+/// The spots in the order of their offsets; those at one offset keep their order.
 fn sort_by_offset(alloc: Global, spots: &[PatchSpot]) -> Result<Vec<PatchSpot>, AllocError>
     ensures rise { IfOk result (λ sorted. IsNonDecreasingBy offset_of sorted.items) }
     ensures stable { IfOk result (λ sorted. IsStableByKey offset_of nat_cmp spots.now sorted.items) }
@@ -120,7 +120,7 @@ fn runs_of(alloc: Global, spots: &[PatchSpot]) -> Result<Option<Vec<usize>>, All
     Ok(Some(runs))
 }
 
-/// One run of so many spots.
+/// One run of `count` spots.
 fn one_run(alloc: Global, count: usize) -> Result<Vec<usize>, AllocError>
     ensures { IfOk result (λ runs. runs.items ≡ count ∷ []) }
 {
@@ -138,8 +138,8 @@ fn trim_capacity(spots: Vec<PatchSpot>) -> Vec<PatchSpot>
     spots
 }
 
-/// The same bytes in runs, and how many spots each run has. They stand as they were where these runs are few, and else in the
-/// order of their offsets.
+/// The same bytes in runs, and how many spots each run has. The spots keep their order where their runs are few, and are sorted by their
+/// offsets otherwise.
 pub fn in_order(
     alloc: Global,
     spots: Vec<PatchSpot>,

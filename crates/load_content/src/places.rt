@@ -27,7 +27,7 @@ impl Model for Places {
 }
 
 impl Places {
-    /// Places for so many segments, none of which has an address.
+    /// Places for `count` segments, none of which has an address.
     pub fn new(alloc: Global, count: u32) -> Result<Places, PlacesFault>
         ensures { IfOk result (λ places. places ≡ replicate count None) }
     {

@@ -30,7 +30,7 @@ pub struct PatchSpot {
     pub shift: i8,
     /// Which byte of the place the first one is.
     pub first: u8,
-    /// The byte of the place behind the last one.
+    /// Which byte of the place follows the last one.
     pub end: u8,
 }
 
@@ -101,7 +101,7 @@ fn spot_in(spots: &[PatchSpot], at: u32) -> Option<PatchSpot>
     }
 }
 
-/// The byte at an offset that a spot gives, and that of the last where several do, where the spots come in runs of so many.
+/// The byte at an offset that a spot gives, and that of the last where several do. `runs` has the number of spots in each run.
 pub fn spot_at(spots: &[PatchSpot], runs: &[usize], at: u32) -> Option<PatchSpot>
     requires { AreRuns runs.now spots.now }
     ensures { option_map part_of result ≡ last_at (shown_spots spots.now) at }
@@ -116,7 +116,7 @@ pub fn spot_at(spots: &[PatchSpot], runs: &[usize], at: u32) -> Option<PatchSpot
     found
 }
 
-/// The bits shifted left by so many, or right where the count is negative, with zeros coming in.
+/// The bits shifted left by `count`, or right where it is negative; zeros are shifted in.
 #[inline(always)]
 fn shift_bits(bits: u32, count: i8) -> u32
     ensures { result ≡ shifted_bits bits count }
@@ -129,7 +129,7 @@ fn shift_bits(bits: u32, count: i8) -> u32
     }
 }
 
-/// A number without so many of its bytes, lowest first.
+/// A number without its lowest `count` bytes.
 #[inline(always)]
 fn without_bytes(number: u32, count: u8) -> u32
     ensures { result ≡ number / 256 ^ count }
@@ -155,7 +155,7 @@ fn number_of(spot: &PatchSpot, places: &Places) -> u32
     shift_bits(address.wrapping_add(spot.offset), spot.shift)
 }
 
-/// Writes the bytes that a spot stands for.
+/// Writes the bytes that a spot represents.
 #[inline(always)]
 fn write_spot(spot: &PatchSpot, places: &Places, out: &mut [u8])
     requires { AreBelow (length out.old) (spread_spot spot.now) }
@@ -172,7 +172,7 @@ fn write_spot(spot: &PatchSpot, places: &Places, out: &mut [u8])
     }
 }
 
-/// Writes the bytes that the spots stand for, in order.
+/// Writes the bytes that the spots represent, in order.
 pub fn write_spots(spots: &[PatchSpot], places: &Places, out: &mut [u8])
     requires { AreBelow (length out.old) (shown_spots spots.now) }
     ensures { out.new ≡ with_cells (address_in places.now) (shown_spots spots.now) out.old }

@@ -70,14 +70,14 @@ fn is_dynamic(views: &Vec<SegmentView>, number: u16) -> bool
     }
 }
 
-/// Why a patch that lies in a segment of these may not stand there.
+/// Why a patch that lies in a segment of these isn't allowed there.
 #[tactic(auto, unfolding(load_meaning::specs::Loadable::patch_refusal))]
 #[inline(always)]
 fn refusal(patch: &Relocation, views: &Vec<SegmentView>, view: &SegmentView) -> Option<LoadCause>
     requires inside { patch.now.location + patch.now.count ≤ view.now.header.length }
     ensures value { result ≡ patch_refusal (map segment_of_view views.now.items) (segment_of_view view.now) (patch_of patch.now) }
 
-    // The patch that may stand there is of this file.
+    // The target of an allowed patch is in this file.
     ensures file { result ≡ None → patch.now.file ≡ 1 }
 {
     if !(patch.file == 1 && is_kept(views, patch.segment)) {
@@ -89,7 +89,7 @@ fn refusal(patch: &Relocation, views: &Vec<SegmentView>, view: &SegmentView) -> 
     None
 }
 
-/// Adds the bytes that a patch gives which lies in the segment, or tells why it may not stand there.
+/// Adds the bytes that a patch inside the segment gives, or returns why it isn't allowed there.
 #[inline(always)]
 fn take_inside(
     patch: &Relocation,
@@ -111,7 +111,7 @@ fn take_inside(
     }
 }
 
-/// Adds the bytes that a patch gives, or tells why it may not stand in the segment.
+/// Adds the bytes that a patch gives, or returns why it isn't allowed in the segment.
 fn take(
     patch: &Relocation,
     views: &Vec<SegmentView>,
@@ -135,8 +135,8 @@ fn super_count(form: u8) -> u8
     if form == 1 || form == 2 { 3 } else { 2 }
 }
 
-/// The segment that the patch of a SUPER at a location names: the segment itself, or in type 2 the byte of the data behind
-/// the offset, and else the one that the type names. The bytes near the location are those of the data from there on.
+/// The segment that the patch of a SUPER at a location names: the segment itself, or in type 2 the byte of the data after the offset, and
+/// else the one that the type names. `near` are bytes of the data from the location on.
 #[inline(always)]
 fn super_segment(form: u8, at: u32, near: &[u8], view: &SegmentView, pieces: &[BytePiece]) -> u16
     requires near { IsNear view.now at near.now }
@@ -245,7 +245,7 @@ fn take_super(
     }
 }
 
-/// Adds the bytes that the patches of a record give, or tells why the record may not stand in the segment.
+/// Adds the bytes that the patches of a record give, or returns why the record isn't allowed in the segment.
 fn take_record(
     rec: &Rec,
     views: &Vec<SegmentView>,
@@ -352,7 +352,7 @@ fn take_record(
     }
 }
 
-/// Adds the bytes that the patches of the segment with this number give, or tells the first fault of its records.
+/// Adds the bytes that the patches of the segment with this number give, or returns the first fault of its records.
 fn take_records(
     records: Records,
     number: u32,

@@ -4,7 +4,7 @@ use Rattle.std.specs.List.{flat_map}
 use Rattle.omf_format.specs.Record.{Record, Entry}
 use Rattle.omf_format.specs.File.{Segment}
 
--- a name, the segment and the offset that it stands for, and the number of the segment whose body has the record
+-- a name, the segment and the offset that it represents, and the number of the segment whose body has the record
 pub record Export : Type 0 where
   pub name : List ℕ
   pub segment : ℕ

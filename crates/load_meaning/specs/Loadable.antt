@@ -27,7 +27,7 @@ Fault = LoadCause × ℕ
 
 -- ---- phase 1: header, name and type, and then the records one by one
 
--- `ExpressLoad`, which may stand after `~`, is the name of segments for the Express Loader
+-- `ExpressLoad`, with or without `~` before it, is the name of segments for the Express Loader
 abbrev pub express_name : List ℕ
 express_name = codes "ExpressLoad"
 
@@ -82,7 +82,7 @@ pub record IsLoadSegment (s : Segment) : Type 0 where
   pub front : segment_refusal s.fields ≡ None
   pub records : AllByRecursion (λ found. record_refusal found.1 ≡ None) s.records
 
--- the first fault of the segment that starts there: of its front, or else of the first record that has one
+-- the first fault of the segment that starts there: of its header, its name or its type, or else of the first record that has one
 pub data HasReadFault (start : ℕ) (file : List ℕ) (fault : Fault) : Type 0 where
   OfFront : front_fault start file ≡ Some fault → HasReadFault start file fault
   OfRecord : (f : HeaderFields) (before : List (ℕ × Record)) (reader : Reader) → IsHeader start f file → segment_refusal f ≡ None
@@ -125,8 +125,8 @@ is_kept segments number = option_map_or (λ s. not (is_skipped s.fields.kind)) (
 abbrev pub is_dynamic_at : List Segment → ℕ → Bool
 is_dynamic_at segments number = option_map_or (λ s. is_dynamic s.fields.kind) (segment_at segments number) false
 
--- why a patch may not stand in a segment of the file: it reaches past LENGTH; its target isn't there, or is skipped; or
--- its target is another segment, which is dynamic
+-- why a patch isn't allowed in a segment of the file: it reaches past LENGTH; its target isn't there, or is skipped; or its target is
+-- another segment, which is dynamic
 unfoldable pub patch_refusal : List Segment → Segment → Patch → Option LoadCause
 patch_refusal segments s p = first_of (
     (nat_lt s.fields.length (p.location + p.count), PatchOutside)
@@ -134,7 +134,7 @@ patch_refusal segments s p = first_of (
     ∷ (not (p.segment == s.fields.seg_num) && is_dynamic_at segments p.segment, DynamicTarget)
     ∷ [])
 
--- why the first of these patches that may not stand there may not
+-- why the first of these patches that isn't allowed there is refused
 abbrev pub first_refusal : List Segment → Segment → List Patch → Option LoadCause
 first_refusal segments s [] = None
 first_refusal segments s (p ∷ patches) = option_or (patch_refusal segments s p) (first_refusal segments s patches)
@@ -144,7 +144,7 @@ abbrev pub entry_refusal : List Segment → Record → Option LoadCause
 entry_refusal segments (Entry number offset name) = if is_place segments number offset then None else Some NoSuchTarget
 entry_refusal _ _ = None
 
--- phase 3 of a record of a segment: an ENTRY names a place, and each patch may stand there
+-- phase 3 of a record of a segment: an ENTRY names a place, and each patch is allowed there
 abbrev pub target_refusal : List Segment → Segment → Record → Option LoadCause
 target_refusal segments s r = option_or (entry_refusal segments r) (first_refusal segments s (patches_in s r))
 

@@ -31,8 +31,8 @@ pub record IsPath (path : List ℕ) : Type 0 where
   pub short : length path ≤ 255
   pub plain : list_all is_path_byte path ≡ true
 
--- rows one after another, the first with this file number, and the number 0 behind them; a row is its file number, eight zeros, the
--- path's length and the path
+-- rows one after another, the first with this file number, and the number 0 after them; a row is its file number, eight zeros, the path's
+-- length and the path
 abbrev pub rows_text : ℕ → List (List ℕ) → List ℕ
 rows_text number [] = little_bytes 2 0
 rows_text number (path ∷ paths) = little_bytes 2 number ++ (replicate 8 0 ++ (length path ∷ path ++ rows_text (number + 1) paths))
@@ -41,11 +41,11 @@ rows_text number (path ∷ paths) = little_bytes 2 number ++ (replicate 8 0 ++ (
 unfoldable pub paths_text : List (List ℕ) → List ℕ
 paths_text paths = rows_text 2 paths
 
--- how many bytes of a row stand before its path
+-- how many bytes of a row are before its path
 abbrev pub path_start : ℕ
 path_start = 11
 
--- at the start of the bytes stands a row: its number, eight zeros, the path's length, and the path
+-- a row is at the start of the bytes: its number, eight zeros, the path's length, and the path
 pub record IsRow (number : ℕ) (path bytes : List ℕ) : Type 0 where
   pub inside : path_start + length path ≤ length bytes
   pub number' : number_at 2 0 bytes ≡ number
@@ -76,16 +76,16 @@ path_size bytes = number_at 1 10 bytes
 abbrev pub first_path : List ℕ → List ℕ
 first_path bytes = take (path_size bytes) (drop path_start bytes)
 
--- what stands after the row at the start
+-- what follows the row at the start
 abbrev pub after_path : List ℕ → List ℕ
 after_path bytes = drop (path_start + path_size bytes) bytes
 
--- the paths of so many rows at most, up to the number 0
+-- the paths of n rows at most, up to the number 0
 abbrev pub paths_in : ℕ → List ℕ → List (List ℕ)
 paths_in zero bytes = []
 paths_in (suc n) bytes = if number_at 2 0 bytes == 0 then [] else first_path bytes ∷ paths_in n (after_path bytes)
 
--- where the first field of a row behind its number begins that is wrong or passes the end: its zeros, its length byte, its path
+-- where, after its number, the first field of a row begins that is wrong or passes the end: its zeros, its length byte, its path
 abbrev pub row_flaw : ℕ → List ℕ → Option ℕ
 row_flaw at bytes =
     if nat_lt (length bytes) 10 || not (list_all (λ b. b == 0) (take 8 (drop 2 bytes))) then Some (at + 2)
@@ -93,16 +93,16 @@ row_flaw at bytes =
     else if nat_lt (length bytes) (path_start + path_size bytes) || not (list_all is_path_byte (first_path bytes)) then Some (at + path_start)
     else None
 
--- what is wrong with the number that stands there behind so many rows: it is cut, or it is 0 and bytes are after it; otherwise it
--- begins a row, of which the rest is told
+-- what is wrong with the number at `at`, after `rows` rows: it is cut, or, if there are rows, it is 0 and bytes are after it; otherwise it
+-- begins a row, and `row` says what is wrong with it
 abbrev pub end_flaw : ℕ → ℕ → List ℕ → Option ℕ → Option ℕ
 end_flaw rows at bytes row =
     if nat_lt (length bytes) 2 then Some at
     else if number_at 2 0 bytes == 0 && nat_lt 0 rows then (if length bytes == 2 then None else Some (at + 2))
     else row
 
--- where the first field begins that is wrong or passes the end, where these bytes begin there behind so many rows, and so many more
--- may come: the number is the next one, or behind a row 0, and after that 0 nothing stands
+-- where the first field begins that is wrong or passes the end, where these bytes begin at `at` after `rows` rows, and at most n more rows
+-- may follow: the number is the next one, or after a row 0, and after that 0 there is nothing
 abbrev pub rows_flaw : ℕ → ℕ → ℕ → List ℕ → Option ℕ
 rows_flaw zero rows at bytes = end_flaw rows at bytes (Some at)
 rows_flaw (suc n) rows at bytes = end_flaw rows at bytes

@@ -39,7 +39,7 @@ abbrev pub IsExport : Record → Type 0
 IsExport (Exported segment offset name) = IsRecord written_layout (Exported segment offset name)
 IsExport _ = ⊥
 
--- its header, and the body behind it
+-- its header, and the body after it
 unfoldable pub image_text : Image → List ℕ
 image_text image = header_bytes (image_fields image) (length (image_body image)) ++ image_body image
 
@@ -72,8 +72,8 @@ AreReadAs (image ∷ images) (s ∷ segments) = IsReadAs image s × AreReadAs im
 
 -- ---- the jump table
 
--- the header's fields of a jump table with this number and so many bytes: it is static and lies in one bank, no place is
--- asked for, and its name is ~JumpTable
+-- the header's fields of a jump table with this number and `size` bytes: it is static and lies in one bank, no place is asked for, and its
+-- name is ~JumpTable
 unfoldable pub table_fields : ℕ → ℕ → HeaderFields
 table_fields number size = record {
   byte_count = 0;
@@ -99,7 +99,7 @@ table_image number entries = record { fields = table_fields number (length (tabl
 
 -- ---- the pathnames
 
--- the header's fields of a pathname segment with this number and so many bytes: those of a table, with its own type and name
+-- the header's fields of a pathname segment with this number and `size` bytes: those of a table, with its own type and name
 unfoldable pub pathnames_fields : ℕ → ℕ → HeaderFields
 pathnames_fields number size = record (table_fields number size) { kind = 0x0004; name = codes "~Pathnames" }
 
@@ -110,7 +110,7 @@ pathnames_image number paths =
 
 -- ---- laws
 
--- What is written for load segments is a file of exactly these, and each stands for its cells.
+-- What is written for load segments is a file of exactly these, and each represents its cells.
 abbrev pub FileStandsFor : Type 0
 FileStandsFor = (images : List Image) → AllByRecursion IsImage images
     → (segments : List Segment) × IsFile segments (file_text images) × AreReadAs images segments

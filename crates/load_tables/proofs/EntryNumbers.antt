@@ -1,4 +1,4 @@
--- The numbers of an entry, in its bytes and in the data from which they come.
+-- The numbers of an entry, in its bytes and in the data from which they are read.
 use Rattle.std.proofs.Common.{◌≡◌, ℕ, ◌+◌, ◌≤◌, ◌<◌, List, length, inl, inr, sym, ap, ◌∙◌, arith}
 use Rattle.std.specs.Prelude.{◌==◌, ◌&&◌, slice_index, slice_set}
 use Rattle.std.proofs.lemmas.Bool.{cases_eq}

@@ -1,4 +1,4 @@
--- What the records of a body export, as far as its reader has come.
+-- What the records of a body export, up to its reader's place.
 use Rattle.std.proofs.Common.{◌≡◌, ℕ, ◌+◌, ◌≤◌, true, List, [], ◌∷◌, ◌++◌, length, take, Some, None, Ok, Err, refl, sym, ap, ◌∙◌, append_assoc, arith}
 use Rattle.std.specs.List.{flat_map}
 use Rattle.std.proofs.lemmas.List.{append-nil, length-drop, length-take}
@@ -23,7 +23,7 @@ failed fault = Err fault
 abbrev pub exported_all : ℕ → List (ℕ × Record) → List Export
 exported_all holder founds = flat_map (λ found. exports_of_record holder found.1) founds
 
--- what was added so far to the front, with what the records that are left export, is what all records export
+-- what was appended so far, with what the records that are left export, is what was there before and what all records export
 pub record Exported (holder : ℕ) (start at : Reader) (front so_far : List Export) : Type 0 where
   pub back : List (ℕ × Record)
   pub last : Reader

@@ -8,9 +8,9 @@ use Rattle.omf_format.specs.Number.{number_at}
 use Rattle.load_meaning.specs.Pathnames.{path_start, path_size, first_path, after_path, paths_in, row_flaw, end_flaw, rows_flaw}
 use Rattle.load_tables.specs.Paths.{flaw_in, rows_in}
 
--- ---- the number that stands there
+-- ---- the number at the start of the rest
 
--- it is 0 behind a row
+-- it is 0 after a row
 abbrev at_end : ℕ → List ℕ → Bool
 at_end rows bytes = eqb (number_at 2 0 bytes) 0 && ltb 0 rows
 
@@ -30,9 +30,9 @@ end_test rows at bytes row long = ap (λ (b : Bool). if b then Some at else (if 
 end_row : (rows at : ℕ) (bytes : List ℕ) (row : Option ℕ) → 2 ≤ length bytes → at_end rows bytes ≡ false → end_flaw rows at bytes row ≡ row
 end_row rows at bytes row long is = end_test rows at bytes row long ∙ ap (λ (b : Bool). if b then then_end at bytes else row) is
 
--- ---- the row that stands there
+-- ---- the row at the start of the rest
 
--- what is reported for it, where so many rows may come
+-- what is reported for it, where at most n more rows may follow
 abbrev row_then : ℕ → ℕ → ℕ → List ℕ → Option ℕ
 row_then zero rows at bytes = Some at
 row_then (suc n) rows at bytes =
@@ -56,7 +56,7 @@ one_path n m bytes left is =
 
 -- ---- the rows so far
 
--- so many rows were passed, and these paths read: what is wrong is what is wrong in the rest
+-- `rows` rows were passed, and these paths read: what is wrong is what is wrong in the rest
 pub record SoFar (most : ℕ) (bytes : List ℕ) (rows at : ℕ) (rest : List ℕ) (paths : List (List ℕ)) : Type 0 where
   pub within : rows ≤ most
   pub place : at + length rest ≡ length bytes

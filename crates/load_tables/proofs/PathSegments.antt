@@ -158,7 +158,7 @@ module _ (s : Segment) where
       ap (λ (b : Bool). checked b kind_of (is_one_long s.fields.length s.records)) first ∙ ap (λ (b : Bool). checked false b (is_one_long s.fields.length s.records)) kind
       ∙ ap (λ (b : Bool). checked false false b) body ∙ ap (flaw_in most_paths) is
 
--- where nothing is wrong with it, no other comes before it
+-- where nothing is wrong with a pathname segment, no other one is before it
 first_none : (second : Bool) (s : Segment) → flaw_after second s ≡ None → second ≡ false
 unfolding flaw_after
 first_none true s e = absurd cc

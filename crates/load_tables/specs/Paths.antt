@@ -19,12 +19,12 @@ abbrev pub lone_bytes : List (ℕ × Record) → Option (List ℕ)
 lone_bytes (a ∷ end ∷ []) = long_bytes a.1
 lone_bytes _ = None
 
--- one record more comes, and none behind it
+-- one more record follows, and none after it
 abbrev pub TakesLast : Reader → Bool → Type 0
 TakesLast old true = (found : ℕ × Record) × (next_answer old ≡ Ok (Some found)) × (next_answer (after_next old) ≡ Ok None)
 TakesLast old false = (found : ℕ × Record) → next_answer old ≡ Ok (Some found) → next_answer (after_next old) ≡ Ok None → ⊥
 
--- where rows, so many at most, go wrong
+-- where rows, `most` of them at most, go wrong
 unfoldable pub flaw_in : ℕ → List ℕ → Option ℕ
 flaw_in most bytes = rows_flaw most 0 0 bytes
 
@@ -32,12 +32,12 @@ flaw_in most bytes = rows_flaw most 0 0 bytes
 unfoldable pub rows_in : ℕ → List ℕ → List (List ℕ)
 rows_in most bytes = paths_in most bytes
 
--- the fault tells this flaw, unless out of memory
+-- the fault reports this flaw, unless out of memory
 abbrev pub IsFlaw : RowsFault → Option ℕ → Type 0
 IsFlaw (Flaw at) flaw = flaw ≡ Some at
 IsFlaw Memory flaw = Unit {0}
 
--- what is wrong with a pathname segment, where it is known whether another comes before it
+-- what is wrong with a pathname segment, where it is known whether another is before it
 unfoldable pub flaw_after : Bool → Segment → Option ℕ
 flaw_after second s = option_or
     (first_of (

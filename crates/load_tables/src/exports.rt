@@ -10,7 +10,7 @@ ghost use Rattle.load_tables.specs.View.{seen_export};
 use omf_records::{Rec, Records};
 use std::alloc::AllocError;
 
-/// A name, and the place that it stands for.
+/// A name, and the place that it represents.
 #[derive(Clone, Copy, Debug, PartialEq, Eq)]
 pub struct Export<'a> {
     pub name: &'a [u8],

@@ -8,7 +8,7 @@ ghost use Rattle.omf_records.specs.Segments.{segment_of_view};
 use load_meaning::{LoadCause, LoadFault};
 use omf_records::SegmentView;
 
-/// Why the segment with this number may not stand in a run-time library file.
+/// Why the segment with this number isn't allowed in a run-time library file.
 fn fault_of(view: &SegmentView, number: u32) -> Option<LoadFault>
     ensures value { result ≡ option_map (in_segment number) (kind_fault number (segment_of_view view.now)) }
     ensures named { IfSome result (λ fault. fault.cause ≡ LoadCause.Memory → ⊥) }
@@ -23,7 +23,7 @@ fn fault_of(view: &SegmentView, number: u32) -> Option<LoadFault>
     })
 }
 
-/// The first segment that may not stand there.
+/// The first segment that isn't allowed there.
 pub fn check_kinds(views: &Vec<SegmentView>) -> Option<LoadFault>
     requires { length views.now.items + 1 < 2 ^ 32 }
     ensures value { result ≡ first_in kind_fault 1 (map segment_of_view views.now.items) }

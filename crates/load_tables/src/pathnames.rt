@@ -83,7 +83,7 @@ fn are_path_bytes(bytes: &[u8]) -> bool
     bytes.iter().all(|byte| *byte >= 0x21 && *byte <= 0x7E)
 }
 
-/// Where the first field begins that is wrong or passes the end in the row at the start, behind its number.
+/// Where, after its number, the first field of the row at the start begins that is wrong or passes the end.
 fn row_flaw(bytes: &[u8], at: u32) -> Option<u32>
     requires some { 2 ≤ length bytes.now }
     requires short { at + length bytes.now < 2 ^ 32 }
@@ -105,21 +105,21 @@ fn row_flaw(bytes: &[u8], at: u32) -> Option<u32>
     None
 }
 
-/// Whether a number ends the rows, behind so many of them.
+/// Whether a number ends the rows, after `rows` of them.
 fn is_end(file: u32, rows: u16) -> bool
     ensures { result ≡ (file == 0 && nat_lt 0 rows) }
 {
     file == 0 && rows > 0
 }
 
-/// Whether a number is that of the next row, behind so many rows.
+/// Whether a number is that of the next row, after `rows` rows of at most `most`.
 fn is_next(file: u32, rows: u16, most: u16) -> bool
     ensures { result ≡ (nat_lt rows most && (file == rows + 2)) }
 {
     rows < most && file == u32::from(rows) + FIRST_FILE
 }
 
-/// The paths of rows, of which there are so many at most, or where the first field begins that is wrong or passes the end.
+/// The paths of at most `most` rows, or where the first field begins that is wrong or passes the end.
 fn paths_in<'a>(alloc: Global, bytes: &'a [u8], most: u16) -> Result<Vec<&'a [u8]>, RowsFault>
     requires { length bytes.now < 2 ^ 32 }
     ensures sound { OnOk result (flaw_in most bytes.now ≡ None) }
@@ -216,7 +216,7 @@ fn lone_bytes<'a>(records: Records<'a>) -> Option<&'a [u8]>
     }
 }
 
-/// The paths of a pathname segment: `second` says that another comes before it.
+/// The paths of a pathname segment: `second` says that another is before it.
 fn segment_paths<'a>(
     alloc: Global,
     view: &SegmentView<'a>,
@@ -262,7 +262,7 @@ fn to_load_fault(fault: RowsFault, segment: u32) -> LoadFault
     }
 }
 
-/// Reads the paths of the segment with this number, if it is a pathname segment; `second` says that another comes before it.
+/// Reads the paths of the segment with this number, if it is a pathname segment; `second` says that another is before it.
 #[tactic(auto, unfolding(crate::specs::Paths::fault_after, crate::specs::Paths::paths_then))]
 fn take_paths<'a>(
     alloc: Global,

@@ -179,7 +179,7 @@ fn entry_flaw(
     None
 }
 
-/// Where the first field begins that is wrong in so many entries.
+/// Where the first field begins that is wrong in the first `count` entries.
 fn entries_flaw(
     views: &Vec<SegmentView>,
     paths: u32,
@@ -204,7 +204,7 @@ fn entries_flaw(
     None
 }
 
-/// Where the first field begins that is wrong in a table of so many entries.
+/// Where the first field begins that is wrong in a table of `count` entries.
 fn layout_flaw(
     views: &Vec<SegmentView>,
     paths: u32,
@@ -229,7 +229,7 @@ fn layout_flaw(
     nonzero_from(view, pieces, FRONT + ENTRY * count, BACK)
 }
 
-/// Why a table isn't one, as a place in its segment: `second` says that another comes before it.
+/// Why a table isn't one, as a place in its segment: `second` says that another is before it.
 #[tactic(auto, unfolding(load_meaning::specs::Loadable::table_flaw))]
 fn table_flaw(
     views: &Vec<SegmentView>,
@@ -300,7 +300,7 @@ fn pieces_at<'c, 'a>(contents: &'c Vec<SegmentContent<'a>>, place: usize) -> &'c
     contents[place].pieces.as_slice()
 }
 
-/// The first fault of phase 5, segment by segment, of a file with so many paths.
+/// The first fault of phase 5, segment by segment, of a file with `paths` paths.
 pub fn check_tables(
     views: &Vec<SegmentView>,
     contents: &Vec<SegmentContent>,

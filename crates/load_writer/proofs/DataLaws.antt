@@ -1,4 +1,4 @@
--- The data of a written body: a front of the content, with what the patches store over it.
+-- The data of a written body: a prefix of the content, with what the patches store over it.
 use Rattle.std.proofs.Common.{◌≡◌, ℕ, ◌+◌, ◌-◌, ◌≤◌, List, [], ◌∷◌, ◌++◌, length, take, drop, refl, sym, ap, subst, ◌∙◌, append_assoc, append-nil, arith}
 use Rattle.std.specs.List.{flat_map}
 use Rattle.std.proofs.Math.Seq.{take-append-add, take-append_seam, drop-append_seam}
@@ -13,7 +13,7 @@ use Rattle.load_meaning.specs.laws.StoredLaws.{length-data}
 use Rattle.load_writer.specs.WrittenParts.{end_after, IsKept}
 use Rattle.load_writer.proofs.KeptLaws.{end_low, kept_is}
 
--- ---- a front of bytes with a piece over them
+-- ---- a prefix of bytes with a piece over them
 
 front_same : (l n : ℕ) (b : List ℕ) → l ≤ n → n ≤ length b → take l b ≡ take l (take n b)
 front_same l n b le within =
@@ -34,7 +34,7 @@ pub length-one : (l c : ℕ) (b s : List ℕ) → length s ≡ c → l + c ≤ l
 length-one l c b s size le =
     omega (arith, length-append (take l b ++ s) (drop (l + c) b), length-append (take l b) s, length-take l b, length-drop (l + c) b, size, le)
 
--- ---- patches that lie in the front
+-- ---- patches that lie in the prefix
 
 cut_stored : (own n low : ℕ) (b : List ℕ) (patches : List Patch) → AreWritten (length b) low patches → end_after low patches ≤ n → n ≤ length b
     → take n (with_stored own b patches) ≡ with_stored own (take n b) patches

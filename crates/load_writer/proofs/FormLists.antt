@@ -10,7 +10,7 @@ use Rattle.load_meaning.specs.laws.WrittenBodyLaws.{form_below}
 use Rattle.load_meaning.specs.WrittenBody.{super_form, is_form, of_form}
 use Rattle.load_writer.specs.WrittenParts.{places, places_from, locations_by_form, put_in}
 
--- behind the locations of each type those of the patches that are left
+-- after the locations of each type, those of the patches that are left
 abbrev pub with_left : ℕ → List Patch → ℕ → List (List ℕ) → List (List ℕ)
 with_left own left form [] = []
 with_left own left form (l ∷ lists) = (l ++ places (of_form own left form)) ∷ with_left own left (form + 1) lists
@@ -112,7 +112,7 @@ pub length-places_from : (own form : ℕ) (patches : List Patch) (n : ℕ) → l
 length-places_from own form patches zero = refl
 length-places_from own form patches (suc n) = ap suc (length-places_from own (form + 1) patches n)
 
--- the same of the lists of all types
+-- where all patches are left and the lists are empty, these are the lists of all types
 pub at_first : (own : ℕ) (patches : List Patch) → with_left own patches 0 (replicate 38 []) ≡ locations_by_form own patches
 unfolding locations_by_form
 at_first own patches = left_all own 0 patches 38

@@ -38,7 +38,7 @@ passing_last (suc m) lt le =
 abbrev pub lows : List ℕ → List ℕ
 lows locations = map (λ (at : ℕ). at % 256) locations
 
--- the page of the first location, with the locations at the start that lie in it, and those behind
+-- the page of the first location, with the locations at the start that lie in it, and the pages of those after them
 abbrev pub split_at : ℕ → List ℕ → List Group
 split_at page locations = (page, lows (take (run page locations) locations)) ∷ by_page (drop (run page locations) locations)
 
@@ -80,7 +80,7 @@ pub record IsLeft (page : ℕ) (locations : List ℕ) : Type 0 where
   pub climb : Climb page (by_page locations)
   pub sized : AllByRecursion IsGroup (by_page locations)
 
--- and behind it
+-- what holds of that page and of what is left after it
 pub record IsPageDone (page at : ℕ) (left : List ℕ) : Type 0 where
   pub reached : page ≤ at / 256
   pub some : 1 ≤ run (at / 256) left
@@ -117,7 +117,7 @@ page_done page at more left is here = subst (IsPageDone page at) (sym is) (at_fr
               ∙ sym (append_assoc (flat_map page_text (passing (at / 256 - page))) ((n - 1) ∷ lows (take n (at ∷ more))) (flat_map page_text others));
         }
 
--- what stands in front, the page, and what is left
+-- what is before the page, the page, and what is left
 pub whole_again : (before skips rest : List ℕ) (count : ℕ) (low new1 new2 new3 : List ℕ) → new1 ≡ before ++ skips → new2 ≡ new1 ++ count ∷ [] → new3 ≡ new2 ++ low
     → new3 ++ rest ≡ before ++ (skips ++ (count ∷ low) ++ rest)
 whole_again before skips rest count low new1 new2 new3 a b c = search (append_assoc, a, b, c)

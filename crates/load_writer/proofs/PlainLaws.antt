@@ -25,7 +25,7 @@ unfolding body_text body_records
 plain_text own content =
     ap (flat_map (spelling written_layout)) (sym (ap (λ l. data_records (written_data own content []) ++ l) (no_supers own 0 38) ∙ append-nil (data_records (written_data own content []))))
 
--- an LCONST that is cut behind some bytes and has its count
+-- an LCONST that is cut after some bytes and has its count
 pub one_long : (front content mid new : List ℕ) (start size : ℕ) → length front ≡ start → size ≤ length content → (size ≡ 0 → ⊥)
     → mid ≡ take (start + 5 + size) (front ++ begun ++ content) → new ≡ take (start + 1) mid ++ little_bytes 4 size ++ drop (start + 1 + 4) mid
     → new ≡ front ++ flat_map (spelling written_layout) (data_records (take size content))

@@ -8,7 +8,7 @@ abbrev pub joined : List (Bor (List ℕ)) → List ℕ
 joined [] = []
 joined (piece ∷ pieces) = piece.now ++ joined pieces
 
--- the first ones with the next behind them
+-- the first ones with the next after them
 pub joined_next : (pieces : List (Bor (List ℕ))) (k : ℕ) (none : Bor (List ℕ)) → k < length pieces
     → joined (take (k + 1) pieces) ≡ joined (take k pieces) ++ (get_or pieces k none).now
 joined_next [] k none less = absurd (omega (arith, less))
@@ -19,7 +19,7 @@ joined_next (piece ∷ pieces) (suc k) none less =
     ∙ ap (λ (l : List ℕ). piece.now ++ l) (joined_next pieces k none (omega (arith, less)))
     ∙ sym (append_assoc piece.now (joined (take k pieces)) (get_or pieces k none).now)
 
--- one more behind them
+-- one more after them
 pub joined_more : (pieces : List (Bor (List ℕ))) (piece : Bor (List ℕ)) → joined (pieces ++ piece ∷ []) ≡ joined pieces ++ piece.now
 joined_more [] piece = append-nil piece.now
 joined_more (first ∷ pieces) piece =

@@ -4,7 +4,7 @@ use Rattle.load_meaning.specs.Cells as format
 use Rattle.load_meaning.specs.WrittenBody.{of_form}
 use Rattle.load_writer.specs.declared.written.Patch.{Patch}
 
--- a patch of file 1, in the format's words
+-- a patch of file 1, as the format defines it
 abbrev pub seen : Patch → format.Patch
 seen p = record { location = p.at; count = p.count; file = 1; segment = p.segment; offset = p.offset; shift = p.shift }
 
@@ -18,7 +18,7 @@ abbrev pub end_after : ℕ → List format.Patch → ℕ
 end_after low [] = low
 end_after low (p ∷ patches) = end_after (p.location + p.count) patches
 
--- so many bytes go up to a place, or up to the last one behind it that isn't 0
+-- the first `size` bytes go up to `end`, or up to the last byte after it that isn't 0
 pub record IsKept (content : List ℕ) (end size : ℕ) : Type 0 where
   pub reaches : end ≤ size
   pub within : size ≤ length content
@@ -29,7 +29,7 @@ pub record IsKept (content : List ℕ) (end size : ℕ) : Type 0 where
 abbrev pub places : List format.Patch → List ℕ
 places patches = map (λ p. p.location) patches
 
--- the locations of each of so many types from one on
+-- the locations of each of n types from one on
 abbrev pub places_from : ℕ → List format.Patch → ℕ → ℕ → List (List ℕ)
 places_from own patches form zero = []
 places_from own patches form (suc n) = places (of_form own patches form) ∷ places_from own patches (form + 1) n
@@ -38,12 +38,12 @@ places_from own patches form (suc n) = places (of_form own patches form) ∷ pla
 unfoldable pub locations_by_form : ℕ → List format.Patch → List (List ℕ)
 locations_by_form own patches = places_from own patches 0 38
 
--- the lists, with one location more behind those of one of them
+-- the lists, with one more location after those of one of them
 abbrev pub put_in : List (List ℕ) → ℕ → ℕ → List (List ℕ)
 put_in [] k at = []
 put_in (l ∷ lists) zero at = (l ++ at ∷ []) ∷ lists
 put_in (l ∷ lists) (suc k) at = l ∷ put_in lists k at
 
--- the list is the front of another
+-- the list is a prefix of another
 abbrev pub IsFront : List ℕ → List ℕ → Type 0
 IsFront front whole = (rest : List ℕ) × (whole ≡ front ++ rest)

@@ -1,4 +1,4 @@
-//! The locations of patches, by the type of the SUPER in which they stand.
+//! The locations of patches, by the type of the SUPER that holds them.
 
 ghost use Rattle.std.specs.Prelude.{◌≡◌, ◌<◌, [], length, map, replicate, IfOk, OnOk};
 ghost use Rattle.load_writer.specs.WrittenParts.{seen, locations_by_form, put_in};
@@ -18,7 +18,7 @@ fn no_locations(alloc: Global) -> Result<Vec<Vec<u32>>, BodyFault>
     Ok(lists)
 }
 
-/// Puts a location behind those of a type.
+/// Puts a location after those of a type.
 fn put_in(lists: &mut Vec<Vec<u32>>, form: u8, at: u32) -> Result<(), BodyFault>
     requires { form < length lists.old.items }
     ensures { OnOk result (map (λ l. l.items) lists.new.items ≡ put_in (map (λ l. l.items) lists.old.items) form at) }

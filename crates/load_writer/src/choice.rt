@@ -8,7 +8,7 @@ ghost use Rattle.load_meaning.specs.WrittenBody.{has_shape, is_named, is_short, 
 use crate::written::Patch;
 use omf_records::Rec;
 
-/// So many bytes of a place that is shifted so far, with an offset of two bytes.
+/// The patch has `count` bytes and this shift, and its offset fits two bytes.
 fn has_shape(patch: &Patch, count: u8, shift: i8) -> bool
     ensures { result ≡ has_shape count shift (seen patch.now) }
 {
@@ -29,7 +29,7 @@ fn is_short(patch: &Patch) -> bool
     patch.at <= 0xFFFF && patch.offset <= 0xFFFF
 }
 
-/// The type of the SUPER in which a patch stands, if it is one of theirs.
+/// The type of the SUPER that holds a patch, if one of the types can hold it.
 #[tactic(auto, unfolding(load_meaning::specs::WrittenBody::super_form))]
 pub fn super_form(own: u16, patch: &Patch) -> Option<u8>
     ensures { result ≡ super_form own (seen patch.now) }
@@ -53,7 +53,7 @@ pub fn super_form(own: u16, patch: &Patch) -> Option<u8>
     None
 }
 
-/// The patch stands in the SUPER of this type.
+/// The patch is in the SUPER of this type.
 pub fn has_form(own: u16, patch: &Patch, form: u8) -> bool
     ensures { result ≡ is_form form (super_form own (seen patch.now)) }
 {
@@ -63,7 +63,7 @@ pub fn has_form(own: u16, patch: &Patch, form: u8) -> bool
     }
 }
 
-/// The patch stands in no SUPER.
+/// The patch is in no SUPER.
 pub fn is_lone(own: u16, patch: &Patch) -> bool
     ensures { result ≡ has_none (super_form own (seen patch.now)) }
 {

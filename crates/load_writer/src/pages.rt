@@ -10,7 +10,7 @@ use crate::written::BodyFault;
 use omf_base::{first_items, items_after};
 use std::alloc::Global;
 
-/// Appends what passes so many pages over.
+/// Appends the subrecords that pass over `pages` pages.
 #[tactic(auto, using(crate::proofs::PageTexts::passing_more, crate::proofs::PageTexts::passing_last))]
 fn put_skips(out: &mut Vec<u8>, pages: u32) -> Result<(), BodyFault>
     ensures { OnOk result (out.new.items ≡ out.old.items ++ flat_map page_text (passing pages)) }

@@ -1,4 +1,4 @@
-//! The body of a load segment without patches, whose content stands in pieces (GS/OS Reference, appendix F, "Segment body").
+//! The body of a load segment without patches, whose content is given in pieces (GS/OS Reference, appendix F, "Segment body").
 
 ghost use Rattle.std.specs.Prelude.{◌≡◌, ◌+◌, ◌≤◌, ◌++◌, ◌∷◌, [], ℕ, List, length, take, drop, IfOk, OnOk, OnErr};
 ghost use Rattle.std.specs.List.{flat_map};
@@ -53,8 +53,8 @@ fn kept_from(out: &[u8], start: usize) -> usize
     stored_length(&out[start..], 0)
 }
 
-/// Ends an LCONST that begins at a place, and tells how many bytes it has: zeros at its end are cut off, and without others all
-/// of it.
+/// Ends an LCONST that begins at a place, and returns how many bytes it has: zeros at its end are cut off. Where it has nothing but zeros,
+/// all of it is removed.
 fn close(out: &mut Vec<u8>, start: usize) -> usize
     requires room { start + 5 ≤ length out.old.items }
     requires small { length out.old.items ≤ start + 5 + 0xFFFFFF }
@@ -72,8 +72,8 @@ fn close(out: &mut Vec<u8>, start: usize) -> usize
     size
 }
 
-/// Appends the body, without END, of a load segment without patches whose content are these pieces, one after another, and
-/// tells how many zero bytes are after its data in memory: RESSPC. Where memory runs out, nothing is appended.
+/// Appends the body, without END, of a load segment without patches whose content is these pieces, one after another, and returns how many
+/// zero bytes are after its data in memory: RESSPC. When out of memory, nothing is appended.
 ///
 /// The pieces have at most $FFFFFF bytes.
 #[tactic(auto, using(crate::proofs::Fronts::front_left))]

@@ -14,8 +14,8 @@ use crate::written_data::put_data;
 use omf_records::{PutFault, Rec, put_record};
 use std::alloc::{AllocError, AllocFailed, Global};
 
-/// So many bytes from an offset on are the place of an offset in a segment of the same file, shifted left by so many
-/// bits, or right where the shift is negative.
+/// `count` bytes from an offset on are the place of an offset in a segment of the same file, shifted left by `shift` bits, or right where
+/// it is negative.
 #[derive(Clone, Copy, Debug, PartialEq, Eq)]
 pub struct Patch {
     /// The offset of the first byte.
@@ -146,8 +146,8 @@ fn put_supers(
     Ok(())
 }
 
-/// Appends the data and the records of the patches, and tells how many zero bytes are after the data in memory. Where memory
-/// runs out, part of them may be appended.
+/// Appends the data and the records of the patches, and returns how many zero bytes are after the data in memory. When out of memory, part
+/// of them may be appended.
 #[tactic(auto, using(crate::proofs::Fronts::front_whole, crate::proofs::Fronts::front_after), unfolding(load_meaning::specs::WrittenBody::body_text, load_meaning::specs::WrittenBody::body_records))]
 fn put_parts(
     alloc: Global,
@@ -168,11 +168,10 @@ fn put_parts(
     Ok((content.len() - size) as u32)
 }
 
-/// Appends the body, without END, of the load segment with this number whose cells are the content with the patches over it,
-/// and tells how many zero bytes are after its data in memory: RESSPC. One LCONST holds the content up to the last cell that
-/// isn't a byte 0, with the low bytes of each patch's offset over it; behind it stand the patches, each in the shortest record
-/// that can hold it, and all those of one type of SUPER in one (GS/OS Reference, appendix F). Where memory runs out, nothing is
-/// appended.
+/// Appends the body, without END, of the load segment with this number whose cells are the content with the patches over it, and returns
+/// how many zero bytes are after its data in memory: RESSPC. One LCONST holds the content up to the last cell that isn't a byte 0, with the
+/// low bytes of each patch's offset over it. The patches follow it, each in the shortest record that can hold it, and all those of one type
+/// of SUPER in one (GS/OS Reference, appendix F). When out of memory, nothing is appended.
 ///
 /// `content` has at most $FFFFFF bytes. The patches rise, don't overlap and lie inside the content.
 #[tactic(auto, using(crate::proofs::Fronts::front_left))]

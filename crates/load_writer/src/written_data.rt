@@ -32,7 +32,7 @@ pub(crate) fn put_over(content: &mut [u8], at: usize, bytes: &[u8])
     content[at..at + bytes.len()].copy_from_slice(bytes);
 }
 
-/// Writes what stands in the data at each patch over the bytes there. The answer is where the last patch ends.
+/// Writes what is stored in the data at each patch over the bytes there. The result is where the last patch ends.
 fn put_patches(content: &mut [u8], own: u16, patches: &[Patch]) -> usize
     requires { AreWritten (length content.old) 0 (map seen patches.now) }
     ensures written { content.new ≡ with_stored own content.old (map seen patches.now) }
@@ -49,7 +49,7 @@ fn put_patches(content: &mut [u8], own: u16, patches: &[Patch]) -> usize
     end
 }
 
-/// How many bytes there are up to a place, or up to the last one behind it that isn't 0.
+/// How many bytes there are up to a place, or up to the last one after it that isn't 0.
 pub fn stored_length(content: &[u8], end: usize) -> usize
     requires { end ≤ length content.now }
     ensures { IsKept content.now end result }
@@ -76,7 +76,7 @@ fn end_of(patches: &[Patch]) -> usize
     end
 }
 
-/// How many bytes the data are: the content up to the end of the last patch, or up to the last byte behind it that isn't 0.
+/// How many bytes the data are: the content up to the end of the last patch, or up to the last byte after it that isn't 0.
 fn data_size(content: &[u8], patches: &[Patch]) -> usize
     requires { AreWritten (length content.now) 0 (map seen patches.now) }
     ensures { IsKept content.now (end_after 0 (map seen patches.now)) result }
@@ -84,7 +84,7 @@ fn data_size(content: &[u8], patches: &[Patch]) -> usize
     stored_length(content, end_of(patches))
 }
 
-/// Writes what stands in the data at each patch over the bytes from a place on.
+/// Writes what is stored in the data at each patch over the bytes from a place on.
 fn put_patches_from(out: &mut [u8], start: usize, own: u16, patches: &[Patch])
     requires start { start ≤ length out.old }
     requires patches { AreWritten (length out.old - start) 0 (map seen patches.now) }
@@ -106,8 +106,8 @@ fn put_stored(out: &mut Vec<u8>, own: u16, bytes: &[u8], patches: &[Patch]) -> R
     Ok(())
 }
 
-/// Appends the LCONST of the data, if there are any, and tells how many bytes they are: the content with what the patches
-/// store, without the zeros at the end.
+/// Appends the LCONST of the data, if there are any, and returns how many bytes they are: the content with what the patches store, without
+/// the zeros at the end.
 pub fn put_data(
     out: &mut Vec<u8>,
     own: u16,

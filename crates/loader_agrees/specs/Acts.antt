@@ -32,7 +32,7 @@ pub record IsActive (loader : Loaded) (id number : ℕ) (h : Handle) : Type 0 wh
   pub address : ℕ
   pub active : presence loader.memory.slots (Some h) ≡ Active h address
 
--- the block of an active segment in which so many bytes from an offset on may be read
+-- the block of an active segment in which `count` bytes from an offset on may be read
 pub record CanRead (loader : Loaded) (id number at count : ℕ) (h : Handle) : Type 0 where
   pub passes : bytes_refusal loader.memory.slots (seen_by loader id) number at count ≡ None
   pub is : IsActive loader id number h
@@ -74,8 +74,7 @@ started_kept path heads handles = record {
   attached = [];
 }
 
--- The static segments of a file are in new blocks, each of which begins with what stands in its segment,
--- and nothing else is written.
+-- The static segments of a file are in new blocks, each of which begins with its segment's content, and nothing else is written.
 pub record HasPlaced (old : Memory) (path : List ℕ) (segments : List Segment) (id : ℕ) (entry : Option ℕ) (new : Memory) : Type 0 where
   pub short : length segments < 2 ^ 16
   pub handles : List Handle
@@ -105,14 +104,14 @@ no_handle_of head = None
 abbrev pub joined_kept : List ℕ → List SegmentHead → LoadedUser
 joined_kept path heads = record { path = path; life = Running; handles = map no_handle_of heads; heads = heads; attached = [] }
 
--- the same for each row
+-- an attached user as it is kept, for each row
 abbrev pub joined_kepts : List (List ℕ) → List (List Segment) → List (Option LoadedUser)
 joined_kepts [] all = []
 joined_kepts (path ∷ paths) [] = []
 joined_kepts (path ∷ paths) (segments ∷ all) = Some (joined_kept path (map head_of segments)) ∷ joined_kepts paths all
 
--- The static segments of a file are in new blocks, each of which begins with what stands in its segment; nothing else is written; and
--- there is one user more, and after it one for each row of its pathname segment, attached to it, whose file has these segments.
+-- The static segments of a file are in new blocks, each of which begins with its segment's content; nothing else is written; and there is
+-- one user more, and after it one for each row of its pathname segment, attached to it, whose file has these segments.
 pub record HasBegun (old : Loaded) (path : List ℕ) (segments : List Segment) (all : List (List Segment)) (id : ℕ) (entry : Option ℕ) (new : Loaded) : Type 0 where
   pub few : length old.users + 1 + length (paths_of segments) ≤ max_users
   pub long : length all ≡ length (paths_of segments)

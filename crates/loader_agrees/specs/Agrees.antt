@@ -65,9 +65,9 @@ abbrev pub AreThere : Slots → List (Option Handle) → List Segment → Type 0
 AreThere slots handles segments = (number : ℕ) (s : Segment) → segment_at segments number ≡ Some s → is_static (head_of s) ≡ true
     → IsSome (there_at (presence_at slots handles number))
 
--- A user agrees: the path holds a load file, whose headers are kept; a table has no pokes; the static segments of a
--- running user are active; and while all static segments are there, the block of each segment that is there begins with what stands in it,
--- where the segments of attached users are active so.
+-- A user agrees: the path holds a load file, whose headers are kept; a table has no pokes; the static segments of a running user are
+-- active; and while all static segments are there, the block of each segment that is there begins with the segment's content, where `far`
+-- says where the segments of attached users are active.
 pub record UserAgrees (held : FileMap) (memory : Memory) (far : Far) (id : ℕ) (kept : LoadedUser) (user : User) : Type 0 where
   pub same : outline kept ≡ outline_of user
   pub segments : List Segment
@@ -88,7 +88,7 @@ pub record IsJoined (life : Life) (other : LoadedUser) : Type 0 where
   pub dynamic : (number : ℕ) (head : SegmentHead) → at_number other.heads number ≡ Some head → (is_dynamic head.kind ≡ true) × (is_skipped head.kind ≡ false)
   pub plain : (number : ℕ) (head : SegmentHead) → at_number other.heads number ≡ Some head → is_table_head head ≡ false
 
--- each ID in a list of attached users, at most 16 in all, is that of such a user, and stands in one list, at one place
+-- each ID in a list of attached users, which has 16 at most, is that of such a user, and is in one list, at one place
 pub record AreAttached (users : List (Option LoadedUser)) : Type 0 where
   pub few : (place : ℕ) (kept : LoadedUser) → slice_get users place ≡ Some (Some kept) → length kept.attached ≤ most_paths
   pub each : (place i n : ℕ) (kept : LoadedUser) → slice_get users place ≡ Some (Some kept) → slice_get kept.attached i ≡ Some n
@@ -177,27 +177,28 @@ pub record IsSound (memory : Memory) (users : List (Option LoadedUser)) : Type 0
   pub calls : (place number k : ℕ) (head : SegmentHead) (h : Handle) → Has users place number head h → is_table_head head ≡ true → IsSome (there_at (presence memory.slots (Some h)))
       → k < entry_count head.length → IsCall users (first_id + place) (target_at (bytes_at memory h.slot) k)
 
--- ---- a call, over files that are told
+-- ---- a call, over revealed files
 
 -- the command is answered as by the machine, and the loader agrees with the next state
 abbrev pub Met : MakesRoom → FileMap → Machine → Command → Reply → Loaded → Type 0
 Met Makes held state command reply new = (next : Machine) × Steps Makes held state command reply next × Agrees held new next
 
--- the same of a block that the script asks for by any want
+-- the script's request for a block, by any want, is answered as by the machine, and the loader agrees with the next state
 abbrev pub MetAlloc : MakesRoom → FileMap → Machine → Want → Bool → ℕ → Bool → Reply → Loaded → Type 0
 MetAlloc Makes held state want locked level movable reply new =
     (next : Machine) × StepsAlloc Makes state want locked level movable reply next × Agrees held new next
 
--- The same of a call that may read and may lack memory: the count of the store's faults stays. Or a path is needed, and the call
--- answers that it couldn't be read, where the count is one more; or memory ran out. Then the loader agrees with the old state.
+-- A call that may read and may lack memory is answered as by the machine, the loader agrees with the next state, and the count of the
+-- store's faults stays. Or a path is needed, and the call answers that it couldn't be read, where the count is one more; or the call is out
+-- of memory, where the count stays. In these two cases the loader agrees with the old state.
 abbrev pub Meets : MakesRoom → FileMap → Machine → Command → Reply → Loaded → ℕ → ℕ → Type 0
 Meets Makes held state command reply new before now =
     (Met Makes held state command reply new × (now ≡ before))
     ⊎ (((reply ≡ Refused refusal.CannotRead) × (paths : List (List ℕ)) × Needs held state command paths × (paths ≢ []) × Agrees held new state × (now ≡ one_more before))
     ⊎ ((reply ≡ Refused refusal.Memory) × Agrees held new state × (now ≡ before)))
 
--- The files that the command needs were read, once each, and no other was: the count of reads is one more for each. Where a read failed,
--- as this number of failures says, or memory ran out, those behind may not have been read.
+-- The files that the command needs were read, once each, and no other was: the count of reads is one more for each. Where a read failed, as
+-- this number of failures says, or the call was out of memory, the files after it may not have been read.
 abbrev pub ReadsNeeded : FileMap → Machine → Command → ℕ → ℕ → ℕ → Type 0
 ReadsNeeded held state command others before now = (reads : ℕ) × IsReadFor held state command others reads × (now ≡ saturating_sum reads before)
 

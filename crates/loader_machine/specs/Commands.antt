@@ -25,9 +25,9 @@ pub data Command : Type 0 where
   Poke : (user segment at byte : ℕ) → Command
   -- bytes are shown
   Bytes : (user segment at length : ℕ) → Command
-  -- the segment in which an address lies is told
+  -- the segment in which an address lies is reported
   Where : (address : ℕ) → Command
-  -- what is known of a segment is told
+  -- what is known of a segment is reported
   Info : (user segment : ℕ) → Command
   -- the script's own blocks: one is placed, released, locked, unlocked, or given a purge level
   Alloc : (size attributes address : ℕ) → Command
@@ -35,9 +35,9 @@ pub data Command : Type 0 where
   Lock : (handle : Handle) → Command
   Unlock : (handle : Handle) → Command
   Level : (handle : Handle) (level : ℕ) → Command
-  -- what is known of a handle's block is told
+  -- what is known of a handle's block is reported
   StateOf : (handle : Handle) → Command
-  -- the number of free bytes is told
+  -- the number of free bytes is reported
   Room : Command
   -- the movable blocks are slid down
   Compact : Command

@@ -56,18 +56,18 @@ IsRowFound held path Unread = (file : List ℕ) → ¬ HoldsFile held path file
 IsRowFound held path (Bad fault) = HoldsRuntimeFault held path fault
 IsRowFound held path (Good segments) = HoldsRuntime held path segments
 
--- what comes of reading the files of rows, one by one: the call is refused at the last of so many reads; or each is a run-time
--- library file, of these segments
+-- the outcome of reading the files of rows, one by one: the call is refused at the last of `reads` reads; or each is a run-time library
+-- file, of these segments
 pub data Joined : Type 0 where
   Stops : (reads : ℕ) (why : LoaderFault) → Joined
   Joins : (all : List (List Segment)) → Joined
 
--- behind one file more
+-- the outcome where one file more, of these segments, is read before the others
 abbrev pub joined_after : List Segment → Joined → Joined
 joined_after segments (Stops reads why) = Stops (reads + 1) why
 joined_after segments (Joins all) = Joins (segments ∷ all)
 
--- by what the read of the first row finds, where this is what comes of the others
+-- by what the read of the first row finds, where `Rest` holds of the outcome of the others
 abbrev pub JoinsFound : FileFound → (Joined → Type 0) → Joined → Type 0
 JoinsFound Unread Rest joined = joined ≡ Stops 1 CannotRead
 JoinsFound (Bad fault) Rest joined = joined ≡ Stops 1 (BadFile fault)

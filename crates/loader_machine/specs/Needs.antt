@@ -77,15 +77,16 @@ rows_of state Unread = []
 rows_of state (Bad fault) = []
 rows_of state (Good segments) = rows_if (rows_refusal (length state.users) (length (paths_of segments))) (paths_of segments)
 
--- The paths that a command needs behind the first, in order, and how many of them are read, where no read fails: a load those of the
--- rows, up to the first at which it is refused, and any other command none.
+-- The paths that a command needs after the first, in order, and how many of them are read, where no read fails: for a load those of the
+-- rows, up to the first at which it is refused, and for any other command none.
 abbrev pub NeedsAfter : FileMap → Machine → Command → List (List ℕ) → ℕ → Type 0
 NeedsAfter held state (Load path) rows reads = ((load_refusal (length state.users) ≡ None) × (found : FileFound) × IsFound held path found × (rows ≡ rows_of state found)
     × (joined : Joined) × AreJoined held rows joined × (reads ≡ reads_of joined))
     ⊎ (((load_refusal (length state.users) ≡ None) → ⊥) × (rows ≡ []) × (reads ≡ 0))
 NeedsAfter held state _ rows reads = (rows ≡ []) × (reads ≡ 0)
 
--- so many files are read for the command in the state: where no read fails, all whose turn comes; else one at least, where it needs one
+-- `reads` files are read for the command in the state: where no read fails, all whose turn is reached; else one at least, where it needs
+-- one
 abbrev pub IsReadFor : FileMap → Machine → Command → ℕ → ℕ → Type 0
 IsReadFor held state command others reads = (first : List (List ℕ)) × Needs held state command first
     × (((others ≡ 0) × (rows : List (List ℕ)) × (following : ℕ) × NeedsAfter held state command rows following × (reads ≡ length first + following))

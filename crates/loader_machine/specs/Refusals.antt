@@ -43,7 +43,7 @@ of_dynamic head rest = if is_dynamic head.kind then rest else Some Static
 abbrev pub of_active : Slots → UserSeen → ℕ → Refuse → Refuse
 of_active slots seen number rest = if is_active (presence_at slots seen.handles number) then rest else Some NotActive
 
--- so many bytes from an offset on are within LENGTH
+-- the `count` bytes from an offset on are within LENGTH
 abbrev pub of_inside : ℕ → ℕ → SegmentHead → Refuse → Refuse
 of_inside at count head rest = if nat_le (at + count) head.length then rest else Some OutOfSegment
 
@@ -55,7 +55,7 @@ of_plain head rest = if is_table head then Some TableByte else rest
 unfoldable pub load_refusal : ℕ → Refuse
 load_refusal made = if nat_lt made max_users then None else Some TooManyUsers
 
--- a load of a file with so many rows: more than 255 users would be made
+-- a load of a file with `rows` rows: more than 255 users would be made
 unfoldable pub rows_refusal : ℕ → ℕ → Refuse
 rows_refusal made rows = if nat_le (made + 1 + rows) max_users then None else Some TooManyUsers
 

@@ -21,7 +21,7 @@ unfoldable pub entry_text : Option ℕ → List ℕ
 entry_text None = codes "none"
 entry_text (Some address) = hexadecimal 6 address
 
--- a byte in two digits, behind a space
+-- a byte in two digits, after a space
 unfoldable pub other_text : ℕ → List ℕ
 other_text byte = codes " " ++ hexadecimal 2 byte
 

@@ -30,7 +30,7 @@ written lines = filter (λ line. not (is_skipped line)) lines
 
 -- ---- words
 
--- what stands between the spaces of a line
+-- the words of a line: what lies between its spaces
 unfoldable pub words_of : List ℕ → List (List ℕ)
 words_of line = slice_split (λ byte. byte == ascii.space) line
 
@@ -85,7 +85,7 @@ command_named word =
     else if bytes_eq word (codes "compact") then Some name.Compact
     else None
 
--- a number is in the list and again behind
+-- a number is in the list and again later in it
 unfoldable pub stands_twice : List ℕ → Bool
 stands_twice [] = false
 stands_twice (n ∷ following) = list_any (λ other. n == other) following || stands_twice following
@@ -195,7 +195,7 @@ unfoldable pub compact_of : List (List ℕ) → Result Command ScriptCause
 compact_of [] = Ok Compact
 compact_of (word ∷ words) = Err WrongCount
 
--- the command that the words behind its name give, or the first cause against them
+-- the command that the words after its name give, or the first cause against them
 unfoldable pub words_command : CommandName → List (List ℕ) → Result Command ScriptCause
 words_command name.Banks words = banks_of words
 words_command name.Load words = load_of words
@@ -266,7 +266,7 @@ IsCommand is_first (StateOf h) = (is_first ≡ false) × IsHandle h
 IsCommand is_first Room = is_first ≡ false
 IsCommand is_first Compact = is_first ≡ false
 
--- the same of a list of commands, of which the first is a script's first one or not
+-- what the values of a list of commands keep, the first of which is a script's first command or not
 abbrev pub AreCommands : Bool → List Command → Type 0
 AreCommands is_first [] = Unit {0}
 AreCommands is_first (command ∷ commands) = IsCommand is_first command × AreCommands false commands
@@ -294,7 +294,7 @@ pub record AreGood (lines : List (List ℕ)) (commands : List Command) : Type 0 
 abbrev pub IsScript : List ℕ → List Command → Type 0
 IsScript text commands = AreGood (lines_of text) commands
 
--- The first cause against a line, behind so many lines: it is one too many, or isn't skipped and gives no command.
+-- The first cause against a line, after `before` others: it is one too many, or isn't skipped and gives no command.
 pub data IsBad (before : ℕ) (is_first : Bool) (line : List ℕ) (cause : ScriptCause) : Type 0 where
   OneTooMany : before ≡ most_lines → cause ≡ TooManyLines → IsBad before is_first line cause
   NoCommand : before < most_lines → is_skipped line ≡ false → line_command is_first line ≡ Err cause → IsBad before is_first line cause

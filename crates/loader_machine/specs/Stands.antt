@@ -1,5 +1,5 @@
--- What stands in a segment in memory: its cells at the places of the user's segments, or a table's entries, and the pokes over
--- them (GS/OS Reference, appendix F, "Segment body" and jump table segment).
+-- The content of a segment in memory: its cells at the places of the user's segments, or a table's entries, and the pokes over them (GS/OS
+-- Reference, appendix F, "Segment body" and jump table segment).
 use Rattle.std.specs.Prelude.{ℕ, ◌+◌, ◌==◌, List, [], ◌∷◌, map, Option, None, unwrap_or, if◌then◌else◌}
 use Rattle.std.specs.Option.{option_map, option_and_then}
 use Rattle.std.specs.FinMap.{get}
@@ -47,7 +47,7 @@ over_from at pokes (b ∷ bytes) = unwrap_or (get pokes at) b ∷ over_from (at 
 unfoldable pub with_pokes : Pokes → List ℕ → List ℕ
 with_pokes pokes bytes = over_from 0 pokes bytes
 
--- what stands in a segment
+-- the content of a segment
 unfoldable pub stands : AddressSetting → Pokes → Segment → List ℕ
 stands at pokes s = with_pokes pokes (read_bytes at s)
 
@@ -73,7 +73,7 @@ target_with far slots handles file number = if file == 1 then active_at (presenc
 abbrev pub setting_with : Far → ℕ → Slots → List (Option Handle) → AddressSetting
 setting_with far id slots handles = record { id = id; place = place_in slots handles; target = target_with far slots handles }
 
--- the same where no segment of an attached user is active
+-- the setting of the user with an ID, where no segment of an attached user is active
 abbrev pub setting : ℕ → Slots → List (Option Handle) → AddressSetting
 setting id slots handles = setting_with no_far_segment id slots handles
 

@@ -22,8 +22,8 @@ Pokes = FinMap nat_cmp ℕ
 abbrev pub no_pokes : Pokes
 no_pokes = empty
 
--- what is held of a segment: its handle, if it has one, and its pokes. No other byte of memory is held: what stands in a block
--- follows from the user's file.
+-- what is held of a segment: its handle, if it has one, and its pokes. No other byte of memory is held: the content of a block follows from
+-- the user's file.
 pub record HeldSegment : Type 0 where
   pub handle : Option Handle
   pub pokes : Pokes
@@ -58,7 +58,7 @@ empty_of banks = record { banks = banks; slots = new_slots; users = [] }
 abbrev pub first_id : ℕ
 first_id = 0x1001
 
--- so many users can be made
+-- how many users can be made
 abbrev pub max_users : ℕ
 max_users = 255
 
@@ -97,7 +97,7 @@ attached_at users id file = option_and_then (λ user. slice_get user.attached (f
 abbrev pub named_by : List (Option Outline) → ℕ → ℕ → Option ℕ
 named_by users id file = if file == 1 then Some id else attached_at users id file
 
--- the file number under which an ID stands in a list of attached users, of which the first has this number
+-- the file number under which an ID is in a list of attached users, of which the first has this number
 abbrev pub file_in : ℕ → List ℕ → ℕ → Option ℕ
 file_in file [] id = None
 file_in file (one ∷ attached) id = if one == id then Some file else file_in (file + 1) attached id
@@ -147,7 +147,7 @@ runs_again user = record user { life = Running }
 abbrev pub dormant_user : User → User
 dormant_user user = record user { life = Dormant }
 
--- so many IDs from one on
+-- a given number of IDs, from one on
 abbrev pub ids_from : ℕ → ℕ → List ℕ
 ids_from id zero = []
 ids_from id (suc more) = id ∷ ids_from (id + 1) more

@@ -95,7 +95,7 @@ let_go block = if is_some block.at && block.locked then idle_block block else bl
 abbrev pub with_block_changed : (Block → Block) → Slots → Handle → Slots
 with_block_changed change slots h = option_map_or (λ block. with_value slots h (change block)) (get slots h) slots
 
--- the same of all that have a handle
+-- the slots with the block of each of these handles changed, where it is live
 abbrev pub changed_all : (Block → Block) → Slots → List (Option Handle) → Slots
 changed_all change slots [] = slots
 changed_all change slots (None ∷ handles) = changed_all change slots handles
@@ -108,7 +108,7 @@ with_segment_idle slots (Some h) = with_block_changed idle_block slots h
 
 -- ---- placement of all static segments
 
--- what comes of placing blocks for all wants: too few free slots; the first want, from 0, that has no room; or handles and slots
+-- the outcome of placing blocks for all wants: too few free slots; the first want, from 0, that has no room; or handles and slots
 pub data Put : Type 0 where
   NoSlots : Put
   Lacks : (place : ℕ) → Put
@@ -154,7 +154,7 @@ pub record Begins (Makes : MakesRoom) (state : Machine) (slots : Slots) (path : 
 abbrev pub joined_user : List ℕ → List SegmentHead → User
 joined_user path heads = record { path = path; life = Running; segments = map (λ head. absent) heads; attached = [] }
 
--- the same for each row
+-- such a user for each row
 abbrev pub joined_users : List (List ℕ) → List (List Segment) → List (Option User)
 joined_users [] all = []
 joined_users (path ∷ paths) [] = []
@@ -179,12 +179,12 @@ lost_in attached segments number = option_and_then (λ s. option_map (λ k. reco
 unfoldable pub lost_refusal : List (List SegmentHead) → List Segment → Refuse
 lost_refusal attached segments = option_map BadFile (option_and_then (lost_in attached segments) (table_of segments))
 
--- the users where one more begins, and one for each row behind it, attached to it
+-- the users where one more begins, and after it one for each row, attached to it
 abbrev pub begun_users : Machine → List (List ℕ) → List (List Segment) → User → List (Option User)
 begun_users state paths all user = state.users
     ++ Some (record user { attached = ids_from (first_id + length state.users + 1) (length paths) }) ∷ joined_users paths all
 
--- by what comes of the rows: the program begins, with a user more for each row, attached to it
+-- by the outcome of the rows: the program begins, with a user more for each row, attached to it
 abbrev pub LoadsJoined : MakesRoom → Machine → List ℕ → List Segment → Joined → Reply → Machine → Type 0
 LoadsJoined Makes state path segments (Stops reads why) reply next = (reply ≡ Refused why) × (next ≡ state)
 LoadsJoined Makes state path segments (Joins all) reply next = Decides (lost_refusal (map (map head_of) all) segments) state reply next
@@ -204,7 +204,7 @@ StepsLoad Makes held state path reply next = Decides (load_refusal (length state
 
 -- ---- activation
 
--- what comes of making a dynamic segment active: no slot, no room, or its address and the next state
+-- the outcome of making a dynamic segment active: no slot, no room, or its address and the next state
 pub data Activation : Type 0 where
   OutOfSlots : Activation
   OutOfRoom : Activation
@@ -255,7 +255,7 @@ pub record MakesActive (Makes : MakesRoom) (held : FileMap) (state : Machine) (i
   pub activates : Activates Makes state id sees.user number (want_of (head_of s)) (presence_at state.slots (handles_of sees.user) number) outcome
   pub answers : Answers state number outcome of reply next
 
--- ---- what stands in a user's segment
+-- ---- the content of a user's segment
 
 -- where the segments of the user of an ID are, and where those that its table names
 abbrev pub setting_in : Machine → ℕ → User → AddressSetting
@@ -325,7 +325,7 @@ no_jsl bytes = if slice_index bytes 0 == 0x22 then None else Some NotJsl
 abbrev pub address_of : List ℕ → ℕ
 address_of bytes = number_at 3 1 bytes
 
--- four bytes of what stands in the segment are followed
+-- four bytes of the segment's content are followed
 pub record StepsJsl (Makes : MakesRoom) (held : FileMap) (state : Machine) (id number at : ℕ) (reply : Reply) (next : Machine) : Type 0 where
   pub bytes : List ℕ
   pub stands : StandsIn held state id number bytes

@@ -15,8 +15,8 @@ IsAnswered held state command reply others next =
     (Steps RoomRule held state command reply next × (others ≡ 0))
     ⊎ ((reply ≡ Refused CannotRead) × (paths : List (List ℕ)) × Needs held state command paths × (paths ≢ []) × (next ≡ state) × (others ≡ 1))
 
--- The commands are answered in order from a state on, and lead to the last state. So many of them are answered by `cannot read` in
--- the place of their step's reply, and so many files are read for all of them.
+-- The commands are answered in order from a state on, and lead to the last state. `others` of them are answered by `cannot read` in the
+-- place of their step's reply, and `reads` files are read for all of them.
 abbrev pub AreAnswered : FileMap → Machine → List Command → List Reply → ℕ → ℕ → Machine → Type 0
 AreAnswered held state [] [] others reads last = (others ≡ 0) × (reads ≡ 0) × (last ≡ state)
 AreAnswered held state [] (reply ∷ replies) others reads last = ⊥

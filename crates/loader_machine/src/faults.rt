@@ -22,7 +22,7 @@ pub enum LoaderFault {
     OutOfSegment,
     /// The segment is a jump table.
     TableByte,
-    /// No JSL stands there.
+    /// There is no JSL at the offset.
     NotJsl,
     /// The JSL's address lies in no active segment of a running user.
     NoTarget,
@@ -46,6 +46,6 @@ pub enum LoaderFault {
     LoaderOwned,
     /// The handle's block was purged.
     Empty,
-    /// Memory ran out.
+    /// Out of memory.
     Memory,
 }

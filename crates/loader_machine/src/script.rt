@@ -30,7 +30,7 @@ pub enum CommandName {
 /// What is wrong with a line of a script: the first cause in this order.
 #[derive(Clone, Copy, PartialEq, Eq, Debug)]
 pub enum ScriptCause {
-    /// More than 65,536 lines stand in the text.
+    /// The text has more than 65,536 lines.
     TooManyLines,
     /// The line isn't made of words with one space between them, or it or a word is too long.
     BadWord,
@@ -44,11 +44,11 @@ pub enum ScriptCause {
     BadNumber,
     /// `banks` names a bank twice.
     BankTwice,
-    /// Memory ran out; no cause in a line.
+    /// Out of memory; no cause in a line.
     Memory,
 }
 
-/// The first bad line of a script, with the first cause against it. Want of memory has line 0.
+/// The first bad line of a script, with the first cause against it. For lack of memory the line is 0.
 #[derive(Clone, Copy, PartialEq, Eq, Debug)]
 pub struct ScriptFault {
     pub cause: ScriptCause,

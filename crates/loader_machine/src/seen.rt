@@ -1,4 +1,4 @@
-//! What is told of users and their segments.
+//! What is reported of users and their segments.
 
 use iigs_meaning::Handle;
 
@@ -14,8 +14,8 @@ pub struct SegmentHead {
     pub entry: u32,
 }
 
-/// What is told of a segment where a file has changed. Where only the number of segments has, the segment is 0 and the fields
-/// behind it are 0.
+/// What is reported of a segment where a file has changed. Where only the number of segments has, the segment is 0 and the fields after it
+/// are 0.
 #[derive(Clone, Copy, PartialEq, Eq, Debug)]
 pub struct Facts {
     /// How many segments the file has.

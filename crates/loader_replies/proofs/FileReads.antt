@@ -63,7 +63,7 @@ one_needed files state (Restart user) paths (inl none) = few_as paths [] none.1 
 one_needed files state (Restart user) paths (inr its) = one_if paths _ _ _ its.1
 one_needed files state _ paths is = few_as paths [] is (omega arith)
 
--- where no file is needed behind the first, as many are read where a read fails
+-- where no file is needed after the first, as many are read where a read fails as where none does
 failed_reads : (files : FileMap) (state : Machine) (command : Command) (before now : ℕ) → ((rows : List (List ℕ)) (following : ℕ) → NeedsAfter files state command rows following → following ≡ 0)
     → ReadsNeeded files state command 0 before now → ReadsNeeded files state command 1 before now
 failed_reads files state command before now none (reads, (first, needs, inl its), count) =
@@ -88,7 +88,7 @@ module _ (command : Command) (most : ℕ) (old new : Loaded) (before now : Store
   store_is : now ≡ record before { faults = now.faults; asked = now.asked }
   store_is = ap (λ (h : Option FileMap). record { held = h; faults = now.faults; asked = now.asked }) held
 
-  -- over files that are told: the machine's reply, or `cannot read`
+  -- over revealed files: the machine's reply, or `cannot read`
   reported_answer : (files : FileMap) (state : Machine) (reply : Reply) → reply ≢ commands.Refused faults.Memory → MeetsReads RoomRule files state command reply new before now
       → (others : ℕ) × (reads : ℕ) × (next : Machine) × IsAnswered files state command reply others next × IsReadFor files state command others reads × Agrees files new next
       × (now.faults ≡ saturating_sum others before.faults) × (now.asked ≡ saturating_sum reads before.asked)

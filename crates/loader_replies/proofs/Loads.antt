@@ -27,7 +27,7 @@ use Rattle.loader_replies.proofs.Reading.{IsFaulted, other_fault, unread_fault, 
 
 -- ---- the files of rows
 
--- what comes of reading so many at most
+-- the outcome of reading `most` files at most
 abbrev RowsEnd : Option FileMap → ℕ → ℕ → ℕ → Joined → Type 0
 RowsEnd held most before now (Stops rows why) = IsFaulted {A = Started} held (Err why) before now × (is_full_fault why ≡ false) × (rows ≤ most)
 RowsEnd held most before now (Joins all) = (now ≡ before) × (length all ≤ most)
@@ -47,7 +47,7 @@ rows_end held (path ∷ paths) before now joined (inr (file, is_read, inr (segme
 
 -- ---- the counts of a load that was refused
 
--- so many files were read, and one read failed at most
+-- `reads` files were read, and one read failed at most
 pub record HasCounts (held : Option FileMap) (why : LoaderFault) (before now reads : ℕ) : Type 0 where
   pub few : reads ≤ most_reads
   pub may : LoadMayRead (is_full_fault why) reads

@@ -49,7 +49,8 @@ use Rattle.loader_replies.proofs.Refusals.{bytes_safe, segment_safe, restart_saf
 abbrev unread_of : LoaderFault → ℕ
 unread_of why = unread (commands.Refused why ∷ [])
 
--- a call that succeeds leaves it, and one that is refused raises it once at most: over files that aren't told where they couldn't be read
+-- a call that succeeds leaves the count, and one that is refused raises it once at most: over files that aren't revealed, exactly where
+-- they couldn't be read
 abbrev pub IsFaulted : {A : Type 0} → Option FileMap → Result A LoaderFault → ℕ → ℕ → Type 0
 IsFaulted held (Ok it) before now = now ≡ before
 IsFaulted held (Err why) before now = OnceAtMost before now × (held ≡ None → now ≡ saturating_sum (unread_of why) before)
@@ -177,7 +178,7 @@ jsl_once loader id number at before now (inr same) = inl same.1
 
 -- ---- lines
 
--- over files that are told, and with which the loader agrees, the reply is the machine's
+-- over revealed files, with which the loader agrees, the reply is the machine's
 abbrev Meets' : Command → Loaded → Loaded → StoreSeen → StoreSeen → Reply → Type 0
 Meets' command old new before now reply = (files : FileMap) (state : Machine) → before.held ≡ Some files → Agrees files old state → Meets RoomRule files state command reply new before.faults now.faults
 

@@ -109,7 +109,7 @@ pub purge_safe : (user : Option UserSeen) (id : ℕ) → Safe (purge_refusal use
 unfolding purge_refusal
 purge_safe user id = safe_if (id == 0) None _ safe_none (safe_user user _ (λ seen. safe_none))
 
--- why a call refuses, where that is told with what it did
+-- why a call refuses, where that is reported with what it did
 pub poke_why : (old new : Loaded) (id number at byte : ℕ) (done : Result (Unit {0}) LoaderFault) → DidPoke old id number at byte done new
     → IfErr done (λ why. poke_refusal old.memory.slots (seen_by old id) number at ≡ Some why)
 poke_why old new id number at byte (Ok done) did = tt
@@ -143,7 +143,7 @@ pub alloc_safe : (memory : Memory) (want : Want) (why : LoaderFault) → IsAlloc
 alloc_safe memory want why (inl full) = ap is_unread_fault full.0
 alloc_safe memory want why (inr none) = ap is_unread_fault none.0
 
--- the reply of a call that tells nothing
+-- the reply of a call that reports nothing
 pub done_safe : (done : Result (Unit {0}) LoaderFault) (refusal : Refuse) → Safe refusal → IfErr done (λ why. refusal ≡ Some why) → is_unread (done_reply done) ≡ false
 done_safe (Ok done) refusal safe none = refl
 done_safe (Err why) refusal safe none = safe why none

@@ -26,6 +26,6 @@ pub word_is_text : (word : List ℕ) → is_word word ≡ true → IsUtf8 word
 unfolding is_word
 word_is_text word is = IsUtf8-from_ascii word (small word (both (nat_le 1 (length word) && nat_le (length word) 255) (list_all (λ byte. nat_le 0x21 byte && nat_le byte 0x7E) word) is).1)
 
--- no bank of a script's list stands there twice
+-- no bank is in a script's list twice
 pub not_twice : (banks : List ℕ) (bank : ℕ) → stands_twice banks ≡ false → IsBanksRefusal banks (BankTwice bank) → ⊥
 not_twice banks bank none twice = stands_twice-distinct banks none twice.earlier twice.place twice.before twice.inside (twice.again ∙ sym twice.is)

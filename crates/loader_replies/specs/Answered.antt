@@ -23,8 +23,8 @@ HasPrinted (Ok done) text before now = now ≡ with_text text before
 HasPrinted (Err CannotPrint) text before now = FailsToPrint text before now
 HasPrinted (Err Memory) text before now = now ≡ before
 
--- the loader answers a command: over files that are told as the machine does, or by `cannot read` where the count is one more; and
--- it reads what the command needs, up to a read that fails
+-- the loader answers a command: over revealed files as the machine does, or by `cannot read` where the count is one more; and it reads what
+-- the command needs, up to a read that fails
 pub record IsAnswer (command : Command) (old : Loaded) (reply : Reply) (new : Loaded) (before now : StoreSeen) : Type 0 where
   pub reported : IfRevealedOr before.held
       ((reads : ℕ) × MayRead command reply reads × (now.faults ≡ saturating_sum (unread (reply ∷ [])) before.faults) × (now.asked ≡ saturating_sum reads before.asked))
@@ -48,7 +48,7 @@ abbrev pub IsFirstLoader : Command → Loaded → Type 0
 IsFirstLoader (Banks banks) loader = (held : FileMap) → Agrees held loader (empty_of banks)
 IsFirstLoader _ loader = ⊥
 
--- how one command ends: its reply was printed, or not whole; or memory ran out, and nothing was printed
+-- how one command ends: its reply was printed, or not whole; or it was out of memory, and nothing was printed
 abbrev pub HasAnswered : Result (Unit {0}) ReplyStop → Command → Loaded → Loaded → Outside → Type 0
 HasAnswered (Ok done) command old new o =
     (reply : Reply) × IsAnswer command old reply new o.store o.new_store × (o.new_sink ≡ with_text (reply_line reply) o.sink)

@@ -50,18 +50,18 @@ MayRead (Jsl user segment at) reply reads = reads ≤ 1
 MayRead (Restart user) reply reads = reads ≤ 1
 MayRead _ reply reads = reads ≡ 0
 
--- the same of all commands
+-- how many files all commands with these replies may have read
 abbrev pub MayReadAll : List Command → List Reply → ℕ → Type 0
 MayReadAll [] replies reads = reads ≡ 0
 MayReadAll (command ∷ commands) [] reads = reads ≡ 0
 MayReadAll (command ∷ commands) (reply ∷ replies) reads =
     (here : ℕ) × (later : ℕ) × MayRead command reply here × MayReadAll commands replies later × (reads ≡ here + later)
 
--- These are replies to the commands, from the empty state on. Over files that are told they are the machine's, but that a
--- command which reads may be answered by `cannot read` in the place of its reply; the count of faults is one more for each of
--- these, that of reads one more for each file that a command needs, up to a read that fails, and `P` holds of the state to which the
--- replies lead. Over files that aren't told the count of faults is one more for each `cannot read`, and so many reads may have been.
--- All else of the store is as before.
+-- These are replies to the commands, from the empty state on. Over revealed files they are the machine's, but that a command which reads
+-- may be answered by `cannot read` in the place of its reply; the count of faults is one more for each of these, that of reads one more for
+-- each file that a command needs, up to a read that fails, and `P` holds of the state to which the replies lead. Over files that aren't
+-- revealed the count of faults is one more for each `cannot read`, and that of reads rises by a number that `MayReadAll` allows. All else
+-- of the store is as before.
 pub record AreReplies (P : FileMap → Machine → Type 0) (commands : List Command) (replies : List Reply) (before now : StoreSeen) : Type 0 where
   pub one_each : length replies ≡ length commands
   pub reported : IfRevealedOr before.held
@@ -74,13 +74,13 @@ pub record AreReplies (P : FileMap → Machine → Type 0) (commands : List Comm
 abbrev pub OnceAtMost : ℕ → ℕ → Type 0
 OnceAtMost before now = (now ≡ before) ⊎ (now ≡ one_more before)
 
--- so many files were read at most, one read of them failed at most, and nothing else was done to the store
+-- `most` files were read at most, one read of them failed at most, and nothing else was done to the store
 abbrev pub ReadsAtMost : ℕ → StoreSeen → StoreSeen → Type 0
 ReadsAtMost most before now = (reads : ℕ) × (reads ≤ most) × (now.asked ≡ saturating_sum reads before.asked)
     × OnceAtMost before.faults now.faults × (now ≡ record before { faults = now.faults; asked = now.asked })
 
--- a command has no reply, since memory ran out in it: a load may have read its file and those of its rows, a segment that is made
--- active, a JSL and a restart one file, and no other command any
+-- a command has no reply, since it was out of memory: a load may have read its file and those of its rows, a segment that is made active, a
+-- JSL and a restart one file, and no other command any
 abbrev pub IsUnanswered : Command → StoreSeen → StoreSeen → Type 0
 IsUnanswered (Load path) before now = ReadsAtMost most_reads before now
 IsUnanswered (LoadSegment user segment) before now = ReadsAtMost 1 before now

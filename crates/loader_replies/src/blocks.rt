@@ -126,7 +126,7 @@ pub fn level(alloc: Global, handle: Handle, n: u8, loader: &mut Loader) -> Resul
     done_line(alloc, loader.level(handle, n))
 }
 
-/// Tells of a handle's block.
+/// Reports the state of a handle's block.
 pub fn state(alloc: Global, handle: Handle, loader: &Loader) -> Result<Line, LineFault>
     ensures { (store : StoreSeen) → HasLine result (machine.StateOf handle) loader.now loader.now store store }
 {
@@ -136,7 +136,7 @@ pub fn state(alloc: Global, handle: Handle, loader: &Loader) -> Result<Line, Lin
     }
 }
 
-/// Tells how many bytes are free.
+/// Reports how many bytes are free.
 pub fn room(alloc: Global, loader: &Loader) -> Result<Line, LineFault>
     ensures { (store : StoreSeen) → HasLine result machine.Room loader.now loader.now store store }
 {

@@ -156,14 +156,14 @@ pub fn bytes(
     }
 }
 
-/// Tells where an address lies.
+/// Reports where an address lies.
 pub fn where_(alloc: Global, address: u32, loader: &Loader) -> Result<Line, LineFault>
     ensures { (store : StoreSeen) → HasLine result (machine.Where address) loader.now loader.now store store }
 {
     where_line(alloc, loader.locate(address))
 }
 
-/// Tells of a user's segment.
+/// Reports what is known of a user's segment.
 pub fn info(alloc: Global, user: u16, segment: u16, loader: &Loader) -> Result<Line, LineFault>
     ensures { (store : StoreSeen) → HasLine result (machine.Info user segment) loader.now loader.now store store }
 {

@@ -105,7 +105,7 @@ pub fn moved_line(alloc: Global, count: u32) -> Result<Line, LineFault>
     Ok(line)
 }
 
-/// Appends bytes, each behind a space.
+/// Appends bytes, each after a space.
 #[tactic(auto, unfolding(loader_machine::specs::Replies::other_text))]
 fn put_others(line: &mut Line, bytes: &[u8]) -> Result<(), LineFault>
     ensures { OnOk result (line.new ≡ line.old ++ flat_map other_text bytes.now) }
@@ -116,7 +116,7 @@ fn put_others(line: &mut Line, bytes: &[u8]) -> Result<(), LineFault>
     Ok(())
 }
 
-/// Appends a byte behind a space.
+/// Appends a byte after a space.
 #[tactic(auto, unfolding(loader_machine::specs::Replies::other_text))]
 fn put_other(line: &mut Line, byte: u8) -> Result<(), LineFault>
     ensures { OnOk result (line.new ≡ line.old ++ other_text byte) }
@@ -176,7 +176,7 @@ fn lies_line(alloc: Global, place: Entered) -> Result<Line, LineFault>
     Ok(line)
 }
 
-/// The reply that tells where an address lies.
+/// The reply that says where an address lies.
 pub fn where_line(alloc: Global, place: Option<Entered>) -> Result<Line, LineFault>
     ensures { IfOk result (λ text. text ≡ reply_line (where_reply place)) }
 {
@@ -195,7 +195,7 @@ fn put_handle(line: &mut Line, handle: Handle) -> Result<(), LineFault>
     line.hex(u32::from(handle.generation), 2)
 }
 
-/// Appends an address behind ` at `.
+/// Appends ` at ` and an address.
 #[tactic(auto, unfolding(loader_machine::specs::Replies::at_text))]
 fn put_at(line: &mut Line, address: u32) -> Result<(), LineFault>
     ensures { OnOk result (line.new ≡ line.old ++ at_text address) }
@@ -245,7 +245,7 @@ fn presence_front(alloc: Global, presence: Presence) -> Result<Line, LineFault>
     }
 }
 
-/// The reply that tells of a segment.
+/// The reply that reports a segment.
 #[tactic(auto, unfolding(loader_machine::specs::Replies::reply_line, loader_machine::specs::Replies::reply_text))]
 pub fn info_line(alloc: Global, info: Info) -> Result<Line, LineFault>
     ensures { IfOk result (λ text. text ≡ reply_line (machine.SegmentIs info.presence info.length info.kind)) }
@@ -259,7 +259,7 @@ pub fn info_line(alloc: Global, info: Info) -> Result<Line, LineFault>
     Ok(line)
 }
 
-/// The reply that tells of a new block.
+/// The reply that reports a new block.
 #[tactic(auto, unfolding(loader_machine::specs::Replies::reply_line, loader_machine::specs::Replies::reply_text))]
 pub fn placed_line(alloc: Global, handle: Handle, address: u32) -> Result<Line, LineFault>
     ensures { IfOk result (λ text. text ≡ reply_line (machine.Placed handle address)) }
@@ -281,7 +281,7 @@ fn put_lock(line: &mut Line, locked: bool) -> Result<(), LineFault>
     }
 }
 
-/// A line that tells of a block that is there.
+/// A line that reports a block that is there.
 #[tactic(auto, unfolding(loader_machine::specs::Replies::there_text))]
 fn block_front(alloc: Global, address: u32, state: BlockState) -> Result<Line, LineFault>
     ensures { IfOk result (λ text. text ≡ there_text address state) }
@@ -297,7 +297,7 @@ fn block_front(alloc: Global, address: u32, state: BlockState) -> Result<Line, L
     Ok(line)
 }
 
-/// A line that tells of a block.
+/// A line that reports a block.
 #[tactic(auto, unfolding(loader_machine::specs::Replies::block_text))]
 fn state_front(alloc: Global, state: BlockState) -> Result<Line, LineFault>
     ensures { IfOk result (λ text. text ≡ block_text state.at state) }
@@ -308,7 +308,7 @@ fn state_front(alloc: Global, state: BlockState) -> Result<Line, LineFault>
     }
 }
 
-/// The reply that tells of a block.
+/// The reply that reports a block.
 #[tactic(auto, unfolding(loader_machine::specs::Replies::reply_line, loader_machine::specs::Replies::reply_text))]
 pub fn state_line(alloc: Global, state: BlockState) -> Result<Line, LineFault>
     ensures { IfOk result (λ text. text ≡ reply_line (machine.BlockIs state)) }
@@ -318,7 +318,7 @@ pub fn state_line(alloc: Global, state: BlockState) -> Result<Line, LineFault>
     Ok(line)
 }
 
-/// The reply that tells how many bytes are free.
+/// The reply that says how many bytes are free.
 #[tactic(auto, unfolding(loader_machine::specs::Replies::reply_line, loader_machine::specs::Replies::reply_text))]
 pub fn room_line(alloc: Global, count: u32) -> Result<Line, LineFault>
     ensures { IfOk result (λ text. text ≡ reply_line (machine.RoomIs count)) }
@@ -350,7 +350,7 @@ fn cause_name(cause: LoadCause) -> &'static str
     }
 }
 
-/// A line that tells a load file's fault.
+/// A line that reports a load file's fault.
 #[tactic(auto, unfolding(loader_machine::specs::Replies::bad_file_text))]
 fn bad_file_front(alloc: Global, fault: LoadFault) -> Result<Line, LineFault>
     ensures { IfOk result (λ text. text ≡ bad_file_text fault) }
@@ -375,7 +375,7 @@ fn number_front(alloc: Global, word: &str, number: u32) -> Result<Line, LineFaul
     Ok(line)
 }
 
-/// A line that tells a refusal. Want of memory is none.
+/// A line that reports a refusal. Lack of memory is none.
 #[tactic(auto, unfolding(loader_machine::specs::Replies::refused_text))]
 fn refusal_front(alloc: Global, fault: LoaderFault) -> Result<Line, LineFault>
     ensures { IfOk result (λ text. (fault ≢ LoaderFault.Memory) × (text ≡ refused_text fault)) }
@@ -407,7 +407,7 @@ fn refusal_front(alloc: Global, fault: LoaderFault) -> Result<Line, LineFault>
     }
 }
 
-/// The reply of a refused command. Want of memory is no reply.
+/// The reply of a refused command. Lack of memory is no reply.
 #[tactic(auto, unfolding(loader_machine::specs::Replies::reply_line, loader_machine::specs::Replies::reply_text))]
 pub fn refusal_line(alloc: Global, fault: LoaderFault) -> Result<Line, LineFault>
     ensures { IfOk result (λ text. (fault ≢ LoaderFault.Memory) × (text ≡ reply_line (machine.Refused fault))) }
@@ -417,7 +417,7 @@ pub fn refusal_line(alloc: Global, fault: LoaderFault) -> Result<Line, LineFault
     Ok(line)
 }
 
-/// The line of a reply that tells nothing, or of a refusal.
+/// The line of a reply that reports nothing, or of a refusal.
 pub fn done_line(alloc: Global, done: Result<(), LoaderFault>) -> Result<Line, LineFault>
     ensures { IsLineOf result (done_reply done) }
 {

@@ -20,7 +20,7 @@ use Rattle.loader_script.specs.Running.{IsUnderWay, HasFinished}
 use Rattle.loader_replies.proofs.OneCommand.{OneReported, idle_reads, answered}
 use Rattle.loader_script.proofs.Transcripts.{AllReported, more_replied, forget, printed_more, with_text-none}
 
--- what stands for the loader before there is one
+-- what represents the loader before there is one
 abbrev pub no_loader : Loaded
 no_loader = record { memory = record { banks = []; slots = new_slots; bytes = [] }; users = [] }
 
@@ -129,7 +129,7 @@ module _ (s s₁ s₂ : StoreSeen) (k k₁ k₂ : SinkSeen) (commands : List Com
       subst (λ (cs : List Command). HasFinished (Err why) cs (outside s s₂ k k₂)) (sym parts.1)
       (stops s s₁ s₂ k k₁ k₂ (take i commands) command old new so_far parts.0 why done)
 
--- a command behind the first keeps its bounds
+-- a command after the first keeps its bounds
 following : (is_first : Bool) (commands : List Command) (i : ℕ) (c : Command) → AreCommands is_first commands → slice_get commands (suc i) ≡ Some c → IsCommand false c
 following is_first [] i c are is = absurd (cc)
 following is_first (d ∷ []) i c are is = absurd (cc)

@@ -25,8 +25,8 @@ pub record HasRunAll (loader : Option Loaded) (commands : List Command) (o : Out
   pub handed : IsSome loader ↔ (commands ≢ [])
   pub printed : o.new_sink ≡ with_text (replies_text replies) o.sink
 
--- Some first commands were answered, and their replies printed; then the next one was, and the sink failed at its reply, of which
--- a front was printed. No command was run behind it.
+-- Some first commands were answered, and their replies printed; then the next one was, and the sink failed at its reply, of which a prefix
+-- was printed. No command was run after it.
 pub record StopsPrinting (commands : List Command) (o : Outside) : Type 0 where
   pub front : List Command
   pub next : Command
@@ -37,7 +37,7 @@ pub record StopsPrinting (commands : List Command) (o : Outside) : Type 0 where
   pub answered : AreReplies (λ files last. Unit {0}) (front ++ next ∷ []) (replies ++ reply ∷ []) o.store o.new_store
   pub printed : FailsToPrint (reply_line reply) (with_text (replies_text replies) o.sink) o.new_sink
 
--- Some first commands were answered, and their replies printed; then memory ran out in the next one, which has no reply.
+-- Some first commands were answered, and their replies printed; then the next one was out of memory, and has no reply.
 pub record StopsShort (commands : List Command) (o : Outside) : Type 0 where
   pub front : List Command
   pub next : Command

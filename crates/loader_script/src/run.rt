@@ -21,9 +21,9 @@ pub enum ScriptEnd {
     Done(Option<Loader>),
     /// The script's first bad line. Nothing was run.
     Refused(ScriptFault),
-    /// A reply couldn't be printed whole. No command was run behind it.
+    /// A reply couldn't be printed whole. No command was run after it.
     CannotPrint,
-    /// Memory ran out. The command in which it did has no reply.
+    /// Out of memory. The command in which this happened has no reply.
     Memory,
 }
 

@@ -19,7 +19,7 @@ const FIRST: Facts = Facts {
     entry: 0,
 };
 
-/// Where the dynamic segment comes: behind the code and the table.
+/// Where the dynamic segment is placed: after the code and the table.
 const PLACE: u32 = 0x81B;
 
 /// How long the program is before its table.
@@ -87,7 +87,7 @@ fn start(alloc: Global, loader: &mut Loader, files: &mut MemoryFiles) -> Result<
     load(loader, files)
 }
 
-/// What is answered for the dynamic segment: where it comes, and its two bytes.
+/// What is answered for the dynamic segment: where it is placed, and its two bytes.
 type ReadAnswer = Result<(u32, [u8; 2]), LoaderFault>;
 
 fn answered(loader: &mut Loader, files: &mut MemoryFiles) -> ReadAnswer {
@@ -163,7 +163,7 @@ fn bad_segment(alloc: Global, later: &[u8]) -> Result<Option<u32>, Fail> {
     }
 }
 
-/// What is told where only the number of segments has changed.
+/// What is reported where only the number of segments has changed.
 fn many(count: u32) -> Facts {
     Facts {
         count,
@@ -237,7 +237,7 @@ fn a_changed_header_comes_before_the_number_of_segments(rt: HostRuntime) -> Resu
     answers_to(&rt, 0, &[&CODE, &DYNAMIC], &[(0x24, 1)], both)
 }
 
-// The file is no load file any more: that comes before what has changed in it.
+// The file is no load file any more: that is reported before what has changed in it.
 #[test]
 fn a_bad_file_is_reported_before_a_change(rt: HostRuntime) -> Result<(), Fail> {
     let alloc = rt.alloc();

@@ -7,7 +7,7 @@ use std::alloc::{AllocError, Global};
 use std::test::Fail;
 use sys_loader::{Facts, Loader, LoaderFault};
 
-/// Where the pathname segment's bytes stand: behind the other segments, its header and the first five bytes of its record.
+/// Where the pathname segment's bytes are: after the other segments, its header and the first five bytes of its record.
 const PATHS: usize = 62 + 63 + 87 + 0x37 + 5;
 
 /// Code, a dynamic segment and a table with an entry for it.
@@ -45,12 +45,12 @@ fn load(loader: &mut Loader, files: &mut MemoryFiles) -> Option<LoaderFault> {
     loader.load(files, "p").err()
 }
 
-/// Why the dynamic segment doesn't come, if it doesn't.
+/// Why the dynamic segment isn't loaded, if it isn't.
 fn comes(loader: &mut Loader, files: &mut MemoryFiles) -> Option<LoaderFault> {
     loader.load_segment(files, 0x1001, 2).err()
 }
 
-/// Leaves the user dormant without its blocks, and tells why it doesn't restart, if it doesn't.
+/// Leaves the user dormant without its blocks, and returns why it doesn't restart, if it doesn't.
 fn restarts(
     loader: &mut Loader,
     files: &mut MemoryFiles,
@@ -95,7 +95,7 @@ fn bad(cause: LoadCause) -> Option<LoaderFault> {
     }))
 }
 
-/// What is told of a file of so many segments, of which none is another one.
+/// What is reported of a file of `count` segments, where only their number has changed.
 fn many(count: u32) -> Facts {
     Facts {
         count,
@@ -131,7 +131,7 @@ fn a_pathname_segment_is_one_more(rt: HostRuntime) -> Result<(), Fail> {
     Ok(())
 }
 
-// A fault of the file comes first: here its first row doesn't have the number 2.
+// A fault of the file is reported first: here its first row doesn't have the number 2.
 #[test]
 fn bad_pathnames_come_before(rt: HostRuntime) -> Result<(), Fail> {
     let alloc = rt.alloc();

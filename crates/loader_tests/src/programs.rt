@@ -37,7 +37,7 @@ pub(crate) static TABLE: [u8; 87] = [
     0,
 ];
 
-/// A pathname segment with the path `a`, behind a table.
+/// A pathname segment with the path `a`, after a table.
 pub(crate) static PATHNAMES: [u8; 75] = [
     0x4B, 0, 0, 0, 0, 0, 0, 0, 14, 0, 0, 0, 0, 0, 4, 2, 0, 0, 1, 0, // LENGTH and BANKSIZE
     4, 0, 0, 0, 0, 0, 0, 0, 0, 0, 0, 0, 0, 0, 4, 0, 0, 0, 0, 0, 0x2C, 0, 0x37, 0, // KIND and SEGNUM

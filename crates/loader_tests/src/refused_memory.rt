@@ -34,7 +34,7 @@ fn restart(loader: &mut Loader, files: &mut MemoryFiles) -> Result<u32, LoaderFa
     Ok(loader.restart(files, 0x1001)?.entry.unwrap_or(0))
 }
 
-/// Makes a call, and tells the address that it answers.
+/// Makes a call, and returns the address that it answers.
 fn made(
     loader: &mut Loader,
     files: &mut MemoryFiles,
@@ -83,7 +83,7 @@ fn all_seen(loader: &Loader) -> (Seen, Seen, Seen, u32) {
     )
 }
 
-/// What a call answers. Where memory is refused it changes nothing, and is made again; nothing is told where it changes something.
+/// What a call answers. Where memory is refused it changes nothing, and is made again; there is no answer where it changes something.
 fn answer(
     loader: &mut Loader,
     files: &mut MemoryFiles,
@@ -132,8 +132,8 @@ fn shut_down(loader: &mut Loader) -> Result<(), LoaderFault> {
     loader.shut_down(0x1001, true)
 }
 
-// The code, and after it the table; the dynamic segment comes after both, is entered at its second byte, and comes again where it was
-// purged.
+// The code, and after it the table; the dynamic segment is placed after both, is entered at its second byte, and is loaded again where it
+// was purged.
 fn starts(rt: &impl Abort, loader: &mut Loader, files: &mut MemoryFiles) {
     same(
         rt,

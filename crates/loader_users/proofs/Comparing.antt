@@ -27,7 +27,7 @@ fields_get load k f has = let more : k + 1 ≡ suc k = omega arith in slice_get-
     go None e is = absurd is
     go (Some s) e is = ap (option_map head_of) e ∙ ap (λ (g : HeaderFields). Some (head_in g)) is
 
--- ---- the first so many are the same
+-- ---- the first headers, up to a number, are the same
 
 take_next : (xs : List SegmentHead) (k : ℕ) (x : SegmentHead) → slice_get xs k ≡ Some x → take (k + 1) xs ≡ take k xs ++ x ∷ []
 take_next xs k x is = let more : k + 1 ≡ suc k = omega arith in ap (λ (n : ℕ). take n xs) more ∙ go xs k is

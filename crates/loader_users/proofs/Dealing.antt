@@ -41,7 +41,7 @@ module _ (place : ℕ → ℕ) (segments xs : List UserSegment) (i : ℕ) (d : U
       → entry_in (heads segments) place 1 ≡ Some ((place (i + 1) + (get_or xs i d).head.entry) % 0x1000000)
   sought_here is = sym (rw is at whole)
 
--- the place of the segment after so many
+-- the place of the segment after `i` others
 pub place_here : (slots : Slots) (segments xs : List UserSegment) (i : ℕ) (d : UserSegment) → xs ≡ segments → i < length xs
     → place_in slots (map (λ (s : UserSegment). s.handle) segments) (i + 1) ≡ unwrap_or (there_at (presence slots (get_or xs i d).handle)) 0
 place_here slots segments xs i d same inside =

@@ -107,7 +107,7 @@ module _ {U : Type 0} (change : U → U) where
   all_more users [] id = refl
   all_more users (one ∷ ids) id = all_more (option_map_or (λ (u : U). with_user users one (Some (change u))) (user_of users one) users) ids id
 
-  -- and one behind them, which is there
+  -- and one after them, which is there
   pub all_last : (users : List (Option U)) (ids : List ℕ) (id : ℕ) (now : U) → user_of (with_all change users ids) id ≡ Some now
       → with_all change users (ids ++ id ∷ []) ≡ with_user (with_all change users ids) id (Some (change now))
   all_last users ids id now made =

@@ -1,4 +1,4 @@
--- A table whose entries follow a segment stands for the new setting.
+-- A table whose entries follow a segment has the entries of the new setting.
 use Rattle.std.proofs.Common.{◌≡◌, ℕ, suc, Bool, true, false, cond, ◌+◌, ◌^◌, ◌<◌, List, [], ◌∷◌, ◌++◌, length, map, Option, Some, None, IsSome, refl, sym, ap, subst, ◌∙◌, arith, append_assoc, append-nil}
 use Rattle.std.specs.List.{AllByRecursion}
 use Rattle.std.specs.Option.{option_map}
@@ -96,7 +96,7 @@ module _ (only : Choice) (address : Option ℕ) (a b : AddressSetting) (id : a.i
       subst (λ (n : ℕ). IsFront (table_bytes (half (done ++ t ∷ left) [])) (relinked_entries only address n bytes)) sum
       (subst (λ (l : List Target). IsFront (table_bytes (half l [])) (relinked_entries only address (length (done ++ t ∷ []) + length left) bytes)) (append_assoc done (t ∷ []) left) all')
 
-  -- a table whose entries follow stands for the new setting
+  -- a table whose entries follow has the entries of the new setting
   pub renewed_stands : (ts : List Target) (bytes : List ℕ) → AllByRecursion (Follows only address a b) ts → IsFront (table_bytes (map (entry_for a) ts)) bytes
       → IsFront (table_bytes (map (entry_for b) ts)) (relinked_entries only address (length ts) bytes)
   renewed_stands ts bytes all is =

@@ -1,4 +1,4 @@
--- Segments of a load file in their new blocks: what is written there is what stands in them.
+-- Segments of a load file in their new blocks: what is written there is their content.
 use Rattle.std.proofs.Common.{◌≡◌, inl, inr, ℕ, zero, suc, Bool, true, false, cond, ◌==◌, ◌+◌, ◌*◌, ◌≤◌, List, [], ◌∷◌, ◌++◌, length, map, Option, Some, None, refl, sym, ap, subst, ◌∙◌, arith}
 use Rattle.std.specs.Prelude.{slice_get, unwrap_or, IsSomeAnd}
 use Rattle.std.specs.List.{AllByRecursion}
@@ -45,7 +45,7 @@ some_and : {A : Type 0} (o : Option A) (P : A → Type 0) → IsSomeAnd o P → 
 some_and None P is = absurd is
 some_and (Some x) P is = (x, refl, is)
 
--- bytes that are in front of others
+-- bytes that are a prefix of others
 pub front_of : (o : Option Segment) (bytes : Segment → List ℕ) (front rest : List ℕ) → IsSomeAnd o (λ s. front ≡ bytes s) → IsSomeAnd o (λ s. IsFront (bytes s) (front ++ rest))
 front_of None bytes front rest is = absurd is
 front_of (Some s) bytes front rest is = (rest, ap (λ (l : List ℕ). l ++ rest) is)

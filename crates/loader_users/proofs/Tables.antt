@@ -19,7 +19,7 @@ length-entries user [] = refl
 length-entries user (t ∷ ts) =
     length-append (entry_bytes (own_entry user t)) (entries user ts) ∙ omega (arith, length-entry_bytes (own_entry user t), length-entries user ts)
 
--- the first so many entries stand after 8 zeros, and zeros after them
+-- the first `k` entries follow 8 zeros, and zeros follow them
 pub record Entered (user : ℕ) (ts : List Target) (k : ℕ) (out : List ℕ) : Type 0 where
   pub few : k ≤ length ts
   pub rest : ℕ
@@ -93,7 +93,7 @@ entered_more user ts k out t room has so_far =
       is = made ∙ ap (λ (l : List ℕ). l ++ replicate (so_far.rest - length piece) 0) next;
     }
 
--- where all stand there, the bytes begin with the table
+-- where all are there, the bytes begin with the table
 pub entered_all : (user : ℕ) (ts : List Target) (k : ℕ) (out : List ℕ) → 12 + 14 * length ts ≤ length out → length ts ≤ k → Entered user ts k out → IsFront (table_bytes (map (own_entry user) ts)) out
 unfolding table_bytes
 entered_all user ts k out room all so_far =

@@ -1,4 +1,4 @@
--- A user some of whose segments come, go, wake or idle agrees still.
+-- A user still agrees where some of its segments are placed, removed, made active or made idle.
 use Rattle.std.proofs.Common.{◌≡◌, ℕ, Bool, true, false, cond, ◌==◌, ◌^◌, ◌<◌, ◌≤◌, List, [], ◌∷◌, length, map, Option, Some, IsSome, refl, sym, ap, subst, ◌∙◌, arith}
 use Rattle.std.specs.List.{AllByRecursion}
 use Rattle.std.proofs.lemmas.List.{length-map}
@@ -36,7 +36,7 @@ pub data Becomes (a b : AddressSetting) (only : Choice) (address : Option ℕ) (
   Turns : is_table s ≡ true → handle_at kept.handles number ≡ Some h → IsSome (there_at (presence_at old.slots kept.handles number))
       → bytes_at new h.slot ≡ relinked_entries only address (entry_count s.fields.length) (bytes_at old h.slot)
       → Becomes a b only address old new kept user user' number s h
-  -- it begins with what stands in it
+  -- it begins with its content
   Anew : IsFront (stands b (held_at user' number).pokes s) (bytes_at new h.slot) → Becomes a b only address old new kept user user' number s h
 
 -- what a call does to a user: where its segments are afterwards, and what becomes of them. The entries of its tables for the chosen

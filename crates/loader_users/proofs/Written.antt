@@ -25,7 +25,7 @@ heads_of segments = map (λ s. s.head) segments
 abbrev pub handles_of : List users.UserSegment → List (Option Handle)
 handles_of segments = map (λ s. s.handle) segments
 
--- the header and the handle of the segment after so many
+-- the header and the handle of the segment after `place` others
 pub head_here : (segments : List users.UserSegment) (place : ℕ) (s : users.UserSegment) → place < length segments → s ≡ get_or segments place s → at_number (heads_of segments) (place + 1) ≡ Some s.head
 head_here segments place s inside is =
     let more : place + 1 ≡ suc place = omega arith in
@@ -46,7 +46,7 @@ has_head load segments place s same inside is =
 
 -- ---- one more
 
--- bytes of the same length that are put in a place stand there, also where it has none
+-- bytes of the same length that are put in a place are found there, also where the list has no such place
 set_here : (all : List (List ℕ)) (slot : ℕ) (w : List ℕ) → length w ≡ length (get_or all slot []) → get_or (set all slot w) slot [] ≡ w
 set_here [] slot w same = sym (empty w same)
   where

@@ -6,7 +6,7 @@ use Rattle.loader_machine.specs.declared.seen.SegmentHead.{SegmentHead}
 use Rattle.loader_machine.specs.declared.seen.Facts.{Facts}
 use Rattle.loader_machine.specs.Heads.{at_number}
 
--- what is reported for a segment of a file with so many
+-- what is reported for a segment of a file with `count` segments
 abbrev pub facts_of : ℕ → ℕ → SegmentHead → Facts
 facts_of count number head = record {
   count = count;

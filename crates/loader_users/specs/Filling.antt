@@ -47,7 +47,7 @@ pub record IsSetting (segments : List Segment) (user : ℕ) (places : List (Opti
   pub place : (n : ℕ) → address_in places n ≡ at.place n
   pub targets : (number : ℕ) (s : Segment) → segment_at segments number ≡ Some s → is_table s ≡ true → AllByRecursion (λ t. at.target t.file t.segment ≡ None) (targets_of s)
 
--- the bytes begin with what stands in the segment with a number
+-- the bytes begin with the content of the segment with a number
 abbrev pub IsFilled : List Segment → ℕ → ℕ → List (Option ℕ) → List ℕ → Type 0
 IsFilled segments number user places bytes = (at : AddressSetting) (s : Segment) → IsSetting segments user places at → segment_at segments number ≡ Some s
     → IsFront (stands at no_pokes s) bytes
@@ -69,7 +69,7 @@ pub record AreReady (memory : Memory) (heads : List SegmentHead) (handles : List
   pub each : (n : ℕ) (head : SegmentHead) (h : Handle) → at_number heads n ≡ Some head → handle_at handles n ≡ Some h → IsReady memory head h
   pub once : (m n : ℕ) (h k : Handle) → handle_at handles m ≡ Some h → handle_at handles n ≡ Some k → h.slot ≡ k.slot → m ≡ n
 
--- the blocks of the first so many segments begin so, and nothing else is written
+-- the blocks of the first `count` segments begin so, and nothing else is written
 pub record AreFilled (segments : List Segment) (handles : List (Option Handle)) (user : ℕ) (places : List (Option ℕ)) (old new : Memory) (count : ℕ) : Type 0 where
   pub banks : new.banks ≡ old.banks
   pub slots : new.slots ≡ old.slots

@@ -17,7 +17,7 @@ pub record LiesAt (slots : Slots) (s : UserSegment) (h : Handle) (address offset
   pub sum : first + offset ≡ address
   pub inside : offset < s.head.length
 
--- the address lies in none of so many first segments under a handle
+-- the address lies in none of the first `count` segments under a handle
 abbrev pub LiesInNone : Slots → List UserSegment → ℕ → Handle → ℕ → Type 0
 LiesInNone slots segments count h address = (k : ℕ) (s : UserSegment) (offset : ℕ) → k < count → slice_get segments k ≡ Some s → ¬ LiesAt slots s h address offset
 

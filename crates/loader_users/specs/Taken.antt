@@ -17,6 +17,6 @@ abbrev pub IsFaultAs : Bool → List ℕ → LoadFault → Type 0
 IsFaultAs true file fault = IsFirstRuntimeFault file fault
 IsFaultAs false file fault = IsFirstLoadFault file fault
 
--- the file isn't loaded, for this first fault; or memory ran out
+-- the file isn't loaded, for this first fault or for lack of memory
 abbrev pub IsBadFile : Bool → List ℕ → LoaderFault → Type 0
 IsBadFile attached file why = (why ≡ fault.Memory) ⊎ ((bad : LoadFault) × IsFaultAs attached file bad × (why ≡ fault.BadFile bad))

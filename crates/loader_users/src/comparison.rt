@@ -11,7 +11,7 @@ use crate::user::UserSegment;
 use loader_machine::{Facts, LoaderFault, SegmentHead};
 use omf_cells::LoadFile;
 
-/// What is told of a segment of a file with so many.
+/// What is reported for a segment of a file with `count` segments.
 fn facts_of(count: u32, segment: u32, head: &SegmentHead) -> Facts
     ensures { result ≡ activating.facts_of count segment head.now }
 {
@@ -27,7 +27,7 @@ fn facts_of(count: u32, segment: u32, head: &SegmentHead) -> Facts
     }
 }
 
-/// What is told of a file of which only the number of segments has changed.
+/// What is reported for a file of which only the number of segments has changed.
 fn count_facts(count: u32) -> Facts
     ensures { result ≡ activating.count_facts count }
 {

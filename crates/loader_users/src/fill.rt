@@ -53,7 +53,7 @@ fn fill_table(load: &LoadFile<'_>, user: u16, out: &mut [u8])
     }
 }
 
-/// Writes a segment to the start of the bytes, as it stands where the file's segments lie at these places.
+/// Writes a segment's content to the start of the bytes, as it is where the file's segments lie at these places.
 fn fill(
     load: &LoadFile<'_>,
     number: u32,

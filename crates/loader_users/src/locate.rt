@@ -83,7 +83,8 @@ pub fn search(
     None
 }
 
-/// The same of a user, where it isn't gone and runs.
+/// The number of the segment of a user, active under a handle, in which an address lies, with the offset, where the user isn't gone and
+/// runs. The one with the number `first` is asked before all.
 pub fn search_user(
     banks: &CompactBanks,
     user: &Option<User>,

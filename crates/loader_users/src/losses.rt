@@ -100,7 +100,7 @@ pub fn first_dangling_entry(load: &LoadFile<'_>, joined: &Vec<User>) -> Option<L
     None
 }
 
-/// The same where these are the IDs of the attached users.
+/// The first entry of the load file that leads nowhere, where these are the IDs of the attached users.
 pub fn first_dangling_entry_of(
     load: &LoadFile<'_>,
     users: &Vec<Option<User>>,

@@ -43,7 +43,7 @@ pub fn active(banks: &CompactBanks, handle: Option<Handle>) -> Result<Handle, Lo
     }
 }
 
-/// So many bytes from an offset on.
+/// `count` bytes from an offset on.
 pub fn slice(bytes: &[u8], at: usize, count: usize) -> &[u8]
     requires { at + count ≤ length bytes.now }
     ensures { result.now ≡ take count (drop at bytes.now) }

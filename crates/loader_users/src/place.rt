@@ -84,7 +84,7 @@ fn address_of(banks: &CompactBanks, handle: Option<Handle>) -> Option<u32>
     }
 }
 
-/// Tells where each segment lies.
+/// Sets where each segment lies.
 pub fn set_places(banks: &CompactBanks, segments: &Vec<UserSegment>, places: &mut Places)
     requires short { length segments.now.items < 2 ^ 16 }
     requires room { length places.old ≡ length segments.now.items }

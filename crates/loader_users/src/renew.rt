@@ -51,7 +51,7 @@ fn relink_entry(bytes: &mut [u8], at: usize, only: Option<(u16, u16)>, place: Op
     }
 }
 
-/// So many entries of a table follow.
+/// `count` entries of a table follow.
 fn relink_entries(bytes: &mut [u8], count: usize, only: Option<(u16, u16)>, place: Option<u32>)
     requires { 14 * count ≤ length bytes.old - 12 }
     ensures is { bytes.new ≡ relinked_entries only place count bytes.old }

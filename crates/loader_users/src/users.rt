@@ -29,7 +29,7 @@ pub fn user_in(users: &Vec<Option<User>>, id: u16) -> &User
     }
 }
 
-/// The file number under which an ID stands in a list of attached users, of which the first has the number 2.
+/// The file number under which an ID is in a list of attached users, of which the first has the number 2.
 fn file_in(attached: &Vec<u16>, id: u16) -> Option<u16>
     requires { length attached.now.items ≤ most_paths }
     ensures { result ≡ state.file_in 2 attached.now.items id }
@@ -42,7 +42,7 @@ fn file_in(attached: &Vec<u16>, id: u16) -> Option<u16>
     None
 }
 
-/// The same in the list of a user, if it isn't gone.
+/// The file number under which an ID is in the list of a user, if the user isn't gone.
 fn file_of(user: &Option<User>, id: u16) -> Option<u16>
     requires { (k : LoadedUser) → option_map kept user.now ≡ Some k → length k.attached ≤ most_paths }
     ensures { result ≡ option_and_then (λ k. state.file_in 2 k.attached id) (option_map kept user.now) }

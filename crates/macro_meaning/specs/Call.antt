@@ -65,7 +65,7 @@ label_bound None label = no_symbols
 label_bound (Some name) [] = no_symbols
 label_bound (Some name) (byte ∷ following) = with_name name (Own Text (byte ∷ following)) no_symbols
 
--- the operands of a call, parted by commas outside quotes and parentheses; none where there is no operand
+-- the operands of a call, separated by commas outside quotes and parentheses; none where there is no operand
 abbrev pub arguments : List ℕ → List (List ℕ)
 arguments [] = []
 arguments (byte ∷ following) = pieces ascii.comma (byte ∷ following)

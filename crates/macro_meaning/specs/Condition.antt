@@ -69,7 +69,7 @@ pub data IsNumber (values : Values) (text : List ℕ) (answer : Answer) : Type 0
 
 -- ---- texts that are compared
 
--- the comparison at the start, `=` or `<>`: whether it asks for equal texts, and what stands after it
+-- the comparison at the start, `=` or `<>`: whether it asks for equal texts, and what follows it
 abbrev pub comparison_at : List ℕ → Option (Bool × List ℕ)
 comparison_at [] = None
 comparison_at (first ∷ []) = if first == ascii.equals then Some (true, []) else None

@@ -24,7 +24,7 @@ pub data DefinitionPart : Type 0 where
 abbrev pub Begun : Type 0
 Begun = Option (Line × List Line)
 
--- The parts of a file in order. A MACRO line begins a definition, and the first MEND behind it ends it.
+-- The parts of a file in order. A MACRO line begins a definition, and the first MEND after it ends it.
 unfoldable pub parts_of : Begun → List Line → List DefinitionPart
 parts_of None [] = []
 parts_of (Some (begins, inner)) [] = Open begins inner ∷ []
@@ -52,7 +52,7 @@ unfoldable pub names_of : List (List ℕ) → Option (List (List ℕ))
 names_of [] = Some []
 names_of (piece ∷ pieces) = one_more (symbol_name piece) (names_of pieces)
 
--- the parameters of an operand, parted by commas; none where there is no operand
+-- the parameters of an operand, separated by commas; none where there is no operand
 abbrev pub parameters_of : List ℕ → Option (List (List ℕ))
 parameters_of [] = Some []
 parameters_of (byte ∷ following) = names_of (pieces ascii.comma (byte ∷ following))
@@ -72,7 +72,7 @@ abbrev pub model_by : List ℕ → LineFields → Option Model
 model_by text fields =
     model_from (whole_match (name_at (part text fields.operation))) (label_of (part text fields.label)) (parameters_of (part text fields.operand))
 
--- a model line: a label parameter `&NAME` or none, a name as operation, and parameters `&NAME` parted by commas
+-- a model line: a label parameter `&NAME` or none, a name as operation, and parameters `&NAME` separated by commas
 unfoldable pub model_of : List ℕ → Option Model
 model_of text = if is_comment text then None else model_by text (three_fields text)
 
@@ -84,7 +84,7 @@ pub record Body : Type 0 where
   pub lines : List Line
   pub reach : ℕ
 
--- a macro: it counts in expansions that began behind this line of the source, in all where that is 0
+-- a macro: it counts in expansions that began after this line of the source, in all where that is 0
 pub record MacroDefinition : Type 0 where
   pub model : Model
   pub visible_after : ℕ

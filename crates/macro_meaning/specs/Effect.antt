@@ -40,9 +40,9 @@ pub data Effect : Type 0 where
   -- it has a fault
   Fail : (cause : MacroCause) → Effect
 
--- ---- faults that stand together
+-- ---- two faults at once
 
--- NoSuchSymbol comes before BadSetting
+-- NoSuchSymbol precedes BadSetting
 abbrev pub earlier : MacroCause → MacroCause → MacroCause
 earlier NoSuchSymbol other = NoSuchSymbol
 earlier BadSetting other = other
@@ -120,7 +120,7 @@ abbrev pub printed_answer : Kind → Answer → Result (List ℕ) MacroCause
 printed_answer kind (Ok n) = Ok (printed_number kind n)
 printed_answer kind (Err cause) = Err cause
 
--- so many bytes from a place on, counted from 1
+-- a given number of bytes from a place on, which is counted from 1
 abbrev pub middle_from : List ℕ → ℤ → ℤ → Result (List ℕ) MacroCause
 middle_from text (pos zero) count = Err BadSetting
 middle_from text (pos (suc start)) (pos count) = Ok (take count (drop start text))
@@ -222,8 +222,8 @@ calling_at definitions root text (Some place) label operand = calling_if root te
 
 -- ---- lines
 
--- where a line stands: the definitions, the line of the source at which its outermost expansion began, whether it is a
--- line of the source itself, and what its symbols stand for
+-- where a line is: the definitions, the line of the source at which its outermost expansion began, whether it is a
+-- line of the source itself, and what its symbols represent
 pub record SymbolSetting : Type 0 where
   pub definitions : List MacroDefinition
   pub root : ℕ
@@ -240,7 +240,7 @@ abbrev pub operation_or_anop : List ℕ → Option Statement
 operation_or_anop [] = Some Nothing
 operation_or_anop (byte ∷ following) = statement_of (byte ∷ following)
 
--- the line behind a sequence symbol in column 1
+-- the rest of the line after a sequence symbol in column 1
 abbrev pub after_sequence : List ℕ → List ℕ → List ℕ
 after_sequence text label = if is_some (sequence_name label) then drop (length label) text else text
 

@@ -25,7 +25,7 @@ unfoldable pub macros_in : ℕ → List (List ℕ) → List MacroDefinition
 macros_in file [] = []
 macros_in file (bytes ∷ more) = definitions_in false (file_parts file bytes) ++ macros_in (next_file file) more
 
--- the macro files' definitions come before those of the source
+-- the macro files' definitions precede those of the source
 abbrev pub program_of : List ℕ → List (List ℕ) → MacroProgram
 program_of source macros = record {
   source = source_body (file_parts 0 source);
@@ -85,7 +85,7 @@ pub record IsExpanded (source : List ℕ) (macros : List (List ℕ)) (lines : Li
   pub good : AreGoodFiles source macros
   pub visited : HasVisits (program_of source macros) lines Ends
 
--- the visits come to a line with a fault
+-- the visits reach a line with a fault
 pub record StopsAt (program : MacroProgram) (line : Line) (cause : MacroCause) : Type 0 where
   pub given : List Line
   pub visited : HasVisits program given (Stops line cause)
@@ -99,7 +99,7 @@ pub data IsFirstFault (source : List ℕ) (macros : List (List ℕ)) (fault : Ma
   InVisit : AreGoodFiles source macros → (line : Line) (cause : MacroCause) → StopsAt (program_of source macros) line cause
       → fault ≡ fault_at line cause → IsFirstFault source macros fault
 
--- want of memory has no line; any other fault is the first
+-- an allocation failure has no line; any other fault is the first
 abbrev pub IsFaultFor : MacroCause → List ℕ → List (List ℕ) → MacroFault → Type 0
 IsFaultFor Memory source macros fault = (fault.file ≡ 0) × (fault.line ≡ 0)
 IsFaultFor _ source macros fault = IsFirstFault source macros fault

@@ -1,11 +1,11 @@
--- Texts parted by commas or plus signs, and texts in quotes.
+-- Texts separated by commas or plus signs, and texts in quotes.
 use Rattle.std.specs.Prelude.{ℕ, ◌+◌, ◌-◌, Bool, ◌&&◌, ◌||◌, ◌==◌, nat_lt, List, [], ◌∷◌, ◌++◌, length, take, drop, Option, Some, None, if◌then◌else◌}
 use Rattle.std.specs.List.{position_or_len}
 use Rattle.omf_format.specs.Ascii as ascii
 use Rattle.orca_meaning.specs.Quotes.{quote_following, is_closed}
 use Rattle.orca_meaning.specs.Token.{Found}
 
--- How many parentheses are open behind a byte. In quotes a parenthesis is text, and so is one that closes none.
+-- How many parentheses are open after a byte. In quotes a parenthesis is text, and so is one that closes none.
 abbrev pub open_after : Option ℕ → ℕ → ℕ → ℕ
 open_after None count byte = if byte == ascii.opening_round then count + 1 else if byte == ascii.closing_round then count - 1 else count
 open_after (Some quote) count byte = count
@@ -19,7 +19,7 @@ abbrev pub with_byte : ℕ → List (List ℕ) → List (List ℕ)
 with_byte byte [] = (byte ∷ []) ∷ []
 with_byte byte (piece ∷ pieces) = (byte ∷ piece) ∷ pieces
 
--- the pieces between the separators outside quotes and parentheses, where this quote and so many parentheses are open
+-- the pieces between the separators outside quotes and parentheses, where this quote and this number of parentheses are open
 unfoldable pub pieces_from : ℕ → Option ℕ → ℕ → List ℕ → List (List ℕ)
 pieces_from separator quote count [] = [] ∷ []
 pieces_from separator quote count (byte ∷ following) =
@@ -31,7 +31,7 @@ pieces separator text = pieces_from separator None 0 text
 
 -- ---- texts in quotes
 
--- the text between a quote at the start and the next one of its kind, and what stands after that
+-- the text between a quote at the start and the next one of its kind, and what follows that
 unfoldable pub closed_at : ℕ → List ℕ → Found (List ℕ)
 closed_at quote following =
     let n = position_or_len (λ byte. byte == quote) following in
@@ -41,7 +41,7 @@ unfoldable pub quoted_at : List ℕ → Found (List ℕ)
 quoted_at [] = None
 quoted_at (quote ∷ following) = if quote == ascii.apostrophe || quote == ascii.double_quote then closed_at quote following else None
 
--- the text in quotes that this is, with nothing behind
+-- the text in quotes that this is, with nothing after it
 abbrev pub whole_quoted_text : Found (List ℕ) → Option (List ℕ)
 whole_quoted_text None = None
 whole_quoted_text (Some (text, [])) = Some text

@@ -32,7 +32,7 @@ is_operation spelling operation = bytes_eq (folded operation) spelling
 
 -- ---- names of symbols, and sequence symbols
 
--- what was found, where nothing stands after it
+-- what was found, where nothing follows it
 abbrev pub whole_match : Found (List ℕ) → Option (List ℕ)
 whole_match None = None
 whole_match (Some (name, [])) = Some name
@@ -50,7 +50,7 @@ after_dot (byte ∷ following) = if byte == ascii.dot then name_at following els
 abbrev pub sequence_name : List ℕ → Option (List ℕ)
 sequence_name text = whole_match (after_dot text)
 
--- where a branch goes: a sequence symbol, maybe behind a `^`
+-- where a branch goes: a sequence symbol, maybe after a `^`
 abbrev pub target_name : List ℕ → Option (List ℕ)
 target_name [] = None
 target_name (byte ∷ following) = if byte == ascii.caret then sequence_name following else sequence_name (byte ∷ following)

@@ -1,4 +1,4 @@
--- Symbols in a line, and the texts that come in their place (ORCA/M reference manual, "Symbolic parameters").
+-- Symbols in a line, and the texts that replace them (ORCA/M reference manual, "Symbolic parameters").
 use Rattle.std.specs.Prelude.{ℕ, zero, suc, ◌+◌, ◌-◌, Bool, true, false, ◌||◌, ◌&&◌, ◌==◌, nat_le, nat_lt, List, [], ◌∷◌, ◌++◌, take, drop, slice_index, Option, Some, None, if◌then◌else◌}
 use Rattle.std.specs.Char.{to_ascii_uppercase}
 use Rattle.std.specs.List.{prefix_len}
@@ -12,7 +12,7 @@ use Rattle.macro_meaning.specs.declared.statements.Statement.{Statement}
 use Rattle.macro_meaning.specs.declared.statements.Statement.TheVariants.{Declare, Set, Middle, BranchIf, Count, Note}
 use Rattle.macro_meaning.specs.Statements.{statement_of}
 
--- what `&NAME` is at a place: the symbol's text comes in its place; or it names the symbol, which must be declared; or it
+-- what `&NAME` is at a place: the symbol's text replaces it; or it names the symbol, which must be declared; or it
 -- names one that is declared there
 pub data Naming : Type 0 where
   Replaced : Naming
@@ -24,13 +24,13 @@ pub data Naming : Type 0 where
 abbrev pub lies_in : Span → ℕ → Bool
 lies_in field at = nat_le field.from at && nat_lt at field.to
 
--- `L:` or `C:` stands directly before a place
+-- `L:` or `C:` is directly before a place
 abbrev pub asks_before : List ℕ → ℕ → Bool
 asks_before text at =
     let letter = to_ascii_uppercase (slice_index text (at - 2)) in
     (letter == ascii.capital_l || letter == ascii.capital_c) && slice_index text (at - 1) == ascii.colon
 
--- the same in a field, outside its quotes
+-- `L:` or `C:` is directly before a place of a field, outside its quotes
 abbrev pub is_asked : List ℕ → Span → ℕ → Bool
 is_asked text field at =
     nat_le (field.from + 2) at && nat_lt at field.to && asks_before text at && is_closed (quote_after None (take (at - field.from) (drop field.from text)))
@@ -56,7 +56,7 @@ declares (Declare declaration) = true
 declares _ = false
 
 -- In three places `&NAME` isn't replaced: in the operand of a declaration, in the label of a statement that sets it, and
--- directly behind `L:` or `C:`.
+-- directly after `L:` or `C:`.
 abbrev pub naming_by : Option Statement → List ℕ → LineFields → ℕ → Naming
 naming_by None text fields at = Replaced
 naming_by (Some statement) text fields at =
@@ -86,7 +86,7 @@ abbrev pub first_passes : (ℕ → Bool) → List ℕ → Bool
 first_passes test [] = false
 first_passes test (byte ∷ following) = test byte
 
--- behind an `&`: the text in its place, and how many of the bytes after it go with it; None where the symbol isn't declared
+-- after an `&`: the text in its place, and how many of the bytes after it go with it; None where the symbol isn't declared
 abbrev pub in_place : (List ℕ → Option (List ℕ)) → Naming → List ℕ → Option (List ℕ × ℕ)
 in_place text_of Replaced following =
     if first_passes is_letter following
@@ -98,8 +98,8 @@ in_place text_of Named following =
     else Some (ascii.ampersand ∷ [], 0)
 in_place text_of Declared following = Some (ascii.ampersand ∷ [], 0)
 
--- From a place on: the text with each symbol's text in its place, from left to right. The first so many bytes were taken
--- already, and what comes in place of a symbol isn't read again. None where a symbol isn't declared.
+-- From a place on: the text with each symbol's text in its place, from left to right. A given number of bytes at the start were
+-- taken already, and the text that replaces a symbol isn't read again. None where a symbol isn't declared.
 unfoldable pub substituted_from : (List ℕ → Option (List ℕ)) → (ℕ → Naming) → ℕ → ℕ → List ℕ → Option (List ℕ)
 substituted_from text_of naming at taken [] = Some []
 substituted_from text_of naming at (suc taken) (byte ∷ following) = substituted_from text_of naming (at + 1) taken following

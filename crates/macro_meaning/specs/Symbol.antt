@@ -1,4 +1,4 @@
--- Symbols, and the texts for which they stand (ORCA/M reference manual, "Symbolic parameters").
+-- Symbols, and the texts that they represent (ORCA/M reference manual, "Symbolic parameters").
 use Rattle.std.specs.Prelude.{ℕ, Bool, true, false, List, [], ◌∷◌, codes, bytes_eq, Option, Some, None, ℤ, pos, negsuc, ◌+◌, if◌then◌else◌}
 use Rattle.std.specs.Fmt.{digits}
 use Rattle.omf_format.specs.Ascii as ascii
@@ -12,14 +12,14 @@ pub data Symbol : Type 0 where
   Own : (kind : Kind) (text : List ℕ) → Symbol
   Common : (kind : Kind) → Symbol
 
--- what names stand for in an expansion, and the texts of the shared symbols with their kinds
+-- what names represent in an expansion, and the texts of the shared symbols with their kinds
 abbrev pub Symbols : Type 0
 Symbols = List ℕ → Option Symbol
 
 abbrev pub SharedTexts : Type 0
 SharedTexts = List ℕ → Option (Kind × List ℕ)
 
--- the same with one more name
+-- these values with one more name
 abbrev pub with_name : {A : Type 0} → List ℕ → A → (List ℕ → Option A) → List ℕ → Option A
 with_name name value values asked = if bytes_eq name asked then Some value else values asked
 

@@ -32,7 +32,7 @@ pub record Visit : Type 0 where
   pub texts : SharedTexts
   pub calls : ℕ
 
--- what follows on a visit
+-- what follows a visit
 pub data Move : Type 0 where
   On : (v : Visit) → Move
   Ends : Move
@@ -98,11 +98,11 @@ if_line (Some line) on otherwise = on
 abbrev pub next_visit : Visit → Visit
 next_visit v = record v { line = v.line + 1 }
 
--- the visit of the line behind a call, with what all expansions share as it is now
+-- the visit of the line after a call, with what all expansions share as it is now
 abbrev pub visit_after_call : Visit → Visit → Visit
 visit_after_call v last = record v { line = v.line + 1; texts = last.texts; calls = last.calls }
 
--- behind an expansion: the line behind its call, or behind that of the expansion around it where no line is there
+-- after an expansion: the line after its call, or, where no line is there, the line after the call of the expansion around it
 unfoldable pub move_after_expansion : MacroProgram → List Visit → Visit → ℕ → Option ℕ → Move
 move_after_expansion program before last zero caller = Ends
 move_after_expansion program before last (suc depth) None = Ends
@@ -111,7 +111,7 @@ move_after_expansion program before last (suc depth) (Some place) = elim (slice_
   | Some v ↦ if_line (line_at program v.macro (v.line + 1)) (On (visit_after_call v last)) (move_after_expansion program before last depth v.caller)
 ]
 
--- the next line of the body, or what is behind the expansion
+-- the next line of the body, or what follows the expansion
 unfoldable pub next_line : MacroProgram → List Visit → Visit → Move
 next_line program before v = if_line (line_at program v.macro (v.line + 1)) (On (next_visit v)) (move_after_expansion program before v v.depth v.caller)
 
@@ -190,11 +190,11 @@ abbrev pub IsVisitAt : MacroProgram → List Visit → Visit → Option Line →
 IsVisitAt program before v None given move = (given ≡ []) × (move ≡ Ends)
 IsVisitAt program before v (Some line) given move = IsVisitOf program before v line (length before == most_visits) given move
 
--- a visit behind these others gives these lines, and this follows on it
+-- a visit after these others gives these lines, and this follows it
 abbrev pub IsVisit : MacroProgram → List Visit → Visit → List Line → Move → Type 0
 IsVisit program before v given move = IsVisitAt program before v (line_at program v.macro v.line) given move
 
--- each of these visits follows on the one before it; together they give these lines, and the last is followed by this
+-- each of these visits follows the one before it; together they give these lines, and the last is followed by this
 abbrev pub Follow : MacroProgram → List Visit → Visit → List Visit → List Line → Move → Type 0
 Follow program before v [] given end = IsVisit program before v given end
 Follow program before v (w ∷ ws) given end =

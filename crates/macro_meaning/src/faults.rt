@@ -3,7 +3,7 @@
 /// What is wrong with a line.
 #[derive(Clone, Copy, PartialEq, Eq, Debug)]
 pub enum MacroCause {
-    /// The line has more than 255 bytes, as it stands or with the texts of its symbols.
+    /// The line has more than 255 bytes, as it is written or with the texts of its symbols.
     LineTooLong,
     /// It is the 65,537th line of a file, or its visit is the 1,000,001st.
     TooManyLines,
@@ -24,7 +24,7 @@ pub enum MacroCause {
     TooNested,
     /// A note of this severity, 8 or more.
     Noted(u32),
-    /// Memory ran out.
+    /// Out of memory.
     Memory,
 }
 

@@ -25,7 +25,7 @@ enum Step {
     Lock(Handle, Result<(), BlockFault>),
     Unlock(Handle, Result<(), BlockFault>),
     SetLevel(Handle, u8, Result<(), BlockFault>),
-    /// Four bytes are written over a block's, which are so many.
+    /// Four bytes are written over a block's bytes; the result is how many bytes the block has.
     Write(Handle, Result<usize, BlockFault>),
     Room(u32),
     /// Where a block is.
@@ -636,7 +636,7 @@ static HOLDERS: [Step; 20] = [
     Step::Holder(0x2_002F, Some(SLOT_0_1)),
 ];
 
-// Blocks that went have no byte, though another placement hasn't come since; what stands in their place has.
+// Blocks that are gone have no byte, even before another placement; the block in their place has.
 #[test]
 fn the_block_of_a_byte_is_found(rt: HostRuntime) -> Result<(), Fail> {
     run(&rt, &[2], &HOLDERS)
@@ -669,7 +669,7 @@ fn lie_beside(banks: &Banks, there: &[Option<Handle>], at: u64, end: u64) -> boo
     true
 }
 
-// The least address in bank 2 at which so many bytes lie beside these blocks: the bank's first, or where a block ends.
+// The least address in bank 2 at which `size` bytes lie beside these blocks: the bank's first, or where a block ends.
 fn least_gap(banks: &Banks, there: &[Option<Handle>], size: u32) -> u64 {
     if lie_beside(banks, there, 0x2_0000, 0x2_0000 + u64::from(size)) {
         return 0x2_0000;
@@ -699,7 +699,7 @@ fn goes_to_the_least_gap(
     Some(h)
 }
 
-// The block that a draw names goes, or comes where it isn't there.
+// The block that a draw names is freed, or placed where it isn't there.
 fn comes_or_goes(
     rt: &impl Abort,
     banks: &mut Banks,
@@ -730,7 +730,7 @@ fn come_and_go(rt: &impl Abort, banks: &mut Banks) {
     }
 }
 
-// Some 200 blocks that come and go in mixed order. Each goes to the least gap, as a slow search finds it.
+// Some 200 blocks that are placed and freed in mixed order. Each goes to the least gap, as a slow search finds it.
 #[test]
 fn blocks_come_and_go(rt: HostRuntime) -> Result<(), Fail> {
     let mut banks = banks_of(rt.alloc(), &[2])?;

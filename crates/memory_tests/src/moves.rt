@@ -1,4 +1,4 @@
-// Blocks that are told of in order of address, purged one by one and moved.
+// Blocks that are reported in order of address, purged one by one and moved.
 ghost use Rattle.std.specs.Prelude.{◌<◌};
 ghost use Rattle.iigs_meaning.specs.Fits.{IsWant};
 
@@ -130,7 +130,7 @@ static IN_ORDER: [Step; 14] = [
     Step::Nth(2, None),
 ];
 
-// Blocks are told of in order of address, and one is purged.
+// Blocks are reported in order of address, and one is purged.
 #[test]
 fn blocks_in_order(rt: HostRuntime) -> Result<(), Fail> {
     run(&rt, &[2], &IN_ORDER)

@@ -22,7 +22,7 @@ enum Step {
     Replace(Handle, u32, Result<(), PlaceFault>),
     /// Two blocks of a given number of bytes are placed, or none.
     Both(u32, u32, Result<(Handle, Handle), PlaceFault>),
-    /// So many blocks are moved.
+    /// A given number of blocks is moved.
     Compact(u32),
     At(Handle, Result<Option<u32>, BlockFault>),
     /// The first byte and the last are written.

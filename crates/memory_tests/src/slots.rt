@@ -158,7 +158,7 @@ static FULL: [Step; 5] = [
     Step::Look(SLOT_65535, Err(Stale)),
 ];
 
-// The 4,097th value has no slot and comes back.
+// The 4,097th value has no slot and is handed back.
 #[test]
 fn a_full_table_hands_the_value_back(rt: HostRuntime) -> Result<(), Fail> {
     run(&rt, &FULL)

@@ -1,4 +1,4 @@
-//! The program `omf`: the words of the command line over the system's files and standard output.
+//! The program `omf`: the arguments of the command line over the system's files and standard output.
 #![tactic(auto)]
 
 use omf_cli::{Status, run_tool};
@@ -8,7 +8,7 @@ use std::env;
 use std::io::{self, ErrorKind};
 use std::process::ExitCode;
 
-/// The words after the program's name. Where one isn't UTF-8 text, none.
+/// The arguments after the program's name. Where one isn't UTF-8 text, none.
 fn words(rt: &HostRuntime) -> Result<Vec<String>, AllocError> {
     match collect_arguments(rt) {
         Ok(words) => Ok(words),

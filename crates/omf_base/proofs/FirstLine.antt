@@ -16,7 +16,7 @@ no_end_before text zero h = tt
 no_end_before [] (suc i) h = tt
 no_end_before (byte ∷ text) (suc i) h = (h 0 (omega arith), no_end_before text i (λ k less. h (suc k) (omega arith)))
 
--- the first line stands before the first end
+-- the first line is the text before the first end
 pub lines_of_first : (text : List ℕ) (i : ℕ) (following : List ℕ) → position is_end_byte text ≡ Some i
     → lines_of (drop i text) ≡ [] ∷ lines_of following → lines_of text ≡ take i text ∷ lines_of following
 lines_of_first text i following is ends =
@@ -38,6 +38,6 @@ lines_of_only (byte ∷ text) some is =
     no_end_before (byte ∷ text) (length (byte ∷ text)) (λ k less. fails_before_first is_end_byte (byte ∷ text) k 0 (omega arith)) in
     lines_of-last byte text (subst HasNoEnd (take-length (byte ∷ text)) free) ∙ ap (λ (l : List (List ℕ)). (byte ∷ text) ∷ l) (sym lines_of-nil)
 
--- an end stands at the first end
+-- the byte at the place of the first end is an end
 pub end_at : (text : List ℕ) (i : ℕ) → position is_end_byte text ≡ Some i → is_end_byte (slice_index (drop i text) 0) ≡ true
 end_at text i is = rw (get_or-drop, add-zero) (position-Some is_end_byte text i 0 is).1

@@ -6,7 +6,7 @@ use Rattle.std.proofs.lemmas.List.{take-replicate, drop-set, length-set, take-ap
 use Rattle.std.proofs.lemmas.Grind.{common_steps}
 use Rattle.std.proofs.Math.Nat.{div-lt_iff_lt-mul, pow-suc}
 
--- a digit that isn't the first: the others stand before it
+-- a digit that isn't the first: the others are before it
 pub digits_more : (fuel n : ℕ) (later : List ℕ) → 16 ≤ n → digits_onto (fuel + 1) 16 true n later ≡ digits_onto fuel 16 true (n / 16) (digit_glyph true (n % 16) ∷ later)
 digits_more fuel n later more = rw add-one (grind (arith, common_steps))
 
@@ -14,8 +14,8 @@ digits_more fuel n later more = rw add-one (grind (arith, common_steps))
 pub digits_last : (fuel n : ℕ) (later : List ℕ) → n < 16 → digits_onto (fuel + 1) 16 true n later ≡ digit_glyph true (n % 16) ∷ later
 digits_last fuel n later less = rw add-one (grind (arith, common_steps))
 
--- the places from this one on hold the last digits of the value, the places before it zeros,
--- and `rest` is the value without the digits behind this place
+-- the places from this one on hold the last digits of the value, the places before it zeros, and `rest` is the value without the digits
+-- after this place
 pub record HoldsDigits (value : ℕ) (places : List ℕ) (from rest : ℕ) : Type 0 where
   pub eight : length places ≡ 8
   pub within : from < 8

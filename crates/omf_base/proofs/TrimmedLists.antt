@@ -36,20 +36,20 @@ push-other b c (x ∷ xs) ne =
     all-push b c (x ∷ xs) ∙ ap (λ (r : Bool). list_all (λ y. eqb y b) (x ∷ xs) && r) (ne_eqb c b ne) ∙ and-false (list_all (λ y. eqb y b) (x ∷ xs)) in
     rw (whole, push-other b c xs ne) refl
 
--- a front whose last item is b
+-- a prefix whose last item is b
 pub trim-step : (b n : ℕ) (xs : List ℕ) → 0 < n → n ≤ length xs → get_or xs (n - 1) 0 ≡ b → without_trailing b (take (n - 1) xs) ≡ without_trailing b (take n xs)
 trim-step b n xs some le is =
     let more : n - 1 + 1 ≡ n = omega arith in
     let split : take n xs ≡ take (n - 1) xs ++ get_or xs (n - 1) 0 ∷ [] = ap (λ (k : ℕ). take k xs) (sym more) ∙ take_more xs (n - 1) 0 (omega arith) in
     rw split (sym (push-same b (get_or xs (n - 1) 0) (take (n - 1) xs) is))
 
--- a front whose last item isn't b, or an empty one
+-- a prefix, not empty, whose last item isn't b
 pub trim-end : (b n : ℕ) (xs : List ℕ) → 0 < n → n ≤ length xs → (get_or xs (n - 1) 0 ≡ b → ⊥) → without_trailing b (take n xs) ≡ take n xs
 trim-end b n xs some le other =
     let more : n - 1 + 1 ≡ n = omega arith in
     let split : take n xs ≡ take (n - 1) xs ++ get_or xs (n - 1) 0 ∷ [] = ap (λ (k : ℕ). take k xs) (sym more) ∙ take_more xs (n - 1) 0 (omega arith) in
     rw split (push-other b (get_or xs (n - 1) 0) (take (n - 1) xs) other)
 
--- an empty front
+-- an empty prefix
 pub trim-none : (b n : ℕ) (xs : List ℕ) → n ≡ 0 → take n xs ≡ without_trailing b (take n xs)
 trim-none b n xs e = rw e refl

@@ -1,5 +1,4 @@
-//! Fields: each is taken from the start of the bytes and lent, with the bytes after it. Where the bytes end in the field,
-//! it is cut.
+//! Fields: each is borrowed from the start of the bytes, and returned with the bytes after it. Where the bytes end in the field, it is cut.
 
 ghost use Rattle.std.specs.Prelude.{◌≡◌, ◌<◌, ◌≤◌, length, IfOk, IfErr};
 ghost use Rattle.omf_format.specs.Field.{byte_field, bytes_field, number_field, name_field, count_field, shift_field, Gives};
@@ -8,7 +7,7 @@ use crate::trailing::without_trailing;
 use byteorder::{ByteOrder, LittleEndian};
 use omf_format::Flaw;
 
-/// So many bytes, and the bytes after them.
+/// The first `n` bytes, and the bytes after them.
 #[inline]
 #[tactic(auto, unfolding(omf_format::specs::Field::bytes_field))]
 pub fn bytes_field(bytes: &[u8], n: usize) -> Result<(&[u8], &[u8]), Flaw>
@@ -101,7 +100,7 @@ fn not_empty<'a>(name: &'a [u8], rest: &'a [u8]) -> Result<(&'a [u8], &'a [u8]),
     Ok((name, rest))
 }
 
-/// A name behind its length byte, and the bytes after it. It isn't empty.
+/// A name, which follows its length byte and isn't empty, and the bytes after it.
 #[inline]
 #[tactic(auto, using(omf_format::specs::laws::FieldLaws::counted_none, omf_format::specs::laws::FieldLaws::counted_field))]
 fn counted_name(bytes: &[u8]) -> Result<(&[u8], &[u8]), Flaw>

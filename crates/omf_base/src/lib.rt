@@ -1,4 +1,4 @@
-//! Names, numbers in files, lines of text and places in files: what every crate of the tool stands on.
+//! Names, numbers in files, lines of text and places in files: what every crate of the tool is built on.
 #![tactic(auto)]
 
 mod alignment;

@@ -24,7 +24,7 @@ impl Model for Line {
 /// Why a line didn't grow.
 #[derive(Clone, Copy, Debug, PartialEq, Eq)]
 pub enum LineFault {
-    /// Memory ran out.
+    /// Out of memory.
     Memory,
 }
 
@@ -102,7 +102,7 @@ impl Line {
     }
 }
 
-// The eight places of a number in hexadecimal, and the place from 0 of its first digit. Zeros stand before it.
+// The eight places of a number in hexadecimal, and the place from 0 of its first digit. The places before it are zeros.
 fn hex_places(value: u32) -> ([u8; 8], usize)
     ensures shown { drop result.1 result.0 ≡ digits 16 true value }
     ensures zeros { take result.1 result.0 ≡ replicate result.1 48 }

@@ -25,7 +25,7 @@ impl Model for Name {
 pub enum NameFault {
     /// More than 255 bytes.
     TooLong,
-    /// Memory ran out.
+    /// Out of memory.
     Memory,
 }
 

@@ -1,9 +1,9 @@
-//! Lines of a text, taken from its front.
+//! Lines of a text, taken from its start.
 
 ghost use Rattle.std.specs.Prelude.{◌≡◌, ◌≢◌, ◌∷◌, ◌<◌, ◌≤◌, [], true, length, slice_index, position};
 ghost use Rattle.omf_format.specs.Lines.{is_end_byte, lines_of};
 
-/// Where the first LF or CR stands.
+/// Where the first LF or CR is.
 fn first_end(text: &[u8]) -> Option<usize>
     ensures { result ≡ position is_end_byte text.now }
 {
@@ -11,7 +11,7 @@ fn first_end(text: &[u8]) -> Option<usize>
         .position(|byte| *byte == b'\n' || *byte == b'\r')
 }
 
-/// What stands after the line end at the start, which is LF, CR or CR LF.
+/// What follows the line end at the start, which is LF, CR or CR LF.
 #[tactic(auto, unfolding(omf_format::specs::Lines::lines_of))]
 fn following_end(text: &[u8]) -> &[u8]
     requires end { is_end_byte (slice_index text.now 0) ≡ true }
@@ -25,7 +25,7 @@ fn following_end(text: &[u8]) -> &[u8]
     }
 }
 
-/// The text without the LF at its front, if one is there.
+/// The text without the LF at its start, if there is one.
 fn without_lf(text: &[u8]) -> &[u8]
     ensures lf { slice_index text.now 0 ≡ 0x0A → text.now ≡ 0x0A ∷ result.now }
     ensures none { slice_index text.now 0 ≢ 0x0A → result.now ≡ text.now }
@@ -38,7 +38,7 @@ fn without_lf(text: &[u8]) -> &[u8]
     }
 }
 
-/// The first line, and what stands after its end.
+/// The first line, and what follows its end.
 #[tactic(auto, using(crate::proofs::FirstLine::lines_of_first, crate::proofs::FirstLine::lines_of_only, crate::proofs::FirstLine::end_at))]
 pub fn split_line(text: &[u8]) -> (&[u8], &[u8])
     requires { 0 < length text.now }

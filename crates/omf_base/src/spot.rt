@@ -1,4 +1,4 @@
-// Where in the inputs something stands.
+// Where in the inputs something is.
 
 /// A place in the input files. A fault of no place has the spot 0, 0, 0.
 #[derive(Clone, Copy, Debug, PartialEq, Eq)]

@@ -1,4 +1,4 @@
--- Faults that aren't want of memory are first faults, and numbers that no cause has.
+-- Faults other than `Memory` are first faults, and numbers that no cause has.
 use Rattle.std.proofs.Common.{◌≡◌, ◌≢◌, inl, inr, ℕ, zero, suc, ◌<◌, List, None, refl, ap, arith}
 use Rattle.std.proofs.lemmas.Option.{slice_get_past}
 use Rattle.omf_format.specs.declared.fault.FileCause.{FileCause}

@@ -1,4 +1,4 @@
--- Calls that read a load file: where there is none, and what they tell of one.
+-- Calls that read a load file: where there is none, and what they report of one.
 use Rattle.std.proofs.Common.{◌≡◌, ℕ, ◌<◌, ◌≤◌, List, ◌++◌, length, map, drop, Option, Some, None, inl, inr, refl, sym, ap, subst, ◌∙◌}
 use Rattle.std.specs.Prelude.{IsSomeAnd}
 use Rattle.std.proofs.lemmas.List.{length-map}
@@ -27,7 +27,7 @@ module _ (file : List ℕ) (status : ℕ) (old new : OmfFault) where
   unread_handed Gives Misses room (Lacks is same) = (NoMemory, tt, (is, refl, same))
   unread_handed Gives Misses room (Refuses is short fault first reports) = (Refused new, (short, fault, first, reports), (is, refl, refl))
 
--- the header that is told is that of the segment
+-- the header that is reported is that of the segment
 pub reports_at : (segments : List Segment) (number : ℕ) (header : OmfHeader) (f : HeaderFields) → HasFields segments number f → ReportsFields header f
     → IsSomeAnd (segment_at segments number) (λ s. ReportsFields header s.fields)
 reports_at segments number header f has reports = go (segment_at segments number) has
@@ -36,7 +36,7 @@ reports_at segments number header f has reports = go (segment_at segments number
     go None has = absurd has
     go (Some s) same = subst (ReportsFields header) (sym same) reports
 
--- LENGTH bytes stand for a segment of a load file
+-- LENGTH bytes are in memory for a segment of a load file
 pub stood_long : (file : List ℕ) (segments : List Segment) (number : ℕ) (places : List (Option ℕ)) (f : HeaderFields) (bytes : List ℕ) → IsLoadable file segments → HasFields segments number f
     → Stands segments number places bytes → length bytes ≡ f.length
 stood_long file segments number places f bytes is has stood = go (segment_at segments number) refl has stood
@@ -46,7 +46,7 @@ stood_long file segments number places f bytes is has stood = go (segment_at seg
     go (Some s) at same stood =
         ap length stood ∙ length-map (cells s) (byte_of (address_in places)) ∙ length-cells segments number s (loadable_has file segments is number s at) ∙ ap (λ (g : HeaderFields). g.length) same
 
--- and some do stand for it
+-- and there are such bytes
 some_stand : (segments : List Segment) (number : ℕ) (places : List (Option ℕ)) (f : HeaderFields) → HasFields segments number f → (bytes : List ℕ) × Stands segments number places bytes
 some_stand segments number places f has = go (segment_at segments number) has
   where
@@ -54,7 +54,7 @@ some_stand segments number places f has = go (segment_at segments number) has
     go None has = absurd has
     go (Some s) same = (stands (address_in places) s, refl)
 
--- a segment that doesn't fit the room: its size is told
+-- a segment that doesn't fit the room: its size is reported
 pub small_placed : (file : List ℕ) (segments : List Segment) (number : ℕ) (addresses room : List ℕ) (size size' : ℕ) (fault : OmfFault) → IsLoadable file segments → length segments ≡ length addresses
     → (f : HeaderFields) → f.length ≡ size' → HasFields segments number f → length room < size'
     → (outcome : CallOutcome (List ℕ)) × Places file number addresses outcome × IsHanded outcome status_small (record { items = room; size = size }) (record { items = room; size = size' }) fault fault

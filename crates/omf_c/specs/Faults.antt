@@ -1,4 +1,4 @@
--- How first faults are told to C.
+-- How first faults are reported to C.
 use Rattle.std.specs.Prelude.{◌≡◌, ℕ, ◌-◌, List, [], ◌++◌, length, replicate, Some}
 use Rattle.std.specs.Option.{option_map_or}
 use Rattle.omf_format.specs.declared.fault.FileFault.{FileFault}

@@ -1,4 +1,4 @@
--- What a caller hands over to be written, what a call comes to, and what it leaves there.
+-- What a caller hands over to be written, the outcome of a call, and what it leaves there.
 use Rattle.std.specs.Prelude.{◌≡◌, ◌⊎◌, ℕ, ◌<◌, ◌≤◌, List, ◌++◌, length, drop, Option, None, Some}
 use Rattle.omf_c.specs.declared.fault.OmfFault.{OmfFault}
 use Rattle.omf_c.specs.declared.answer.Answer.{Answer}
@@ -20,19 +20,19 @@ status_misused = 3
 abbrev pub status_small : ℕ
 status_small = 4
 
--- what a call comes to: what it was asked for, or why there is none
+-- the outcome of a call: what it was asked for, or why there is none
 pub data CallOutcome (X : Type 0) : Type 0 where
   Made : X → CallOutcome X
   Refused : OmfFault → CallOutcome X
   NoMemory : CallOutcome X
   Misused : CallOutcome X
 
--- a caller's room for a list, and the number of items that are told
+-- a caller's room for a list, and the number of items that is reported
 pub record Room (X : Type 0) : Type 0 where
   pub items : List X
   pub size : ℕ
 
--- the items stand at the start of the room where they fit, and nothing is written where they don't; their number is told in both cases
+-- the items are at the start of the room where they fit, and nothing is written where they don't; their number is reported in both cases
 abbrev pub IsPut : {X : Type 0} → List X → ℕ → Room X → Room X → Type 0
 IsPut xs status old new =
     ((status ≡ status_done) × (length xs ≤ length old.items) × (new ≡ record { items = xs ++ drop (length xs) old.items; size = length xs }))
@@ -52,14 +52,14 @@ IsReported (Refused reported) status old new fault after = (status ≡ status_re
 IsReported NoMemory status old new fault after = (status ≡ memory) × (new ≡ old) × (after ≡ fault)
 IsReported Misused status old new fault after = (status ≡ status_misused) × (new ≡ old) × (after ≡ fault)
 
--- what an answer comes to
+-- the outcome of an answer
 abbrev pub outcome_of : Answer → CallOutcome (List ℕ)
 outcome_of (answer.Made bytes) = Made bytes.items
 outcome_of (answer.Refused reported) = Refused reported
 outcome_of answer.Memory = NoMemory
 outcome_of answer.Misused = Misused
 
--- a fault as an outcome; none is want of memory
+-- a fault as an outcome; no fault means out of memory
 abbrev pub reported_outcome : {X : Type 0} → Option OmfFault → CallOutcome X
 reported_outcome None = NoMemory
 reported_outcome (Some reported) = Refused reported

@@ -1,4 +1,4 @@
--- What the calls that read a load file come to.
+-- The outcomes of the calls that read a load file.
 use Rattle.std.specs.Prelude.{◌≡◌, ◌≢◌, ◌⊎◌, ℕ, ◌<◌, ◌≤◌, ◌^◌, List, Some, length, map, IsSomeAnd}
 use Rattle.load_meaning.specs.declared.load.LoadFault.{LoadFault}
 use Rattle.load_meaning.specs.declared.table.Target.{Target}
@@ -13,8 +13,8 @@ use Rattle.omf_c.specs.Faults.{zero_padded, ReportsLoad}
 use Rattle.omf_c.specs.declared.fault.OmfFault.{OmfFault}
 use Rattle.omf_c.specs.Handed.{status_misused, memory, status_refused, CallOutcome, Made, Refused, NoMemory, Misused}
 
--- A file of fewer than 2^32 bytes is read: what is given belongs to its segments, or its first fault is told. A call is misused where the
--- file is longer, or where what was asked for doesn't fit the segments.
+-- A file of fewer than 2^32 bytes is read: what is given belongs to its segments, or its first fault is reported. A call is misused where
+-- the file is longer, or where what was asked for doesn't fit the segments.
 abbrev pub Reads : {X : Type 0} → List ℕ → (List Segment → X → Type 0) → (List Segment → Type 0) → CallOutcome X → Type 0
 Reads file Gives Misses (Made x) = (segments : List Segment) × IsLoadable file segments × Gives segments x
 Reads file Gives Misses (Refused reported) = (length file < 2 ^ 32) × (fault : LoadFault) × IsFirstLoadFault file fault × ReportsLoad reported fault

@@ -1,4 +1,4 @@
--- What the calls that make a file come to.
+-- The outcomes of the calls that make a file.
 use Rattle.std.specs.Prelude.{◌≢◌, ℕ, ◌<◌, ◌≤◌, ◌^◌, List, length, map, All}
 use Rattle.omf_format.specs.File as file
 use Rattle.dump_lines.specs.Listing.{IsListing}
@@ -16,7 +16,8 @@ use Rattle.omf_c.specs.declared.file.OmfFile.{OmfFile}
 use Rattle.omf_c.specs.Faults.{ReportsFile, ReportsLib, ReportsLink, ReportsAsm}
 use Rattle.omf_c.specs.Handed.{CallOutcome, Made, Refused, NoMemory, Misused}
 
--- What is given can be taken, and the bytes are made of it, or its first fault is told; a call is misused exactly where it can't be taken.
+-- What is given can be taken, and the bytes are made of it, or its first fault is reported; a call is misused exactly where it can't be
+-- taken.
 abbrev pub Makes : {F : Type 0} → Type 0 → (List ℕ → Type 0) → (F → Type 0) → (OmfFault → F → Type 0) → CallOutcome (List ℕ) → Type 0
 Makes Can IsMade IsFirst Reports (Made bytes) = Can × IsMade bytes
 Makes {F = F} Can IsMade IsFirst Reports (Refused reported) = Can × (fault : F) × IsFirst fault × Reports reported fault

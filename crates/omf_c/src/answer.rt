@@ -1,4 +1,4 @@
-//! What a call comes to, and how it is handed to the caller.
+//! The outcome of a call, and how it is handed to the caller.
 
 ghost use Rattle.std.specs.Prelude.{◌≡◌};
 ghost use Rattle.omf_c.specs.Handed.{IsPut, IsHanded, outcome_of};
@@ -8,10 +8,10 @@ use crate::fault::OmfFault;
 /// What was asked for is there.
 pub const DONE: u32 = 0;
 
-/// What is given has a first fault, which is told.
+/// What is given has a first fault, which is reported.
 pub const REFUSED: u32 = 1;
 
-/// Memory ran out.
+/// Out of memory.
 pub const MEMORY: u32 = 2;
 
 /// The call was given what it can't take.
@@ -29,7 +29,7 @@ pub enum Answer {
     Misused,
 }
 
-/// Puts bytes into the caller's room, if they fit, and tells their number.
+/// Puts bytes into the caller's room, if they fit, and reports their number.
 pub fn write_answer(bytes: &[u8], room: &mut [u8], size: &mut usize) -> u32
     ensures { IsPut bytes.now result (record { items = room.old; size = size.old }) (record { items = room.new; size = size.new }) }
 {

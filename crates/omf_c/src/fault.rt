@@ -22,7 +22,7 @@ use orca_asm::AsmFault;
 #[repr(C)]
 #[derive(Drop)]
 pub struct OmfFault {
-    /// The number of the cause, whose name `omf_cause_name` tells.
+    /// The number of the cause, whose name `omf_cause_name` reports.
     pub cause: u32,
     /// The file, from 1; of a source the source is 0 and its macro files follow from 1.
     pub file: u32,

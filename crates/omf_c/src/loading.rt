@@ -1,4 +1,4 @@
-//! Load files: how many segments they have, their headers, what stands in memory for them, and where their jump tables lead.
+//! Load files: how many segments they have, their headers, the bytes of a segment in memory, and where their jump tables lead.
 
 ghost use Rattle.std.specs.Prelude.{◌≡◌, ◌≢◌, ◌<◌, ◌≤◌, ◌^◌, ◌++◌, length, map, take, drop, Some, IfOk, IfErr, ℕ, List};
 ghost use Rattle.load_meaning.specs.declared.load.LoadCause.TheVariants as causes;
@@ -38,7 +38,7 @@ fn read_load_file<'a>(
     }
 }
 
-/// Tells a load file's fault.
+/// Reports a load file's fault.
 fn report_load_fault(found: LoadFault, fault: &mut OmfFault) -> u32
     ensures { (file : List ℕ) → length file < 2 ^ 32 → IsRefused found file → IsUnread file result fault.old fault.new }
 {
@@ -51,7 +51,7 @@ fn report_load_fault(found: LoadFault, fault: &mut OmfFault) -> u32
     }
 }
 
-/// Tells how many segments a load file has. Status MISUSED: the file has more than 4,294,967,295 bytes.
+/// Reports how many segments a load file has. Status MISUSED: the file has more than 4,294,967,295 bytes.
 #[unsafe(no_mangle)]
 pub extern "C" fn omf_segments(
     alloc: Global,
@@ -70,7 +70,7 @@ pub extern "C" fn omf_segments(
     }
 }
 
-/// Tells the header of the segment with a number, from 1. Status MISUSED: no segment has the number, or the file has more than
+/// Reports the header of the segment with a number, from 1. Status MISUSED: no segment has the number, or the file has more than
 /// 4,294,967,295 bytes.
 #[unsafe(no_mangle)]
 pub extern "C" fn omf_header(
@@ -106,7 +106,7 @@ fn places_of(alloc: Global, addresses: &[u32]) -> Result<omf_cells::Places, Plac
     Ok(places)
 }
 
-/// Writes what stands for a segment into the caller's room, if it fits.
+/// Writes a segment's bytes in memory into the caller's room, if they fit.
 fn place(
     alloc: Global,
     load: &LoadFile<'_>,
@@ -137,7 +137,7 @@ fn place(
     DONE
 }
 
-/// Writes what stands in memory for the segment with a number, from 1, where the segments of the load file lie at these addresses, one for
+/// Writes the bytes in memory of the segment with a number, from 1, where the segments of the load file lie at these addresses, one for
 /// each. Status MISUSED: there is another number of addresses than of segments, no segment has the number, or the file has more than
 /// 4,294,967,295 bytes.
 #[unsafe(no_mangle)]
@@ -177,7 +177,7 @@ fn put_targets(load: &LoadFile<'_>, room: &mut [OmfTarget], size: &mut usize) ->
     DONE
 }
 
-/// Tells where the entries of a load file's jump table lead, in order; none where it has no table. Status MISUSED: the file has more than
+/// Reports where the entries of a load file's jump table lead, in order; none where it has no table. Status MISUSED: the file has more than
 /// 4,294,967,295 bytes.
 #[unsafe(no_mangle)]
 pub extern "C" fn omf_entries(

@@ -17,7 +17,7 @@ use link_resolve::may_resolve;
 use orca_asm::assemble;
 use std::alloc::Global;
 
-/// The answer that tells a fault; none is want of memory.
+/// The answer that reports a fault; no fault means out of memory.
 fn answer_of_fault(fault: Option<OmfFault>) -> Answer
     ensures { outcome_of result ≡ reported_outcome fault }
 {

@@ -67,7 +67,7 @@ fn name_of(number: u32) -> Option<&'static str>
     Some(name)
 }
 
-/// Tells the name of the cause with a number, from 1, as the program prints it. A number that no cause has is misuse.
+/// Reports the name of the cause with a number, from 1, as the program prints it. A number that no cause has is misuse.
 #[unsafe(no_mangle)]
 pub extern "C" fn omf_cause_name(number: u32, room: &mut [u8], size: &mut usize) -> u32
     ensures { MatchOption (name_of number) ((result ≡ status_misused) × (room.new ≡ room.old) × (size.new ≡ size.old))

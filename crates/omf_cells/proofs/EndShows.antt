@@ -21,7 +21,7 @@ use Rattle.load_content.proofs.Contents.{below_at}
 use Rattle.load_writer.proofs.KeptLaws.{byte_is, other_byte}
 use Rattle.omf_cells.proofs.LoadShows.{cell_of, shown_below}
 
--- ---- the front
+-- ---- the cells up to the last one that isn't a byte 0
 
 -- what a cell is: that of a spot, or the byte of the data
 cell_there : (segments : List Segment) (number : ℕ) (v : SegmentView) (content : SegmentContent) (k : ℕ) → ShowsContent segments number v content

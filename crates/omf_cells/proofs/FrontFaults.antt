@@ -62,7 +62,7 @@ pub of_body : (start : ℕ) (f : HeaderFields) (file : List ℕ) (reader : Reade
 of_body start f file reader fault header' front is has =
     OfRecord f has.before has.at header' front (subst (λ (r : Reader). HandsOut r has.before has.at) is has.run) has.pass has.fails
 
--- a record's fault is never want of memory
+-- a record's fault never has the cause Memory
 pub reported_named : (of : RecordFault) → (as_load (to_file_record_fault of)).0 ≡ Memory → ⊥
 reported_named (record_faults.Truncated at) e = cc
 reported_named (record_faults.Unsupported code at) e = cc

@@ -131,7 +131,7 @@ over_cell places found bytes k None lt = elim (cases_Bool (eqb found.0 k)) [
   | inr apart ↦ get-set_else bytes found.0 (byte_of places found.1) k (eqb-false found.0 k apart) ∙ sym (rw apart refl)
 ]
 
--- what stands at an offset when the cells were written
+-- what is at an offset once the cells are written
 get-with_cells : (places : ℕ → ℕ) (founds : List (ℕ × Cell)) (bytes : List ℕ) (k : ℕ) → AreBelow (length bytes) founds
     → slice_get (with_cells places founds bytes) k ≡ over_byte places (last_at founds k) (slice_get bytes k)
 get-with_cells places [] bytes k below = refl
@@ -150,7 +150,7 @@ over_byte-map places (Some cell) b = refl
 pub shown_below : (segments : List Segment) (number : ℕ) (v : SegmentView) (content : SegmentContent) → ShowsContent segments number v content → AreBelow v.header.length (shown_spots content.spots.items)
 shown_below segments number v content is = spots-below segments (segment_of_view v) (patch_list (segment_of_view v)) content.spots.items content.runs.items is.shows.sound.patches is.content'.spots
 
--- the data with the spots over it is what stands in memory
+-- the data with the spots over it are the bytes in memory
 pub stands-spots : (segments : List Segment) (number : ℕ) (v : SegmentView) (content : SegmentContent) (places : ℕ → ℕ) (bytes out : List ℕ) → ShowsContent segments number v content
     → bytes ≡ segment_bytes (segment_of_view v) → out ≡ with_cells places (shown_spots content.spots.items) bytes → out ≡ stands places (segment_of_view v)
 stands-spots segments number v content places bytes out is data_is out_is = same_list out (stands places (segment_of_view v)) at

@@ -13,7 +13,7 @@ use Rattle.load_content.specs.Views.{IsLoadView}
 use Rattle.omf_cells.specs.Load.{IsRefused, IsReadRefused}
 use Rattle.load_content.proofs.NamedFaults.{unless_then}
 
--- these views are the segments from the file's front up to this displacement, and pass phase 1
+-- these views are the segments from the file's start up to this displacement, and pass phase 1
 pub record Read (file : List ℕ) (views : List SegmentView) (start number : ℕ) : Type 0 where
   pub are : AreSegments (map segment_of_view views) 0 file start
   pub pass : AllByRecursion IsLoadSegment (map segment_of_view views)
@@ -54,7 +54,7 @@ read_loadable file views start number read past some none =
       sound = none;
     }
 
--- a segment that is refused behind the others has the file's first fault
+-- a segment that is refused after the others has the file's first fault
 pub refused_in : (file : List ℕ) (views : List SegmentView) (fault : LoadFault) (start number : ℕ) → Read file views start number → start < length file → IsReadRefused fault number start file → IsRefused fault file
 refused_in file views fault start number read more is = unless_then fault.cause fault _ (IsFirstLoadFault file fault) first is
   where

@@ -5,7 +5,7 @@ use Rattle.load_meaning.specs.WrittenBody.{is_zero}
 use Rattle.load_content.specs.declared.pieces.BytePiece.{BytePiece}
 use Rattle.load_content.specs.Content.{last_at, IsAt}
 
--- no cell stands from this offset on, and one that isn't a byte 0 stands before it
+-- there is no cell from this offset on, and, unless it is 0, one that isn't a byte 0 right before it
 pub record IsEnd (founds : List (ℕ × Cell)) (end : ℕ) : Type 0 where
   pub past : (k : ℕ) → end ≤ k → last_at founds k ≡ None
   pub last : (end ≡ 0) ⊎ ((c : Cell) × (1 ≤ end) × (last_at founds (end - 1) ≡ Some c) × (is_zero c ≡ false))
@@ -17,12 +17,12 @@ pub record EndsAt (p : BytePiece) (end : ℕ) : Type 0 where
   pub byte : slice_get p.bytes.now place ≡ Some 0 → ⊥
   pub end' : end ≡ suc (p.start + place)
 
--- from a place on the bytes of the piece behind its reach are 0, and the last one before isn't; 0 where all are
+-- from a place on, the bytes of the piece after its reach are 0, and the last one before isn't; the reach is 0 where all are
 pub record HasReach (p : BytePiece) (low reach : ℕ) : Type 0 where
   pub zeros : (m : ℕ) → m < length p.bytes.now → low ≤ p.start + m → reach ≤ p.start + m → slice_get p.bytes.now m ≡ Some 0
   pub last : (reach ≡ 0) ⊎ EndsAt p reach
 
--- so it is for so many pieces at the start
+-- from `low` on, the bytes of the first `n` pieces after this reach are 0, and the last one before isn't; the reach is `low` where all are
 pub record HaveReach (pieces : List BytePiece) (n low reach : ℕ) : Type 0 where
   pub low' : low ≤ reach
   pub zeros : (i m : ℕ) (p : BytePiece) → i < n → IsAt pieces i p → m < length p.bytes.now → reach ≤ p.start + m → slice_get p.bytes.now m ≡ Some 0

@@ -1,4 +1,4 @@
--- Laws of load files, in the format's own words.
+-- Laws of load files, in the format's own terms.
 use Rattle.std.specs.Prelude.{◌≡◌, ℕ, List, [], length, map, drop, Some, Err}
 use Rattle.omf_format.specs.declared.fault.HeaderFault.{HeaderFault}
 use Rattle.omf_format.specs.declared.fault.RecordFault.{RecordFault}
@@ -38,7 +38,7 @@ HasLengthCells = (file : List ℕ) (segments : List Segment) (number : ℕ) (s :
 abbrev pub CellsAreBytes : Type 0
 CellsAreBytes = (s : Segment) → patches_of s ≡ [] → cells s ≡ map Byte (segment_bytes s)
 
--- a segment of a load file has its number, patches that may stand there, and a table's layout where it is one
+-- a segment of a load file has its number, patches that are allowed there, and a table's layout where it is one
 abbrev pub SegmentsAreSound : Type 0
 SegmentsAreSound = (file : List ℕ) (segments : List Segment) → IsLoadable file segments → (number : ℕ) (s : Segment) → segment_at segments number ≡ Some s
     → IsSoundSegment segments number s

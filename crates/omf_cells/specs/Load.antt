@@ -42,7 +42,7 @@ IsHeaderFault (header.Unsupported field) start version number fault = fault ≡ 
 IsHeaderFault (header.BadField field) start version number fault = fault ≡ in_segment number (as_load (to_file_header_fault start version (header.BadField field)))
 IsHeaderFault header.Memory start version number fault = (fault.cause ≡ Memory) × (fault.segment ≡ 0) × (fault.at ≡ 0)
 
--- a header that phase 1 lets pass stands there
+-- a header that phase 1 lets pass is at this displacement
 pub record IsLoadHeader (start : ℕ) (f : HeaderFields) (file : List ℕ) : Type 0 where
   pub header : IsHeader start f file
   pub front : segment_refusal f ≡ None
@@ -62,7 +62,7 @@ pub record IsKept (views : List SegmentView) (contents : List SegmentContent) (e
   pub few : length exports < 2 ^ 32
   pub paths' : seen_paths paths ≡ paths_of (map segment_of_view views)
 
--- ---- what the calls of a load file tell
+-- ---- what the calls of a load file return
 
 -- no segment has this number
 abbrev pub IsOutside : List Segment → ℕ → Type 0
@@ -72,7 +72,7 @@ IsOutside segments number = (number ≡ 0) ⊎ (length segments < number)
 abbrev pub HasFields : List Segment → ℕ → HeaderFields → Type 0
 HasFields segments number f = IsSomeAnd (segment_at segments number) (λ s. s.fields ≡ f)
 
--- there is a segment with this number, and its LENGTH is so many bytes
+-- there is a segment with this number, and its LENGTH is n bytes
 abbrev pub HasLength : List Segment → ℕ → ℕ → Type 0
 HasLength segments number n = IsSomeAnd (segment_at segments number) (λ s. s.fields.length ≡ n)
 

@@ -1,4 +1,4 @@
--- What a load file tells of one of its segments as a whole.
+-- What a load file returns for one of its segments as a whole.
 use Rattle.std.specs.Prelude.{◌≡◌, ℕ, ◌+◌, ◌-◌, ◌≤◌, List, [], ◌∷◌, ◌++◌, length, map, replicate, IsSomeAnd}
 use Rattle.std.specs.Option.{option_map_or}
 use Rattle.omf_format.specs.File.{Segment, segment_at}
@@ -17,11 +17,11 @@ front_at segments number = option_map_or front_of (segment_at segments number) 0
 abbrev pub data_at : List Segment → ℕ → List ℕ
 data_at segments number = option_map_or segment_bytes (segment_at segments number) []
 
--- the data of the segment with this number begin with these bytes, and zeros stand after them
+-- the data of the segment with this number begin with these bytes, and zeros follow them
 abbrev pub HasData : List Segment → ℕ → List ℕ → Type 0
 HasData segments number bytes = IsSomeAnd (segment_at segments number) (λ s. segment_bytes s ≡ bytes ++ replicate (s.fields.length - length bytes) 0)
 
--- patches of some bytes each, each behind the one before and inside so many bytes, the first one not before a place
+-- patches of some bytes each, each after the one before and inside `size` bytes, the first one not before a place
 abbrev pub AreSpaced : ℕ → ℕ → List Patch → Type 0
 AreSpaced size low [] = Unit {0}
 AreSpaced size low (p ∷ patches) = (low ≤ p.location) × (1 ≤ p.count) × (p.location + p.count ≤ size) × AreSpaced size (p.location + p.count) patches

@@ -1,4 +1,4 @@
-//! The front of a load segment: its header, and then its name and type.
+//! What is checked first in a load segment: its header, and then its name and type.
 
 ghost use Rattle.std.specs.Prelude.{◌≡◌, ◌+◌, ◌<◌, ◌≤◌, ◌^◌, length, drop, IfOk, IfErr, Some};
 ghost use Rattle.omf_format.specs.Header.{form_of, version_of};
@@ -14,7 +14,7 @@ use omf_header::{Header, read_header};
 use omf_records::to_file_header_fault;
 use std::alloc::Global;
 
-/// The header that stands there, in the segment with this number.
+/// The header that starts there, of the segment with this number.
 pub fn front_at(alloc: Global, file: &[u8], start: u32, number: u32) -> Result<Header, LoadFault>
     requires short { length file.now < 2 ^ 32 }
     requires inside { start < length file.now }

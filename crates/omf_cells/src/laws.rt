@@ -9,7 +9,7 @@ pub fn load_files_are_read_in_one_way()
     ensures one_fault { OneFirstFault }
 {}
 
-/// The faults that any file may have are told with the same cause and place.
+/// The faults that any file may have are reported with the same cause and place.
 pub fn faults_keep_their_places()
     ensures header { HeaderFaultKeeps }
     ensures record { RecordFaultKeeps }

@@ -199,7 +199,7 @@ impl<'a> LoadFile<'a> {
         }
     }
 
-    /// The first segment that may not stand in a run-time library file.
+    /// The first segment that isn't allowed in a run-time library file.
     #[tactic(auto, unfolding(load_meaning::specs::Runtime::runtime_fault))]
     pub(crate) fn kind_fault(&self) -> Option<LoadFault>
         ensures value { result ≡ runtime_fault self.now }
@@ -241,8 +241,8 @@ impl<'a> LoadFile<'a> {
         end_from(&content.pieces, last_end(&content.spots)) as u32
     }
 
-    /// Appends the first bytes of the data of the segment with this number, from 1: so many, or all where there are fewer. These
-    /// are the bytes of its records and zeros after them up to LENGTH. Where memory runs out, part of them may be appended.
+    /// Appends the first `size` bytes of the data of the segment with this number, from 1, or all where there are fewer. These are the
+    /// bytes of its records and zeros after them up to LENGTH. When out of memory, part of them may be appended.
     pub fn put_data(&self, segment: u32, size: u32, out: &mut Vec<u8>) -> Result<(), AllocError>
         ensures { OnOk result (out.new.items ≡ out.old.items ++ take size (data_at self.now segment)) }
     {
@@ -285,9 +285,9 @@ impl<'a> LoadFile<'a> {
     }
 }
 
-/// Writes what stands in memory for the segment with this number, from 1, where the file's segments lie at these places: its
-/// data, and over them the bytes of each patch, in file order. A target without a place counts as one at address 0. The
-/// entries of a jump table stand as in the file. No memory is taken.
+/// Writes the bytes in memory of the segment with this number, from 1, where the file's segments lie at these places: its data, and over
+/// them the bytes of each patch, in file order. A target without a place counts as one at address 0. The entries of a jump table are as in
+/// the file. No memory is taken.
 pub fn patch_into(load: &LoadFile, segment: u32, places: &Places, out: &mut [u8])
     requires { HasLength load.now segment (length out.old) }
     ensures { Stands load.now segment places.now out.new }

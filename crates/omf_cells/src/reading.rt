@@ -20,7 +20,7 @@ use load_tables::{add_exports, check_pathnames, check_tables};
 use omf_records::SegmentView;
 use std::alloc::Global;
 
-/// The segment with this number that starts there, its front and its records checked.
+/// The segment with this number that starts there. Its header, name and type and its records are checked.
 fn segment_from(
     alloc: Global,
     file: &[u8],
@@ -68,7 +68,7 @@ fn check_later<'a>(
     }
 }
 
-/// The load file. It is refused exactly where it has a first fault, or memory runs out.
+/// The load file. It is refused exactly where it has a first fault, or when out of memory.
 pub fn read_load<'a>(alloc: Global, file: &'a [u8]) -> Result<LoadFile<'a>, LoadFault>
     requires { length file.now < 2 ^ 32 }
     ensures ok { IfOk result (λ load. IsLoadable file.now load) }
@@ -104,8 +104,8 @@ pub fn read_load<'a>(alloc: Global, file: &'a [u8]) -> Result<LoadFile<'a>, Load
     })
 }
 
-/// The load file, as a run-time library file: all segments are dynamic, and none is skipped. It is refused exactly where it has a
-/// first fault as that, or memory runs out.
+/// The load file, as a run-time library file: all segments are dynamic, and none is skipped. It is refused exactly where it has a first
+/// fault as that, or when out of memory.
 pub fn read_runtime<'a>(alloc: Global, file: &'a [u8]) -> Result<LoadFile<'a>, LoadFault>
     requires { length file.now < 2 ^ 32 }
     ensures ok { IfOk result (λ load. IsRuntime file.now load) }

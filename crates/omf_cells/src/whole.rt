@@ -42,7 +42,7 @@ pub fn in_places(patches: Vec<Patch>) -> Result<Vec<Patch>, AllocError>
     Ok(patches)
 }
 
-/// Whether the patches have bytes, and lie apart, in order, inside so many bytes.
+/// Whether the patches have bytes, and lie apart, in order, inside `size` bytes.
 pub fn are_spaced(patches: &[Patch], size: u32) -> bool
     ensures { IsTrue result → AreSpaced size 0 (map seen patches.now) }
 {

@@ -187,7 +187,7 @@ module _ (given : LinkInput) (output : List ℕ) (bytes : HasBytes given) (is : 
     lands (Lacks i) id heads users at = refused reply (fault.NoRoom _) tt at.0
     lands (PutIn handles slots) id heads users at = subst ReplyBegins (sym at.0) tt
 
-    -- by what comes of the rows
+    -- by the result of reading the rows
     joins : (joined : Joined) → Joining (setting_in is.list).runtimes joined → LoadsJoined RoomRule state path loaded.0 joined reply next → ReplyBegins reply
     joins (Stops reads why) comes at = refused reply fault.CannotRead tt (at.0 ∙ ap (λ (w : LoaderFault). Refused w) comes)
     joins (Joins all) comes at = by_entries _ _ (lost_refusal (map (map head_of) all) loaded.0) (ap (λ (l : List (List Segment)). lost_refusal (map (map head_of) l) loaded.0) comes ∙ no_lost) at

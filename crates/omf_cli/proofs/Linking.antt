@@ -22,7 +22,7 @@ few_bytes (file ∷ files) short = omega (arith, short.0, few_bytes files short.
 
 -- ---- run-time library files
 
--- so many files as a command has are few, without run-time library files
+-- as many files as a command has are few, without run-time library files
 pub few_alone : (form : LinkForm) (files : List (List ℕ)) → AreShort files → length files ≤ 255 → FewGiven (given_alone form files)
 few_alone form files short few = record { files = omega (arith, few); bytes = omega (arith, few_bytes files short, few) }
 
@@ -60,7 +60,7 @@ paths_under (path ∷ paths) (file ∷ files) are printing =
     let size = and_parts (nat_le 1 (length path)) (nat_le (length path) 255) here.0 in
     (record { some = leb-true 1 (length path) size.0; short = leb-true (length path) 255 size.1; plain = plain.0 }, paths_under paths files here.1 plain.1)
 
--- and their paths can stand in a pathname segment
+-- and a pathname segment can hold their paths
 pub paths_with : (paths files : List (List ℕ)) → IsTrue (are_paths 1 16 paths) → IsTrue (are_printing paths) → HavePaths (given_with paths files)
 paths_with paths files are printing =
     let n = length files - length paths in
@@ -68,7 +68,7 @@ paths_with paths files are printing =
     let most = leb-true (length paths) 16 (and_parts (nat_le 1 (length paths)) (nat_le (length paths) 16) parts.0).1 in
     (paths_under paths (drop n files) parts.1 printing, omega (arith, most, (few_under paths (drop n files)).1))
 
--- the files, parted, are what is given
+-- the files, split in two, are what is given
 pub given_parted : (paths : List (String Global)) (files inputs following : List (Vec ℕ Global)) (runtimes : List Member) → inputs ≡ take (length files - length paths) files
     → following ≡ drop (length files - length paths) files → files_of runtimes ≡ under_paths (words_of paths) (all_bytes following)
     → given_of inputs runtimes Program ≡ given_with (words_of paths) (all_bytes files)

@@ -46,7 +46,7 @@ no_file_left paths files i members rest p none =
     sym (p.whole ∙ ap (λ (l : List (Vec ℕ Global)). files_of members ++ under_paths (drop i (words_of paths)) (all_bytes l)) none
     ∙ ap (λ (l : List (List ℕ × List ℕ)). files_of members ++ l) (none_of (drop i (words_of paths))) ∙ append-nil (files_of members))
 
--- nothing is left where no more comes
+-- nothing is left where no more files follow
 pub nothing_left : (rest : List (Vec ℕ Global)) (n : ℕ) (some : Type 0) → some ↔ (0 < n) → (some → ⊥) → length rest ≡ n → rest ≡ []
 nothing_left [] n some is none size = refl
 nothing_left (file ∷ rest) zero some is none size = absurd (omega (arith, size))

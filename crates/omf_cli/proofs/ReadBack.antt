@@ -102,7 +102,7 @@ rows_read more number (r ∷ runtimes) (s ∷ []) most all few written =
 
 -- ---- the whole file
 
--- there is no table; or it is after so many segments, and its entries lead to these targets
+-- there is no table; or it is after `count` segments, and its entries lead to these targets
 abbrev pub HasTable : ℕ → List Target → List Segment → Type 0
 HasTable count ts segments = (table_of segments ≡ None)
     ⊎ ((s : Segment) × (segment_at segments (suc count) ≡ Some s) × (table_of segments ≡ Some (suc count)) × (targets_of s ≡ ts))
@@ -139,7 +139,7 @@ module _ (given : LinkInput) (list : List Member) (table : List EquateAnswer) (b
 
   -- ---- segments
 
-  -- what stands after so many load segments
+  -- what follows `count` load segments
   record After (segments : List Segment) (count : ℕ) (rest : List Image) : Type 0 where
     following : List Segment
     paths : paths_of segments ≡ paths_of following

@@ -1,4 +1,4 @@
--- What comes of loading a file that the linker wrote.
+-- The result of loading a file that the linker wrote.
 use Rattle.std.specs.Prelude.{◌≡◌, ℕ, List, Some, Result, Ok, Err}
 use Rattle.std.specs.List.{AllByRecursion}
 use Rattle.std.specs.FinMap.{get}
@@ -29,13 +29,13 @@ abbrev pub BeginsOrLacks : Result Started LoaderFault → Type 0
 BeginsOrLacks (Ok started) = Unit {0}
 BeginsOrLacks (Err why) = LiesOutside why
 
--- at the path of each run-time library file that was given, which is the path of its row, stands that very file
+-- the path of each run-time library file that was given, which is the path of its row, holds that very file
 abbrev pub HoldsLibraries : FileMap → LinkInput → Type 0
 HoldsLibraries held given = AllByRecursion (λ file. get held file.0 ≡ Some file.1) given.runtimes
 
 -- Where a path holds a file that the linker wrote, no part of it and no entry of its jump table for the file itself names a skipped
--- segment, and the run-time library files with which it was linked stand at the paths of its rows, a load of that path is answered by
--- its program, or refused for a reason outside the file.
+-- segment, and the paths of its rows hold the run-time library files with which it was linked, a load of that path is answered by its
+-- program, or refused for a reason outside the file.
 abbrev pub LinkedFilesBegin : Type 0
 LinkedFilesBegin = (given : LinkInput) (output : List ℕ) → HasBytes given → (is : IsLinkedTo given output) → NamesNoSkipped is.list is.table
     → (held : FileMap) (path : List ℕ) → get held path ≡ Some output → HoldsLibraries held given

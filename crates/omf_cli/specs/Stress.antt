@@ -1,4 +1,4 @@
--- `stress`: a workload is made, linked and run, and a line tells what it came to.
+-- `stress`: a workload is made, linked and run, and a line reports the result.
 use Rattle.std.specs.Prelude.{◌≡◌, ◌≤◌, ℕ, List, [], ◌∷◌, ◌++◌, length, codes, Option, None, Some}
 use Rattle.std.specs.FinMap.{empty, insert}
 use Rattle.omf_base.specs.Digits.{decimal, hexadecimal}
@@ -28,11 +28,11 @@ pub record IsOfWorkload (files : List (List ℕ)) : Type 0 where
   pub bytes : IsBytes (object n seed)
   pub short : length (object n seed) ≤ 16777216
 
--- the file has so many segments
+-- the file has `count` segments
 abbrev pub HasSegments : List ℕ → ℕ → Type 0
 HasSegments file count = (segments : List Segment) × IsFile segments file × (count ≡ length segments)
 
--- these files hold the object's load file alone, which has so many segments
+-- these files hold the object's load file alone, which has `count` segments
 pub record IsStore (object : List ℕ) (files : FileMap) (count : ℕ) : Type 0 where
   pub file : List ℕ
   pub linked : IsLinkedTo (plain (object ∷ [])) file
@@ -55,7 +55,7 @@ pub record RunsTo (n seed : ℕ) (loader : Loaded) (count entered refused sum : 
   pub worked : HasWorked files n seed count entered refused sum last
   pub agrees : Agrees files loader last
 
--- and this line tells what came of it
+-- and this line reports the result
 pub record HasStressed (n seed : ℕ) (loader : Loaded) (text : List ℕ) : Type 0 where
   pub count : ℕ
   pub entered : ℕ
@@ -64,7 +64,7 @@ pub record HasStressed (n seed : ℕ) (loader : Loaded) (text : List ℕ) : Type
   pub runs : RunsTo n seed loader count entered refused sum
   pub text_is : text ≡ stress_line count n entered refused sum
 
--- how a run ends: the line was printed whole, and the loader is handed out; or the first bytes of it; or memory ran out
+-- how a run ends: the line was printed whole, and the loader is handed out; or the first bytes of it; or nothing, when out of memory
 abbrev pub HasEnded : Status → ℕ → ℕ → Option Loaded → SinkSeen → SinkSeen → Type 0
 HasEnded Done n seed (Some loader) before now = (text : List ℕ) × HasStressed n seed loader text × (now ≡ with_text text before)
 HasEnded CannotPrint n seed None before now = (loader : Loaded) × (text : List ℕ) × HasStressed n seed loader text × FailsToPrint text before now

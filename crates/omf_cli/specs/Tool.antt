@@ -23,7 +23,7 @@ abbrev pub UsageRun : Status → Outside → Type 0
 UsageRun result o =
     Ends (λ wanted text. (wanted ≡ status.Usage) × (text ≡ usage_line) × (o.new_store ≡ o.store)) ⊥ ⊥ result o.sink o.new_sink
 
--- a run over words of this form that ends with the status; a loader is handed out by a script and by a workload alone
+-- a run over arguments of this form that ends with the status; a loader is handed out by a script and by a workload alone
 abbrev pub HasRun : Status → Option CommandForm → Option Loaded → Outside → Type 0
 HasRun result None last o = UsageRun result o × (last ≡ None)
 HasRun result (Some (Asm source output macros)) last o = MakesRun AsmMakes (Some output) (source ∷ macros) result o × (last ≡ None)
@@ -37,7 +37,7 @@ HasRun result (Some (LinkRt output inputs runtimes)) last o = MakesRun (λ files
 HasRun result (Some (Listing output inputs)) last o = MakesRun ListMakes (Some output) inputs result o × (last ≡ None)
 HasRun result (Some (Compact output inputs)) last o = MakesRun CompactMakes (Some output) inputs result o × (last ≡ None)
 
--- the command can be done: the store tells its inputs, if there are any, they have no fault, and no count rises
+-- the command can be done: the store reveals its inputs, if there are any, they have no fault, and no count rises
 abbrev pub CanSucceed : Option CommandForm → Outside → Type 0
 CanSucceed None o = ⊥
 CanSucceed (Some (Asm source output macros)) o = CanMake AsmMakes (source ∷ macros) o

@@ -20,14 +20,14 @@ pub fn inputs_are_asked_for_once()
     ensures scripts { ScriptsAreAskedForOnce }
 {}
 
-/// A load of a file that the linker wrote, in which nothing names a skipped segment, is answered by its program, or refused for
-/// a reason outside the file: 255 users, a read that failed, no handle, no room, or no memory. The run-time library files with
-/// which it was linked have to stand at the paths of its rows.
+/// A load of a file that the linker wrote, in which nothing names a skipped segment, is answered by its program, or refused for a reason
+/// outside the file: 255 users, a read that failed, no handle, no room, or no memory. The paths of its rows have to hold the run-time
+/// library files with which it was linked.
 pub fn linked_files_begin()
     ensures { LinkedFilesBegin }
 {}
 
-/// The headline: a source has one object, which is a file; files have one load file, or one first fault; the load file stands for the
+/// The headline: a source has one object, which is a file; files have one load file, or one first fault; the load file represents the
 /// linked cells, and its load begins a program; a command has one reply; a file has one listing.
 pub fn headline()
     ensures { Headline }

@@ -1,4 +1,4 @@
-//! The commands of the tool `omf`: all that the program does stands here, over a store of files and a sink of text.
+//! The commands of the tool `omf`: all that the program does is here, over a store of files and a sink of text.
 #![tactic(auto)]
 
 mod laws;

@@ -1,4 +1,4 @@
-//! `link`, `rtl` and `linkrt`: the load file of objects and libraries, and of run-time library files behind them.
+//! `link`, `rtl` and `linkrt`: the load file of objects and libraries, and of run-time library files after them.
 
 ghost use Rattle.std.specs.Prelude.{◌≡◌, ◌≢◌, ◌≤◌, ◌-◌, length, take, drop, IfOk, IsTrue, MatchOption};
 ghost use Rattle.omf_cli.specs.LinkCauses.{link_cause_name};
@@ -29,7 +29,7 @@ pub struct LinkRt<'a> {
     ghost printing: { IsTrue (are_printing (words_of runtimes.now)) },
 }
 
-/// The name of a cause, as it is printed. Want of memory has none, and no other cause is without one.
+/// The name of a cause, as it is printed. `Memory` has none, and no other cause is without one.
 fn cause_name(cause: LinkCause) -> Option<&'static str>
     ensures { MatchOption result (cause ≡ LinkCause.Memory) (λ name. (cause ≢ LinkCause.Memory) × (name.now ≡ link_cause_name cause)) }
 {
@@ -135,7 +135,7 @@ fn under_paths(
     Ok(members)
 }
 
-/// The files but the last so many, and these.
+/// The files but the last `count`, and the last `count`.
 fn split_last(
     mut files: Vec<Vec<u8>>,
     count: usize,

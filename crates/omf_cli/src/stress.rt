@@ -55,7 +55,7 @@ fn count_of(alloc: Global, object: &[u8], file: &[u8]) -> Result<u16, AllocError
     }
 }
 
-/// The line that tells what a run came to.
+/// The line that reports the result of a run.
 fn worked_line(alloc: Global, count: u32, n: u32, worked: &Worked) -> Result<Line, LineFault>
     ensures { IfOk result (λ text. text ≡ stress_line count n worked.now.entered worked.now.refused worked.now.sum) }
 {
@@ -92,7 +92,7 @@ fn store_of(alloc: Global, object: Vec<u8>) -> Result<(ReliableFiles, u16), Allo
     Ok((files, count))
 }
 
-/// Makes the workload, links it and runs it. The number of segments of its load file, and what the run came to.
+/// Makes the workload, links it and runs it. Returns the number of segments of its load file, and the result of the run.
 fn run_workload(alloc: Global, n: u32, seed: u32) -> Result<(u32, Worked), AllocError>
     requires some { 1 ≤ n }
     requires few { n ≤ 64 }

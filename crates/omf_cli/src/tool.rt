@@ -39,20 +39,21 @@ fn run_asm<F: Files, S: Sink>(
     }
 }
 
-/// Does what the words say over a store of files and a sink of text, and answers the status. `last` is to hold no loader. Where
-/// a script was run to its end it holds the loader that ran the commands, if there were any; where a workload was run and its line
-/// printed, the loader that answered its calls; and else none.
+/// Does what the arguments say over a store of files and a sink of text, and returns the status. `last` is to hold no loader. Where a
+/// script was run to its end it holds the loader that ran the commands, if there were any; where a workload was run and its line printed,
+/// the loader that answered its calls; and else none.
 ///
-/// `asm SRC OBJ MACROS..` assembles a source with 0 to 254 macro files; all are read, the source first, before anything is
-/// written; a refusal tells the first fault with its cause, its file (0 is the source) and its line. `link OUT FILE..` links 1 to 255 files, objects and libraries, in this order. All are read, in order, before anything is
-/// written; a refusal tells the first fault with its cause, its name if it has one, and its place. `dump FILE` prints a line
-/// for each segment of a file, and one for each of its records. `run SCRIPT` runs a script of loader commands, which is read
-/// whole before, and prints a line for each. `lib OUT OBJ..` makes a library of 1 to 255 object files, whose paths are their
-/// names in it; all are read in order before anything is written. `stress N SEED` makes a workload of N dynamic segments, 1 to 64,
-/// for a seed of 32 bits, links it, runs it over a store of its own, and prints a line. `rtl OUT FILE..` links 1 to 255 files to a run-time library file.
-/// `linkrt OUT K FILE..` links a program of 2 to 255 files, of which the last K, 1 to 16, are run-time library files with their paths.
-/// `list OBJ SRC` writes the source from which `asm` makes an object with the same content; a refusal tells what can't be listed, and where.
-/// `compact IN OUT` writes a load file in its one fixed form. Other words print the usage line.
+/// `asm SRC OBJ MACROS..` assembles a source with 0 to 254 macro files; all are read, the source first, before anything is written; a
+/// refusal reports the first fault with its cause, its file (0 is the source) and its line. `link OUT FILE..` links 1 to 255 files, objects
+/// and libraries, in this order. All are read, in order, before anything is written; a refusal reports the first fault with its cause, its
+/// name if it has one, and its place. `dump FILE` prints a line for each segment of a file, and one for each of its records. `run SCRIPT`
+/// runs a script of loader commands, which is read whole before, and prints a line for each. `lib OUT OBJ..` makes a library of 1 to 255
+/// object files, whose paths are their names in it; all are read in order before anything is written. `stress N SEED` makes a workload of N
+/// dynamic segments, 1 to 64, for a seed of 32 bits, links it, runs it over a store of its own, and prints a line. `rtl OUT FILE..` links 1
+/// to 255 files to a run-time library file. `linkrt OUT K FILE..` links a program of 2 to 255 files, of which the last K, 1 to 16, are
+/// run-time library files with their paths. `list OBJ SRC` writes the source from which `asm` makes an object with the same content; a
+/// refusal reports what can't be listed, and where. `compact IN OUT` writes a load file in its one fixed form. Other arguments print the
+/// usage line.
 pub fn run_tool<F: Files, S: Sink>(
     alloc: Global,
     words: &Vec<String>,

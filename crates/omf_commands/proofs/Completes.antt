@@ -1,4 +1,4 @@
--- A script that can be run is done, unless memory runs out.
+-- A script that can be run is done, unless out of memory.
 use Rattle.std.proofs.Common.{◌≡◌, ◌⊎◌, inl, inr, ℕ, List, Option, refl, subst}
 use Rattle.omf_io.specs.Files.{FileMap}
 use Rattle.omf_io.specs.Outside.{Outside}
@@ -12,7 +12,7 @@ use Rattle.omf_making.proofs.Completes.{same_files, held_at, not_unread, not_pri
 use Rattle.omf_commands.specs.Script.{ScriptRun, CanRun}
 use Rattle.omf_making.specs.Making.{AreRead, AreHeld}
 
--- a script that can be run is run to its end, unless memory runs out
+-- a script that can be run is run to its end, unless out of memory
 pub script_completes : (inputs : List (List ℕ)) (result : Status) (last : Option Loaded) (o : Outside) → ScriptRun inputs result last o → CanRun inputs o → (result ≡ status.Done) ⊎ (result ≡ status.Memory)
 script_completes inputs status.Done last o run can = inl refl
 script_completes inputs status.Memory last o run can = inr refl

@@ -53,7 +53,7 @@ pub record Gathered (paths : List (String Global)) (files : List (Vec ℕ Global
   pub whole : given_of (words_of paths) (all_bytes files) ≡ map given_file members ++ given_of (drop i (words_of paths)) (drop i (all_bytes files))
   pub short : All (λ m. length m.bytes.items < 2 ^ 32) members
 
--- the words from one on begin with it
+-- the arguments from one on begin with it
 pub drop_word : (paths : List (String Global)) (i : ℕ) (path : String Global) → i < length paths → path ≡ get_or paths i path → drop i (words_of paths) ≡ string_bytes path ∷ drop (i + 1) (words_of paths)
 drop_word [] i path lt is = absurd (omega arith)
 drop_word (p ∷ paths) zero path lt is = ap (λ (s : String Global). string_bytes s ∷ words_of paths) (sym is)

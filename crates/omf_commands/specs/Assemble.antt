@@ -7,7 +7,7 @@ use Rattle.omf_commands.specs.AsmCauses.{asm_cause_name}
 use Rattle.omf_making.specs.Lines.{line_fault_line}
 use Rattle.omf_making.specs.Made.{Made, Bytes, Refusal, first_of}
 
--- the files behind the first
+-- the files after the first
 abbrev pub following_first : List (List ℕ) → List (List ℕ)
 following_first [] = []
 following_first (file ∷ files) = files

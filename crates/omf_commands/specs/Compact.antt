@@ -12,7 +12,7 @@ abbrev pub ReportsFault : CompactFault → Made → Type 0
 ReportsFault fault (Bytes bytes) = ⊥
 ReportsFault fault (Refusal text) = (fault.cause ≢ Memory) × (text ≡ refused_line (compact_cause_name fault.cause) None 1 fault.segment fault.at)
 
--- the canonical file, or why there is none, which isn't want of memory
+-- the canonical file, or why there is none, which isn't lack of memory
 abbrev pub CompactMakes : List (List ℕ) → Made → Type 0
 CompactMakes files (Bytes bytes) = IsAnswer (first_of files) bytes
 CompactMakes files (Refusal text) =

@@ -14,7 +14,7 @@ given_of (path ∷ paths) (file ∷ files) = record { name = path; bytes = file 
 given_of [] files = []
 given_of (path ∷ paths) [] = []
 
--- the library, or the first fault of the files, which isn't want of memory
+-- the library, or the first fault of the files, which isn't lack of memory
 abbrev pub LibMakes : List (List ℕ) → List (List ℕ) → Made → Type 0
 LibMakes paths files (Bytes bytes) = IsLibraryOf (given_of paths files) bytes
 LibMakes paths files (Refusal text) =

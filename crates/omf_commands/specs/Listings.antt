@@ -7,7 +7,7 @@ use Rattle.omf_commands.specs.ListCauses.{list_cause_name}
 use Rattle.omf_making.specs.Lines.{refused_line}
 use Rattle.omf_making.specs.Made.{Made, Bytes, Refusal, first_of}
 
--- the fault stands in file 1, and isn't want of memory
+-- the fault is in file 1, and isn't lack of memory
 abbrev pub ListMakes : List (List ℕ) → Made → Type 0
 ListMakes files (Bytes text) = IsListing (first_of files) text
 ListMakes files (Refusal text) =

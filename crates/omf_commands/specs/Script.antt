@@ -49,7 +49,7 @@ ScriptRun inputs result last o =
     (Ends (λ wanted text. ScriptSays wanted inputs o text) ⊥ (IsShort inputs o.store o.new_store) result o.sink o.new_sink × (last ≡ None))
     ⊎ Ran result inputs last o
 
--- the store tells a script without a bad line
+-- the store reveals a script without a bad line
 pub record CanRun (inputs : List (List ℕ)) (o : Outside) : Type 0 where
   pub reported : FileMap
   pub is_reported : o.store.held ≡ Some reported

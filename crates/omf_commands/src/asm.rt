@@ -24,7 +24,7 @@ pub fn inputs_of(alloc: Global, source: &str, macros: &[String]) -> Result<Vec<S
     Ok(inputs)
 }
 
-/// The name of a cause, as it is printed. Want of memory has none, and no other cause is without one.
+/// The name of a cause, as it is printed. `Memory` has none, and no other cause is without one.
 fn cause_name(cause: AsmCause) -> Option<&'static str>
     ensures { MatchOption result (cause ≡ AsmCause.Memory) (λ name. (cause ≢ AsmCause.Memory) × (name.now ≡ asm_cause_name cause)) }
 {

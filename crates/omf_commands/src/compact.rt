@@ -12,7 +12,7 @@ use std::alloc::{AllocError, Global};
 
 pub struct Compact;
 
-/// The name of a cause, as it is printed. Want of memory has none, and no other cause is without one.
+/// The name of a cause, as it is printed. `Memory` has none, and no other cause is without one.
 fn cause_name(cause: CompactCause) -> Option<&'static str>
     ensures { MatchOption result (cause ≡ CompactCause.Memory) (λ name. (cause ≢ CompactCause.Memory) × (name.now ≡ compact_cause_name cause)) }
 {

@@ -51,7 +51,7 @@ fn members_of(alloc: Global, paths: &[String], files: &[Vec<u8>]) -> Result<Vec<
     Ok(members)
 }
 
-/// The name of a cause, as it is printed. Want of memory has none, and no other cause is without one.
+/// The name of a cause, as it is printed. `Memory` has none, and no other cause is without one.
 fn cause_name(cause: LibCause) -> Option<&'static str>
     ensures { MatchOption result (cause ≡ LibCause.Memory) (λ name. (cause ≢ LibCause.Memory) × (name.now ≡ lib_cause_name cause)) }
 {

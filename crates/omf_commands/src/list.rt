@@ -12,7 +12,7 @@ use w65_list::{ListCause, ListFault, list_source};
 
 pub struct Listing;
 
-/// The name of a cause, as it is printed. Want of memory has none, and no other cause is without one.
+/// The name of a cause, as it is printed. `Memory` has none, and no other cause is without one.
 fn cause_name(cause: ListCause) -> Option<&'static str>
     ensures { MatchOption result (cause ≡ ListCause.Memory) (λ name. (cause ≢ ListCause.Memory) × (name.now ≡ list_cause_name cause)) }
 {
@@ -27,7 +27,7 @@ fn cause_name(cause: ListCause) -> Option<&'static str>
     }
 }
 
-/// The line that says why there is no source, unless out of memory. The fault stands in file 1.
+/// The line that says why there is no source, unless out of memory. The fault is in file 1.
 fn refusal(alloc: Global, fault: ListFault) -> Result<Making, AllocError>
     ensures { IfOk result (λ made. ReportsListFault fault (made_of made)) }
 {

@@ -162,7 +162,7 @@ module _ (segments : List Segment) (number : ℕ) (s : Segment) (known : IsKnown
   unfolding canon_fields plain_of
   zeros_are size zeros is left other = rw other (omega (arith, left, is, front_is, front_length cs, celled, zeros-le cs))
 
-  -- where the front is too long, all is
+  -- where the cells before the last zeros are too long, so is the segment
   pub front_long : 0xFFFFFF < front_at segments number → is_pathname (plain_of s) ≡ false → 0x1000000 < length (canon_segment number (plain_of s))
   unfolding plain_of
   front_long long other =

@@ -77,7 +77,7 @@ none_is number (t ∷ segments) each =
 
 -- ---- list by list
 
--- so many segments have their lists
+-- the first n segments have their lists
 pub record Judged (segments : List Segment) (n : ℕ) (lists : List (Vec code.Patch Global)) : Type 0 where
   pub count : length lists ≡ n
   pub each : (k : ℕ) (s : Segment) → k < n → slice_get segments k ≡ Some s → first_broken (cells s) ≡ None

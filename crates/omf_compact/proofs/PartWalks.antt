@@ -35,7 +35,7 @@ drop_past (x ∷ xs) (suc i) e = let step : suc i + 1 ≡ suc (i + 1) = omega ar
 cell_is : (segments : List Segment) (number at : ℕ) (s : Segment) → segment_at segments number ≡ Some s → cell_at segments number at ≡ slice_get (cells s) at
 cell_is segments number at s is = ap (option_and_then (λ (t : Segment). slice_get (cells t) at)) is
 
--- the parts from a place on, where a part stands there, and where none does
+-- the parts from a place on, where a part is there, and where none is
 pub parts_next : (segments : List Segment) (number at : ℕ) (s : Segment) (part : Single) → segment_at segments number ≡ Some s → IsPartAt part at (cell_at segments number at)
     → parts_at at (drop at (cells s)) ≡ placed part ∷ parts_at (at + 1) (drop (at + 1) (cells s))
 parts_next segments number at s part is here =
@@ -58,7 +58,7 @@ no_parts : (at n : ℕ) → parts_at at (zero_cells n) ≡ []
 no_parts at zero = refl
 no_parts at (suc n) = no_parts (at + 1) n
 
--- behind the front there are none
+-- among the last zeros there are none
 pub parts_after : (segments : List Segment) (number end : ℕ) (s : Segment) → segment_at segments number ≡ Some s → end ≡ front_at segments number → parts_at end (drop end (cells s)) ≡ []
 parts_after segments number end s is at =
     ap (parts_at end) (ap (drop end) (front-zeros (cells s)) ∙ drop_at (front (cells s)) (zero_cells (zeros_after (cells s))) end size) ∙ no_parts end (zeros_after (cells s))

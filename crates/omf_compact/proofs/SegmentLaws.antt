@@ -79,7 +79,7 @@ closed old front body mid new start n here is size new_is =
     ∙ append_assoc (old ++ front) body (0 ∷ [])
     ∙ append_assoc old front (body ++ 0 ∷ [])
 
--- what stands after the header
+-- what follows the header
 pub body_there : (out r1 r2 r3 : List ℕ) (room own number : ℕ) (s : Segment) → own ≡ number → r1 ≡ out ++ replicate room 0 → r2 ≡ r1 ++ first_text own (plain_of s) → r3 ≡ r2 ++ entries_text s
     → r3 ≡ (out ++ replicate room 0) ++ (first_text number (plain_of s) ++ entries_text s)
 body_there out r1 r2 r3 room own number s same a b d =

@@ -18,7 +18,7 @@ pub record IsAnswer (file out : List ℕ) : Type 0 where
   pub short : length out ≤ max_file
   pub written : out ≡ canon (plain segments)
 
--- the file is a load file, and the first broken part of what it holds stands there
+-- the file is a load file, and the first broken part of what it holds is there
 pub record HasBroken (file : List ℕ) (segment at : ℕ) : Type 0 where
   pub segments : List Segment
   pub loadable : IsLoadable file segments
@@ -35,7 +35,7 @@ pub record IsTooLong (file : List ℕ) : Type 0 where
 abbrev pub IsLoadFault : LoadCause → CompactFault → List ℕ → Type 0
 IsLoadFault cause fault file = IsFirstLoadFault file (record { cause = cause; segment = fault.segment; at = fault.at })
 
--- why a file is refused for a cause; the faults of want of memory and of a file that is too long have no place
+-- why a file is refused for a cause; the faults of lack of memory and of a file that is too long have no place
 abbrev pub IsRefusedBy : CompactCause → CompactFault → List ℕ → Type 0
 IsRefusedBy NotLoadFile fault file = IsLoadFault load.NotLoadFile fault file
 IsRefusedBy Truncated fault file = IsLoadFault load.Truncated fault file

@@ -101,7 +101,7 @@ canon_fields number p = record {
   name = p.name;
 }
 
--- the header, and the records up to END behind it
+-- the header, and the records up to END after it
 unfoldable pub canon_segment : ℕ → Plain → List ℕ
 canon_segment number p =
     let body = flat_map (spelling written_layout) (canon_records number p) ++ spelling written_layout End in

@@ -23,7 +23,7 @@ pub record Replaces (path file other : List ℕ) (held now : FileMap) : Type 0 w
 abbrev pub no_load_file : ℕ → ℕ → LoadFault
 no_load_file segment at = record { cause = NotLoadFile; segment = segment; at = at }
 
--- the replies are the same; or both tell that a file is no load file, by the same segment, and may differ in its place
+-- the replies are the same; or both say that a file is no load file, by the same segment, and may differ in its place
 pub data IsLikeReply (reply other : Reply) : Type 0 where
   SameReply : reply ≡ other → IsLikeReply reply other
   OtherPlace : (segment at at' : ℕ) → reply ≡ Refused (BadFile (no_load_file segment at)) → other ≡ Refused (BadFile (no_load_file segment at')) → IsLikeReply reply other

@@ -18,9 +18,9 @@ fn know_bytes(file: &[u8])
     let _file = file;
 }
 
-/// The load file in its one fixed form: files that hold the same give the same answer. All parts are looked at before a segment is
-/// written, so a broken part is told before a file that would be too long. It is refused exactly where it isn't a load file, has a
-/// broken part, or the answer would have more than 16,777,216 bytes; or memory runs out.
+/// The load file in its one fixed form: files that hold the same give the same answer. All parts are looked at before a segment is written,
+/// so a broken part is reported before a file that would be too long. It is refused exactly where it isn't a load file, has a broken part,
+/// or the answer would have more than 16,777,216 bytes; or when out of memory.
 pub fn canonical(alloc: Global, file: &[u8]) -> Result<Vec<u8>, CompactFault>
     requires { length file.now < 2 ^ 32 }
     ensures ok { IfOk result (λ out. IsAnswer file.now out.items) }

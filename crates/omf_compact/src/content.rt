@@ -44,7 +44,7 @@ fn put_cells(
     Ok(())
 }
 
-/// The same, where the content has so many bytes. They are borrowed where they are in the file one after another.
+/// Appends the same records, where the content has `size` bytes. The bytes are borrowed if they lie one after another in the file.
 fn put_plain(
     alloc: Global,
     out: &mut Vec<u8>,
@@ -82,7 +82,7 @@ fn put_plain(
     put_cells(alloc, out, load, number, bytes.as_slice(), patches)
 }
 
-/// Appends the only record of the pathname segment with this number, which has so many bytes.
+/// Appends the only record of the pathname segment with this number, which has `size` bytes.
 fn put_pathnames(
     alloc: Global,
     out: &mut Vec<u8>,

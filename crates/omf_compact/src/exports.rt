@@ -8,8 +8,8 @@ use crate::head::CompactWriteFault;
 use omf_cells::LoadFile;
 use omf_records::{Rec, put_record};
 
-/// Appends the ENTRY records of the segment with this number, which are those of the names from a place on that the file exports.
-/// The answer is the place behind them.
+/// Appends the ENTRY records of the segment with this number, which are those of the names from a place on that the file exports. Returns
+/// the place after them.
 pub fn put_exports(
     out: &mut Vec<u8>,
     load: &LoadFile,

@@ -66,7 +66,7 @@ impl From<PutFault> for CompactWriteFault {
     }
 }
 
-/// The header with so many zeros after the data, without what its writing gives it.
+/// The header with `zeros` zeros after the data, without what its writing gives it.
 fn with_reserved_zeros(
     alloc: Global,
     header: &Header,
@@ -99,7 +99,7 @@ fn with_reserved_zeros(
     })
 }
 
-/// The bytes of a header before a body of a given number of bytes with END behind it, and with so many zeros after the data in memory.
+/// The bytes of a header before a body of a given number of bytes with END after it, and with `zeros` zeros after the data in memory.
 pub fn front_of(
     alloc: Global,
     header: &Header,
@@ -129,7 +129,7 @@ pub fn header_size(header: &Header) -> usize
     0x37 + header.name.bytes().len()
 }
 
-/// Appends so many zeros.
+/// Appends `room` zeros.
 pub fn put_room(out: &mut Vec<u8>, room: usize) -> Result<(), CompactWriteFault>
     requires { length out.old.items + room < 2 ^ 33 }
     ensures ok { OnOk result (out.new.items ≡ out.old.items ++ replicate room 0) }
@@ -148,8 +148,7 @@ fn put_front(out: &mut [u8], start: usize, front: &[u8])
     out[start..start + front.len()].copy_from_slice(front);
 }
 
-/// Writes a header into the room before a body, and END behind the body. It is too long where there would be more than
-/// 16,777,216 bytes.
+/// Writes a header into the room before a body, and END after the body. It is too long where there would be more than 16,777,216 bytes.
 pub fn close(out: &mut Vec<u8>, start: usize, front: &[u8]) -> Result<(), CompactWriteFault>
     requires { start + length front.now ≤ length out.old.items }
     ensures ok { OnOk result (out.new.items ≡ take start out.old.items ++ front.now ++ drop (start + length front.now) out.old.items ++ 0 ∷ []) }

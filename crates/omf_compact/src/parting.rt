@@ -40,7 +40,7 @@ fn goes_on(patch: &Patch, part: &Single) -> bool
         && patch.shift == part.shift
 }
 
-/// Makes the last patch one byte longer, if the part, which isn't the first byte of its place, goes on behind it.
+/// Makes the last patch one byte longer, if the part, which isn't the first byte of its place, continues it.
 fn extend(patches: &mut Vec<Patch>, part: &Single) -> Result<bool, AllocError>
     requires some { (part.now).index ≡ 0 → ⊥ }
     requires few { (part.now).index < 4 }
@@ -78,7 +78,7 @@ fn append_part(patches: &mut Vec<Patch>, part: &Single) -> Result<bool, AllocErr
     Ok(true)
 }
 
-/// The part at an offset of the segment with this number, if no byte stands there.
+/// The part at an offset of the segment with this number, if there is no byte.
 fn part_at(load: &LoadFile, number: u32, at: u32) -> Option<Single>
     requires { IfSome (cell_at load.now number at) IsWrittenCell }
     ensures { MatchOption result (IsNoPart (cell_at load.now number at)) (λ part. IsPartAt part at (cell_at load.now number at)) }

@@ -12,8 +12,8 @@ use crate::head::{CompactWriteFault, close, front_of, header_size, put_room, rec
 use omf_cells::{LoadFile, Patch};
 use std::alloc::Global;
 
-/// Appends the segment with this number, whose cells have these patches, and before whose ENTRY records so many stand in the
-/// file. The answer is how many stand after them. It is too long where the file would exceed 16,777,216 bytes.
+/// Appends the segment with this number, whose cells have these patches; `place` is the number of ENTRY records before its own in the file.
+/// Returns that number plus the number of its own. It is too long where the file would exceed 16,777,216 bytes.
 fn put_segment(
     alloc: Global,
     out: &mut Vec<u8>,

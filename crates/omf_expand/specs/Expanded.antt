@@ -38,7 +38,7 @@ expand_usage_line = line (codes "usage: omf_expand SRC MACROS..")
 abbrev pub ExpandUsageRun : Status → Outside → Type 0
 ExpandUsageRun result o = Ends (λ wanted text. (wanted ≡ status.Usage) × (text ≡ expand_usage_line) × (o.new_store ≡ o.store)) ⊥ ⊥ result o.sink o.new_sink
 
--- words that are 1 to 255 paths are the source and its macro files, whose lines are printed; for other words the usage line is
+-- arguments that are 1 to 255 paths are the source and its macro files, whose lines are printed; for other arguments the usage line is
 abbrev pub HasExpandedBy : Bool → List (List ℕ) → Status → Outside → Type 0
 HasExpandedBy true words result o = MakesRun ExpandMakes None words result o
 HasExpandedBy false words result o = ExpandUsageRun result o
@@ -46,6 +46,6 @@ HasExpandedBy false words result o = ExpandUsageRun result o
 abbrev pub HasExpanded : List (List ℕ) → Status → Outside → Type 0
 HasExpanded words result o = HasExpandedBy (are_paths 1 255 words) words result o
 
--- the lines can be printed: the store tells the inputs, they have no fault, and no count rises
+-- the lines can be printed: the store reveals the inputs, they have no fault, and no count rises
 abbrev pub CanExpand : List (List ℕ) → Outside → Type 0
 CanExpand words o = IsTrue (are_paths 1 255 words) × CanMake ExpandMakes words o

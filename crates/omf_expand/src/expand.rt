@@ -82,7 +82,7 @@ impl Maker for Expand {
     }
 }
 
-/// The line that says which words there are.
+/// The line that says which arguments there are.
 fn usage_line(alloc: Global) -> Result<Line, LineFault>
     ensures { IfOk result (λ text. text ≡ expand_usage_line) }
 {
@@ -92,8 +92,8 @@ fn usage_line(alloc: Global) -> Result<Line, LineFault>
     Ok(line)
 }
 
-/// Prints the lines of a source after expansion, where the words name it and then its macro files, 1 to 255 files together; or its first
-/// fault, or the usage line.
+/// Prints the lines of a source after expansion, where the arguments name it and then its macro files, 1 to 255 files together; or its
+/// first fault, or the usage line.
 pub fn run_expand<F: Files, S: Sink>(
     alloc: Global,
     words: &[String],

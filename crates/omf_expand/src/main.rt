@@ -11,7 +11,7 @@ use std::env;
 use std::io::{self, ErrorKind};
 use std::process::ExitCode;
 
-/// The words after the program's name. Where one isn't UTF-8 text, none.
+/// The arguments after the program's name. Where one isn't UTF-8 text, none.
 fn words(rt: &HostRuntime) -> Result<Vec<String>, AllocError> {
     match collect_arguments(rt) {
         Ok(words) => Ok(words),

@@ -19,7 +19,7 @@ begins l bytes rest fits read =
     let text = text_before bytes t.0 rest t.2 in
     rw text (record { expression = t.1; rest = rest; parts = t.2 })
 
--- where an expression stands at the start, reading ends behind it
+-- where an expression is at the start, reading ends after it
 pub ends_after : (l : ℕ) (bytes text : List ℕ) (b : BeginsWith l bytes text) → read_all l bytes ≡ Ok b.rest
 ends_after l bytes text b = ap (read_all l) b.parts ∙ read-all-again l text b.rest b.expression
 

@@ -4,7 +4,7 @@ use Rattle.omf_format.specs.declared.expression.ExprFault.{ExprFault}
 use Rattle.omf_format.specs.Expression.{term_step, read_from, read_all}
 use Rattle.omf_format.specs.laws.ExpressionLaws.{read-term, read-end, read-wrong}
 
--- the bytes left, where so many values are pending, are read as the whole is
+-- the bytes left, where this many values are pending, are read as the whole is
 pub record Reads (lab_len : ℕ) (bytes left : List ℕ) (pending : ℕ) : Type 0 where
   pub fuel : ℕ
   pub enough : length left ≤ fuel

@@ -51,7 +51,7 @@ never_cut l left (t ∷ terms) flaw formed parts read =
 pub left_all : (l : ℕ) (text : List ℕ) → IsExpression l text → AreLeft l text text
 left_all l text is = record { terms = terms_of is.tree; formed = tree_has_terms l is.tree is.spells.formed; parts = is.spells.spelled; within = omega arith }
 
--- the first term, and what is left behind it
+-- the first term, and what is left after it
 pub record Taken (l : ℕ) (text left : List ℕ) (term : Term) (rest : List ℕ) : Type 0 where
   pub others : AreLeft l text rest
   pub first : terms_in l (length text - length left) left ≡ (length text - length left, term) ∷ terms_in l (length text - length rest) rest

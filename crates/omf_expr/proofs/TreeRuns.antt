@@ -1,4 +1,4 @@
--- Evaluating the terms of a tree, and more behind them: its value is pending when the others come.
+-- Evaluating the terms of a tree, and more terms after them: the tree's value is pending when the others follow.
 use Rattle.std.proofs.Common.{◌≡◌, ℕ, ◌+◌, true, false, eqb, List, [], ◌∷◌, ◌++◌, length, Result, Ok, Err, refl, sym, ap, ◌∙◌, append_assoc, append-nil, arith}
 use Rattle.std.proofs.lemmas.Bool.{eq-eqb, ne_eqb}
 use Rattle.std.proofs.lemmas.List.{length-append}
@@ -34,7 +34,7 @@ size-binary : (l at code : ℕ) (t u : Tree) → at + size_of l t + size_of l u 
 size-binary l at code t u =
     omega (arith, ap length (terms_text-append l (terms_of t) (terms_of u ++ Operator code ∷ [])), length-append (terms_text l (terms_of t)) (terms_text l (terms_of u ++ Operator code ∷ [])), size-unary l 0 code u)
 
--- an operator behind its operand or operands
+-- an operator after its operand or operands
 run-unary : (env : Environment) (l at code : ℕ) (v : Value) (more : List Term) (pending : List Value) → operand_count code ≡ 1
     → run_terms env l at (Operator code ∷ more) (v ∷ pending) ≡ (apply_one code v >>= λ x. run_terms env l (at + length (term_text l (Operator code))) more (x ∷ pending))
 run-unary env l at code v more pending one =

@@ -13,7 +13,7 @@ abbrev pub NoneBeginsAnother : Type 0
 NoneBeginsAnother =
     (lab_len : ℕ) (a b x y : List ℕ) → IsExpression lab_len a → IsExpression lab_len b → a ++ x ≡ b ++ y → (a ≡ b) × (x ≡ y)
 
--- what is read is a term, and its bytes stood at the start
+-- what is read is a term, and its bytes were at the start
 abbrev pub ReadIsTerm : Type 0
 ReadIsTerm =
     (lab_len : ℕ) (bytes rest : List ℕ) (term : Term) → IsBytes bytes → term_field lab_len bytes ≡ Ok (Some term, rest)
@@ -31,7 +31,7 @@ HasOneFault = (lab_len : ℕ) (bytes : List ℕ) (f g : ExprFault) → IsFirstFa
 abbrev pub HasNoFault : Type 0
 HasNoFault = (lab_len : ℕ) (bytes text : List ℕ) (f : ExprFault) → BeginsWith lab_len bytes text → IsFirstFault lab_len bytes f → ⊥
 
--- what is read as a field is an expression, and it stood at the start
+-- what is read as a field is an expression, and it was at the start
 abbrev pub FieldIsExpression : Type 0
 FieldIsExpression =
     (lab_len : ℕ) (bytes text rest : List ℕ) → IsBytes bytes → expression_field lab_len bytes ≡ Ok (text, rest)
@@ -41,6 +41,6 @@ FieldIsExpression =
 abbrev pub ExpressionIsRead : Type 0
 ExpressionIsRead = (lab_len : ℕ) (text rest : List ℕ) → IsExpression lab_len text → expression_field lab_len (text ++ rest) ≡ Ok (text, rest)
 
--- where no expression stands, the first fault says what is wrong with the field
+-- where there is no expression, the first fault says what is wrong with the field
 abbrev pub FaultDecides : Type 0
 FaultDecides = (lab_len : ℕ) (bytes : List ℕ) (f : ExprFault) → IsFirstFault lab_len bytes f → expression_field lab_len bytes ≡ Err (flaw_of f)

@@ -1,16 +1,16 @@
-//! What the names in an expression stand for.
+//! What the names in an expression represent.
 
 ghost use Rattle.std.specs.Prelude.{◌≡◌};
 ghost use Rattle.omf_format.specs.Value.{Environment};
 
 use omf_format::Value;
 
-/// What names, the location counter and the segment's start stand for. Each call answers the same whenever it is asked: an
-/// implementation gives them as one `Environment`, and the value of an expression is its value there.
+/// What names, the location counter and the segment's start represent. Each call gives the same answer every time: an implementation gives
+/// them as one `Environment`, and the value of an expression is its value there.
 pub trait Env {
     ghost meaning: { Self → Environment };
 
-    /// What a name stands for, or None where that isn't known. A name is weak where its term is $82.
+    /// What a name represents, or None where that isn't known. A name is weak where its term is $82.
     fn label(&self, name: &[u8], weak: bool) -> Option<Value>
         ensures answer { result ≡ (meaning self.now).label name.now weak };
 

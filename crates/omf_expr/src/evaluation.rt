@@ -42,7 +42,7 @@ fn value_of<E: Env>(bytes: &[u8], lab_len: u8, env: &E) -> Result<Value, ValueFa
     }
 }
 
-/// What a name, or what is asked of it, stands for.
+/// What a name represents, or the attribute of the name that is asked for.
 fn named_value<E: Env>(code: u8, name: &[u8], at: usize, env: &E) -> Result<Value, ValueFault>
     ensures { result ≡ named_value (E.meaning env.now) at code name.now }
 {

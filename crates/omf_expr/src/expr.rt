@@ -11,8 +11,8 @@ use crate::terms::Terms;
 use omf_format::{ExprFault, Flaw};
 use std::marker::Model;
 
-/// An expression: bytes that spell one, lent, with the LABLEN of its names. Contracts see these bytes, the $00 at the end
-/// included, and the LABLEN.
+/// An expression: borrowed bytes that spell one, with the LABLEN of its names. Contracts see these bytes, the $00 at the end included, and
+/// the LABLEN.
 #[derive(Drop)]
 pub struct Expr<'a> {
     bytes: &'a [u8],
@@ -30,8 +30,8 @@ impl<'a> Model for Expr<'a> {
 }
 
 impl<'a> Expr<'a> {
-    /// The front of the bytes that spells an expression whose names follow this LABLEN. Displacements in faults are in the
-    /// bytes. At most 64 values are ever pending.
+    /// The bytes at the start that spell an expression whose names follow this LABLEN. Displacements in faults are in the bytes. At most 64
+    /// values are ever pending.
     pub fn of(bytes: &'a [u8], lab_len: u8) -> Result<Expr<'a>, ExprFault>
         ensures lab_len { IfOk result (λ e. e.lab_len ≡ lab_len) }
         ensures found { IfOk result (λ e. BeginsWith lab_len bytes.now e.text) }
@@ -129,7 +129,7 @@ fn operands_of(term: Term) -> usize
     }
 }
 
-/// How many values are pending behind a term, or None behind the end, where so many are pending before it.
+/// How many values are pending after a term, or None after the end, where `pending` are pending before it.
 #[inline]
 fn pending_after_term(
     next: Option<Term>,

@@ -12,7 +12,7 @@ pub fn none_begins_another()
     ensures none { NoneBeginsAnother }
 {}
 
-/// A term is read exactly where its bytes stand: what is read is a term, and a term is read, whatever follows it.
+/// A term is read exactly where its bytes are: what is read is a term, and a term is read, whatever follows it.
 pub fn term_is_read()
     ensures takes { ReadIsTerm }
     ensures again { TermIsRead }
@@ -24,8 +24,8 @@ pub fn one_first_fault()
     ensures none { HasNoFault }
 {}
 
-/// As a field of a record: what is read is an expression, and an expression is read, whatever follows it. Where none
-/// stands, the first fault decides.
+/// As a field of a record: what is read is an expression, and an expression is read, whatever follows it. Where there is none, the first
+/// fault decides.
 pub fn field_is_expression()
     ensures takes { FieldIsExpression }
     ensures again { ExpressionIsRead }

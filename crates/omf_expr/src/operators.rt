@@ -24,7 +24,7 @@ fn truth(holds: bool) -> u32
     if holds { 1 } else { 0 }
 }
 
-/// The bits shifted left by so many, or right where the count is negative, with zeros coming in.
+/// The bits shifted left by `count`, or right where it is negative; zeros are shifted in.
 #[inline]
 fn shift_bits(bits: u32, count: i32) -> u32
     ensures { result ≡ shifted_bits bits count }

@@ -7,8 +7,8 @@ use crate::reading::next_term;
 use crate::term::Term;
 use std::marker::Model;
 
-/// The terms of an expression that are still to come, in order. Contracts see them as a list, each with the displacement of
-/// its first byte in the expression's bytes.
+/// The terms of an expression that are left, in order. Contracts see them as a list, each with the displacement of its first byte in the
+/// expression's bytes.
 #[derive(Drop)]
 pub struct Terms<'a> {
     text: &'a [u8],

@@ -1,4 +1,4 @@
-//! Writing terms with names behind a length byte (LABLEN 0).
+//! Writing terms with names after a length byte (LABLEN 0).
 
 ghost use Rattle.std.specs.Prelude.{◌≡◌, ◌+◌, ◌≤◌, ◌++◌, ◌∷◌, length, OnOk, OnErr};
 ghost use Rattle.byteorder.specs.Endian.{little_bytes};
@@ -12,7 +12,7 @@ use std::alloc::AllocError;
 /// Why a term isn't written.
 #[derive(Clone, Copy, Debug, PartialEq, Eq)]
 pub enum ExprPutFault {
-    /// Memory ran out.
+    /// Out of memory.
     Memory,
 }
 
@@ -27,8 +27,7 @@ impl From<AllocError> for ExprPutFault {
     }
 }
 
-/// Writes a term at the end of the bytes; a name in it, of 1 to 255 bytes, behind a length byte. Where memory runs out,
-/// nothing is written.
+/// Writes a term at the end of the bytes; a name in it, of 1 to 255 bytes, follows a length byte. When out of memory, nothing is written.
 #[tactic(auto, unfolding(omf_format::specs::Expression::term_text, omf_format::specs::Field::name_text))]
 pub fn put_term(out: &mut Vec<u8>, term: &Term) -> Result<(), ExprPutFault>
     requires { IsTerm 0 (view term.now) }

@@ -107,7 +107,7 @@ pub record Expression : Type 0 where
 
 -- ---- reading terms
 
--- what stands after each code: a term or, at $00, the end; and the bytes after it
+-- what follows each code: a term or, at $00, the end; and the bytes after it
 unfoldable pub term_field : ℕ → List ℕ → Result (Option Term × List ℕ) Flaw
 term_field lab_len [] = Err Cut
 term_field lab_len (code ∷ rest) =
@@ -124,13 +124,13 @@ abbrev pub placed_terms : ℕ → ℕ → List Term → List (ℕ × Term)
 placed_terms lab_len at [] = []
 placed_terms lab_len at (term ∷ terms) = (at, term) ∷ placed_terms lab_len (at + length (term_text lab_len term)) terms
 
--- a term that was read, and those behind it, or none at the end
+-- a term that was read, and those after it, or none at the end
 abbrev pub term_then : ℕ → (List ℕ → List (ℕ × Term)) → Result (Option Term × List ℕ) Flaw → List (ℕ × Term)
 term_then at following (Err flaw) = []
 term_then at following (Ok (None, rest)) = []
 term_then at following (Ok (Some term, rest)) = (at, term) ∷ following rest
 
--- the terms at the start, so many at most, with their displacements, of which the first has this one
+-- the terms at the start, n at most, with their displacements, of which the first has this one
 unfoldable pub first_terms : ℕ → ℕ → ℕ → List ℕ → List (ℕ × Term)
 first_terms zero lab_len at bytes = []
 first_terms (suc n) lab_len at bytes =
@@ -147,18 +147,18 @@ abbrev pub operands_of : Term → ℕ
 operands_of (Operator code) = operand_count code
 operands_of _ = 0
 
--- how many values are pending behind a term where so many are before it
+-- how many values are pending after a term where `pending` are pending before it
 abbrev pub pending_after : ℕ → Term → ℕ
 pending_after pending term = pending - operands_of term + 1
 
--- each of these terms, one after another, finds its operands, and no 65th value is ever pending: the first finds
--- so many values pending, and the last leaves so many
+-- each of these terms, one after another, finds its operands, and no 65th value is ever pending: the first finds `pending` values pending,
+-- and the last leaves `last`
 abbrev pub Lead : ℕ → List Term → ℕ → Type 0
 Lead pending [] last = pending ≡ last
 Lead pending (term ∷ terms) last =
     (operands_of term ≤ pending) × (pending_after pending term ≤ 64) × Lead (pending_after pending term) terms last
 
--- a term, or the end, where so many values are pending: how many are pending behind it, or what is wrong with it first
+-- a term, or the end, where `pending` values are pending: how many are pending after it, or what is wrong with it first
 abbrev pub pending_after_term : ℕ → ℕ → Option Term → Result (Option ℕ) ExprFault
 pending_after_term at pending None = if pending == 1 then Ok None else Err (Shape at)
 pending_after_term at pending (Some term) =
@@ -166,7 +166,7 @@ pending_after_term at pending (Some term) =
     else if nat_lt 64 (pending_after pending term) then Err (TooDeep at)
     else Ok (Some (pending_after pending term))
 
--- the same for what stands at the start of the bytes, with the bytes after it
+-- how many values are pending after what was read at the start of the bytes, or what is wrong with it first; and the bytes after it
 abbrev pub step_of : ℕ → ℕ → Result (Option Term × List ℕ) Flaw → Result (Option ℕ × List ℕ) ExprFault
 step_of at pending (Err Cut) = Err (Truncated at)
 step_of at pending (Err Unread) = Err (BadTerm at)
@@ -176,7 +176,7 @@ step_of at pending (Ok found) = pending_after_term at pending found.0 >>= λ fol
 unfoldable pub term_step : ℕ → ℕ → ℕ → List ℕ → Result (Option ℕ × List ℕ) ExprFault
 term_step lab_len at pending bytes = step_of at pending (term_field lab_len bytes)
 
--- terms with which nothing is wrong stand at the start, and the fault is that of what stands after them
+-- terms with which nothing is wrong are at the start, and the fault is that of what follows them
 pub record IsFirstFault (lab_len : ℕ) (bytes : List ℕ) (fault : ExprFault) : Type 0 where
   pub terms : List Term
   pub rest : List ℕ
@@ -194,7 +194,7 @@ pub record BeginsWith (lab_len : ℕ) (bytes text : List ℕ) : Type 0 where
 
 -- ---- an expression as a field of a record
 
--- reading term after term, at most so many, where so many values are pending: the bytes after the end, or the first fault
+-- reading term after term, at most n of them, where `pending` values are pending: the bytes after the end, or the first fault
 unfoldable pub read_from : ℕ → ℕ → ℕ → ℕ → List ℕ → Result (List ℕ) ExprFault
 read_from zero lab_len at pending bytes = Err (Truncated at)
 read_from (suc n) lab_len at pending bytes =

@@ -7,7 +7,7 @@ use Rattle.omf_format.specs.Number.{number_at}
 use Rattle.omf_format.specs.Name.{without_trailing, name_at, name_size}
 
 infixl 10 ◌>>=◌
--- what comes next where nothing was wrong so far
+-- what follows where nothing was wrong so far
 abbrev pub ◌>>=◌ : {A B E : Type 0} → Result A E → (A → Result B E) → Result B E
 (Ok x) >>= f = f x
 (Err e) >>= f = Err e
@@ -32,7 +32,7 @@ written_layout = record { lab_len = 0; length_width = 2 }
 abbrev pub Reads : Type 0 → Type 0
 Reads A = List ℕ → Result (A × List ℕ) Flaw
 
--- so many bytes as they are
+-- n bytes as they are
 unfoldable pub bytes_field : ℕ → List ℕ → Result (List ℕ × List ℕ) Flaw
 bytes_field n bytes = if nat_lt (length bytes) n then Err Cut else Ok (take n bytes, drop n bytes)
 
@@ -53,7 +53,7 @@ byte_field [] = Err Cut
 byte_field (byte ∷ rest) = Ok (byte, rest)
 
 infixr 20 ◌⊗◌
--- a field, and another one behind it
+-- a field, and another one after it
 abbrev pub ◌⊗◌ : {A B : Type 0} → Reads A → Reads B → Reads (A × B)
 (first ⊗ second) bytes = first bytes >>= λ a. second a.1 >>= λ b. Ok ((a.0, b.0), b.1)
 
@@ -76,7 +76,7 @@ count_field = field_that_passes is_count Broken byte_field
 abbrev pub is_shift : ℤ → Bool
 is_shift count = int_le (negsuc 30) count && int_le count (pos 31)
 
--- it stands as a byte in two's complement
+-- it is stored as a byte in two's complement
 abbrev pub shift_byte : ℤ → ℕ
 shift_byte shift = cast_unsigned w8 shift
 
@@ -93,7 +93,7 @@ abbrev pub IsName : ℕ → List ℕ → Type 0
 IsName zero name = (1 ≤ length name) × (length name ≤ 255)
 IsName (suc n) name = (1 ≤ length name) × (length name ≤ suc n) × (without_trailing 32 name ≡ name)
 
--- what a function took from the front, as it is seen, is what reading gives
+-- what a function took from the start of the bytes, as it is seen, is what reading gives
 abbrev pub Gives : {X Y E : Type 0} → (X → Y) → Result X E → Result Y E → Type 0
 Gives seen_as (Ok x) read = read ≡ Ok (seen_as x)
 Gives seen_as (Err fault) read = read ≡ Err fault

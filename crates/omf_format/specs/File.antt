@@ -18,7 +18,7 @@ pub record Segment : Type 0 where
   pub fields : HeaderFields
   pub records : List (ℕ × Record)
 
--- a reader at the body's front: the body begins at DISPDATA and ends with the segment, which has BYTECNT bytes
+-- a reader at the body's start: the body begins at DISPDATA and ends with the segment, which has BYTECNT bytes
 unfoldable pub body_reader : ℕ → HeaderFields → List ℕ → Reader
 body_reader start f file = record {
   end = start + f.byte_count;
@@ -27,7 +27,7 @@ body_reader start f file = record {
   layout = layout_of f.version f.lab_len;
 }
 
--- the header stands there, and passes its checks
+-- the header starts there, and passes its checks
 pub record IsHeader (start : ℕ) (f : HeaderFields) (file : List ℕ) : Type 0 where
   pub passes : header_fault (drop start file) ≡ None
   pub fields : f ≡ fields_of (drop start file)
@@ -39,7 +39,7 @@ pub record IsSegment (s : Segment) (file : List ℕ) : Type 0 where
   pub records : HandsOut (body_reader s.start s.fields file) s.records last
   pub ended : last.ended ≡ true
 
--- these segments stand one after another from this displacement on, and the next one would stand there
+-- these segments follow one another from the first displacement on, and the next one would start at the second
 abbrev pub AreSegments : List Segment → ℕ → List ℕ → ℕ → Type 0
 AreSegments [] at file next = at ≡ next
 AreSegments (s ∷ segments) at file next =
@@ -55,7 +55,7 @@ pub record Placed : Type 0 where
   pub fields : HeaderFields
   pub file : List ℕ
 
--- the segment whose header stands there, with the records that a reader of its body hands out
+-- the segment whose header starts there, with the records that a reader of its body hands out
 abbrev pub segment_of : Placed → Segment
 segment_of p = record { start = p.start; fields = p.fields; records = records_of (body_reader p.start p.fields p.file) }
 
@@ -66,7 +66,7 @@ segment_at segments (suc k) = slice_get segments k
 
 -- ---- the first fault
 
--- what a fault is told as: its cause, and its displacement in the file
+-- what is reported of a fault: its cause, and its displacement in the file
 abbrev pub FaultAt : Type 0
 FaultAt = FileCause × ℕ
 

@@ -27,7 +27,7 @@ pub record HeaderFields : Type 0 where
   pub load_name : List ℕ
   pub name : List ℕ
 
--- VERSION stands at $0F
+-- VERSION is at $0F
 unfoldable pub version_of : List ℕ → ℕ
 version_of bytes = number_at 1 0x0F bytes
 
@@ -43,7 +43,7 @@ kind_of_byte byte = byte % 32 + 256 * (byte / 32 * 32)
 unfoldable pub kind_of : List ℕ → ℕ
 kind_of bytes = if version_of bytes == 1 then kind_of_byte (number_at 1 0x0C bytes) else number_at 2 0x14 bytes
 
--- each field is at its displacement, and at DISPNAME stand the load name of ten bytes and the segment's name
+-- each field is at its displacement, and at DISPNAME are the load name of ten bytes and the segment's name
 unfoldable pub fields_of : List ℕ → HeaderFields
 fields_of bytes = record {
   byte_count = byte_count_of bytes;
@@ -150,7 +150,7 @@ first_of (check ∷ checks) = if check.0 then Some check.1 else first_of checks
 unfoldable pub header_fault : List ℕ → Option HeaderFault
 header_fault bytes = first_of (header_checks bytes)
 
--- where in a header of a version a field stands
+-- where in a header of a version a field is
 abbrev pub displacement_of : ℕ → Field → ℕ
 displacement_of version NumLen = 0x0E
 displacement_of version Version = 0x0F
@@ -185,7 +185,7 @@ written_numbers f =
     ∷ (4, f.bank_size) ∷ (2, f.kind) ∷ (2, 0) ∷ (4, f.org) ∷ (4, f.align) ∷ (1, 0) ∷ (1, 0)
     ∷ (2, f.seg_num) ∷ (4, f.entry) ∷ (2, f.disp_name) ∷ (2, f.disp_data) ∷ []
 
--- a written header: its numbers, the load name, and the segment's name behind its length
+-- a written header: its numbers, the load name, and the segment's name after its length
 unfoldable pub header_bytes : HeaderFields → ℕ → List ℕ
 header_bytes f body_length =
     laid_out (written_numbers (written_fields f body_length)) ++ f.load_name ++ length f.name ∷ f.name

@@ -7,7 +7,7 @@ use Rattle.omf_format.specs.Ascii as ascii
 abbrev pub ends_line : ℕ → List ℕ → Bool
 ends_line byte following = byte == ascii.line_feed || (byte == ascii.carriage_return && not (slice_index following 0 == ascii.line_feed))
 
--- The lines of a text, without their ends, which are LF, CR or CR LF. Bytes behind the last end are a line too.
+-- The lines of a text, without their ends, which are LF, CR or CR LF. Bytes after the last end are a line too.
 unfoldable pub lines_of : List ℕ → List (List ℕ)
 lines_of [] = []
 lines_of (byte ∷ following) =

@@ -9,7 +9,7 @@ use Rattle.omf_format.specs.Expression.{expression_field}
 use Rattle.omf_format.specs.Super.{is_super, are_pages}
 use Rattle.omf_format.specs.Record.{Record, End, Const, LongConst, Align, Org, Space, Reloc, InterSeg, ShortReloc, ShortInterSeg, Super, Using, Strong, Label, Equate, Formula, Entry}
 
--- ---- what stands after each code: the record and the bytes after it, or what is wrong first
+-- ---- what follows each code: the record and the bytes after it, or what is wrong first
 
 unfoldable pub constant_field : ℕ → Reads Record
 constant_field n = taken_as Const (bytes_field n)
@@ -57,7 +57,7 @@ using_field lab_len = taken_as Using (name_field lab_len)
 unfoldable pub strong_field : ℕ → Reads Record
 strong_field lab_len = taken_as Strong (name_field lab_len)
 
--- a label's length, which has so many bytes, type and private flag
+-- a label's length, which takes `width` bytes, type and private flag
 unfoldable pub attributes_field : ℕ → Reads (ℕ × (ℕ × ℕ))
 attributes_field width = number_field width ⊗ byte_field ⊗ byte_field
 
@@ -77,7 +77,7 @@ distance_field lab_len = taken_as (λ x. Formula 0xEE x.0 x.1.0 x.1.1) (count_fi
 unfoldable pub entry_field : ℕ → Reads Record
 entry_field lab_len = taken_as (λ x. Entry x.0 x.1.0 x.1.1) (number_field 2 ⊗ number_field 4 ⊗ name_field lab_len)
 
--- the codes from $E0 on, each with what stands after it
+-- the codes from $E0 on, each with what follows it
 unfoldable pub rows : Layout → List (ℕ × Reads Record)
 rows l =
     (0xE0, align_field)
@@ -116,7 +116,7 @@ first_record l (code ∷ rest) =
     else if nat_lt code 0xE0 then constant_field code rest
     else by_code (rows l) code rest
 
--- where the reader of a body stands
+-- where the reader of a body is
 pub record Reader : Type 0 where
   -- the displacement in the file at which the segment ends
   pub end : ℕ
@@ -152,24 +152,24 @@ abbrev pub reader_after : Reader → Result (Record × List ℕ) Flaw → Reader
 reader_after r (Ok found) = record r { left = found.1; ended = is_end found.0 }
 reader_after r (Err flaw) = r
 
--- where it stands then: behind the record, and where it was after END or a fault
+-- where it is then: after the record, or, after END or a fault, where it was
 unfoldable pub after_next : Reader → Reader
 after_next r = if r.ended then r else reader_after r (first_record r.layout r.left)
 
--- From the first reader on these records come, each with its displacement, and then the second one.
+-- The first reader hands out these records, each with its displacement, and then it is the second one.
 abbrev pub HandsOut : Reader → List (ℕ × Record) → Reader → Type 0
 HandsOut r [] after = r ≡ after
 HandsOut r (found ∷ founds) after = (next_answer r ≡ Ok (Some found)) × HandsOut (after_next r) founds after
 
 -- ---- all records of a body
 
--- an answer and then these, or none where no record came
+-- an answer and then these, or none where the answer is no record
 abbrev pub answer_then : Result (Option (ℕ × Record)) RecordFault → List (ℕ × Record) → List (ℕ × Record)
 answer_then (Ok (Some found)) founds = found ∷ founds
 answer_then (Ok None) founds = []
 answer_then (Err fault) founds = []
 
--- the first records that a reader hands out, so many at most
+-- the first records that a reader hands out, n at most
 unfoldable pub first_records : ℕ → Reader → List (ℕ × Record)
 first_records zero r = []
 first_records (suc n) r = answer_then (next_answer r) (first_records n (after_next r))
@@ -178,7 +178,7 @@ first_records (suc n) r = answer_then (next_answer r) (first_records n (after_ne
 unfoldable pub records_of : Reader → List (ℕ × Record)
 records_of r = first_records (length r.left) r
 
--- the records from there on come to END
+-- the records from there on end with END
 pub record IsBody (reader : Reader) : Type 0 where
   pub last : Reader
   pub run : HandsOut reader (records_of reader) last

@@ -39,7 +39,7 @@ pub data Record : Type 0 where
 abbrev pub is_formula : ℕ → Bool
 is_formula code = code == 0xEB || code == 0xEC || code == 0xED || code == 0xEE || code == 0xF3
 
--- the length, type and private flag of a label, whose length has so many bytes
+-- the length, type and private flag of a label, whose length takes `width` bytes
 abbrev pub label_text : ℕ → ℕ → ℕ → ℕ → List ℕ
 label_text width size form private = little_bytes width size ++ form ∷ private ∷ []
 

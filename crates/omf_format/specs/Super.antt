@@ -28,18 +28,18 @@ pub record HavePages (bytes : List ℕ) : Type 0 where
   pub each : AllByRecursion IsPage pages
   pub text : bytes ≡ flat_map page_text pages
 
--- the locations, from this page on: behind the locations of a page comes the next page
+-- the locations, from this page on: after the locations of a page, the next page follows
 abbrev pub locations_from : ℕ → List Page → List ℕ
 locations_from page [] = []
 locations_from page (Passed pages ∷ more) = locations_from (page + pages) more
 locations_from page (Located lows ∷ more) = map (λ low. page * 256 + low) lows ++ locations_from (page + 1) more
 
--- how many low bytes of the current page are still to come after a byte, where so many were before it
+-- how many low bytes of the current page are left after a byte, where this many were left before it
 abbrev pub lows_after : ℕ → ℕ → ℕ
 lows_after zero count = if nat_lt count 0x80 then count + 1 else 0
 lows_after (suc lows) low = lows
 
--- read from left to right, where so many low bytes are still to come, the bytes end with a subrecord
+-- read from left to right, where `lows` low bytes are left, the bytes end with a subrecord
 abbrev pub end_pages : ℕ → List ℕ → Bool
 end_pages lows [] = lows == 0
 end_pages lows (byte ∷ bytes) = end_pages (lows_after lows byte) bytes
@@ -47,7 +47,7 @@ end_pages lows (byte ∷ bytes) = end_pages (lows_after lows byte) bytes
 unfoldable pub are_pages : List ℕ → Bool
 are_pages bytes = end_pages 0 bytes
 
--- the locations that are still to come, from this page on, where so many low bytes of it are still to come
+-- the locations that are left, from this page on, where `lows` low bytes of it are left
 abbrev pub locations_left : ℕ → ℕ → List ℕ → List ℕ
 locations_left page lows [] = []
 locations_left page zero (count ∷ bytes) =

@@ -1,4 +1,4 @@
--- What an expression stands for: its value in an environment (GS/OS Reference, appendix F, "Expressions").
+-- What an expression represents: its value in an environment (GS/OS Reference, appendix F, "Expressions").
 use Rattle.std.specs.Prelude.{ℕ, ◌+◌, ◌-◌, ◌*◌, ◌/◌, ◌%◌, ◌^◌, Bool, not, ◌||◌, ◌&&◌, ℤ, pos, negsuc, List, length, Option, Some, None, Result, Ok, Err, nat_lt, nat_le, ◌==◌, if◌then◌else◌, bit_and, bit_or, bit_xor, int_lt, int_le, int_div, int_rem}
 use Rattle.std.specs.Ordering.{int_eq}
 use Rattle.std.specs.Int.{w32, cast_signed, cast_unsigned, bit_not}
@@ -30,7 +30,7 @@ truth b = if b then 1 else 0
 abbrev pub is_true : ℕ → Bool
 is_true n = not (n == 0)
 
--- shifted left by so many bits, or right where the count is negative, with zeros coming in; by 32 or more nothing is left
+-- shifted left by a count of bits, or right where the count is negative; zeros are shifted in, and by 32 or more nothing is left
 abbrev pub shifted_bits : ℕ → ℤ → ℕ
 shifted_bits n (pos k) = if nat_lt k 32 then wrapped_to_32_bits (n * 2 ^ k) else 0
 shifted_bits n (negsuc k) = if nat_lt k 31 then n / 2 ^ (k + 1) else 0
@@ -118,7 +118,7 @@ apply_two code (At file segment offset shift) (At file' segment' offset' shift')
 
 -- ---- trees
 
--- what names, the location counter and the segment's start stand for; None is no answer
+-- what names, the location counter and the segment's start represent; None is no answer
 pub record Environment : Type 0 where
   pub label : (name : List ℕ) → (weak : Bool) → Option Value
   pub attribute : (term : ℕ) → (name : List ℕ) → Option ℕ
@@ -148,8 +148,8 @@ operand_value env at (Offset n) = apply_two 0x01 env.start (Fixed n)
 abbrev pub size_of : ℕ → Tree → ℕ
 size_of lab_len tree = length (terms_text lab_len (terms_of tree))
 
--- The value of a tree whose first byte is at this place: the left operand comes before the right one and both before the
--- operator, and the first fault is the answer.
+-- The value of a tree whose first byte is at this place: the left operand precedes the right one and both precede the operator, and the
+-- first fault is the result.
 abbrev pub value : Environment → ℕ → ℕ → Tree → Result Value ValueFault
 value env lab_len at (Leaf term) = operand_value env at term
 value env lab_len at (Unary code operand) = value env lab_len at operand >>= λ a. apply_one code a

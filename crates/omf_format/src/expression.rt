@@ -5,7 +5,7 @@
 pub enum ExprFault {
     /// The bytes end in the term, or before it.
     Truncated(usize),
-    /// No term stands there, or one with an empty name.
+    /// There is no term there, or one with an empty name.
     BadTerm(usize),
     /// An operator without its operands, or an end where other than one value is left.
     Shape(usize),

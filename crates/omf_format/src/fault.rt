@@ -71,7 +71,7 @@ pub enum FileCause {
     Memory,
 }
 
-/// The first fault of a file. Want of memory has segment 0 and displacement 0.
+/// The first fault of a file. A fault with the cause Memory has segment 0 and displacement 0.
 #[derive(Clone, Copy, Debug, PartialEq, Eq)]
 pub struct FileFault {
     pub cause: FileCause,

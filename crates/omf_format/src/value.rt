@@ -5,8 +5,8 @@
 pub enum Value {
     /// 32 bits, in two's complement where an operator is signed.
     Fixed(u32),
-    /// The place of a byte: the load segment's file and number, from 1, and the byte's offset in it. What is meant is that
-    /// place shifted left by so many bits, or right where the shift is negative.
+    /// The place of a byte: the load segment's file and number, from 1, and the byte's offset in it. What is meant is that place shifted
+    /// left by `shift` bits, or right where it is negative.
     At {
         file: u16,
         segment: u16,

@@ -1,11 +1,11 @@
-//! Where the fields of a header stand.
+//! Where the fields of a header are.
 
 ghost use Rattle.std.specs.Prelude.{◌≡◌, ◌<◌};
 ghost use Rattle.omf_format.specs.Header.{displacement_of};
 
 use omf_format::Field;
 
-/// Where in a header of a version a field stands, in bytes from the segment's start.
+/// Where in a header of a version a field is, in bytes from the segment's start.
 pub fn displacement_of(version: u8, field: Field) -> u32
     ensures value { result ≡ displacement_of version field }
     ensures small { result < 44 }

@@ -187,7 +187,7 @@ fn name_text(bytes: &[u8], at: usize, lab_len: u8) -> &[u8]
     }
 }
 
-/// So many bytes from there on.
+/// The `size` bytes from there on.
 fn front_of(bytes: &[u8], at: usize, size: usize) -> &[u8]
     requires { at + size ≤ length bytes.now }
     ensures value { result.now ≡ take size (drop at bytes.now) }

@@ -90,7 +90,7 @@ fn put_displacements(out: &mut Vec<u8>, disp_data: u16) -> Result<(), AllocError
     put_u16(out, disp_data)
 }
 
-/// LOADNAME, and SEGNAME behind its length.
+/// LOADNAME, and SEGNAME after its length.
 fn put_names(out: &mut Vec<u8>, header: &Header) -> Result<(), AllocError>
     ensures { OnOk result (out.new.items ≡ out.old.items ++ (header.now.load_name ++ length header.now.name ∷ header.now.name)) }
 {

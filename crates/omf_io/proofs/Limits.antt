@@ -1,4 +1,4 @@
--- The front of what is left, where it is shorter than the limit, is all of it.
+-- The prefix of what is left, where it is shorter than the limit, is all of it.
 use Rattle.std.proofs.Common.{◌≡◌, ℕ, ◌+◌, ◌≤◌, List, length, take, Option, None, Some, IfSome, ap, ◌∙◌, arith}
 use Rattle.std.specs.Option.{option_map}
 use Rattle.std.proofs.lemmas.List.{take_all, length-take}

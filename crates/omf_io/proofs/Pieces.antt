@@ -11,7 +11,7 @@ Consumes-rest None b first all before read = tt
 Consumes-rest (Some x) None first all before read = absurd before
 Consumes-rest (Some x) (Some y) first all before read = read ∙ sym before
 
--- the front of a buffer that is as long as the list whose place it took
+-- a prefix of a buffer that is as long as the list whose place it took
 pub take-front : (n size : ℕ) (buffer rest : List ℕ) → n ≤ length buffer → length buffer ≤ size → take n (take size (buffer ++ rest)) ≡ take n buffer
 take-front n size buffer rest few fits = let within : n ≤ size = omega arith in take-take n size (buffer ++ rest) within ∙ take-append-le n buffer rest few
 

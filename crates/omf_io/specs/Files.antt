@@ -18,17 +18,17 @@ FileMap = FinMap (slice_cmp nat_cmp) (List ℕ)
 abbrev pub max_file : ℕ
 max_file = 16777216
 
--- the files with these bytes at the path, and all other paths as they are; what isn't told stays untold
+-- the files with these bytes at the path, and all other paths as they are; files that aren't revealed stay so
 abbrev pub with_file : Option FileMap → List ℕ → List ℕ → Option FileMap
 with_file held path bytes = option_map (λ files. insert files path bytes) held
 
--- what is seen of a store: its files, where it tells them; how often the outside failed; and how often it was read
+-- what is seen of a store: its files, where it reveals them; how often the outside failed; and how often it was read
 pub record StoreSeen : Type 0 where
   pub held : Option FileMap
   pub faults : ℕ
   pub asked : ℕ
 
--- the store after so many reads that didn't fail
+-- the store after `count` reads that didn't fail
 abbrev pub after_reads : ℕ → StoreSeen → StoreSeen
 after_reads count store = record store { asked = saturating_sum count store.asked }
 
@@ -36,7 +36,7 @@ after_reads count store = record store { asked = saturating_sum count store.aske
 abbrev pub with_written : List ℕ → List ℕ → StoreSeen → StoreSeen
 with_written path bytes store = record store { held = with_file store.held path bytes }
 
--- the file that a read gave: the held one, where files are told
+-- the file that a read gave: the held one, where files are revealed
 abbrev pub IsRead : Option FileMap → List ℕ → List ℕ → Type 0
 IsRead held path file = (length file ≤ max_file) × IfRevealed held (λ files. get files path ≡ Some file)
 
@@ -67,7 +67,7 @@ IsUnread held path before now =
 abbrev pub HasWritten : List ℕ → List ℕ → StoreSeen → StoreSeen → Type 0
 HasWritten bytes path before now = now ≡ with_written path bytes before
 
--- a write that was refused: where the outside failed, the first bytes of the bytes stands at the path, which may be none or all of them
+-- a write that was refused: where the outside failed, a prefix of the bytes is held at the path, which may be none or all of them
 abbrev pub WriteFailed : WriteFault → List ℕ → List ℕ → StoreSeen → StoreSeen → Type 0
 WriteFailed write.Failed bytes path before now =
     (front : List ℕ) × IsFront front bytes × (now ≡ record (with_written path front before) { faults = one_more before.faults })

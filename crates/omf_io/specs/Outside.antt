@@ -9,7 +9,7 @@ pub record Outside : Type 0 where
   pub sink : SinkSeen
   pub new_sink : SinkSeen
 
--- the same from its parts
+-- the outside, from its parts
 abbrev pub outside : StoreSeen → StoreSeen → SinkSeen → SinkSeen → Outside
 outside store new_store sink new_sink = record { store = store; new_store = new_store; sink = sink; new_sink = new_sink }
 

@@ -5,12 +5,12 @@ use Rattle.omf_io.specs.declared.sink.SinkFault.{SinkFault}
 use Rattle.omf_io.specs.declared.sink.SinkFault.TheVariants.{Failed, Memory}
 use Rattle.omf_io.specs.Counts.{one_more, IsFront}
 
--- what is seen of a sink: all that it took, where it tells; and how often the outside failed
+-- what is seen of a sink: all that it took, where it reveals that; and how often the outside failed
 pub record SinkSeen : Type 0 where
   pub written : Option (List ℕ)
   pub faults : ℕ
 
--- the sink with these bytes behind what it took
+-- the sink with these bytes after what it took
 abbrev pub with_text : List ℕ → SinkSeen → SinkSeen
 with_text piece sink = record sink { written = option_map (λ text. text ++ piece) sink.written }
 
@@ -18,7 +18,7 @@ with_text piece sink = record sink { written = option_map (λ text. text ++ piec
 abbrev pub HasPut : List ℕ → SinkSeen → SinkSeen → Type 0
 HasPut piece before now = now ≡ with_text piece before
 
--- the first bytes of the text was taken, which may be nothing or all of it, and the outside failed once
+-- a prefix of the text was taken, which may be nothing or all of it, and the outside failed once
 abbrev pub FailsToPrint : List ℕ → SinkSeen → SinkSeen → Type 0
 FailsToPrint text before now = (front : List ℕ) × IsFront front text × (now ≡ record (with_text front before) { faults = one_more before.faults })
 

@@ -11,6 +11,6 @@ HasContent left bytes = IfSome left (λ rest. bytes ≡ rest)
 abbrev pub IsLonger : Option (List ℕ) → Type 0
 IsLonger left = IfSome left (λ rest. max_file < length rest)
 
--- a writer took the bytes behind what it held
+-- a writer took the bytes after what it held
 abbrev pub HasTaken : Option (List ℕ) → Option (List ℕ) → List ℕ → Type 0
 HasTaken before following bytes = Appends before following bytes

@@ -13,7 +13,7 @@ pub trait Opens {
 
     type Writer: Write + Drop;
 
-    /// How often a reader was asked for, whatever the answer was. The count stands still at 2^64 - 1.
+    /// How often a reader was asked for, whatever the answer was. The count stops at 2^64 - 1.
     ghost asked: { Self → ℕ };
 
     /// A reader at the start of the file at a path.
@@ -22,7 +22,7 @@ pub trait Opens {
     /// A writer of the file at a path, which has no bytes yet.
     ghost writes: { List ℕ → Self.Writer → Type 0 };
 
-    /// A reader of the file at a path, and how many bytes it is told to have.
+    /// A reader of the file at a path, and how many bytes it is reported to have.
     fn open(&mut self, path: &str) -> io::Result<(Self::Reader, u64)>
         ensures counted { asked self.new ≡ one_more (asked self.old) }
         ensures opened { IfOk result (λ found. reads path.now found.0) };
@@ -37,7 +37,7 @@ pub trait Opens {
         ensures { result ≡ asked self.now };
 }
 
-/// The files of the system, of which nothing is told. Contracts see how often a reader was asked for.
+/// The files of the system, of which nothing is revealed. Contracts see how often a reader was asked for.
 #[derive(Drop)]
 pub struct Host<'a, R: rt::Files> {
     rt: &'a R,

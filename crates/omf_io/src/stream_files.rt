@@ -12,8 +12,8 @@ use std::alloc::Global;
 use std::marker::Model;
 use std::rt;
 
-/// Files that something opens by their paths. The store tells nothing of what they hold; what a reader gave and a writer took is told by
-/// the clauses of its calls.
+/// Files that something opens by their paths. The store reveals nothing of what they hold; the clauses of its calls say what a reader gave
+/// and a writer took.
 ///
 /// Contracts see its two counts.
 #[derive(Drop)]

@@ -12,7 +12,7 @@ use std::io::{self, Error, ErrorKind, Read, Write};
 /// How many bytes are read at once: so few that they are still near the processor when they are copied.
 const PIECE: usize = 0x1_0000;
 
-/// Why a stream that was there gave no bytes: memory ran out exactly where the error says so.
+/// Why a stream that was there gave no bytes: it was out of memory exactly where the error says so.
 fn stream_fault(error: Error) -> ReadFault
     ensures cause { (result ≡ ReadFault.Failed) ⊎ (result ≡ ReadFault.Memory) }
     ensures memory { result ≡ ReadFault.Memory ↔ error_kind error ≡ ErrorKind.OutOfMemory }
@@ -23,7 +23,7 @@ fn stream_fault(error: Error) -> ReadFault
     }
 }
 
-/// Why nothing was opened, or nothing told of it: nothing is there, or memory ran out, exactly where the error says so.
+/// Why nothing was opened, or nothing reported of it: nothing is there, or it was out of memory, exactly where the error says so.
 pub fn open_fault(error: Error) -> ReadFault
     ensures absent { result ≡ ReadFault.Absent ↔ error_kind error ≡ ErrorKind.NotFound }
     ensures memory { result ≡ ReadFault.Memory ↔ error_kind error ≡ ErrorKind.OutOfMemory }
@@ -45,7 +45,7 @@ pub fn read_whole<R: Read + Drop>(
     ensures bytes { IfOk result (λ bytes. IfSome (R.remaining reader) (λ left. bytes.items ≡ left)) }
     ensures limit { IfOk result (λ bytes. length bytes.items ≤ max_file) }
 
-    // TooLong comes only where they are more, whatever was told; and Absent never.
+    // TooLong is returned only where they are more, whatever was reported; and Absent never.
     ensures long { IfErr result (λ fault. fault ≡ ReadFault.TooLong → IfSome (R.remaining reader) (λ left. max_file < length left)) }
     ensures present { IfErr result (λ fault. fault ≡ ReadFault.Absent → ⊥) }
 {
@@ -60,7 +60,7 @@ pub fn read_whole<R: Read + Drop>(
     Ok(bytes)
 }
 
-/// Reads piece by piece until there are so many bytes, for which room is taken at once, or a read gives nothing.
+/// Reads piece by piece until there are `room` bytes, for which space is allocated at once, or a read gives nothing.
 fn front_of<R: Read>(alloc: Global, reader: &mut R, room: usize) -> io::Result<Vec<u8>>
     ensures { IfOk result (λ bytes. Consumes (R.remaining reader.old) (R.remaining reader.new) bytes.items) }
 {

@@ -9,8 +9,8 @@ use crate::{Sink, SinkFault};
 use std::io::{self, Write};
 use std::marker::Model;
 
-/// A sink over a writer, which gets each piece at once. As a sink it tells nothing of what was written; what the writer took is told by
-/// the clauses of `put`.
+/// A sink over a writer, which gets each piece at once. As a sink it reveals nothing of what was written; the clauses of `put` say what the
+/// writer took.
 ///
 /// Contracts see what the writer holds, where that is known, and the count of faults.
 #[derive(Drop)]

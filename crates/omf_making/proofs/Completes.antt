@@ -1,4 +1,4 @@
--- A run that can be done is done, unless memory runs out.
+-- A run that can be done is done, unless out of memory.
 use Rattle.std.proofs.Common.{◌≡◌, ◌⊎◌, inl, inr, ℕ, ◌<◌, ◌≤◌, List, [], ◌∷◌, ◌++◌, length, Option, None, Some, IsSomeAnd, refl, sym, ap, subst, ◌∙◌, arith}
 use Rattle.std.specs.FinMap.{get}
 use Rattle.omf_io.specs.Counts.{one_more, Rose, IfRevealedOr}

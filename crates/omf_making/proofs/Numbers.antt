@@ -1,4 +1,4 @@
--- Numbers in words, digit by digit.
+-- Numbers in arguments, digit by digit.
 use Rattle.std.proofs.Common.{◌≡◌, ℕ, suc, ◌+◌, ◌-◌, ◌*◌, ◌^◌, ◌<◌, ◌≤◌, Bool, true, false, cond, List, [], ◌∷◌, length, Some, None, refl, ap, ◌∙◌, arith}
 use Rattle.std.specs.Prelude.{◌&&◌, nat_le}
 use Rattle.std.specs.Char.{digit_value}
@@ -9,7 +9,7 @@ use Rattle.std.proofs.lemmas.Bool.{le-leb, le-ltb, lt-ltb, lt-leb}
 use Rattle.orca_meaning.specs.Characters.{is_decimal_digit}
 use Rattle.omf_making.specs.Words.{number_in}
 
--- the digits of a word that are left, behind those of a number
+-- the digits of an argument that are left, after those of a number
 pub record IsRead (word left : List ℕ) (number : ℕ) : Type 0 where
   pub all : list_all is_decimal_digit word ≡ list_all is_decimal_digit left
   pub value : digits_value_after 10 number left ≡ digits_value 10 word

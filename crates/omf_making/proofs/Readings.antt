@@ -16,7 +16,7 @@ AreRead-append held (p ∷ paths) (f ∷ files) path file are is = (are.0, AreRe
 AreRead-append held [] (f ∷ files) path file are is = absurd are
 AreRead-append held (p ∷ paths) [] path file are is = absurd are
 
--- the words are those before one, that one, and those behind it
+-- the arguments are those before one, that one, and those after it
 words_split : (items : List (String Global)) (k : ℕ) (item : String Global) → k < length items → item ≡ get_or items k item
     → words_of items ≡ words_of (take k items) ++ string_bytes item ∷ words_of (drop (suc k) items)
 words_split items k item small is =
@@ -40,7 +40,7 @@ stops items k item path files before mid now small is path_is are mid_is cause n
           ∙ ap (λ (n : ℕ). record (after_reads (suc n) before) { faults = now.faults }) (sym count);
     }
 
--- memory ran out in a read, or behind it
+-- an allocation failed in a read, or after it
 pub runs_short : (items : List (String Global)) (k : ℕ) (before mid now : StoreSeen) → k < length items → mid ≡ after_reads k before → now ≡ after_reads 1 mid → IsShort (words_of items) before now
 runs_short items k before mid now small mid_is now_is = record {
   reads = suc k;

@@ -18,7 +18,7 @@ pub put_line : (line : Result (List ℕ) LineFault) (text : List ℕ) (wanted re
 put_line (Ok t) text wanted result before now is printed = subst (λ (u : List ℕ). IsPut u wanted result before now) is printed
 put_line (Err fault) text wanted result before now is printed = Nothing printed.0 printed.1
 
--- whatever became of the text, the status that came says so
+-- whatever became of the text, the status that is returned says so
 pub ends : (says : Status → List ℕ → Type 0) (done short : Type 0) (wanted result : Status) (text : List ℕ) (before now : SinkSeen) → says wanted text
     → (now ≡ with_text text before → Ends says done short wanted before now) → IsPut text wanted result before now → Ends says done short result before now
 ends says done short wanted result text before now is whole (Whole result_is now_is) = subst (λ (s : Status). Ends says done short s before now) (sym result_is) (whole now_is)

@@ -1,4 +1,4 @@
--- The forms of words, one for each command.
+-- The forms of arguments, one for each command.
 use Rattle.std.specs.Prelude.{ℕ, ◌-◌, ◌&&◌, if◌then◌else◌, List, [], ◌∷◌, length, drop, codes, Option, None, Some, nat_lt}
 use Rattle.std.specs.Option.{option_map, option_and_then}
 use Rattle.std.specs.Str.{bytes_eq}
@@ -18,7 +18,7 @@ pub data CommandForm : Type 0 where
   Listing : (output : List ℕ) (inputs : List (List ℕ)) → CommandForm
   Compact : (output : List ℕ) (inputs : List (List ℕ)) → CommandForm
 
--- an output, and so many inputs behind it
+-- an output, and after it `least` to `most` inputs
 abbrev pub with_output : ℕ → ℕ → List (List ℕ) → Option (List ℕ × List (List ℕ))
 with_output least most [] = None
 with_output least most (output ∷ inputs) = if is_path output && are_paths least most inputs then Some (output, inputs) else None
@@ -28,7 +28,7 @@ abbrev pub source_and_output : List (List ℕ) → Option (List ℕ × List ℕ 
 source_and_output [] = None
 source_and_output (source ∷ words) = if is_path source then option_map (λ w. (source, w.0, w.1)) (with_output 0 254 words) else None
 
--- so many inputs
+-- `least` to `most` inputs
 abbrev pub inputs_only : ℕ → ℕ → List (List ℕ) → Option (List (List ℕ))
 inputs_only least most inputs = if are_paths least most inputs then Some inputs else None
 
@@ -38,7 +38,7 @@ count_and_seed (count ∷ seed ∷ []) =
     option_and_then (λ n. option_map (λ seed. (n, seed)) (number_between 0 4294967295 seed)) (number_between 1 64 count)
 count_and_seed _ = None
 
--- the last so many inputs, where there are more, and these have printing paths
+-- the last `count` inputs, where there are more, and these have printing paths
 abbrev pub last_inputs : ℕ → List (List ℕ) → Option (List (List ℕ))
 last_inputs count inputs =
     let last = drop (length inputs - count) inputs in
@@ -51,12 +51,12 @@ output_and_runtimes (output ∷ count ∷ inputs) =
     (short_number_between 1 16 count)
 output_and_runtimes _ = None
 
--- an input, and an output behind it
+-- an input, and an output after it
 abbrev pub input_and_output : List (List ℕ) → Option (List ℕ × List (List ℕ))
 input_and_output (input ∷ output ∷ []) = if is_path input && is_path output then Some (output, input ∷ []) else None
 input_and_output _ = None
 
--- behind `rtl`, `linkrt`, `list` and `compact`
+-- after `rtl`, `linkrt`, `list` and `compact`
 abbrev pub later_form : List ℕ → List (List ℕ) → Option CommandForm
 later_form name words =
     if bytes_eq name (codes "rtl") then option_map (λ w. Rtl w.0 w.1) (with_output 1 255 words)
@@ -65,7 +65,7 @@ later_form name words =
     else (if bytes_eq name (codes "compact") then option_map (λ w. Compact w.0 w.1) (input_and_output words) else None)))
 
 -- `asm SRC OBJ MACROS..`, `link OUT FILE..`, `dump FILE`, `run SCRIPT`, `lib OUT OBJ..`, `stress N SEED`, `rtl OUT FILE..`,
--- `linkrt OUT K FILE..`, `list OBJ SRC`, `compact IN OUT`; other words have no form
+-- `linkrt OUT K FILE..`, `list OBJ SRC`, `compact IN OUT`; other arguments have no form
 abbrev pub form_of : List (List ℕ) → Option CommandForm
 form_of [] = None
 form_of (name ∷ words) =
@@ -77,7 +77,7 @@ form_of (name ∷ words) =
     else (if bytes_eq name (codes "stress") then option_map (λ w. Stress w.0 w.1) (count_and_seed words)
     else later_form name words)))))
 
--- a form as it was read from words
+-- a form as it was read from arguments
 abbrev pub form_of_words : Words → CommandForm
 form_of_words (words.Asm source output macros) = Asm source.now output.now (words_of macros.now)
 form_of_words (words.Link output inputs) = Link output.now (words_of inputs.now)

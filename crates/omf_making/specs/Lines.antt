@@ -13,7 +13,7 @@ cannot_read_line path = line (codes "cannot read " ++ path)
 abbrev pub cannot_write_line : List ℕ → List ℕ
 cannot_write_line path = line (codes "cannot write " ++ path)
 
--- a name behind a space, if there is one
+-- a name after a space, if there is one
 abbrev pub with_name : Option (List ℕ) → List ℕ
 with_name None = []
 with_name (Some name) = name_text name

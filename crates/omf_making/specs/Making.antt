@@ -15,7 +15,7 @@ use Rattle.omf_making.specs.declared.making.MakeResult.TheVariants as end
 use Rattle.omf_making.specs.declared.status.Status.{Status}
 use Rattle.omf_making.specs.declared.status.Status.TheVariants.{Done, Refused, CannotRead, CannotWrite, Memory}
 
--- these files stand at these paths, one each, in order
+-- these paths hold these files, one each, in order
 abbrev pub AreRead : Option FileMap → List (List ℕ) → List (List ℕ) → Type 0
 AreRead held [] [] = Unit {0}
 AreRead held (path ∷ paths) (file ∷ files) = IsRead held path file × AreRead held paths files
@@ -31,7 +31,7 @@ pub record StopsReading (inputs : List (List ℕ)) (path : List ℕ) (before now
   pub cause : IsUnread before.held path before.faults now.faults
   pub store : now ≡ record (after_reads (suc (length front)) before) { faults = now.faults }
 
--- memory ran out after some reads; nothing else was done
+-- an allocation failed after some reads; nothing else was done
 pub record IsShort (inputs : List (List ℕ)) (before now : StoreSeen) : Type 0 where
   pub reads : ℕ
   pub most : reads ≤ length inputs
@@ -46,7 +46,7 @@ pub record HasMade (makes : List (List ℕ) → Made → Type 0) (inputs : List 
 abbrev pub all_read : List (List ℕ) → StoreSeen → StoreSeen
 all_read inputs before = after_reads (length inputs) before
 
--- all inputs were read and the bytes made; then the store failed in the write, and the first bytes of the bytes stands at the output
+-- all inputs were read and the bytes made; then the store failed in the write, and the output holds the first of these bytes
 pub record StopsWriting (makes : List (List ℕ) → Made → Type 0) (output : List ℕ) (inputs : List (List ℕ)) (before now : StoreSeen) : Type 0 where
   pub bytes : List ℕ
   pub made : HasMade makes inputs before (Bytes bytes)
@@ -84,7 +84,7 @@ AreHeld reported [] [] = Unit {0}
 AreHeld reported (path ∷ paths) (file ∷ files) = ((length file ≤ max_file) × (get reported path ≡ Some file)) × AreHeld reported paths files
 AreHeld reported _ _ = ⊥
 
--- the store tells all inputs, and they have no fault for which they would be refused
+-- the store reveals all inputs, and they have no fault for which they would be refused
 pub record CanMake (makes : List (List ℕ) → Made → Type 0) (inputs : List (List ℕ)) (o : Outside) : Type 0 where
   pub reported : FileMap
   pub is_reported : o.store.held ≡ Some reported

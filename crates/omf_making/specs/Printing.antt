@@ -19,7 +19,7 @@ pub data IsPut (text : List ℕ) (wanted result : Status) (before now : SinkSeen
   Part : result ≡ CannotPrint → FailsToPrint text before now → IsPut text wanted result before now
   Nothing : result ≡ Memory → now ≡ before → IsPut text wanted result before now
 
--- the same of a line for which memory may have been missing
+-- what became of a line, for which memory may have been missing
 abbrev pub IsPrinted : Result (List ℕ) LineFault → Status → Status → SinkSeen → SinkSeen → Type 0
 IsPrinted (Ok text) wanted result before now = IsPut text wanted result before now
 IsPrinted (Err fault) wanted result before now = (result ≡ Memory) × (now ≡ before)

@@ -1,4 +1,4 @@
-//! Forms of words.
+//! Forms of arguments.
 
 ghost use Rattle.std.specs.Prelude.{◌≡◌, ◌<◌, ◌^◌};
 ghost use Rattle.std.specs.Option.{option_map};
@@ -36,7 +36,7 @@ pub enum CommandForm<'a> {
     },
     LinkRt {
         output: &'a str,
-        /// All inputs, the run-time library files behind the others.
+        /// All inputs, the run-time library files after the others.
         inputs: &'a [String],
         /// The last of them.
         runtimes: &'a [String],
@@ -58,14 +58,14 @@ fn is_path(word: &str) -> bool
     !word.is_empty() && word.len() <= 255
 }
 
-/// Whether all words are paths, and so many of them.
+/// Whether all arguments are paths, and there are `least` to `most` of them.
 pub fn are_paths(least: usize, most: usize, words: &[String]) -> bool
     ensures { result ≡ are_paths least most (words_of words.now) }
 {
     least <= words.len() && words.len() <= most && words.iter().all(|word| is_path(word.as_str()))
 }
 
-/// An output, and so many inputs behind it.
+/// An output, and after it `least` to `most` inputs.
 fn with_output(least: usize, most: usize, words: &[String]) -> Option<(&str, &[String])>
     ensures { option_map (λ w. (w.0.now, words_of w.1.now)) result ≡ with_output least most (words_of words.now) }
 {
@@ -78,7 +78,7 @@ fn with_output(least: usize, most: usize, words: &[String]) -> Option<(&str, &[S
     }
 }
 
-/// A source, an output, and macro files behind them.
+/// A source, an output, and macro files after them.
 fn source_and_output(words: &[String]) -> Option<(&str, &str, &[String])>
     ensures { option_map (λ w. (w.0.now, w.1.now, words_of w.2.now)) result ≡ source_and_output (words_of words.now) }
 {
@@ -91,7 +91,7 @@ fn source_and_output(words: &[String]) -> Option<(&str, &str, &[String])>
     Some((source, output, macros))
 }
 
-/// So many inputs.
+/// `least` to `most` inputs.
 fn inputs_only(least: usize, most: usize, words: &[String]) -> Option<&[String]>
     ensures { option_map (λ w. words_of w.now) result ≡ inputs_only least most (words_of words.now) }
 {
@@ -176,7 +176,7 @@ fn are_printing(words: &[String]) -> bool
     words.iter().all(|word| is_printing(word.as_str()))
 }
 
-/// The last so many inputs, where there are more, and these have printing paths.
+/// The last `count` inputs, where there are more, and these have printing paths.
 fn last_inputs(count: usize, inputs: &[String]) -> Option<&[String]>
     ensures { option_map (λ last. words_of last.now) result ≡ last_inputs count (words_of inputs.now) }
 {
@@ -202,7 +202,7 @@ fn output_and_runtimes(words: &[String]) -> Option<(&str, &[String], &[String])>
     Some((output, inputs, runtimes))
 }
 
-/// An input, and an output behind it.
+/// An input, and an output after it.
 fn input_and_output(words: &[String]) -> Option<(&str, &[String])>
     ensures { option_map (λ w. (w.0.now, words_of w.1.now)) result ≡ input_and_output (words_of words.now) }
 {
@@ -216,7 +216,7 @@ fn input_and_output(words: &[String]) -> Option<(&str, &[String])>
     }
 }
 
-/// The form behind a name that was added later: run-time library files, the lister, and canonical load files.
+/// The form after a name that was added later: run-time library files, the lister, and canonical load files.
 fn later_form<'a>(name: &str, words: &'a [String]) -> Option<CommandForm<'a>>
     ensures { option_map form_of_words result ≡ later_form name.now (words_of words.now) }
 {
@@ -245,7 +245,7 @@ fn later_form<'a>(name: &str, words: &'a [String]) -> Option<CommandForm<'a>>
     }
 }
 
-/// The form of the words, or None where they have none.
+/// The form of the arguments, or None where they have none.
 pub fn read_form(words: &[String]) -> Option<CommandForm<'_>>
     ensures { option_map form_of_words result ≡ form_of (words_of words.now) }
 {

@@ -1,4 +1,4 @@
-//! What the commands of the tool share: words are read as a form, inputs are read, and what is made of them is written or printed.
+//! What the commands of the tool share: arguments are read as a form, inputs are read, and what is made of them is written or printed.
 #![tactic(auto)]
 
 mod form;

@@ -15,7 +15,7 @@ use omf_format::FileCause;
 use omf_io::{Sink, SinkFault};
 use std::alloc::Global;
 
-/// The line that says which forms of words there are.
+/// The line that says which forms of arguments there are.
 pub fn usage_line(alloc: Global) -> Result<Line, LineFault>
     ensures { IfOk result (λ text. text ≡ usage_line) }
 {
@@ -36,7 +36,7 @@ pub fn path_line(alloc: Global, what: &str, path: &str) -> Result<Line, LineFaul
     Ok(line)
 }
 
-/// Appends a name behind a space, if there is one.
+/// Appends a name after a space, if there is one.
 fn put_name(line: &mut Line, name: Option<&[u8]>) -> Result<(), LineFault>
     ensures { OnOk result (line.new ≡ line.old ++ with_name (option_map (λ bytes. bytes.now) name.entry)) }
 {

@@ -7,7 +7,7 @@ pub enum Status {
     Done,
     /// 1: an input is refused, and the line says why and where.
     Refused,
-    /// 2: the words are no form of a command.
+    /// 2: the arguments are no form of a command.
     Usage,
     /// 3: an input couldn't be read.
     CannotRead,
@@ -15,7 +15,7 @@ pub enum Status {
     CannotWrite,
     /// 5: a line couldn't be printed whole.
     CannotPrint,
-    /// 6: memory ran out.
+    /// 6: out of memory.
     Memory,
 }
 

@@ -26,7 +26,7 @@ map_usage_line = line (codes "usage: omf_map FILE..")
 abbrev pub MapUsageRun : Status → Outside → Type 0
 MapUsageRun result o = Ends (λ wanted text. (wanted ≡ status.Usage) × (text ≡ map_usage_line) × (o.new_store ≡ o.store)) ⊥ ⊥ result o.sink o.new_sink
 
--- words that are 1 to 255 paths are the inputs, whose map is printed; for other words the usage line is
+-- arguments that are 1 to 255 paths are the inputs, whose map is printed; for other arguments the usage line is
 abbrev pub HasMappedBy : Bool → List (List ℕ) → Status → Outside → Type 0
 HasMappedBy true words result o = MakesRun MapMakes None words result o
 HasMappedBy false words result o = MapUsageRun result o
@@ -34,6 +34,6 @@ HasMappedBy false words result o = MapUsageRun result o
 abbrev pub HasMapped : List (List ℕ) → Status → Outside → Type 0
 HasMapped words result o = HasMappedBy (are_paths 1 255 words) words result o
 
--- the map can be printed: the store tells the inputs, they have no fault, and no count rises
+-- the map can be printed: the store reveals the inputs, they have no fault, and no count rises
 abbrev pub CanMap : List (List ℕ) → Outside → Type 0
 CanMap words o = IsTrue (are_paths 1 255 words) × CanMake MapMakes words o

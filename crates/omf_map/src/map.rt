@@ -37,7 +37,7 @@ impl Maker for Map {
     }
 }
 
-/// The line that says which words there are.
+/// The line that says which arguments there are.
 fn usage_line(alloc: Global) -> Result<Line, LineFault>
     ensures { IfOk result (λ text. text ≡ map_usage_line) }
 {
@@ -47,7 +47,7 @@ fn usage_line(alloc: Global) -> Result<Line, LineFault>
     Ok(line)
 }
 
-/// Prints the map of the link of the files that the words name, 1 to 255, or their first fault, or the usage line.
+/// Prints the map of the link of the files that the arguments name, 1 to 255, or their first fault, or the usage line.
 pub fn run_map<F: Files, S: Sink>(
     alloc: Global,
     words: &[String],

@@ -1,4 +1,4 @@
--- The list of a file's segments, as far as it has come.
+-- The list of a file's segments so far.
 use Rattle.std.proofs.Common.{◌≡◌, ℕ, zero, suc, ◌+◌, ◌-◌, ◌*◌, ◌^◌, ◌<◌, ◌≤◌, List, [], ◌∷◌, ◌++◌, length, map, All, Some, None, refl, sym, ap, subst, ◌∙◌, arith}
 use Rattle.std.specs.Prelude.{slice_get, option_map}
 use Rattle.std.proofs.lemmas.Option.{slice_get-map}
@@ -12,7 +12,7 @@ use Rattle.omf_format.specs.laws.FileLaws.{LiesIn, header_lies, AreSegments-appe
 use Rattle.omf_records.specs.declared.segment.SegmentView.{SegmentView}
 use Rattle.omf_records.specs.Segments.{placed_view, segment_of_view, IsSound, IsView, FitsViews, UnlessMemory, IsSegmentFault, IsRefused}
 
--- these views are the segments from the file's front up to this displacement
+-- these views are the segments from the file's start up to this displacement
 pub record Listed (file : List ℕ) (views : List SegmentView) (start number : ℕ) : Type 0 where
   pub are : AreSegments (map segment_of_view views) 0 file start
   pub count : number ≡ length views + 1
@@ -67,7 +67,7 @@ unless_then cause.BadHeader fault P Q f h = f h
 unless_then cause.Unsupported fault P Q f h = f h
 unless_then cause.BadRecord fault P Q f h = f h
 
--- a segment at fault behind the others is the file's first fault
+-- a segment at fault after the others has the file's first fault
 pub refused : (file : List ℕ) (views : List SegmentView) (fault : FileFault) (start number : ℕ) → Listed file views start number → start < length file → IsSegmentFault fault number start file → IsRefused fault file
 refused file views fault start number listed more is = unless_then fault.cause fault _ (IsFirstFault file fault) first is
   where

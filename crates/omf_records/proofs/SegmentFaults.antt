@@ -26,7 +26,7 @@ has_place (BadField field) start bytes file is inside short refused =
     omega (arith, ap length is, length-drop start file, long)
 has_place Memory start bytes file is inside short refused = tt
 
--- what a fault is told as may be said of it
+-- what follows from a fault's segment and from what is reported of it holds, unless out of memory
 unless : (reported : FaultAt) (number : ℕ) (fault : FileFault) (P : Type 0) → ((fault.segment ≡ number) → ((fault.cause, fault.at) ≡ reported) → P) → IsReported reported number fault → UnlessMemory fault.cause fault P
 unless reported number fault P then is = subst (λ (c : FileCause). UnlessMemory c fault P) (sym is.cause) (by_cause reported.0 refl is.place)
   where
@@ -46,7 +46,7 @@ of_header of number start bytes file fault is e reported =
     unless (to_file_header_fault start (version_of bytes) of) number fault _
     (λ segment same. (segment, InHeader of (ap header_fault (sym is) ∙ e) (same ∙ ap (λ (b : List ℕ). to_file_header_fault start (version_of b) of) is))) reported
 
--- a header's fault, as it is told, is that of its segment
+-- a header's fault, as it is reported, is that of its segment
 pub segment_fault : (of : HeaderFault) (number start : ℕ) (bytes file : List ℕ) (fault : FileFault) → bytes ≡ drop start file → IsRefused of bytes → IsReported (to_file_header_fault start (version_of bytes) of) number fault
     → IsSegmentFault fault number start file
 segment_fault (Truncated n) number start bytes file fault is refused reported = of_header (Truncated n) number start bytes file fault is refused reported

@@ -1,4 +1,4 @@
--- Laws of records and files, in the format's own words.
+-- Laws of records and files, in the format's own terms.
 use Rattle.std.specs.Prelude.{◌≡◌, ℕ, List, ◌++◌, Ok}
 use Rattle.std.specs.List.{flat_map, AllByRecursion}
 use Rattle.omf_format.specs.declared.fault.FileFault.{FileFault}
@@ -22,7 +22,7 @@ abbrev pub NoneBeginsAnother : Type 0
 NoneBeginsAnother = (layout : Layout) (a b : Record) (x y : List ℕ) → IsRecord layout a → IsRecord layout b
     → spelling layout a ++ x ≡ spelling layout b ++ y → (a ≡ b) × (x ≡ y)
 
--- the records that a reader hands out are the body as it stands: their spellings, in order, and what is left
+-- the records that a reader hands out are the body as it is: their spellings, in order, and what is left
 abbrev pub HandedOutIsBody : Type 0
 HandedOutIsBody = (reader last : Reader) (founds : List (ℕ × Record)) → IsBytes reader.left → HandsOut reader founds last
     → AllByRecursion (λ found. IsRecord reader.layout found.1) founds
@@ -40,7 +40,7 @@ FaultIsNoFile = (file : List ℕ) (fault : FileFault) (segments : List Segment) 
 abbrev pub OneFirstFault : Type 0
 OneFirstFault = (file : List ℕ) (a b : FileFault) → IsFirstFault file a → IsFirstFault file b → a ≡ b
 
--- a segment of a file is the one whose header stands there, with the records that a reader of its body hands out
+-- a segment of a file is the one whose header is at its start, with the records that a reader of its body hands out
 abbrev pub SegmentIsShown : Type 0
 SegmentIsShown = (s : Segment) (file : List ℕ) → IsBytes file → IsSegment s file
     → segment_of (record { start = s.start; fields = s.fields; file = file }) ≡ s

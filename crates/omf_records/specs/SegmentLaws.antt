@@ -7,7 +7,7 @@ use Rattle.omf_header.specs.View.{fields}
 use Rattle.omf_records.specs.declared.segment.SegmentView.{SegmentView}
 use Rattle.omf_records.specs.Segments.{segment_of_view, IsSound}
 
--- the records of a sound view come to END
+-- the records of a sound view end with END
 pub sound_body : (v : SegmentView) → IsSound v → IsBody (body_reader v.start (fields v.header) v.file.now)
 sound_body v is = record { last = is.segment.last; run = is.segment.records; ended = is.segment.ended }
 

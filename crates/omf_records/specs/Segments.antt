@@ -20,12 +20,12 @@ placed_view v = record { start = v.start; fields = fields v.header; file = v.fil
 abbrev pub segment_of_view : SegmentView → Segment
 segment_of_view v = segment_of (placed_view v)
 
--- a header stands there and passes its checks, in a file of fewer than 2 ^ 32 bytes
+-- a header starts there and passes its checks, in a file of fewer than 2 ^ 32 bytes
 pub record IsPlaced (p : Placed) : Type 0 where
   pub short : length p.file < 2 ^ 32
   pub header : IsHeader p.start p.fields p.file
 
--- the view is placed, and the segment that it shows stands in its file
+-- the view is placed, and the segment that it shows is in its file
 pub record IsSound (v : SegmentView) : Type 0 where
   pub placed' : IsPlaced (placed_view v)
   pub segment : IsSegment (segment_of_view v) v.file.now
@@ -35,7 +35,7 @@ pub record IsView (file : List ℕ) (v : SegmentView) : Type 0 where
   pub file' : v.file.now ≡ file
   pub segment : IsSegment (segment_of_view v) file
 
--- the first record that doesn't come, from there on, is told so
+-- this is reported for the first record from there on that can't be read
 pub record HasRecordFault (reader : Reader) (reported : FaultAt) : Type 0 where
   pub before : List (ℕ × Record)
   pub at : Reader
@@ -44,7 +44,7 @@ pub record HasRecordFault (reader : Reader) (reported : FaultAt) : Type 0 where
   pub fails : next_answer at ≡ Err of
   pub reported' : reported ≡ to_file_record_fault of
 
--- a fault of want of memory has no place, and every other one is this
+-- a fault with the cause Memory has no place, and every other one is this
 abbrev pub UnlessMemory : FileCause → FileFault → Type 0 → Type 0
 UnlessMemory Memory fault P = (fault.segment ≡ 0) × (fault.at ≡ 0)
 UnlessMemory _ _ P = P
@@ -57,7 +57,7 @@ IsRefused fault file = UnlessMemory fault.cause fault (IsFirstFault file fault)
 abbrev pub IsSegmentFault : FileFault → ℕ → ℕ → List ℕ → Type 0
 IsSegmentFault fault number start file = UnlessMemory fault.cause fault ((fault.segment ≡ number) × HasFault start file (fault.cause, fault.at))
 
--- the fault has this cause, and the place is told of the segment with this number, unless out of memory
+-- the fault has this cause, and this place in the segment with this number, unless out of memory
 pub record IsReported (reported : FaultAt) (number : ℕ) (fault : FileFault) : Type 0 where
   pub cause : fault.cause ≡ reported.0
   pub place : UnlessMemory reported.0 fault ((fault.segment ≡ number) × (fault.at ≡ reported.1))

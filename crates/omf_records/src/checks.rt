@@ -13,7 +13,7 @@ use omf_format::{FileCause, FileFault};
 use omf_header::{Header, read_header};
 use std::alloc::Global;
 
-/// The header that stands there, in the segment with this number.
+/// The header that starts there, of the segment with this number.
 fn header_at(alloc: Global, file: &[u8], start: u32, number: u32) -> Result<Header, FileFault>
     requires short { length file.now < 2 ^ 32 }
     requires inside { start < length file.now }
@@ -36,7 +36,7 @@ fn bytes_from(bytes: &[u8], at: usize) -> &[u8]
     &bytes[at..]
 }
 
-/// A fault as that of the segment with this number; want of memory is that of none.
+/// A fault as that of the segment with this number; one with the cause Memory is that of none.
 fn in_segment(number: u32, reported: (FileCause, u32)) -> FileFault
     ensures { IsReported reported number result }
 {

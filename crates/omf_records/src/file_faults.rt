@@ -1,4 +1,4 @@
-//! Faults of headers and records as they are told of a file: the cause, and the displacement in the file.
+//! Faults of headers and records as they are reported for a file: the cause, and the displacement in the file.
 
 ghost use Rattle.std.specs.Prelude.{◌≡◌};
 ghost use Rattle.omf_format.specs.Header.{version_of};
@@ -8,8 +8,8 @@ ghost use Rattle.omf_records.specs.Segments.{HasPlace};
 use omf_format::{FileCause, HeaderFault, RecordFault};
 use omf_header::{displacement_of, version_of};
 
-/// A fault of the header at the start of the bytes, which begin at the displacement `start` in the file. The place of a
-/// field goes by the header's version. Want of memory has no place; `start` stands for it.
+/// A fault of the header at the start of the bytes, which begin at the displacement `start` in the file. The place of a field goes by the
+/// header's version. Lack of memory has no place; `start` is returned for it.
 pub fn to_file_header_fault(fault: HeaderFault, bytes: &[u8], start: u32) -> (FileCause, u32)
     requires { HasPlace fault start }
     ensures { result ≡ to_file_header_fault start (version_of bytes.now) fault }

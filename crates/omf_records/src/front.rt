@@ -67,7 +67,8 @@ fn space(rest: &[u8]) -> Result<(Rec<'_>, &[u8]), Flaw>
     Ok((Rec::Space { n }, rest))
 }
 
-/// The record behind a code from $E0 on. It is no part of the loops over records, which would grow large and slow by it.
+/// The record with a code from $E0 on, read from the bytes after the code. It is kept out of the loops over records, which would grow large
+/// and slow by it.
 #[inline(never)]
 #[tactic(auto, unfolding(omf_format::specs::Reading::rows))]
 fn by_code(code: u8, rest: &[u8], layout: Layout) -> Result<(Rec<'_>, &[u8]), Flaw>

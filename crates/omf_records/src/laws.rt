@@ -22,8 +22,7 @@ pub fn files_are_read_in_one_way()
     ensures one_first_fault { OneFirstFault }
 {}
 
-/// A segment of a file is the one that a header shows where it stands: its records are those that a reader of its body
-/// hands out.
+/// A segment of a file is the one that the header at its start shows: its records are those that a reader of its body hands out.
 pub fn segments_are_shown()
     ensures { SegmentIsShown }
 {}

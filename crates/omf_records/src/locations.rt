@@ -7,7 +7,7 @@ ghost use Rattle.omf_records.specs.View.{first, bytes_after_first};
 
 use std::marker::Model;
 
-/// The locations of a SUPER's subrecords that are still to come, in order. Contracts see them as a list.
+/// The locations of a SUPER's subrecords that are left, in order. Contracts see them as a list.
 #[derive(Drop)]
 pub struct Locations<'a> {
     left: &'a [u8],
@@ -33,7 +33,7 @@ impl<'a> Locations<'a> {
         ensures pages { (pages : List Page) → AllByRecursion IsPage pages → bytes.now ≡ flat_map page_text pages
             → result ≡ locations_from 0 pages }
 
-        // Of other bytes they are those that come before the bytes end.
+        // Of other bytes they are those found before the bytes end.
         ensures any { result ≡ locations_left 0 0 bytes.now }
     {
         Locations {

@@ -112,7 +112,7 @@ fn are_pages(bytes: &[u8]) -> bool
     lows == 0
 }
 
-/// How many low bytes of locations are still to come after a byte of subrecords.
+/// How many low bytes of locations are left after a byte of subrecords.
 #[inline]
 fn lows_after_byte(lows: u32, byte: u8) -> u32
     requires { lows ≤ 128 }

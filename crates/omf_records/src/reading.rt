@@ -11,8 +11,8 @@ use crate::record::Rec;
 use omf_format::{Flaw, RecordFault};
 use std::marker::Model;
 
-/// A reader of a segment's records, in order. Contracts see where it stands: the displacement in the file at which
-/// the segment ends, the bytes that are left, whether END came, and how names and labels are laid out.
+/// A reader of a segment's records, in order. Contracts see where it is: the displacement in the file at which the segment ends, the bytes
+/// that are left, whether END was handed out, and how names and labels are laid out.
 #[derive(Drop)]
 pub struct Records<'a> {
     end: u32,
@@ -47,18 +47,18 @@ impl<'a> Records<'a> {
         }
     }
 
-    /// The next record, with the displacement of its code in the file. END is handed out, and None comes after it.
-    /// After a fault the same fault comes again. What stands after END in the segment isn't read.
+    /// The next record, with the displacement of its code in the file. END is handed out, and None follows it. After a fault the same fault
+    /// is returned again. What follows END in the segment isn't read.
     #[inline(always)]
     #[tactic(auto, unfolding(omf_format::specs::Reading::next_answer, omf_format::specs::Reading::after_next))]
     pub fn next(&mut self) -> Result<Option<(u32, Rec<'a>)>, RecordFault>
         ensures answer { record_answer result ≡ next_answer self.old }
         ensures after { self.new ≡ after_next self.old }
 
-        // Each record that comes is one of the format.
+        // Each record that is returned is one of the format.
         ensures formed { IfOk result (λ found. IfSome found (λ f. IsRecord self.old.layout (view f.1))) }
 
-        // Each record that comes makes what is left shorter.
+        // Each record that is returned makes what is left shorter.
         ensures shorter { IfOk result (λ found. OnSome found (length self.new.left < length self.old.left)) }
     {
         if self.ended {

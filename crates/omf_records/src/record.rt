@@ -22,12 +22,12 @@ pub enum Rec<'a> {
     Org {
         n: u32,
     },
-    /// DS: so many zero bytes.
+    /// DS: `n` zero bytes.
     Space {
         n: u32,
     },
-    /// RELOC: 1 to 4 bytes at a location are the place of an offset in the segment itself, shifted left by so many bits, or
-    /// right where the shift is negative; a shift is -31 to 31.
+    /// RELOC: 1 to 4 bytes at a location are the place of an offset in the segment itself, shifted left by `shift` bits, or right where it
+    /// is negative; a shift is -31 to 31.
     Reloc {
         count: u8,
         shift: i8,
@@ -79,7 +79,7 @@ pub enum Rec<'a> {
         form: u8,
         private: u8,
     },
-    /// GEQU or EQU: the same for a name that stands for an expression.
+    /// GEQU or EQU: the same for a name that represents an expression.
     Equate {
         global: bool,
         name: &'a [u8],
@@ -96,7 +96,7 @@ pub enum Rec<'a> {
         n: u32,
         expr: &'a [u8],
     },
-    /// ENTRY: the name of a place, an offset in a segment of the file. It stands in run-time library files.
+    /// ENTRY: the name of a place, an offset in a segment of the file. It is used in run-time library files.
     Entry {
         segment: u16,
         offset: u32,

@@ -20,7 +20,7 @@ impl<'a> SegmentView<'a> {
     ghost use Rattle.omf_header.specs.View.{fields};
     ghost use Rattle.omf_records.specs.Segments.{placed_view, IsPlaced};
 
-    /// A reader at the start of the segment's body. It lends slices of the file.
+    /// A reader at the start of the segment's body. Its records borrow slices of the file.
     #[tactic(auto, unfolding(omf_format::specs::File::body_reader))]
     pub fn records(&self) -> Records<'a>
         requires { IsPlaced (placed_view self.now) }

@@ -95,7 +95,7 @@ fn words(first: u16, second: u16) -> [u8; 4]
     [a, b, c, d]
 }
 
-/// Appends what stands in front, a location and an offset.
+/// Appends the bytes of `front`, a location and an offset.
 fn put_reloc(out: &mut Vec<u8>, front: &[u8], location: u32, offset: u32) -> Result<(), PutFault>
     requires { length front.now < 2 ^ 32 }
     ensures ok { OnOk result (out.new.items ≡ out.old.items ++ (front.now ++ (little_bytes 4 location ++ little_bytes 4 offset))) }
@@ -104,7 +104,7 @@ fn put_reloc(out: &mut Vec<u8>, front: &[u8], location: u32, offset: u32) -> Res
     put_all(out, front, &[], &four_bytes(location), &four_bytes(offset))
 }
 
-/// Appends what stands in front, a location, a file, a segment and an offset.
+/// Appends the bytes of `front`, a location, a file, a segment and an offset.
 fn put_interseg(
     out: &mut Vec<u8>,
     front: &[u8],
@@ -135,7 +135,7 @@ fn attributes(size: u16, form: u8, private: u8) -> [u8; 4]
     [low, high, form, private]
 }
 
-/// Appends a code and a name, the name's length before it, and two texts behind it.
+/// Appends a code and a name, the name's length before it, and two texts after it.
 #[tactic(auto, unfolding(omf_format::specs::Field::name_text))]
 fn put_name(
     out: &mut Vec<u8>,
@@ -181,7 +181,7 @@ fn put_formula(out: &mut Vec<u8>, code: u8, count: u8, n: u32, expr: &[u8]) -> R
     put_both(out, &[code, count], expr)
 }
 
-/// Appends the spelling of a record in version 2 under LABLEN 0. Where memory runs out, nothing is appended.
+/// Appends the spelling of a record in version 2 under LABLEN 0. When out of memory, nothing is appended.
 #[tactic(auto, unfolding(omf_format::specs::Record::spelling))]
 pub fn put_record(out: &mut Vec<u8>, rec: &Rec) -> Result<(), PutFault>
     requires { IsRecord written_layout (view rec.now) }

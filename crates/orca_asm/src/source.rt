@@ -10,7 +10,7 @@ use orca_macro::{MacroCause, MacroFault, expand};
 use orca_object::assemble_lines;
 use std::alloc::Global;
 
-/// Memory ran out.
+/// The fault when out of memory.
 fn no_memory() -> AsmFault
     ensures { result ≡ record { cause = AsmCause.Memory; file = 0; line = 0 } }
 {

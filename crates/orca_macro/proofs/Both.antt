@@ -1,4 +1,4 @@
--- Faults that stand together.
+-- Two faults at once.
 use Rattle.std.proofs.Common.{◌≡◌, ℕ, Bool, false, true, eqb, List, [], ◌∷◌, length, Option, Some, None, refl, sym, ap, subst, ◌∙◌}
 use Rattle.std.specs.Prelude.{Result, Ok, Err, IfOk, nat_lt, is_some}
 use Rattle.std.proofs.lemmas.Bool.{eqb-true}

@@ -1,4 +1,4 @@
--- No line has want of memory as its fault.
+-- No line's fault is a lack of memory.
 use Rattle.std.proofs.Common.{◌≡◌, ℕ, zero, suc, ◌+◌, Bool, true, false, cond, eqb, ltb, ℤ, pos, negsuc, List, [], ◌∷◌, ◌++◌, length, Option, Some, None, refl, sym, subst}
 use Rattle.std.specs.Prelude.{not, slice_get, int_le, Result, Ok, Err}
 use Rattle.std.specs.List.{list_all}

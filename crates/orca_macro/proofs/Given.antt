@@ -1,4 +1,4 @@
--- Lines that are given as they stand.
+-- Lines that are given unchanged.
 use Rattle.std.proofs.Common.{◌≡◌, ◌≤◌, ℕ, Bool, true, false, eqb, List, [], ◌∷◌, ◌++◌, length, Option, Some, None, refl, sym, ap, subst, ◌∙◌}
 use Rattle.std.specs.Prelude.{codes, not}
 use Rattle.orca_meaning.specs.Characters.{folded}
@@ -52,7 +52,7 @@ comment_untouched l own comment = record {
   given = λ other definitions unnamed. let both : true ≡ false = sym comment ∙ other in absurd cc;
 }
 
--- a line without a dot at its front and without `&` that begins no definition
+-- a line without a dot at its start and without `&` that begins no definition
 pub record IsWrittenOut (l : Line) (text : List ℕ) : Type 0 where
   pub same : text ≡ l.text
   pub few : length text ≤ 255
@@ -123,7 +123,7 @@ given_unnamed definitions l text operation same other stays operation_is unnamed
 pub given_line : (l : Line) (old new : List Line) → l.fields ≡ fields_of l.text → new ≡ old ++ l ∷ [] → new ≡ old ++ given_by l (meaning.Emit l.text)
 given_line l old new own is = is ∙ ap (λ (f : LineFields). old ++ record { file = l.file; number = l.number; text = l.text; fields = f } ∷ []) own
 
--- what follows on a line that is given
+-- what follows a line that is given
 pub moves_on : (program : MacroProgram) (before : List Visit) (v : Visit) (l : Line) (outcome : Flow) (f : Frame) (fs : List Frame) (texts : SharedTexts) (calls : ℕ)
     → MovesTo (next_line program before v) (before ++ v ∷ []) l outcome f fs texts calls → MovesTo (move_of program before v l (meaning.Emit l.text)) (before ++ v ∷ []) l outcome f fs texts calls
 unfolding move_of

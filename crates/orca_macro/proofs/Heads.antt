@@ -1,4 +1,4 @@
--- Fronts of lines whose label and operation are known.
+-- Starts of lines whose label and operation are known.
 use Rattle.std.proofs.Common.{◌≡◌, ◌≤◌, ◌<◌, ◌+◌, ◌-◌, ℕ, Bool, true, false, eqb, not, List, [], ◌∷◌, ◌++◌, length, take, drop, Option, Some, None, refl, sym, ap, subst, ◌∙◌, arith, length-drop, length-append}
 use Rattle.std.specs.Prelude.{Result, Ok, Err, IfOk, IfSome, nat_lt, is_some, ◌||◌, ◌&&◌}
 use Rattle.std.specs.List.{position_or_len, list_all}
@@ -20,7 +20,7 @@ use Rattle.orca_macro.specs.declared.effect.Effect.{Effect}
 use Rattle.orca_macro.specs.declared.head.LineHead.{LineHead}
 use Rattle.orca_symbols.specs.declared.template.TemplatePart.{TemplatePart}
 
--- ---- a place that is found in a front
+-- ---- a place that is found in a prefix
 
 first_within : (p : ℕ → Bool) (xs ys : List ℕ) → position_or_len p xs < length xs → position_or_len p (xs ++ ys) ≡ position_or_len p xs
 first_within p xs ys within =
@@ -36,7 +36,7 @@ part_within s xs ys order within =
     rw (drop-append-le s.from xs ys (omega (arith, order, within)))
     (take-append-le (s.to - s.from) (drop s.from xs) ys (omega (arith, order, within, length-drop s.from xs)))
 
--- a front in which the operation ends has the label and the operation of all that begins with it
+-- a prefix in which the operation ends has the label and the operation of every text that begins with it
 pub record Same (xs ys : List ℕ) : Type 0 where
   pub label : (three_fields (xs ++ ys)).label ≡ (three_fields xs).label
   pub operation : (three_fields (xs ++ ys)).operation ≡ (three_fields xs).operation
@@ -65,7 +65,7 @@ operation_part : (xs ys : List ℕ) → (three_fields xs).operation.to < length 
 operation_part xs ys within =
     ap (part (xs ++ ys)) (same xs ys within).operation ∙ part_within (three_fields xs).operation xs ys (operation_order xs) (omega (arith, within))
 
--- a front that is no comment begins none
+-- a prefix that is no comment begins none
 no_comment : (xs ys : List ℕ) → is_comment xs ≡ false → is_comment (xs ++ ys) ≡ false
 no_comment [] ys other = absurd cc
 no_comment (x ∷ xs) ys other = by (eqb x 0x2A) (eqb x 0x3B) (eqb x 0x21) (list_all is_blank (x ∷ xs)) (list_all is_blank ys) (list_all-append is_blank (x ∷ xs) ys) other
@@ -79,7 +79,7 @@ no_comment (x ∷ xs) ys other = by (eqb x 0x2A) (eqb x 0x3B) (eqb x 0x21) (list
 
 -- ---- what is cut off
 
--- the sequence symbol of a front
+-- the sequence symbol of a prefix
 record Cuts (xs rest : List ℕ) (n : ℕ) : Type 0 where
   within : n ≤ length xs
   front : drop n xs ≡ rest
@@ -92,7 +92,7 @@ label_of : (xs : List ℕ) → part xs (three_fields xs).label ≡ take (next_bl
 unfolding three_fields
 label_of xs = ap (λ (n : ℕ). take n xs) (minus_zero (next_blank xs 0))
 
--- where the label ends in the front
+-- where the label ends in the prefix
 label_alike : (xs ys : List ℕ) → next_blank xs 0 < length xs → part (xs ++ ys) (three_fields (xs ++ ys)).label ≡ part xs (three_fields xs).label
 label_alike xs ys within =
     label_of (xs ++ ys) ∙ ap (λ (n : ℕ). take n (xs ++ ys)) (next_within is_blank 0 xs ys within) ∙ take-append-le (next_blank xs 0) xs ys (omega (arith, within)) ∙ sym (label_of xs)
@@ -127,7 +127,7 @@ label_to : (xs : List ℕ) → (three_fields xs).label.to ≡ next_blank xs 0
 unfolding three_fields
 label_to xs = refl
 
--- the label ends in a front behind whose sequence symbol an operation ends
+-- the label ends in a prefix in which an operation ends after the sequence symbol
 label_ends : (xs rest : List ℕ) → rest ≡ without_sequence_symbol xs → (three_fields rest).operation.to < length rest → next_blank xs 0 < length xs
 unfolding without_sequence_symbol
 label_ends xs rest rest_is within = by (is_some (sequence_name label)) refl
@@ -147,7 +147,7 @@ label_ends xs rest rest_is within = by (is_some (sequence_name label)) refl
         let same_to : (three_fields rest).operation.to ≡ (three_fields xs).operation.to = ap (λ (t : List ℕ). (three_fields t).operation.to) cut_is in
         omega (arith, most, within, ap length cut_is, same_to, label_before xs, label_to xs)
 
--- ---- a front is a head
+-- ---- a prefix is a head
 
 some_operation : (operation : List ℕ) → eqb (length operation) 0 ≡ false → operation_or_anop operation ≡ statement_of operation
 some_operation [] some = absurd cc

@@ -1,4 +1,4 @@
--- What follows on a visit, by where the code stands.
+-- What follows a visit, by the code's place.
 use Rattle.std.proofs.Common.{◌≡◌, ◌≢◌, ℕ, zero, suc, ◌+◌, ◌-◌, Bool, false, cond, eqb, List, [], ◌∷◌, ◌++◌, length, Option, Some, None, refl, sym, ap, subst, ◌∙◌, arith}
 use Rattle.std.proofs.lemmas.Bool.{ne_eqb}
 use Rattle.std.specs.Prelude.{slice_get}
@@ -66,7 +66,7 @@ left_goes before v last w line move f f' fs fs' texts calls s is back = (
 
 -- ---- the next line
 
--- the line behind a visit, by the code's place
+-- the line after a visit, by the code's place
 line_after : (program : MacroProgram) (before : List Visit) (v : Visit) (f : Frame) (fs : List Frame) (texts : SharedTexts) (calls : ℕ) → Stands before v f fs texts calls
     → line_at program v.macro (v.line + 1) ≡ line_at program f.macro (f.line + 1)
 line_after program before v f fs texts calls s =

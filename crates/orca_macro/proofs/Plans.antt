@@ -66,7 +66,7 @@ none_begins s l other = by s.in_source
 short_text : (text : List ℕ) → length text ≤ 255 → nat_lt 255 (length text) ≡ false
 short_text text few = le-ltb 255 (length text) few
 
--- what stands after the sequence symbol of a line without `&`
+-- what follows the sequence symbol of a line without `&`
 pub after_cut : (s : SymbolSetting) (l : Line) (text : List ℕ) (d : meaning.Effect) → text ≡ l.text → length text ≤ 255 → is_comment text ≡ false → eqb (plain_len text) (length text) ≡ true
     → operation_is (codes "MACRO") l ≡ false → IsAfterCut s (is_comment (without_sequence_symbol text)) (without_sequence_symbol text) d → IsEffect s l d
 after_cut s l text d same few other plain no_macro after =

@@ -18,9 +18,9 @@ use Rattle.orca_macro.specs.Stacks.{Stacks}
 use Rattle.orca_macro.specs.StateView.{StandsIn, Visited}
 use Rattle.orca_symbols.specs.View.{texts_of}
 
--- ---- where a line stands
+-- ---- where a line is
 
--- what a visit gives, and what follows on it
+-- what a visit gives, and what follows it
 pub visit_is : (program : MacroProgram) (before : List Visit) (v : Visit) (line : Line) (effect_done : Effect) → line_at program v.macro v.line ≡ Some line → (length before == most_visits) ≡ false
     → IsEffect (setting_of program v line.number) line effect_done → IsVisit program before v (given_by line effect_done) (move_of program before v line effect_done)
 visit_is program before v line effect_done here few is =
@@ -29,7 +29,7 @@ visit_is program before v line effect_done here few is =
 
 -- ---- the visits so far
 
--- so many visits gave these lines, and the next one stands where the state says
+-- `count` visits gave these lines, and the next one is where the state says
 pub record UnderWay (program : MacroProgram) (s : ExpansionState) (count : ℕ) (out : List Line) : Type 0 where
   pub before : List Visit
   pub v : Visit

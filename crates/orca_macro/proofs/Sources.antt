@@ -70,7 +70,7 @@ module _ (lines : List Line) (own : HaveOwn lines) (are : AreUntouched lines) wh
           (visit_is (plain lines) before (at place) l (meaning.Emit l.text) here free
           (((are.each place l here).given other [] (unnamed (folded (part l.text l.fields.operation)))).is (setting_of (plain lines) (at place) l.number) refl))
 
-  -- behind the last line nothing follows
+  -- nothing follows the last line
   ends : (before : List Visit) (place : ℕ) → slice_get lines (place + 1) ≡ None → next_line (plain lines) before (at place) ≡ Ends
   unfolding plain at next_line move_after_expansion
   ends before place none = ap (λ (o : Option Line). if_line o (On (at (place + 1))) Ends) none
@@ -142,7 +142,7 @@ untouched_expand source macros lines left none lines_are good are left_is =
 
 -- ---- lines that are gone over
 
--- each of the first so many
+-- each of the first `to` lines
 pub record UntouchedTo (lines : List Line) (to : ℕ) : Type 0 where
   pub each : (place : ℕ) (l : Line) → place < to → slice_get lines place ≡ Some l → IsUntouched l
 

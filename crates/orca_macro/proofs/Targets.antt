@@ -50,7 +50,7 @@ places-more at name lines line = by_test (has_sequence name line) refl
     by_test true is = ap summary (both true at lines is) ∙ summary-more (places_from at name lines) (at + length lines)
     by_test false is = ap summary (both false at lines is)
 
--- one more line among the first so many
+-- one more line after the first `at`
 pub more_places : (name : List ℕ) (lines : List Line) (line : Line) (at : ℕ) (old new : Option BranchTarget) → slice_get lines at ≡ Some line → length (take at lines) ≡ at
     → old ≡ summary (places_from 0 name (take at lines)) → new ≡ cond (has_sequence name line) (with_place at old) old → new ≡ summary (places_from 0 name (take (at + 1) lines))
 more_places name lines line at old new is size old_is new_is =

@@ -187,7 +187,7 @@ clash : is_memory Memory ≡ false → ⊥
 unfolding is_memory
 clash e = let both : true ≡ false = e in absurd cc
 
--- any fault but want of memory is the first
+-- any fault but an allocation failure is the first
 first_is : (source : List ℕ) (macros : List (List ℕ)) (cause : MacroCause) (fault : MacroFault) → is_memory cause ≡ false → IsFirstFault source macros fault → IsFaultFor cause source macros fault
 first_is source macros LineTooLong fault free is = is
 first_is source macros TooManyLines fault free is = is
@@ -241,7 +241,7 @@ can_read file source fault is = by_cause fault.cause is.cause_is
     by_cause texts.BadNumber is = is
     by_cause texts.Memory is = tt
 
--- the bytes of a file that was read stand before those of the files behind it
+-- the bytes of a file that was read precede those of the files after it
 pub next_text : (files : List (Vec ℕ)) (i : ℕ) (file : Vec ℕ) (bytes : List ℕ) → i < length files → file ≡ get_or files i file → bytes ≡ file.items
     → texts_of_files (drop i files) ≡ bytes ∷ texts_of_files (drop (i + 1) files)
 next_text files i file bytes less is bytes_are =

@@ -1,4 +1,4 @@
--- How effects are seen, and where a line stands.
+-- How effects are seen, and where a line is.
 use Rattle.macro_meaning.specs.Effect as meaning
 use Rattle.orca_macro.specs.declared.effect.Effect.{Effect}
 use Rattle.orca_macro.specs.declared.effect.Effect.TheVariants.{NoEffect, Emit, DeclareSymbol, SetSymbol, BranchTo, SetCounter, Exit, CallMacro, Fail}

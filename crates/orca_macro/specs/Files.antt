@@ -61,7 +61,7 @@ IsProgram source macros (Ok program) =
     × (program ≡ record { source = source_body (parts_of None source); definitions = definitions_of macros ++ definitions_in true (parts_of None source) })
 IsProgram source macros (Err fault) = or_else (first_part_in macros) (line_fault_of (first_part_fault (parts_of None source))) ≡ Some fault
 
--- the visits of a program come to this fault
+-- the visits of a program reach this fault
 pub record IsStopped (program : MacroProgram) (fault : MacroFault) : Type 0 where
   pub line : Line
   pub cause : MacroCause

@@ -1,4 +1,4 @@
--- Fronts of lines whose label and operation are known.
+-- Starts of lines whose label and operation are known.
 use Rattle.std.specs.Prelude.{◌≡◌, ◌≤◌, ℕ, List, [], ◌++◌, take, drop, length, false, Option, Some, None}
 use Rattle.macro_meaning.specs.Effect.{without_sequence_symbol, operation_or_anop}
 use Rattle.orca_meaning.specs.Characters.{folded}
@@ -7,7 +7,7 @@ use Rattle.orca_symbols.specs.Template.{text_before}
 use Rattle.orca_macro.specs.declared.head.LineHead.{LineHead}
 use Rattle.orca_symbols.specs.declared.template.TemplatePart.{TemplatePart}
 
--- a text behind its sequence symbol has this label and this operation
+-- a text after its sequence symbol has this label and this operation
 pub record HasFields (h : LineHead) (text : List ℕ) : Type 0 where
   pub within : h.label ≤ length text
   pub label : part text (three_fields text).label ≡ take h.label text
@@ -30,6 +30,6 @@ abbrev pub MayHaveHead : Option LineHead → List ℕ → Type 0
 MayHaveHead None text = Unit {0}
 MayHaveHead (Some h) text = HasHead h text
 
--- all that comes of the parts begins so
+-- every text that the parts make begins with this head, where there is one
 pub record BeginsSo (parts : List TemplatePart) (head : Option LineHead) : Type 0 where
   pub is : (text_of : List ℕ → Option (List ℕ)) (text : List ℕ) → text_before text_of parts (Some []) ≡ Some text → MayHaveHead head text

@@ -21,7 +21,7 @@ known_effect Rests = Some meaning.NoEffect
 known_effect (Goes name) = Some (meaning.BranchTo name)
 known_effect Leaves = Some meaning.Exit
 
--- a statement does this wherever it stands
+-- a statement does this wherever it is
 pub record IsAlwaysDone (statement : Statement) (text label operand : List ℕ) (effect_done : meaning.Effect) : Type 0 where
   pub is : (values : Values) → IsDone values statement text label operand effect_done
 
@@ -29,7 +29,7 @@ abbrev pub FitsDone : Statement → List ℕ → List ℕ → List ℕ → Optio
 FitsDone statement text label operand None = Unit {0}
 FitsDone statement text label operand (Some effect_done) = IsAlwaysDone statement text label operand effect_done
 
--- a line behind its sequence symbol does this wherever it stands
+-- the text after a line's sequence symbol does this wherever it is
 pub record IsAlwaysStatement (text : List ℕ) (effect_done : meaning.Effect) : Type 0 where
   pub is : (s : SymbolSetting) → IsStatement s text (three_fields text) effect_done
 
@@ -37,11 +37,11 @@ abbrev pub FitsStatement : List ℕ → Option meaning.Effect → Type 0
 FitsStatement text None = Unit {0}
 FitsStatement text (Some effect_done) = IsAlwaysStatement text effect_done
 
--- a line does this wherever it stands
+-- a line does this wherever it is
 pub record IsAlways (line : Line) (effect_done : meaning.Effect) : Type 0 where
   pub is : (s : SymbolSetting) → IsEffect s line effect_done
 
--- where these are the macros, a line is given as it stands, whatever the symbols are
+-- where these are the macros, a line is given unchanged, whatever the symbols are
 pub record IsGiven (definitions : List MacroDefinition) (line : Line) : Type 0 where
   pub is : (s : SymbolSetting) → s.definitions ≡ definitions → IsEffect s line (meaning.Emit line.text)
 

@@ -1,4 +1,4 @@
--- A stack of expansions stands for the callers of a visit.
+-- A stack of expansions represents the callers of a visit.
 use Rattle.std.proofs.Common.{◌≡◌, ℕ, zero, suc, ◌+◌, List, [], ◌∷◌, Option, Some, None}
 use Rattle.std.specs.Prelude.{slice_get}
 use Rattle.orca_meaning.specs.Line.{Line}
@@ -21,7 +21,7 @@ Stacks before (suc depth) (Some place) (f ∷ fs) =
     × (v.symbols ≡ f.symbols) × HasRoot v.caller v.root f.root × (v.depth ≡ depth) × Stacks before depth v.caller fs
 Stacks _ _ _ _ = ⊥
 
--- the visit stands here, and the stack has its callers
+-- the visit is here, and the stack has its callers
 pub record Stands (before : List Visit) (v : Visit) (f : Frame) (fs : List Frame) (texts : SharedTexts) (calls : ℕ) : Type 0 where
   pub macro : v.macro ≡ f.macro
   pub line : v.line ≡ f.line
@@ -32,13 +32,13 @@ pub record Stands (before : List Visit) (v : Visit) (f : Frame) (fs : List Frame
   pub calls_are : v.calls ≡ calls
   pub callers : Stacks before v.depth v.caller fs
 
--- what follows on these visits is this: the next one stands here, or it is the end, or the line has a fault
+-- what follows these visits is this: the next one is here, or it is the end, or the line has a fault
 abbrev pub MovesTo : Move → List Visit → Line → Flow → Frame → List Frame → SharedTexts → ℕ → Type 0
 MovesTo move before line outcomes.Goes f fs texts calls = (w : Visit) × (move ≡ On w) × Stands before w f fs texts calls
 MovesTo move before line outcomes.Ends f fs texts calls = move ≡ Ends
 MovesTo move before line (outcomes.Stops cause) f fs texts calls = move ≡ Stops line cause
 
--- an expansion goes on behind its call
+-- an expansion continues after its call
 pub record IsBack (before : List Visit) (last w : Visit) (f : Frame) (fs : List Frame) : Type 0 where
   pub macro : w.macro ≡ f.macro
   pub line : w.line ≡ f.line

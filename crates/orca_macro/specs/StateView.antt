@@ -1,4 +1,4 @@
--- Where the expansion stands.
+-- Where the expansion is.
 use Rattle.std.specs.Prelude.{◌≡◌, List, [], ◌∷◌, ◌++◌}
 use Rattle.macro_meaning.specs.Visit.{MacroProgram, Visit, Move, IsVisit}
 use Rattle.orca_meaning.specs.Line.{Line}
@@ -8,14 +8,14 @@ use Rattle.orca_symbols.specs.Frame.{frame, stack_of}
 use Rattle.orca_macro.specs.Stacks.{Stands, MovesTo}
 use Rattle.orca_symbols.specs.View.{texts_of}
 
--- the visit behind these others stands where the state says
+-- the visit after these others is where the state says
 abbrev pub StandsIn : List Visit → Visit → ExpansionState → Type 0
 StandsIn before v s = Stands before v (frame s.scope) (stack_of s.frames) (texts_of s.texts) s.calls
 
 abbrev pub MovesIn : Move → List Visit → Line → Flow → ExpansionState → Type 0
 MovesIn move before line outcome s = MovesTo move before line outcome (frame s.scope) (stack_of s.frames) (texts_of s.texts) s.calls
 
--- a visit gave these lines, and what follows on it is where the state stands
+-- a visit gave these lines, and what follows it is where the state says
 pub record Visited (program : MacroProgram) (before : List Visit) (v : Visit) (line : Line) (outcome : Flow) (s : ExpansionState) (old new : List Line) : Type 0 where
   pub given : List Line
   pub move : Move

@@ -24,8 +24,8 @@ pub(crate) enum BranchTarget {
     Twice,
 }
 
-/// Lines that are visited one after another. Branches go to the first so many of them, whose sequence symbols are in a
-/// map. Of a macro's lines it is kept what is known of each. Contracts see the lines and how many these are.
+/// Lines that are visited one after another. Branches go to the first `reach` of them, whose sequence symbols are in a
+/// map. For a macro's lines it keeps what is known of each. Contracts see the lines and `reach`.
 #[derive(Drop)]
 pub(crate) struct Body {
     lines: Lines,
@@ -81,7 +81,7 @@ fn add_line(
     }
 }
 
-/// The sequence symbols of the first so many lines.
+/// The sequence symbols of the first `reach` lines.
 fn targets_of(
     alloc: Global,
     lines: &Lines,

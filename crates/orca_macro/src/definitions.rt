@@ -23,7 +23,7 @@ use std::alloc::{AllocError, Global};
 pub(crate) struct MacroDefinition {
     /// What its model line says.
     pub(crate) model: ModelLine,
-    /// It counts in expansions that began behind this line of the source, in all where that is 0.
+    /// It counts in expansions that began after this line of the source, in all where that is 0.
     pub(crate) visible_after: u32,
     /// The lines after the model line, with the MEND line, to which no branch goes.
     pub(crate) body: Body,
@@ -131,14 +131,14 @@ fn close_definition(
     }
 }
 
-/// The line behind which the definition that begins at a line counts.
+/// The line after which the definition that begins at a line counts.
 fn counts_after(in_source: bool, begins: &SourceLine) -> u32
     ensures { result ≡ counts_after in_source (line begins.now) }
 {
     if in_source { begins.line } else { 0 }
 }
 
-/// Where a scan stands: the lines outside definitions with the MACRO lines, the definitions, and the place of the MACRO line
+/// The state of a scan: the lines outside definitions with the MACRO lines, the definitions, and the place of the MACRO line
 /// of the definition that is open.
 #[derive(Drop)]
 pub(crate) struct Scan {

@@ -17,7 +17,7 @@ use orca_symbols::{
 use orca_text::LinePart;
 use std::alloc::{AllocError, Global};
 
-/// Of two faults that stand together the one that is answered: NoSuchSymbol comes before BadSetting.
+/// Of two faults at once the one that is reported: NoSuchSymbol precedes BadSetting.
 fn earlier(cause: MacroCause, other: MacroCause) -> MacroCause
     ensures { result ≡ earlier cause other }
 {
@@ -225,7 +225,7 @@ fn joined_text(
     }
 }
 
-/// The first so many bytes.
+/// The first `count` bytes.
 #[tactic(auto, using(crate::proofs::Texts::take_whole))]
 fn front_of(text: &[u8], count: usize) -> &[u8]
     ensures value { result.now ≡ take count text.now }
@@ -238,7 +238,7 @@ fn front_of(text: &[u8], count: usize) -> &[u8]
     text
 }
 
-/// What stands after the first so many bytes.
+/// What follows the first `count` bytes.
 #[tactic(auto, using(orca_symbols::proofs::Parted::drop_all))]
 fn following_first(text: &[u8], count: usize) -> &[u8]
     ensures value { result.now ≡ drop count text.now }
@@ -251,7 +251,7 @@ fn following_first(text: &[u8], count: usize) -> &[u8]
     &[]
 }
 
-/// So many bytes of a text from a place on, counted from 1.
+/// `count` bytes of a text from a place on, which is counted from 1.
 #[tactic(auto, using(crate::proofs::Texts::middle_good, crate::proofs::Texts::middle_low, crate::proofs::Texts::middle_few))]
 fn middle_from(
     alloc: Global,

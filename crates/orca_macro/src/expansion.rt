@@ -31,7 +31,7 @@ use orca_symbols::{ExpansionState, Symbols, Values};
 use orca_text::{LinePart, Lines, SourceLine, TextCause, TextFault, read_lines};
 use std::alloc::{AllocError, Global};
 
-/// Memory ran out.
+/// The fault when out of memory.
 fn no_memory() -> MacroFault
     ensures { result ≡ record { cause = MacroCause.Memory; file = 0; line = 0 } }
 {
@@ -199,7 +199,7 @@ fn effect_at<'a>(
     }
 }
 
-/// The line that an effect gives, behind others.
+/// Appends the line that an effect gives, if it gives one.
 fn give(
     alloc: Global,
     out: &mut Lines,
@@ -228,7 +228,7 @@ fn give(
     }
 }
 
-/// Visits a line that is given as it stands.
+/// Visits a line that is given unchanged.
 #[inline(always)]
 fn pass_on(
     alloc: Global,
@@ -285,7 +285,7 @@ fn carry_out(
     Ok(outcome)
 }
 
-/// Visits a line. Of one of the source no more is looked for than whether it is given as it stands.
+/// Visits a line. If a line of the source is given unchanged, nothing else is looked for in it.
 fn visit(
     alloc: Global,
     program: &MacroProgram,

@@ -1,4 +1,4 @@
-//! Fronts of lines whose label and operation are known, whatever stands after them.
+//! Starts of lines whose label and operation are known, whatever follows them.
 
 ghost use Rattle.std.specs.Prelude.{◌≡◌, ◌≤◌, length, take, drop, IfOk, IfSome};
 ghost use Rattle.orca_macro.specs.Head.{IsHead};
@@ -9,14 +9,14 @@ use orca_symbols::{skip_sequence_symbol, statement_of};
 use orca_text::{LinePart, is_comment, part, three_fields, to_upper_case};
 use std::alloc::{AllocError, Global};
 
-/// The front of a line, with a blank behind its operation.
+/// The start of a line, with a blank after its operation.
 #[derive(Drop)]
 pub(crate) struct LineHead {
     /// How many bytes the sequence symbol in column 1 has, which is cut off.
     pub(crate) sequence: usize,
-    /// Where the label ends behind the sequence symbol.
+    /// Where the label ends in the text after the sequence symbol.
     pub(crate) label: usize,
-    /// Where the operation ends behind the sequence symbol.
+    /// Where the operation ends in the text after the sequence symbol.
     pub(crate) end: usize,
     /// The operation in upper case.
     pub(crate) operation: Name,
@@ -25,7 +25,7 @@ pub(crate) struct LineHead {
 }
 
 impl LineHead {
-    /// What stands after the sequence symbol.
+    /// What follows the sequence symbol.
     pub(crate) fn after_sequence<'a>(&self, text: LinePart<'a>) -> LinePart<'a>
         requires { self.now.sequence ≤ length text.bytes.now }
         ensures value { result.bytes.now ≡ drop self.now.sequence text.entry.bytes.now }
@@ -35,7 +35,7 @@ impl LineHead {
         LinePart { bytes: following }
     }
 
-    /// The label, in a text behind its sequence symbol.
+    /// The label in the text after the sequence symbol.
     pub(crate) fn label_in<'a>(&self, text: LinePart<'a>) -> LinePart<'a>
         requires { self.now.label ≤ length text.bytes.now }
         ensures value { result.bytes.now ≡ take self.now.label text.entry.bytes.now }

@@ -35,9 +35,9 @@ pub(crate) enum KnownHead {
 pub(crate) enum LinePlan {
     /// It is a comment.
     Comment,
-    /// No `&` stands in it.
+    /// It contains no `&`.
     Plain(KnownHead),
-    /// Its parts, and what is known of its front.
+    /// Its parts, and what is known of its start.
     Parts(Vec<TemplatePart>, Option<LineHead>),
 }
 
@@ -73,7 +73,7 @@ fn known_of_done(
     }
 }
 
-/// What a line does behind its sequence symbol that isn't a comment.
+/// What the text after a line's sequence symbol does, where it isn't a comment.
 #[tactic(auto, using(crate::proofs::Plans::statement_fits))]
 fn known_of_statement(alloc: Global, text: LinePart<'_>) -> Result<KnownHead, AllocError>
     ensures { IfOk result (λ p. FitsStatement text.entry.bytes.now (known_effect p)) }
@@ -110,7 +110,7 @@ fn known_of(alloc: Global, of: &SourceLine, text: LinePart<'_>) -> Result<KnownH
     known_of_statement(alloc, rest)
 }
 
-/// What is known of the front of a line with these parts.
+/// What is known of the start of a line with these parts.
 #[tactic(auto, using(crate::proofs::Heads::heads_begin, crate::proofs::Heads::no_head))]
 fn head_in(alloc: Global, parts: &[TemplatePart]) -> Result<Option<LineHead>, AllocError>
     ensures { IfOk result (λ head. BeginsSo parts.now head) }

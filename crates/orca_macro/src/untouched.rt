@@ -31,7 +31,7 @@ fn is_labelled(of: &SourceLine) -> bool
     !of.part(of.label).bytes.is_empty()
 }
 
-/// Whether a line is a comment, or given as it stands unless a macro has the name of its operation, whatever the symbols are: it
+/// Whether a line is a comment, or is given unchanged unless a macro has the name of its operation, whatever the symbols are: it
 /// begins with no dot and has no `&`, and its operation is no statement of conditional assembly, or ANOP with a label.
 #[inline(always)]
 pub(crate) fn is_untouched(of: &SourceLine) -> bool

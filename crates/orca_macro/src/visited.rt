@@ -31,7 +31,7 @@ use orca_text::{
 };
 use std::alloc::{AllocError, Global};
 
-/// Where a line stands.
+/// Where a line is.
 #[derive(Clone, Copy)]
 pub(crate) struct Standing<'a> {
     pub(crate) program: &'a MacroProgram,
@@ -105,7 +105,7 @@ fn calling<'a>(
     }
 }
 
-/// A line with the texts in place, behind its sequence symbol, that isn't a comment.
+/// What the text after a line's sequence symbol does, with the symbols' texts in place, where it isn't a comment.
 fn effect_of_statement_text<'a>(
     alloc: Global,
     at: Standing<'_>,
@@ -127,7 +127,7 @@ fn effect_of_statement_text<'a>(
     }
 }
 
-/// Whether the MACRO line of a definition in the source stands there.
+/// Whether a line is the MACRO line of a definition in the source.
 fn begins_definition(at: Standing<'_>, of: &SourceLine) -> bool
     requires { HaveFields of.now.text (line of.now).fields }
     ensures { result ≡ begins_definition (where_ at.entry) (line of.now) }
@@ -159,7 +159,7 @@ fn effect_of_text<'a>(
     effect_of_statement_text(alloc, at, rest, spare)
 }
 
-/// Whether a line is given as it stands, whatever the symbols are: it is no comment, it is untouched, and its operation isn't
+/// Whether a line is given unchanged, whatever the symbols are: it is no comment, it is untouched, and its operation isn't
 /// the name of a macro.
 #[tactic(auto, using(crate::proofs::Given::given_unnamed))]
 pub(crate) fn is_given(
@@ -213,7 +213,7 @@ fn headed_call<'a>(
     }
 }
 
-/// What a line does that has a head, behind its sequence symbol.
+/// What the text after a line's sequence symbol does, where the line has a head.
 #[tactic(auto, using(crate::proofs::Heads::statement_ok, crate::proofs::Heads::call_ok))]
 fn headed_statement<'a>(
     alloc: Global,
@@ -265,7 +265,7 @@ fn effect_of_head<'a>(
     headed_statement(alloc, at, following, head, spare)
 }
 
-/// What a visited line does. The buffer takes its text, so that not each line takes memory anew.
+/// What a visited line does. The buffer takes its text, so that not every line allocates memory.
 pub(crate) fn effect_of<'a>(
     alloc: Global,
     at: Standing<'_>,
@@ -320,7 +320,7 @@ fn effect_of_known<'a>(
     }
 }
 
-/// What a line with its text in place does, of whose front something may be known.
+/// What a line with its text in place does, where something may be known of its start.
 fn with_head<'a>(
     alloc: Global,
     at: Standing<'_>,
@@ -339,7 +339,7 @@ fn with_head<'a>(
     }
 }
 
-/// What a line with these parts does. The buffer takes its text, so that not each line takes memory anew.
+/// What a line with these parts does. The buffer takes its text, so that not every line allocates memory.
 #[tactic(auto, using(crate::proofs::Heads::begins_so))]
 fn effect_of_fields<'a>(
     alloc: Global,

@@ -1,4 +1,4 @@
-//! What follows on a visited line.
+//! What follows a visited line.
 
 ghost use Rattle.std.specs.Prelude.{◌≡◌, ◌≤◌, ◌<◌, ◌+◌, ◌^◌, ◌∷◌, ◌++◌, [], List, ℕ, Option, length, Some, None, IfOk, OnOk, IfSome, MatchOption};
 ghost use Rattle.macro_meaning.specs.Symbol.{SharedTexts};
@@ -97,7 +97,7 @@ fn assign(
     }
 }
 
-/// The line behind the calls that are under way, or none where the source has ended.
+/// The line after the calls that are under way, or none where the source has ended.
 #[tactic(auto, using(crate::proofs::Returns::ended, crate::proofs::Returns::ended_so))]
 fn return_from_calls(program: &MacroProgram, frames: &mut Frames) -> Option<CallScope>
     ensures { (before : List Visit) (last : Visit) (depth : ℕ) (caller : Option ℕ) → Stacks before depth caller (stack_of frames.old) → MatchOption result
@@ -113,7 +113,7 @@ fn return_from_calls(program: &MacroProgram, frames: &mut Frames) -> Option<Call
     None
 }
 
-/// What is behind an expansion. Its symbols become the spare ones.
+/// What follows an expansion. Its symbols become the spare ones.
 fn leave(
     program: &MacroProgram,
     now: &mut CallScope,
@@ -133,7 +133,7 @@ fn leave(
     }
 }
 
-/// The next line, or what is behind the expansion.
+/// The next line, or what follows the expansion.
 pub(crate) fn advance(
     program: &MacroProgram,
     now: &mut CallScope,
@@ -169,7 +169,7 @@ fn branch(program: &MacroProgram, now: &mut CallScope, name: &[u8]) -> Flow
     Flow::Goes
 }
 
-/// Puts an expansion onto the stack, at the line behind its call.
+/// Puts an expansion onto the stack, at the line after its call.
 fn suspend(frames: &mut Frames, scope: CallScope) -> Result<(), AllocError>
     requires { scope.line + 1 < 2 ^ 32 }
     ensures { OnOk result ((stack_of frames.new) ≡ record (frame scope) { line = scope.line + 1 } ∷ (stack_of frames.old)) }

@@ -71,7 +71,7 @@ instruction_at m n opcode e =
     let same = is_instruction-true m n _ found.1 in
     slice_get-get_or matrix opcode (m, n) found.0 ∙ ap Some same
 
--- no instruction stands twice
+-- no instruction is in the matrix twice
 pub none_twice : NoneTwice
 none_twice i j d below within same =
     let first = opcode_at i _ (slice_get-get_or matrix i d (omega arith)) in
@@ -79,11 +79,11 @@ none_twice i j d below within same =
     let one : i ≡ j = cc in
     absurd (omega arith)
 
--- a byte has the instruction that stands there
+-- a byte has the instruction at its place in the matrix
 pub entry_at : (byte : ℕ) (d : Instruction) → byte < 256 → slice_get matrix byte ≡ Some (get_or matrix byte d)
 entry_at byte d small = slice_get-get_or matrix byte d (omega (arith, length-matrix))
 
--- what has no opcode stands nowhere
+-- what has no opcode is nowhere in the matrix
 pub no_opcode : (m : Mnemonic) (n : Mode) → opcode_of m n ≡ None → ¬ Contains matrix (m, n)
 no_opcode m n none (place, within, same) =
     let found = opcode_at place (m, n) (slice_get-get_or matrix place (m, n) within ∙ ap Some same) in

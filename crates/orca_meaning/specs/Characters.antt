@@ -18,7 +18,7 @@ is_decimal_digit byte = nat_le ascii.digit_0 byte && nat_le byte ascii.digit_9
 abbrev pub is_name_start : ℕ → Bool
 is_name_start byte = is_letter byte || byte == ascii.underscore || byte == ascii.tilde
 
--- and goes on with these and digits
+-- and continues with these and digits
 abbrev pub is_name_byte : ℕ → Bool
 is_name_byte byte = is_name_start byte || is_decimal_digit byte
 

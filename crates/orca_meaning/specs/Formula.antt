@@ -80,7 +80,7 @@ tokens_of (Group inner) = Opens ∷ (tokens_of inner ++ Closes ∷ [])
 tokens_of (Signed sign operand) = Before sign ∷ tokens_of operand
 tokens_of (Joined operator left right) = tokens_of left ++ Between operator ∷ tokens_of right
 
--- a formula stands at the start of a text, where no operator stands after it
+-- a formula is at the start of a text, where no operator follows it
 pub record StandsAt (operands : Operands) (text : List ℕ) (formula : Formula) (rest : List ℕ) : Type 0 where
   pub formed : IsFormula formula
   pub spelled : Stand operands true text (tokens_of formula) rest
@@ -103,13 +103,13 @@ tree_of (Group inner) = tree_of inner
 tree_of (Signed sign operand) = expression.Unary (sign_code sign) (tree_of operand)
 tree_of (Joined operator left right) = expression.Binary (operator_code operator) (tree_of left) (tree_of right)
 
--- a formula that means this stands at the start of a text
+-- a formula that means this is at the start of a text
 pub record MeansAt (operands : Operands) (text : List ℕ) (tree : expression.Tree) (rest : List ℕ) : Type 0 where
   pub formula : Formula
   pub stands : StandsAt operands text formula rest
   pub means : tree_of formula ≡ tree
 
--- how many values are pending at once at an operand, where the location counter counts so many
+-- how many values are pending at once at an operand, where the location counter counts as a given number of them
 abbrev pub values_of : ℕ → expression.Term → ℕ
 values_of here expression.Location = here
 values_of _ _ = 1

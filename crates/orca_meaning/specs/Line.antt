@@ -35,8 +35,8 @@ span from to = record { from = from; to = to }
 abbrev pub part : List ℕ → Span → List ℕ
 part text s = take (s.to - s.from) (drop s.from text)
 
--- where the first blank at a place or behind it stands, the first byte that is none, and the first blank outside quotes;
--- the line's end where there is none
+-- the place of the first blank at a place or after it, of the first byte there that is none, and of the first blank there outside
+-- quotes; the line's end where there is none
 abbrev pub next_blank : List ℕ → ℕ → ℕ
 next_blank text at = at + position_or_len is_blank (drop at text)
 
@@ -46,7 +46,7 @@ next_ink text at = at + position_or_len is_ink (drop at text)
 abbrev pub next_outside : List ℕ → ℕ → ℕ
 next_outside text at = at + outside_from is_blank None (drop at text)
 
--- The label begins in column 1, and blanks part the fields. The operand is the third field, and ends at the first blank
+-- The label begins in column 1, and blanks separate the fields. The operand is the third field, and ends at the first blank
 -- outside quotes.
 unfoldable pub three_fields : List ℕ → LineFields
 three_fields text =

@@ -14,7 +14,7 @@ Instruction = Mnemonic × Mode
 
 -- The data sheet's short names of the modes, less the commas and with ⟨ ⟩ for round brackets. Where it writes only `s`,
 -- for the stack, the operand says the mode here: none, a signature byte (BRK, COP), `a` (PEA), `⟨d⟩` (PEI), `rl` (PER).
--- The reserved WDM has a signature byte too, and `[a]` tells JML through a long address from JMP through a short one.
+-- The reserved WDM has a signature byte too, and `[a]` distinguishes JML through a long address from JMP through a short one.
 
 -- no operand, or none but the stack
 abbrev i : Mode

@@ -4,11 +4,11 @@ use Rattle.orca_meaning.specs.declared.mnemonics.Mnemonic.{Mnemonic}
 use Rattle.orca_meaning.specs.declared.modes.Mode.{Mode}
 use Rattle.orca_meaning.specs.Matrix.{matrix, opcode_of}
 
--- no instruction stands twice in the matrix
+-- no instruction is in the matrix twice
 abbrev pub NoneTwice : Type 0
 NoneTwice = AllPairs (λ earlier later. earlier ≢ later) matrix
 
--- a number is the opcode of a mnemonic in a mode exactly where that instruction stands there in the matrix
+-- a number is the opcode of a mnemonic in a mode exactly where that instruction is at that place in the matrix
 abbrev pub OpcodeIsPlace : Type 0
 OpcodeIsPlace = (mnemonic : Mnemonic) (mode : Mode) (opcode : ℕ) →
     (opcode_of mnemonic mode ≡ Some opcode) ↔ (slice_get matrix opcode ≡ Some (mnemonic, mode))

@@ -40,7 +40,7 @@ after_opening Hash text = drop 1 text
 after_opening Round text = drop 1 text
 after_opening Square text = drop 1 text
 
--- `<`, `>` and `^` behind `#`
+-- `<`, `>` and `^` after `#`
 abbrev pub immediate_prefix : ℕ → Prefix
 immediate_prefix byte = if byte == ascii.less then Less else if byte == ascii.greater then Greater else if byte == ascii.caret then Caret else Bare
 
@@ -66,7 +66,7 @@ after_prefix Bar text = drop 1 text
 after_prefix Greater text = drop 1 text
 after_prefix Caret text = drop 1 text
 
--- ---- behind the formula
+-- ---- after the formula
 
 -- the register of an index, in upper or lower case
 abbrev pub register_of : ℕ → Option Index
@@ -78,7 +78,7 @@ abbrev pub index_or : Option Index → List ℕ → List ℕ → Index × List �
 index_or (Some index) text following = (index, following)
 index_or None text following = (Absent, text)
 
--- the index at the start, a comma and a register, and what stands after it
+-- the index at the start, a comma and a register, and what follows it
 unfoldable pub index_at : List ℕ → Index × List ℕ
 index_at [] = (Absent, [])
 index_at (byte ∷ []) = (Absent, byte ∷ [])
@@ -101,7 +101,7 @@ closed_by close (inner, byte ∷ following) = if byte == close then option_map (
 unfoldable pub indexes_around : ℕ → List ℕ → Option (Index × Index)
 indexes_around close text = closed_by close (index_at text)
 
--- the forms by their indexes, those in and behind the parentheses or brackets; what mnemonics have is listed first
+-- the forms by their indexes, those in and after the parentheses or brackets; what mnemonics have is listed first
 abbrev pub plain_form : Index → Form
 plain_form Absent = Plain
 plain_form X = IndexX
@@ -124,7 +124,7 @@ abbrev pub immediate_form : List ℕ → Option Form
 immediate_form [] = Some Immediate
 immediate_form (byte ∷ following) = None
 
--- the form of an operand by its opening and what stands after its formula
+-- the form of an operand by its opening and what follows its formula
 abbrev pub form_after : Opening → List ℕ → Option Form
 form_after Open rest = option_map plain_form (whole_index rest)
 form_after Hash rest = immediate_form rest

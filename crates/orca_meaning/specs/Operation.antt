@@ -39,7 +39,7 @@ mnemonics =
     (codes "TYA", Tya) ∷ (codes "TYX", Tyx) ∷ (codes "WAI", Wai) ∷ (codes "WDM", Wdm) ∷
     (codes "XBA", Xba) ∷ (codes "XCE", Xce) ∷ []
 
--- what stands beside a spelling in a table
+-- what a table has beside a spelling
 unfoldable pub value_of_spelling : {A : Type 0} → List ℕ → List (List ℕ × A) → Option A
 value_of_spelling word [] = None
 value_of_spelling word (row ∷ rows) = if bytes_eq row.0 word then Some row.1 else value_of_spelling word rows
@@ -64,7 +64,7 @@ use_of mnemonic =
 unfoldable pub without_operand : List (List ℕ)
 without_operand = codes "END" ∷ codes "ENTRY" ∷ codes "ANOP" ∷ codes "MACRO" ∷ codes "MEND" ∷ codes "MEXIT" ∷ []
 
--- the same of an operation that is no mnemonic
+-- how an operation that is no mnemonic uses its operand
 abbrev pub use_of_other : Bool → OperandUse
 use_of_other is_without = if is_without then Never else Always
 

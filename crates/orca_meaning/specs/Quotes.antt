@@ -2,7 +2,7 @@
 use Rattle.std.specs.Prelude.{ℕ, ◌+◌, Bool, true, false, ◌||◌, ◌&&◌, ◌==◌, List, [], ◌∷◌, Option, Some, None, if◌then◌else◌}
 use Rattle.omf_format.specs.Ascii as ascii
 
--- the quote that is open behind a byte
+-- the quote that is open after a byte
 abbrev pub quote_following : Option ℕ → ℕ → Option ℕ
 quote_following None byte = if byte == ascii.apostrophe || byte == ascii.double_quote then Some byte else None
 quote_following (Some quote) byte = if byte == quote then None else Some quote
@@ -17,7 +17,7 @@ outside_from test quote [] = 0
 outside_from test quote (byte ∷ following) =
     if is_closed quote && test byte then 0 else outside_from test (quote_following quote byte) following + 1
 
--- the quote that is open behind a text
+-- the quote that is open after a text
 abbrev pub quote_after : Option ℕ → List ℕ → Option ℕ
 quote_after quote [] = quote
 quote_after quote (byte ∷ following) = quote_after (quote_following quote byte) following

@@ -1,4 +1,4 @@
--- Laws of source lines, formulas and operands, in their own words.
+-- Laws of source lines, formulas and operands, in their own terms.
 use Rattle.std.specs.Prelude.{◌≡◌, ℕ, ◌<◌, ◌≤◌, Bool, true, false, ◌&&◌, List, [], ◌∷◌, ◌++◌, length, take, slice_index, ◌==◌, Option, None}
 use Rattle.omf_format.specs.Expression.{Tree, terms_of, terms_text, depth, IsExpression}
 use Rattle.omf_format.specs.Lines.{lines_of, HasNoEnd}
@@ -11,15 +11,15 @@ use Rattle.orca_meaning.specs.Operand.{Meaning, IsOperand}
 
 -- ---- lines
 
--- bytes without LF and CR, and then LF, are a line; the lines behind are those of the rest
+-- bytes without LF and CR, and then LF, are a line; the lines after it are those of the rest
 abbrev pub LfEndsLine : Type 0
 LfEndsLine = (line following : List ℕ) → HasNoEnd line → lines_of (line ++ 0x0A ∷ following) ≡ line ∷ lines_of following
 
--- the same before CR LF
+-- bytes without LF and CR, and then CR LF, are a line too
 abbrev pub CrLfEndsLine : Type 0
 CrLfEndsLine = (line following : List ℕ) → HasNoEnd line → lines_of (line ++ 0x0D ∷ 0x0A ∷ following) ≡ line ∷ lines_of following
 
--- and before CR, where no LF comes next
+-- and so are such bytes before CR, where no LF follows
 abbrev pub CrEndsLine : Type 0
 CrEndsLine = (line following : List ℕ) → HasNoEnd line → (slice_index following 0 == 0x0A) ≡ false
     → lines_of (line ++ 0x0D ∷ following) ≡ line ∷ lines_of following
@@ -44,7 +44,7 @@ OutsideIsFirst = (test : ℕ → Bool) (text : List ℕ) (k : ℕ) → k < lengt
 
 -- ---- formulas
 
--- at the start of a text stands the formula of one tree at most, before one rest
+-- a text begins with a formula of at most one tree, and leaves one rest
 abbrev pub OneTree : Type 0
 OneTree = (operands : Operands) (text : List ℕ) (t u : Tree) (r s : List ℕ) → MeansAt operands text t r → MeansAt operands text u s
     → (t ≡ u) × (r ≡ s)

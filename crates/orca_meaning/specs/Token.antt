@@ -51,7 +51,7 @@ text_at quote following =
     let n = position_or_len (λ byte. byte == quote) following in
     if nat_le 1 n && nat_le n 4 && nat_lt n (length following) then Some (little_number n following, drop (n + 1) following) else None
 
--- a number: hexadecimal behind `$`, binary behind `%`, octal behind `@`, a text in quotes, or decimal
+-- a number: hexadecimal after `$`, binary after `%`, octal after `@`, a text in quotes, or decimal
 unfoldable pub number_at : List ℕ → Found ℕ
 number_at [] = None
 number_at (byte ∷ following) =
@@ -70,7 +70,7 @@ name_at (byte ∷ following) =
     let n = prefix_len is_name_byte following in
     if is_name_start byte then Some (folded (byte ∷ take n following), drop n following) else None
 
--- the name of a symbol behind `&`
+-- the name of a symbol after `&`
 unfoldable pub symbol_at : List ℕ → Found (List ℕ)
 symbol_at [] = None
 symbol_at (byte ∷ following) = if byte == ascii.ampersand then name_at following else None
@@ -105,7 +105,7 @@ operand_at operands text = option_or (seen_as Number (number_at text)) (other_op
 
 -- ---- operators
 
--- the first row of a table whose spelling stands at the start, in upper or lower case
+-- the first row of a table whose spelling is at the start, in upper or lower case
 unfoldable pub spelled_at : {A : Type 0} → List (List ℕ × A) → List ℕ → Found A
 spelled_at [] text = None
 spelled_at (row ∷ rows) text =
@@ -114,7 +114,7 @@ spelled_at (row ∷ rows) text =
 abbrev pub signs : List (List ℕ × Sign)
 signs = (codes "-", Negate) ∷ (codes ".NOT.", Not) ∷ []
 
--- the longer spellings stand first
+-- the longer spellings are listed first
 abbrev pub operators : List (List ℕ × Operator)
 operators =
     (codes "<=", LessOrEqual) ∷ (codes ">=", GreaterOrEqual) ∷ (codes "<>", NotEqual) ∷ (codes "<", Less) ∷ (codes ">", Greater) ∷
@@ -129,7 +129,7 @@ operator_at text = spelled_at operators text
 
 -- ---- tokens
 
--- this token, where this byte stands at the start
+-- this token, where this byte is at the start
 unfoldable pub byte_at : ℕ → Token → List ℕ → Found Token
 byte_at wanted token [] = None
 byte_at wanted token (byte ∷ following) = if byte == wanted then Some (token, following) else None
@@ -139,7 +139,7 @@ unfoldable pub operand_token_at : Operands → List ℕ → Found Token
 operand_token_at operands text =
     option_or (byte_at ascii.opening_round Opens text) (option_or (seen_as Before (sign_at text)) (seen_as Value (operand_at operands text)))
 
--- the token behind an operand: a parenthesis, or an operator between two
+-- the token after an operand: a parenthesis, or an operator between two
 unfoldable pub operator_token_at : List ℕ → Found Token
 operator_token_at text = option_or (byte_at ascii.closing_round Closes text) (seen_as Between (operator_at text))
 
@@ -147,7 +147,7 @@ abbrev pub token_at : Operands → Bool → List ℕ → Found Token
 token_at operands true text = operand_token_at operands text
 token_at operands false text = operator_token_at text
 
--- whether an operand is expected behind a token
+-- whether an operand is expected after a token
 abbrev pub expects_following : Token → Bool
 expects_following (Value operand) = false
 expects_following (Before sign) = true
@@ -155,7 +155,7 @@ expects_following (Between operator) = true
 expects_following Opens = true
 expects_following Closes = false
 
--- these tokens stand one after another at the start of the text, and then the rest
+-- these tokens follow one another from the start of the text on, and then the rest follows
 abbrev pub Stand : Operands → Bool → List ℕ → List Token → List ℕ → Type 0
 Stand operands expects text [] rest = rest ≡ text
 Stand operands expects text (token ∷ tokens) rest =

@@ -35,7 +35,7 @@ pub enum Form {
     Other,
 }
 
-/// What stands before an operand's formula, behind `#` or a parenthesis that opens the operand.
+/// What precedes an operand's formula, after `#` or a parenthesis that opens the operand.
 #[derive(Clone, Copy, PartialEq, Eq, Hash, Debug)]
 pub enum Prefix {
     /// Nothing.
@@ -46,7 +46,7 @@ pub enum Prefix {
     Bar,
     /// `>`.
     Greater,
-    /// `^`, behind `#` alone.
+    /// `^`, only after `#`.
     Caret,
 }
 

@@ -5,7 +5,7 @@
 pub struct Span {
     /// The place of its first byte.
     pub from: u32,
-    /// The place behind its last byte.
+    /// The place after its last byte.
     pub to: u32,
 }
 
@@ -20,7 +20,7 @@ pub enum TextCause {
     BadOperand,
     /// A number in the operand is above 4,294,967,295.
     BadNumber,
-    /// Memory ran out.
+    /// Out of memory.
     Memory,
 }
 

@@ -27,7 +27,7 @@ pub enum Mode {
     DirectLongY,
     /// `d,s`: relative to the stack pointer.
     Stack,
-    /// `(d,s),y`: the address that stands relative to the stack pointer, indexed with Y.
+    /// `(d,s),y`: the address that is stored relative to the stack pointer, indexed with Y.
     StackIndirectY,
     /// `a`: an address of two bytes.
     Absolute,
@@ -35,11 +35,11 @@ pub enum Mode {
     AbsoluteX,
     /// `a,y`: the same, indexed with Y.
     AbsoluteY,
-    /// `(a)`: the address that stands there.
+    /// `(a)`: the address that is stored there.
     AbsoluteIndirect,
-    /// `(a,x)`: the address that stands there, at a place indexed with X.
+    /// `(a,x)`: the address that is stored there, at a place indexed with X.
     AbsoluteXIndirect,
-    /// `[a]`: the long address that stands there.
+    /// `[a]`: the long address that is stored there.
     AbsoluteLongIndirect,
     /// `al`: an address of three bytes.
     Long,

@@ -42,7 +42,7 @@ pub enum Operator {
     Eor,
 }
 
-/// Which operands a formula may have beside numbers and texts.
+/// Which operands a formula may have besides numbers and texts.
 #[derive(Clone, Copy, PartialEq, Eq, Debug)]
 pub enum Operands {
     /// Those of statements: the location counter `*`, labels, `L:LABEL` and `C:LABEL`.

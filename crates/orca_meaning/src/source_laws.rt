@@ -14,7 +14,7 @@ pub fn lines_have_fields()
     ensures outside { OutsideIsFirst }
 {}
 
-/// At the front of a text stands one formula at most. Its terms spell an expression in the sense of the file format, and
+/// A text begins with at most one formula. Its terms spell an expression in the sense of the file format, and
 /// its pending values are those of that expression.
 pub fn formulas_are_expressions()
     ensures one_tree { OneTree }

@@ -134,7 +134,7 @@ amount_fine constants text terms (Ok (amounts.Written v)) small is meant = by_wo
 
 -- ---- numbers
 
--- what a worth amounts to tells the number
+-- what a known value amounts to determines the number
 known_number : (tree : Tree) (w : meaning.KnownValue) (n : ℕ) → kept_number n ≡ kept_answer 0 (amount_by tree w) → required_number w ≡ Ok n
 known_number tree (meaning.Number m) n e = same m n e
   where

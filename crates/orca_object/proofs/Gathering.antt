@@ -1,4 +1,4 @@
--- Items that commas part, of which each has an answer.
+-- Items that commas separate, of which each has an answer.
 use Rattle.std.proofs.Common.{◌≡◌, ◌≢◌, ℕ, ◌<◌, ◌≤◌, Bool, true, false, cond, ltb, List, [], ◌∷◌, ◌++◌, length, map, Option, Some, None, Ok, Err, refl, sym, ap, subst, ◌∙◌, append_assoc, append-nil, arith}
 use Rattle.std.specs.Prelude.{Result}
 use Rattle.std.proofs.lemmas.Bool.{ltb-true, ltb-false, lt-ltb, le-ltb}
@@ -26,7 +26,7 @@ earlier_assoc a b c = by_tests (ltb (rank b) (rank a)) (ltb (rank c) (rank b)) (
         let most : ltb (rank c) (rank a) ≡ false = le-ltb (rank c) (rank a) (omega (arith, ltb-false (rank b) (rank a) p, ltb-false (rank c) (rank b) q)) in
         ap (λ (x : AsmCause). earlier x c) (pick a b false p) ∙ pick a c false most ∙ sym (ap (earlier a) (pick b c false q) ∙ pick a b false p)
 
--- what was given so far, and what is still to come
+-- what was given so far, and what still follows
 pub with_rest : {B : Type 0} → Option AsmCause → List B → Answer (List B) → Answer (List B)
 with_rest None out (Ok bs) = Ok (out ++ bs)
 with_rest None out (Err cause) = Err cause
@@ -67,13 +67,13 @@ all_mapped v fault out = rest_none fault (map v out)
 
 -- ---- items
 
--- the items, one at least, that commas part in a text
+-- the items, one at least, that commas separate in a text
 abbrev pub AreItems : {A : Type 0} → (List ℕ → A → List ℕ → Type 0) → List ℕ → List A → Type 0
 AreItems At text [] = ⊥
 AreItems At text (a ∷ []) = At text a []
 AreItems At text (a ∷ next ∷ as') = (following : List ℕ) × At text a (0x2C ∷ following) × AreItems At following (next ∷ as')
 
--- no two items stand at one front
+-- items at the start of one text leave the same rest
 abbrev pub IsOnce : {A : Type 0} → (List ℕ → A → List ℕ → Type 0) → Type 0
 IsOnce {A = A} At = (text : List ℕ) (a b : A) (r s : List ℕ) → At text a r → At text b s → r ≡ s
 

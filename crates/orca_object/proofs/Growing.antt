@@ -16,7 +16,7 @@ use Rattle.orca_object.proofs.Bodies.{records_text-append, one_text}
 use Rattle.orca_object.proofs.OpenLaws.{length_at-one}
 use Rattle.orca_object.proofs.Putting.{Grows}
 
--- a label with its LOCAL, and after it records that give so many cells
+-- a label with its LOCAL, and after it records that give `size` cells
 pub marked_grown : (label : List ℕ) (form size : ℕ) (contents : List Record) (s : StartedSegment) (o : OpenSegment) (b : SegmentBody) → ShowsSegment (with_local_label label form size s) o → o.body.cells ≡ cells_of s → size ≡ length_at (cells_of s) contents
     → b.cells ≡ o.body.cells + size → Grows (kept_text o.body.writer.text) (kept_text b.writer.text) (records_text contents) → ShowsBody (0x37 + length s.header.name) (with_local_record label form contents s).body b
 marked_grown label form size contents s o b shown cells is more grows =
@@ -39,7 +39,7 @@ marked_long label form size cells contents s is few many = omega (arith, is, few
 pub one_size : (size cells : ℕ) (r : Record) (s : StartedSegment) → size ≡ size_at cells r → cells ≡ cells_of s → size ≡ length_at (cells_of s) (r ∷ [])
 one_size size cells r s is same = is ∙ ap (λ (k : ℕ). size_at k r) same ∙ sym (length_at-one (cells_of s) r)
 
--- the text of one record behind those of a text
+-- the text of one record after those of a text
 pub grown_one : (old mid new : Option (List ℕ)) (r : Record) → mid ≡ old → Grows mid new (spelling written_layout r) → Grows old new (records_text (r ∷ []))
 grown_one old mid new r same grows text is = grows text (same ∙ is) ∙ ap (λ (l : List ℕ). text_within_limit (text ++ l)) (sym (one_text r))
 

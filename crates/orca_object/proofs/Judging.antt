@@ -27,7 +27,7 @@ use Rattle.std.specs.Global.{Vec}
 use Rattle.orca_object.specs.JudgedView.{judged_amount, needed_kept}
 use Rattle.orca_object.proofs.Gathering.{AreItems, IsOnce, Gathers, gathers_nothing, GathersAll}
 
--- what was kept of a formula at a front
+-- what was kept of a formula at the start of a text
 pub kept_from : (text : List ℕ) (terms : List Term) (large : Bool) (rest : List ℕ) → length text ≤ 255 → (f : IsFormulaAt Labels text terms large rest) → IsKeptOf terms large f.tree
 kept_from text terms large rest short f = record { text = text; rest = rest; short = short; means = f.means; kept = f.kept; large_is = f.large_is }
 
@@ -187,7 +187,7 @@ fault_by width cause (Err other) e = ap none (same cause other e)
 pub numbered_fault : (cs : Constants) (width : ℕ) (cause : AsmCause) (tree : Tree) → refused cause ≡ kept_answer 0 (judged_amount cs tree) → none cause ≡ piece_of_number cs width tree
 numbered_fault cs width cause tree e = fault_by width cause (judged_amount cs tree) e ∙ sym (numbered_is cs width tree)
 
--- ---- formulas that commas part
+-- ---- formulas that commas separate
 
 abbrev pub FormulaStands : List ℕ → Tree → List ℕ → Type 0
 FormulaStands text tree rest = MeansAt Labels text tree rest

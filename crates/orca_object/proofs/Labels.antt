@@ -18,6 +18,6 @@ whole (byte ∷ text) = by_byte (is_name_byte byte) (whole text)
     by_byte true e = more (prefix_len is_name_byte text) (length text) ∙ e
     by_byte false e = zero_not (length text)
 
--- all of a text are name bytes where the longest front of them is the whole
+-- all of a text are name bytes where their longest prefix is the whole
 pub all_name_bytes : (text : List ℕ) (n : ℕ) → n ≡ prefix_len is_name_byte text → eqb n (length text) ≡ list_all is_name_byte text
 all_name_bytes text n is = ap (λ (k : ℕ). eqb k (length text)) is ∙ whole text

@@ -57,7 +57,7 @@ grows text bytes new more e put few =
 pub limited_room : (bytes : List ℕ) (size : ℕ) → bytes ≡ replicate size 0 → size ≤ most_bytes → Some bytes ≡ text_within_limit (replicate size 0)
 limited_room bytes size is few = ap Some is ∙ sym (is_limited (replicate size 0) (omega (arith, length-replicate {A = ℕ} size 0, few)))
 
--- what stands after may be too long by itself
+-- what follows may be too long by itself
 pub long_after : (text more : List ℕ) → None ≡ text_within_limit more → None ≡ text_within_limit (text ++ more)
 long_after text more e = sym (is_too_long (text ++ more) (omega (arith, length-append text more, long_text more e)))
 
@@ -65,6 +65,6 @@ long_after text more e = sym (is_too_long (text ++ more) (omega (arith, length-a
 pub joins_first : (text more bytes : List ℕ) (kept : Option (List ℕ)) → Some bytes ≡ text_within_limit text → bytes ≡ [] → kept ≡ text_within_limit more → kept ≡ text_within_limit (text ++ more)
 joins_first text more bytes kept shows none is = is ∙ ap (λ (l : List ℕ). text_within_limit (l ++ more)) (sym (same_text text bytes shows ∙ none))
 
--- one text behind another
+-- one text after another
 pub joins : (text more bytes : List ℕ) (old new : Option (List ℕ)) → ((before : List ℕ) → old ≡ text_within_limit before → new ≡ text_within_limit (before ++ bytes)) → old ≡ text_within_limit text → Some bytes ≡ text_within_limit more → new ≡ text_within_limit (text ++ more)
 joins text more bytes old new put shows is = put text shows ∙ ap (λ (l : List ℕ). text_within_limit (text ++ l)) (sym (same_text more bytes is))

@@ -1,4 +1,4 @@
--- A name with spaces behind it.
+-- A name with spaces after it.
 use Rattle.std.proofs.Common.{◌≡◌, ℕ, suc, ◌+◌, ◌-◌, ◌<◌, ◌≤◌, List, [], ◌∷◌, ◌++◌, length, get_or, take, drop, set, sym, ap, ◌∙◌, add-one, drop-cons, arith}
 use Rattle.std.specs.Prelude.{replicate}
 use Rattle.std.specs.Char.{to_ascii_uppercase}

@@ -21,7 +21,7 @@ one_found o m n r s p q = ap (λ (x : List ℕ × List ℕ). x.1) (same (m, r) (
 abbrev found : List ℕ × List ℕ → Found (List ℕ)
 found x = Some x
 
--- what stands after a name is shorter
+-- what follows a name is shorter
 pub name_shorter : (text name rest : List ℕ) → name_at text ≡ Some (name, rest) → length rest < length text
 unfolding name_at
 name_shorter [] name rest e = absurd cc

@@ -1,4 +1,4 @@
--- A segment that ends behind those that have ended.
+-- A segment that ends after those that have ended.
 use Rattle.std.proofs.Common.{◌≡◌, ℕ, ◌+◌, ◌<◌, ◌≤◌, Bool, true, false, List, [], ◌∷◌, ◌++◌, length, drop, replicate, Some, None, sym, ap, ◌∙◌, append-nil, arith}
 use Rattle.std.specs.List.{flat_map}
 use Rattle.std.proofs.Math.Seq.{drop-append_seam}
@@ -66,6 +66,6 @@ put_closed t e f count front new is ten short shows few n written put =
     ap (λ (b : Bool). kept_by b new) short ∙ ap Some whole
     ∙ sym (is_limited (segment_text e) (omega (arith, same_length e (has_ten e f is ten), ap length bytes, few)))
 
--- behind those that have ended
+-- after those that have ended
 pub one_after : (segments : List FinishedSegment) (e : FinishedSegment) → text_within_limit (object_text segments ++ segment_text e) ≡ text_within_limit (object_text (segments ++ e ∷ []))
 one_after segments e = ap text_within_limit (sym (object_more segments e))

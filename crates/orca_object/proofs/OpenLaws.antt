@@ -23,7 +23,7 @@ pub length_at-none : (at : ℕ) → length_at at [] ≡ 0
 unfolding length_at place_after
 length_at-none at = omega arith
 
--- records behind a label's LOCAL, whose length is theirs
+-- records after a label's LOCAL, whose length is theirs
 pub marked_is : (label : List ℕ) (form size : ℕ) (contents : List Record) (s : StartedSegment) (o : OpenSegment) → size ≡ length_at (cells_of s) contents
     → ShowsSegment (with_records contents (with_local_label label form size s)) o → ShowsSegment (with_local_record label form contents s) o
 marked_is label form size contents s o is shows =

@@ -142,20 +142,20 @@ repeat_only count [] some few = absurd (omega (arith, some))
 repeat_only count (byte ∷ []) some few = repeat_one count byte
 repeat_only count (byte ∷ other ∷ bytes) some few = absurd (omega (arith, few))
 
--- bytes that stand so often, once they were appended once more
+-- repeated bytes, after they were appended once more
 pub repeat_next : (old now new bytes : List ℕ) (count left less : ℕ) → left ≡ less + 1 → now ++ repeat left bytes ≡ old ++ repeat count bytes → new ≡ now ++ bytes → new ++ repeat less bytes ≡ old ++ repeat count bytes
 repeat_next old now new bytes count left less is all more =
     let next : left ≡ suc less = omega (arith, is) in
     ap (λ (l : List ℕ). l ++ repeat less bytes) more ∙ append_assoc now bytes (repeat less bytes) ∙ ap (λ (n : ℕ). now ++ repeat n bytes) (sym next) ∙ all
 
--- constant bytes that stand so often wait for their record
+-- constant bytes that are repeated `count` times wait for their record
 pub wrote_copies : (whole : List ℕ) (kept : Option (List ℕ)) (pending more : List ℕ) (count : ℕ) (rest : List Piece) → Wrote whole kept pending (copies count (Bytes more ∷ []) ++ rest) → Wrote whole kept (pending ++ repeat count more) rest
 wrote_copies whole kept pending more zero rest w = subst (λ (l : List ℕ). Wrote whole kept l rest) (sym (append-nil pending)) w
 wrote_copies whole kept pending more (suc n) rest w =
     subst (λ (l : List ℕ). Wrote whole kept l rest) (append_assoc pending more (repeat n more))
     (wrote_copies whole kept (pending ++ more) more n rest (wrote_bytes whole kept pending more (pending ++ more) (copies n (Bytes more ∷ []) ++ rest) refl w))
 
--- pieces that are constant bytes alone, put so often
+-- pieces that are constant bytes alone, put `count` times
 pub wrote_only : (whole : List ℕ) (kept : Option (List ℕ)) (pending new bytes : List ℕ) (pieces : List Piece) (count : ℕ) (rest : List Piece) → pieces ≡ Bytes bytes ∷ [] → new ≡ pending ++ repeat count bytes
     → Wrote whole kept pending (copies count pieces ++ rest) → Wrote whole kept new rest
 wrote_only whole kept pending new bytes pieces count rest only more w =

@@ -18,7 +18,7 @@ none_found : (b : Bool) (n : ℕ) → cond b (Some n) None ≡ None → b ≡ fa
 none_found true n e = absurd cc
 none_found false n e = refl
 
--- where a quote stands
+-- where a quote is
 pub closes : (text inner rest : List ℕ) (n : ℕ) → Some n ≡ position (λ b. eqb b 0x27) text → inner ≡ take n text → rest ≡ drop (n + 1) text → closed_at text ≡ Some (inner, rest)
 unfolding closed_at
 closes text inner rest n at inner_is rest_is =

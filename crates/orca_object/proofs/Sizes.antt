@@ -43,7 +43,7 @@ place_pieces at bytes (Strong name ∷ l) =
     let both = place_after-append at (constant_records bytes) (record_.Strong name ∷ records_after [] (map piece l)) in
     omega (arith, front, rest, both)
 
--- the same over the pieces as they are kept
+-- copies of the pieces as they are kept
 kept_copies : ℕ → List Piece → List Piece
 kept_copies zero l = []
 kept_copies (suc n) l = l ++ kept_copies n l
@@ -119,7 +119,7 @@ cells_operand at n opcode code count distance g expr g_is small is =
 
 -- ---- counting up to a limit
 
--- so many cells were counted, and so many are left
+-- `total` cells were counted, and `left` are left
 pub record SumLeft (total left all : ℕ) : Type 0 where
   pub sum : min (total + left) 0x1000000 ≡ min all 0x1000000
   pub few : total ≤ 0x1000000

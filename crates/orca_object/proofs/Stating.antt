@@ -105,7 +105,7 @@ bad_number cs w line m fault is f cause =
     subst (λ (x : Option Mnemonic). HasBadNumber x (line_operand line)) is (subst (λ (c : TextCause). IsRefusedFor c (line_mnemonic line) (line_operand line)) cause f.cause_is) in
     record { operand = Err BadNumber; is = Large large refl; gives = refl }
 
--- ---- elements that commas part
+-- ---- elements that commas separate
 
 pub stands_once : IsOnce IsElementAt
 stands_once text a b r s p q = (element_once text a b r s p q).1

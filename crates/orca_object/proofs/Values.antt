@@ -40,7 +40,7 @@ not_refused bytes fault r is only tree spells = clash (spelled bytes) (sym (only
     clash : (e : Expression) → Ok e ≡ Err fault → ⊥
     clash e x = cc
 
--- ---- the worth
+-- ---- the known value
 
 data Same (r : Result Value ValueFault) (w : KnownValue) : Type 0 where
   IsNumber : (n : ℕ) → r ≡ Ok (Fixed n) → w ≡ Number n → Same r w
@@ -85,7 +85,7 @@ unfolding operand_value
 name_value constants at code name None is = absurd cc
 name_value constants at code name (Some n) is = IsNumber n refl refl
 
--- where all terms are numbers and operators, the value is the worth
+-- where all terms are numbers and operators, the value is the known value
 number_value : (constants : Constants) (at : ℕ) (t : Tree) → IsTree 0 t → are_numbers constants (terms_of t) ≡ true → Same (value no_environment 0 at (with_values constants t)) (known_value constants t)
 unfolding known_value operand_value
 number_value constants at (Leaf (Operator code)) is all = absurd is

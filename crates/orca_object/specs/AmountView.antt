@@ -25,7 +25,7 @@ written_term constants term = term_with_values constants term
 abbrev pub less_location : ℕ → List Term
 less_location back = Location ∷ Constant back ∷ Operator 0x02 ∷ []
 
--- what is written for a term, where the location counter is so far behind
+-- what is written for a term, where a number is subtracted from the location counter
 abbrev pub written_terms : ℕ → Term → List Term
 written_terms back (Operator code) = Operator code ∷ []
 written_terms back Location = if back == 0 then Location ∷ [] else less_location back

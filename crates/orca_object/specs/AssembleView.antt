@@ -11,7 +11,7 @@ use Rattle.asm_meaning.specs.Statement.{IsStep}
 use Rattle.orca_object.specs.declared.state.AsmState.{AsmState}
 use Rattle.orca_object.specs.StateView.{ShowsState}
 
--- a line with a fault, behind lines that have none
+-- a line with a fault, after lines that have none
 pub record Stops (lines : List Line) (fault : AsmFault) : Type 0 where
   pub before : List Line
   pub line : Line

@@ -19,13 +19,13 @@ use Rattle.orca_object.specs.declared.piece.Piece as piece_type
 use Rattle.orca_object.specs.GivenView.{part_pieces}
 use Rattle.orca_object.specs.PieceView.{piece}
 
--- ---- one answer behind another
+-- ---- one answer after another
 
 abbrev pub map_answer : {T B : Type 0} → (T → B) → Result T AsmCause → Answer B
 map_answer v (Ok x) = Ok (v x)
 map_answer v (Err cause) = Err cause
 
--- the fault that is told behind one more answer
+-- the fault that is reported after one more answer
 abbrev pub fault_after : {T : Type 0} → Option AsmCause → Result T AsmCause → Option AsmCause
 fault_after None (Ok x) = None
 fault_after None (Err cause) = Some cause
@@ -64,7 +64,7 @@ pub record HasNumbers (constants : Constants) (width : ℕ) (text : List ℕ) (a
 
 -- ---- counts
 
--- a formula in parentheses, behind the first of them
+-- a formula in parentheses, after the opening one
 pub record IsComputed (constants : Constants) (following : List ℕ) (answer : Answer ℕ) (rest : List ℕ) : Type 0 where
   pub tree : Tree
   pub means : MeansAt Labels following tree (0x29 ∷ rest)
@@ -76,7 +76,7 @@ pub record IsCounted (text : List ℕ) (answer : Answer ℕ) (rest : List ℕ) :
   pub is : digits_at 10 text ≡ Some (n, rest)
   pub gives : (constants : Constants) → answer ≡ count_of constants (Digits n)
 
--- how often an element stands
+-- the repeat count of an element
 pub record HasCount (constants : Constants) (text : List ℕ) (answer : Answer ℕ) (rest : List ℕ) : Type 0 where
   pub repeat : Repeat
   pub is : IsRepeatAt text repeat rest
@@ -106,7 +106,7 @@ pub record HasElement (constants : Constants) (msb : Bool) (text : List ℕ) (an
   pub is : IsElementAt text element rest
   pub gives : answer ≡ element_pieces constants msb element
 
--- the pieces so often
+-- the pieces, repeated by the count
 abbrev pub repeated_pieces : Answer ℕ → Answer (List Piece) → Answer (List Piece)
 repeated_pieces count pieces = pair_or_earlier_fault count pieces >>= λ found. Ok (copies found.0 found.1)
 

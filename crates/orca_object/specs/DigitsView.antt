@@ -6,6 +6,6 @@ use Rattle.std.specs.List.{list_all}
 abbrev pub are_digits : ℕ → List ℕ → Bool
 are_digits base digits = list_all (λ byte. is_digit byte base) digits
 
--- how many bytes they make, so many a byte
+-- how many bytes they make, a given number of digits to a byte
 abbrev pub groups : ℕ → List ℕ → ℕ
 groups each digits = (length digits + (each - 1)) / each

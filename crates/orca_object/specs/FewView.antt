@@ -2,6 +2,6 @@
 use Rattle.std.specs.Prelude.{ℕ, List, [], ◌∷◌, take}
 use Rattle.orca_object.specs.declared.short_bytes.ShortBytes.{ShortBytes}
 
--- the first of the bytes that are kept, so many
+-- the first `count` of the bytes that are kept
 abbrev pub few_bytes : ShortBytes → List ℕ
 few_bytes few = take few.count (few.first ∷ few.second ∷ few.third ∷ few.fourth ∷ [])

@@ -13,7 +13,7 @@ use Rattle.orca_object.specs.declared.encoding.RepeatedPieces.{RepeatedPieces}
 use Rattle.orca_object.specs.FewView.{few_bytes}
 use Rattle.orca_object.specs.PieceView.{piece}
 
--- the pieces of a part: its own, so often
+-- the pieces of a part: its own, repeated `count` times
 abbrev pub part_pieces : RepeatedPieces → List meaning.Piece
 part_pieces p = copies p.count (map piece p.pieces.items)
 

@@ -23,12 +23,12 @@ abbrev pub parts_size : List RepeatedPieces → ℕ
 parts_size [] = 0
 parts_size (p ∷ ps) = p.count * pieces_size p.pieces.items + parts_size ps
 
--- some bytes were written, where constant bytes wait for their record and these pieces stand after
+-- some bytes were written, where constant bytes wait for their record and these pieces follow
 pub record Wrote (whole : List ℕ) (kept : Option (List ℕ)) (pending : List ℕ) (rest : List meaning.Piece) : Type 0 where
   pub text : List ℕ
   pub kept_is : kept ≡ text_within_limit text
   pub whole_is : text ++ records_text (records_after pending rest) ≡ whole
 
--- the same of a writer
+-- a writer has written some bytes, where its constant bytes wait for their record and these pieces follow
 abbrev pub HasWritten : List ℕ → RecordWriter → List meaning.Piece → Type 0
 HasWritten whole w rest = Wrote whole (kept_text w.text) w.waiting.items rest

@@ -18,7 +18,7 @@ abbrev pub Steps : {U : Type 0} → State → Line → Result U AsmCause → Asm
 Steps state line (Ok done) k = (next : State) × IsStep state line (Ok next) × ShowsState next k
 Steps state line (Err cause) k = IsStep state line (Err cause)
 
--- a statement that stands on the right side
+-- a statement that is inside or outside a segment as it has to be
 abbrev pub IsPlacedAs : {U : Type 0} → State → Line → Operation → Answer (List ℕ) → List ℕ → Result U AsmCause → AsmState → Type 0
 IsPlacedAs state line operation label text (Ok done) k = (next : State) × IsJudged state line operation label text (Ok next) × ShowsState next k
 IsPlacedAs state line operation label text (Err cause) k = IsJudged state line operation label text (Err cause)

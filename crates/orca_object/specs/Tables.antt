@@ -5,7 +5,7 @@ use Rattle.asm_meaning.specs.declared.directives.Directive.{Directive}
 use Rattle.asm_meaning.specs.declared.directives.Directive.TheVariants.{Constants, Space, Align, Org, Kind, Turn, Nothing}
 use Rattle.asm_meaning.specs.Operations.{ignored_directives, as_ignored}
 
--- those behind GEQU
+-- those after GEQU
 abbrev pub directives_after_gequ : List (List ℕ × Directive)
 directives_after_gequ =
     (codes "DC", Constants) ∷ (codes "DS", Space) ∷ (codes "ALIGN", Align) ∷ (codes "ORG", Org) ∷ (codes "KIND", Kind) ∷

@@ -3,7 +3,7 @@ use Rattle.std.specs.Prelude.{ℕ, Bool, true, false, nat_le, List, length, Opti
 use Rattle.asm_meaning.specs.Object.{most_bytes}
 use Rattle.orca_object.specs.declared.record_bytes.RecordBytes.{RecordBytes}
 
--- a text, where a file may have so many bytes
+-- a text, unless it has more bytes than a file may have
 abbrev pub text_within_limit : List ℕ → Option (List ℕ)
 text_within_limit text = if nat_le (length text) most_bytes then Some text else None
 

@@ -17,12 +17,12 @@ use omf_expr::{Env, Expr, Term, Value, ValueFault, evaluate, put_term};
 use orca_text::{Formula, FormulaTerm, LinePart, Operands, formula_at, is_too_deep};
 use std::alloc::{AllocError, Global};
 
-/// What a formula is worth.
+/// The value of a formula.
 #[derive(Clone, Copy)]
 pub(crate) enum KnownValue {
     /// A number.
     Number(u32),
-    /// None: the location counter, an attribute or a name that is no known constant stands in it.
+    /// None: it contains the location counter, an attribute or a name that is no known constant.
     Open,
     /// A number divided by 0.
     Divided,
@@ -159,7 +159,7 @@ fn value_of(bytes: &[u8]) -> KnownValue
     }
 }
 
-/// What a value is worth.
+/// A value as the value of a formula.
 #[inline(always)]
 fn number_of(of: Result<Value, ValueFault>) -> KnownValue
     ensures { worth_view result ≡ worth_of_value of }
@@ -182,7 +182,7 @@ pub(crate) enum Amount {
     Written(Vec<u8>),
 }
 
-/// The value of terms that all are numbers and operators, whose text stands there. The end is put behind them and taken away again.
+/// The value of terms that all are numbers and operators, whose text is in `out`. The end is put after them and taken away again.
 fn value_after(out: &mut Vec<u8>) -> Result<KnownValue, AllocError>
     ensures text { OnOk result (out.new.items ≡ out.old.items) }
     ensures value { IfOk result (λ w. (tree : Tree) → Spells 0 (out.old.items ++ 0x00 ∷ []) tree → worth_view w ≡ worth_of_value (value no_environment 0 0 tree)) }

@@ -1,4 +1,4 @@
-//! Which of several faults is told.
+//! Which of several faults is reported.
 
 ghost use Rattle.std.specs.Prelude.{◌≡◌, Err, OnOk, Some};
 ghost use Rattle.asm_meaning.specs.Answer.{rank, earlier, pair_or_earlier_fault};
@@ -38,7 +38,7 @@ fn rank(cause: AsmCause) -> u8
     }
 }
 
-/// Of two faults the one that comes first in their order.
+/// Of two faults the one that is first in their order.
 pub(crate) fn earlier(cause: AsmCause, other: AsmCause) -> AsmCause
     ensures { result ≡ earlier cause other }
 {
@@ -67,7 +67,7 @@ pub(crate) fn pair_or_earlier_fault<A: Drop, B: Drop>(
     }
 }
 
-/// Keeps what an answer gives, or its fault if none comes before it.
+/// Keeps what an answer gives, or its fault if none precedes it.
 pub(crate) fn gather_answer<T: Drop>(
     out: &mut Vec<T>,
     fault: &mut Option<AsmCause>,

@@ -1,4 +1,4 @@
-//! How often an element of DC stands (ORCA/M reference manual, "Declare Constant").
+//! The repeat count of an element of DC (ORCA/M reference manual, "Declare Constant").
 
 ghost use Rattle.std.specs.Prelude.{◌≡◌, ◌∷◌, List, ℕ, true, false, Some, None, Ok, Err, IfOk, IfSome, IfNone, MatchOption};
 ghost use Rattle.omf_format.specs.Expression.{AreTerms, Tree};
@@ -26,7 +26,7 @@ fn check_count(n: Result<u32, AsmCause>) -> Result<u32, AsmCause>
     }
 }
 
-/// The count that a formula in parentheses is, behind the first of them.
+/// The count that a formula in parentheses is, after the opening one.
 fn computed_count<'a>(
     alloc: Global,
     known: KnownConstants<'_>,
@@ -65,7 +65,7 @@ fn count_by(found: Option<u32>) -> Result<u32, AsmCause>
     }
 }
 
-/// How often an element stands, which is said at the start of a text, and what stands after that.
+/// The repeat count of an element at the start of a text, and what follows it.
 pub(crate) fn count_at<'a>(
     alloc: Global,
     known: KnownConstants<'_>,

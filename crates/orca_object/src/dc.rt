@@ -230,7 +230,7 @@ fn weak_value<'a>(
     }
 }
 
-/// The value of a type, behind its opening quote, and what stands after its closing one.
+/// The value of a type, after its opening quote, and what follows its closing one.
 fn value_at<'a>(
     alloc: Global,
     known: KnownConstants<'_>,
@@ -270,7 +270,7 @@ fn value_at<'a>(
     }
 }
 
-/// A value so often, or the earlier of two faults.
+/// A value that is repeated `count` times, or the earlier of two faults.
 fn part_of(
     count: Result<u32, AsmCause>,
     value: Result<Vec<Piece>, AsmCause>,
@@ -289,7 +289,7 @@ fn part_of(
     }
 }
 
-/// What the element at the start gives, and what stands after it.
+/// What the element at the start gives, and what follows it.
 pub(crate) fn element_at<'a>(
     alloc: Global,
     known: KnownConstants<'_>,

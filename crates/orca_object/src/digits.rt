@@ -45,8 +45,8 @@ fn digit_of(byte: u8, base: u32) -> u32
     }
 }
 
-/// The byte that the next digits write, so many, the first of them highest and 0 for each that is missing, and the digits
-/// behind them.
+/// The byte that the next `each` digits write, the first of them highest and 0 for each that is missing, and the digits
+/// after them.
 fn group(base: u32, each: u32, digits: &[u8]) -> (u8, &[u8])
     requires base { (2 ≤ base) × (base ≤ 36) }
     requires whole { base ^ each ≡ 256 }
@@ -71,7 +71,7 @@ fn group(base: u32, each: u32, digits: &[u8]) -> (u8, &[u8])
     (value as u8, left)
 }
 
-/// The bytes that digits write, so many a byte.
+/// The bytes that digits write, `each` digits to a byte.
 #[tactic(auto, unfolding(asm_meaning::specs::Elements::bytes_of_group_digits))]
 fn pack_digits(alloc: Global, base: u32, each: u32, digits: &[u8]) -> Result<Vec<u8>, AllocError>
     requires base { (2 ≤ base) × (base ≤ 36) }

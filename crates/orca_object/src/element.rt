@@ -24,7 +24,7 @@ pub(crate) enum ElementKind {
     WeakReferences,
 }
 
-/// What stands after a parenthesis that opens at the start.
+/// What follows a parenthesis that opens at the start.
 pub(crate) fn after_parenthesis(text: &[u8]) -> Option<&[u8]>
     ensures { MatchOption result (after_parenthesis text.now ≡ None) (λ following. after_parenthesis text.now ≡ Some following.now) }
 {
@@ -37,7 +37,7 @@ pub(crate) fn after_parenthesis(text: &[u8]) -> Option<&[u8]>
     None
 }
 
-/// Where the first `'` stands.
+/// Where the first `'` is.
 fn first_quote(text: &[u8]) -> Option<usize>
     ensures bound { IfSome result (λ at. at < length text.now) }
     ensures value { result ≡ position (λ byte. byte == 0x27) text.now }
@@ -45,7 +45,7 @@ fn first_quote(text: &[u8]) -> Option<usize>
     text.iter().position(|byte| *byte == b'\'')
 }
 
-/// The text up to the next `'`, and what stands after that.
+/// The text up to the next `'`, and what follows that.
 #[tactic(auto, using(crate::proofs::Quoted::never_closes))]
 pub(crate) fn closed_at(text: &[u8]) -> Option<(&[u8], &[u8])>
     ensures text { MatchOption result (closed_at text.now ≡ None) (λ x. closed_at text.now ≡ Some (x.0.now, x.1.now)) }
@@ -56,7 +56,7 @@ pub(crate) fn closed_at(text: &[u8]) -> Option<(&[u8], &[u8])>
     Some((inner, rest))
 }
 
-/// The bytes of each number behind I and A.
+/// The number of bytes of each number, which is given after I and A.
 fn width_at(following: &[u8]) -> (ElementKind, &[u8])
     ensures { (element_kind result.0, result.1.now) ≡ width_at following.now }
 {
@@ -116,7 +116,7 @@ pub(crate) fn text_byte(msb: bool, byte: u8) -> u8
     if msb { byte | 0x80 } else { byte }
 }
 
-/// The text of C up to its closing quote, and what stands after that. Two quotes are one quote of the text.
+/// The text of C up to its closing quote, and what follows that. Two quotes are one quote of the text.
 #[tactic(auto, using(crate::proofs::Quoted::text_none, crate::proofs::Quoted::text_more, crate::proofs::Quoted::text_last, crate::proofs::Quoted::text_stops, crate::proofs::Quoted::text_quotes))]
 pub(crate) fn text_at(alloc: Global, text: &[u8]) -> Result<Option<(Vec<u8>, &[u8])>, AllocError>
     ensures { IfOk result (λ found. MatchOption found (text_at text.now ≡ None) (λ x. text_at text.now ≡ Some (x.0.items, x.1.now))) }

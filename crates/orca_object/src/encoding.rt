@@ -19,7 +19,7 @@ use asm_meaning::AsmCause;
 use omf_base::Name;
 use std::alloc::{AllocError, Global};
 
-/// Pieces, which stand so often.
+/// Pieces that are repeated `count` times.
 #[derive(Drop)]
 pub(crate) struct RepeatedPieces {
     pub(crate) count: u32,

@@ -1,4 +1,4 @@
-//! Names that commas part in a text (ORCA/M reference manual, "Declare Constant").
+//! Names that commas separate in a text (ORCA/M reference manual, "Declare Constant").
 
 ghost use Rattle.std.specs.Prelude.{◌≡◌, ◌∷◌, ◌++◌, [], List, ℕ, Some, None, IfOk, IfSome, IfNone};
 ghost use Rattle.asm_meaning.specs.Elements.{AreNames};
@@ -7,7 +7,7 @@ use omf_base::Name;
 use orca_text::{LinePart, after_byte, name_at};
 use std::alloc::{AllocError, Global};
 
-/// The names that a text is, parted by commas.
+/// The names that a text is, separated by commas.
 pub(crate) fn names_in(alloc: Global, text: LinePart<'_>) -> Result<Option<Vec<Name>>, AllocError>
     ensures found { IfOk result (λ found. IfSome found (λ v. AreNames text.entry.bytes.now v.items)) }
     ensures none { IfOk result (λ found. IfNone found ((names : List (List ℕ)) → AreNames text.entry.bytes.now names → ⊥)) }

@@ -199,7 +199,7 @@ pub(crate) fn is_distance(of: OperandKind) -> bool
     }
 }
 
-/// Whether a prefix lets such an operand stand.
+/// Whether a prefix allows such an operand.
 #[inline(always)]
 fn is_asked(prefix: Prefix, of: OperandKind) -> bool
     ensures { result ≡ is_asked prefix (kind of) }
@@ -252,7 +252,7 @@ pub(crate) fn shift_in(of: OperandKind, prefix: Prefix) -> u8
     }
 }
 
-/// Whether a number fits so many bytes as an unsigned one.
+/// Whether a number fits `width` bytes as an unsigned one.
 #[inline(always)]
 fn fits_width(n: u32, width: u8) -> bool
     requires { width ≤ 3 }
@@ -279,7 +279,7 @@ fn is_negative(n: u32, width: u8) -> bool
     }
 }
 
-/// Whether no prefix stands there.
+/// Whether there is no prefix.
 fn is_bare(prefix: Prefix) -> bool
     ensures { result ≡ is_bare prefix }
 {
@@ -292,7 +292,7 @@ fn is_bare(prefix: Prefix) -> bool
     }
 }
 
-/// Whether a value fits so many bytes.
+/// Whether a value fits `width` bytes.
 #[inline(always)]
 fn fits_value(prefix: Prefix, width: u8, n: u32) -> bool
     requires { width ≤ 3 }

@@ -112,7 +112,7 @@ fn piece_of_number(
     }
 }
 
-/// What the formulas give that commas part in a text, numbers of a given number of bytes.
+/// What the formulas give that commas separate in a text, numbers of a given number of bytes.
 pub(crate) fn numbers_in(
     alloc: Global,
     known: KnownConstants<'_>,

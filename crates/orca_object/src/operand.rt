@@ -21,7 +21,7 @@ pub(crate) fn is_name(text: &[u8]) -> bool
     is_name_start(*first) && name_len(following) == following.len()
 }
 
-/// What stands after `*+` at the start, with which ORG moves the location counter.
+/// What follows `*+` at the start, with which ORG moves the location counter.
 pub(crate) fn following_here(text: &[u8]) -> Option<&[u8]>
     ensures { MatchOption result (following_here text.now ≡ None) (λ following. following_here text.now ≡ Some following.now) }
 {

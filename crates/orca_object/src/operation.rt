@@ -1,4 +1,4 @@
-//! What a line's operation is, where it may stand, and its label (ORCA/M reference manual, "Assembler directives", "The label
+//! What a line's operation is, where it may be, and its label (ORCA/M reference manual, "Assembler directives", "The label
 //! field").
 
 ghost use Rattle.std.specs.Prelude.{◌≡◌, bytes_eq, IfOk, true};
@@ -175,7 +175,7 @@ fn begins_here(operand: &[u8]) -> bool
     }
 }
 
-/// Whether a statement may not stand outside segments.
+/// Whether a statement must not be outside segments.
 #[inline(always)]
 pub(crate) fn needs_segment(operation: Operation, label: &[u8], operand: &[u8]) -> bool
     ensures { result ≡ needs_segment operation label.now operand.now }

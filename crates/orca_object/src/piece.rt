@@ -49,7 +49,7 @@ fn put_operator(out: &mut Vec<u8>, code: u8) -> Result<(), AllocError>
     }
 }
 
-/// The terms of an expression, shifted to the right by so many bits, and its end.
+/// The terms of an expression, shifted to the right by `shift` bits, and its end.
 #[tactic(auto, using(crate::proofs::Ends::end_plain, crate::proofs::Ends::end_shifted))]
 #[inline(always)]
 pub(crate) fn shift_and_end(text: Vec<u8>, shift: u8) -> Result<Vec<u8>, AllocError>
@@ -76,7 +76,7 @@ pub(crate) fn number_text(alloc: Global, n: u32) -> Result<Vec<u8>, AllocError>
     Ok(out)
 }
 
-/// The lowest bytes of a number, so many.
+/// Appends the lowest `width` bytes of a number.
 #[tactic(auto, using(crate::proofs::Ends::take_little))]
 #[inline(always)]
 fn put_number(out: &mut Vec<u8>, width: u8, n: u32) -> Result<(), AllocError>
@@ -87,7 +87,7 @@ fn put_number(out: &mut Vec<u8>, width: u8, n: u32) -> Result<(), AllocError>
     out.extend_from_slice(&bytes[..width as usize])
 }
 
-/// The lowest bytes of a number, so many.
+/// The lowest `width` bytes of a number.
 pub(crate) fn number_bytes(alloc: Global, width: u8, n: u32) -> Result<Vec<u8>, AllocError>
     requires { width ≤ 4 }
     ensures { IfOk result (λ v. v.items ≡ little_bytes width n) }

@@ -18,7 +18,7 @@ pub(crate) struct RecordBytes {
     pub(crate) long: bool,
 }
 
-/// CONST of an opcode, and what stands before the expression of a distance.
+/// CONST of an opcode, and what precedes the expression of a distance.
 #[inline(always)]
 fn with_distance(opcode: u8, code: u8, count: u8, n: u32) -> [u8; 8]
     ensures { result ≡ 1 ∷ opcode ∷ code ∷ count ∷ little_bytes 4 n }
@@ -48,7 +48,7 @@ impl RecordBytes {
         }
     }
 
-    /// Room for so many bytes.
+    /// Room for `size` bytes.
     #[tactic(auto, using(crate::proofs::Limited::limited_room))]
     pub(crate) fn room(alloc: Global, size: usize) -> Result<RecordBytes, AllocError>
         requires { size ≤ most_bytes }
@@ -144,7 +144,7 @@ impl RecordBytes {
         self.append(expr)
     }
 
-    /// Appends another, which is all where nothing stands before it.
+    /// Appends another, which becomes the whole where nothing precedes it.
     #[tactic(auto, using(crate::proofs::Limited::long_after, crate::proofs::Limited::joins_first, crate::proofs::Limited::joins))]
     pub(crate) fn join(&mut self, other: RecordBytes) -> Result<(), AllocError>
         ensures { OnOk result ((text more : List ℕ) → kept_text self.old ≡ text_within_limit text → kept_text other ≡ text_within_limit more → kept_text self.new ≡ text_within_limit (text ++ more)) }

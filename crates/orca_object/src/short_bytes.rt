@@ -2,7 +2,7 @@
 
 ghost use Rattle.std.specs.Prelude.{◌≤◌};
 
-/// One to four bytes: the first of these, so many.
+/// One to four bytes: the first `count` of these.
 #[derive(Clone, Copy)]
 pub(crate) struct ShortBytes {
     pub(crate) first: u8,
@@ -19,7 +19,7 @@ impl ShortBytes {
     ghost use Rattle.byteorder.specs.Endian.{little_bytes};
     ghost use Rattle.orca_object.specs.FewView.{few_bytes};
 
-    /// An opcode, and the lowest bytes of a number, so many.
+    /// An opcode, and the lowest `width` bytes of a number.
     #[tactic(auto, using(crate::proofs::FewLaws::first_bytes))]
     #[inline(always)]
     pub(crate) fn of_number(opcode: u8, width: u8, n: u32) -> ShortBytes

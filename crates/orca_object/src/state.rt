@@ -85,7 +85,7 @@ impl SegmentBody {
     ghost use Rattle.orca_object.specs.BodyView.{ShowsBody};
     ghost use Rattle.orca_object.specs.TextView.{text_within_limit, kept_text};
 
-    /// Records that give no cells, behind room for a header.
+    /// Records that give no cells, after room for a header.
     #[tactic(auto, using(crate::proofs::Bodies::begins))]
     pub(crate) fn new(alloc: Global, text: RecordBytes) -> SegmentBody
         ensures { (room : ℕ) (records : List Record) → kept_text text ≡ text_within_limit (replicate room 0 ++ records_text records) → place_after 0 records ≡ 0 → ShowsBody room records result }
@@ -106,7 +106,7 @@ impl SegmentBody {
         self.writer.text.put(rec)
     }
 
-    /// So many more cells, unless there are then more than a segment may have.
+    /// Adds `size` cells, unless there are then more than a segment may have.
     pub(crate) fn grow(&mut self, size: u64) -> Result<(), AsmCause>
         ensures cells { OnOk result (self.new.cells ≡ self.old.cells + size) }
         ensures writer { OnOk result (self.new.writer ≡ self.old.writer) }
@@ -224,7 +224,7 @@ impl OpenSegment {
         self.put(rec)
     }
 
-    /// A record that gives so many cells, with the label of its directive.
+    /// A record that gives `size` cells, with the label of its directive.
     pub(crate) fn give_record(
         &mut self,
         alloc: Global,

@@ -60,7 +60,7 @@ pub(crate) fn instruction_given(
     }
 }
 
-/// What the elements of DC give that commas part in a text.
+/// What the elements of DC give that commas separate in a text.
 fn parts_in(
     alloc: Global,
     known: KnownConstants<'_>,

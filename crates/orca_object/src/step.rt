@@ -79,7 +79,7 @@ fn do_operation(
     }
 }
 
-/// Whether a statement stands on the wrong side.
+/// Whether a statement is outside segments and needs one, or is inside one and begins another.
 #[inline(always)]
 fn is_misplaced(kept: &AsmState, operation: Operation, label: &[u8], operand: &[u8]) -> bool
     ensures { (state : State) → ShowsState state kept.now → result ≡ is_misplaced state.segment operation label.now operand.now }

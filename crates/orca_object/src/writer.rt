@@ -19,7 +19,7 @@ pub(crate) struct RecordWriter {
     pub(crate) waiting: Vec<u8>,
 }
 
-/// Appends a byte, so often.
+/// Appends a byte `count` times.
 fn put_byte(out: &mut Vec<u8>, byte: u8, count: u32) -> Result<(), AllocError>
     ensures { OnOk result (out.new.items ≡ out.old.items ++ replicate count byte) }
 {
@@ -27,7 +27,7 @@ fn put_byte(out: &mut Vec<u8>, byte: u8, count: u32) -> Result<(), AllocError>
     out.resize(end, byte)
 }
 
-/// Appends bytes, so often.
+/// Appends bytes `count` times.
 fn put_copies(out: &mut Vec<u8>, bytes: &[u8], count: u32) -> Result<(), AllocError>
     ensures { OnOk result (out.new.items ≡ out.old.items ++ repeat count bytes.now) }
 {
@@ -69,7 +69,7 @@ impl RecordWriter {
     ghost use Rattle.orca_object.specs.PutView.{HasWritten};
     ghost use Rattle.orca_object.specs.TextView.{text_within_limit, kept_text};
 
-    /// Records so far, behind which no bytes wait.
+    /// Records so far, after which no bytes wait.
     pub(crate) fn new(alloc: Global, text: RecordBytes) -> RecordWriter
         ensures { result.text ≡ text }
     {
@@ -119,7 +119,7 @@ impl RecordWriter {
         Ok(())
     }
 
-    /// Appends a piece. Constant bytes wait for those behind them.
+    /// Appends a piece. Constant bytes wait for those that follow.
     #[inline(always)]
     fn put_piece(&mut self, of: &Piece) -> Result<(), AllocError>
         requires { IsPlainPiece (piece of.now) }
@@ -158,7 +158,7 @@ impl RecordWriter {
         Ok(())
     }
 
-    /// Appends pieces, so often.
+    /// Appends pieces `count` times.
     fn put_often(&mut self, pieces: &[Piece], count: u32) -> Result<(), AllocError>
         requires { ArePlainPieces (copies count (map piece pieces.now)) }
         ensures { OnOk result ((whole : List ℕ) (rest : List meaning.Piece) → HasWritten whole self.old (copies count (map piece pieces.now) ++ rest) → HasWritten whole self.new rest) }
@@ -171,7 +171,7 @@ impl RecordWriter {
         Ok(())
     }
 
-    /// Appends the pieces of a part, so often.
+    /// Appends the pieces of a part, as many times as it is repeated.
     #[inline(always)]
     fn put_part(&mut self, part: &RepeatedPieces) -> Result<(), AllocError>
         requires { ArePlainPieces (part_pieces part.now) }
@@ -197,7 +197,7 @@ impl RecordWriter {
         Ok(())
     }
 
-    /// Appends the records of parts. Constant bytes that stand side by side are gathered, whatever waited before.
+    /// Appends the records of parts. Constant bytes side by side are gathered, whatever waited before.
     pub(crate) fn put_all_parts(&mut self, parts: &[RepeatedPieces]) -> Result<(), AllocError>
         requires { ArePlainPieces (all_pieces parts.now) }
         ensures { OnOk result ((text : List ℕ) → kept_text self.old.text ≡ text_within_limit text → kept_text self.new.text ≡ text_within_limit (text ++ records_text (records_of (all_pieces parts.now)))) }

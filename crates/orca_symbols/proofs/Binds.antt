@@ -22,7 +22,7 @@ once fresh name text old new is test = subst (λ (b : Bool). IsOnce b name text 
     by_old None none = rw none (ap (λ (s : Symbols). Some s) (sym is))
     by_old (Some s) some = rw some refl
 
--- what follows on one operand
+-- what follows one operand
 after_bound : List (List ℕ) → ℕ → List (List ℕ) → Option Symbols → Option Symbols
 after_bound parameters place more found = elim found [ None ↦ None | Some now ↦ bound_all parameters place more now ]
 

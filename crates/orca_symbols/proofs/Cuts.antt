@@ -6,7 +6,7 @@ use Rattle.macro_meaning.specs.Statements.{after_dot}
 use Rattle.macro_meaning.specs.Substitution.{first_passes}
 use Rattle.macro_meaning.specs.Effect.{without_sequence_symbol}
 
--- a line without a dot at its front has no sequence symbol
+-- a line without a dot at its start has no sequence symbol
 no_dot : (n : ℕ) (text : List ℕ) → first_passes (λ (byte : ℕ). eqb byte 0x2E) text ≡ false → after_dot (take n text) ≡ None
 no_dot zero [] other = refl
 no_dot (suc n) [] other = refl

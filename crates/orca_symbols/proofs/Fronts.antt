@@ -1,4 +1,4 @@
--- What stands before a text that may be none.
+-- What precedes a text that may be none.
 use Rattle.std.proofs.lemmas.Bool.{eqb-true, and_parts}
 use Rattle.orca_symbols.specs.Plain.{plain_len}
 use Rattle.std.proofs.Common.{◌≡◌, ℕ, zero, suc, ◌+◌, ◌-◌, ◌≤◌, Bool, true, false, cond, eqb, take, drop, subst, length-drop, List, [], ◌∷◌, ◌++◌, Option, Some, None, refl, sym, ap, ◌∙◌, length, arith, append_assoc, append-nil}
@@ -18,7 +18,7 @@ pub front_start : (out : List ℕ) (rest : Option (List ℕ)) → out ≡ [] →
 front_start out None e = refl
 front_start out (Some text) e = ap (λ (o : List ℕ). Some (o ++ text)) e
 
--- what comes in place of an `&`
+-- what replaces an `&`
 pub put_more : (text_of : List ℕ → Option (List ℕ)) (naming : ℕ → Naming) (at byte : ℕ) (following old new : List ℕ) (put : List ℕ × ℕ) (whole : Option (List ℕ)) → byte ≡ 0x26
     → in_place text_of (naming at) following ≡ Some put → new ≡ old ++ put.0 → with_front old (substituted_from text_of naming at 0 (byte ∷ following)) ≡ whole
     → with_front new (substituted_from text_of naming (at + 1) put.1 following) ≡ whole
@@ -78,7 +78,7 @@ plain_front text_of naming at (byte ∷ following) = by_test (eqb byte 0x26) ref
         ∙ ap (λ (p : ℕ). with_front (byte ∷ take n following) (substituted_from text_of naming p 0 (drop n following))) place
         ∙ ap (λ (k : ℕ). with_front (take k (byte ∷ following)) (substituted_from text_of naming (at + (n + 1)) 0 (drop k (byte ∷ following)))) count
 
--- an `&` stands after a run
+-- an `&` follows a run
 pub after_run : (text : List ℕ) (byte : ℕ) (following : List ℕ) → drop (plain_len text) text ≡ byte ∷ following → byte ≡ 0x26
 unfolding plain_len
 after_run [] byte following is = absurd cc
@@ -104,7 +104,7 @@ unfolding substituted_from
 nothing_left text_of naming at [] out none = front_end out
 nothing_left text_of naming at (byte ∷ rest) out none = absurd (omega (arith, none))
 
--- so far, where so many bytes of a line are left
+-- so far, where these bytes of a line are left
 abbrev pub IsSoFar : (List ℕ → Option (List ℕ)) → (ℕ → Naming) → List ℕ → List ℕ → List ℕ → Type 0
 IsSoFar text_of naming text left out = with_front out (substituted_from text_of naming (length text - length left) 0 left) ≡ substituted_from text_of naming 0 0 text
 

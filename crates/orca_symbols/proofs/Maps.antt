@@ -26,7 +26,7 @@ updated name m n w h q = by_test (bytes_eq name q) refl
     by_test true is = subst (λ (l : List ℕ). value_of_name n l ≡ w) ((bytes_decides name q).0 is) h.1
     by_test false is = others (λ x y. bytes_eq x.items y.items) (λ k. bytes_eq name k.items) m.entries n.entries h.3 (λ k. bytes_eq q k.items) (λ x y. nat_list_eq_equiv.congr q x.items y.items) (λ k. apart name q k.items is)
 
--- what was found tells whether the name had none
+-- what was found shows whether the name had no value
 pub is_new : {V S : Type 0} (name : List ℕ) (m : IndexMap (Vec ℕ) V S) (found : Option V) (fresh : Bool) → found ≡ value_of_name m name → is_some found ≡ not fresh → fresh ≡ is_none (value_of_name m name)
 is_new {V = V} name m found fresh is test = by_found found fresh test ∙ ap is_none is
   where
@@ -54,7 +54,7 @@ seen_new f (Some value) fresh is = is
 pub empty_held : {V S : Type 0} (m : IndexMap (Vec ℕ) V S) → IsEmpty m → (q : List ℕ) → value_of_name m q ≡ None
 empty_held m none q = ap (λ es. lookup (λ k. bytes_eq q k.items) es) none
 
--- a name that isn't that of this entry stands after it, if anywhere
+-- a name that isn't that of this entry is after it, if anywhere
 pub passed : {V S : Type 0} (name : List ℕ) (m : IndexMap (Vec ℕ) V S) (at : ℕ) (key : Vec ℕ) (value : V) → Some (key, value) ≡ slice_get m.entries at → bytes_eq name key.items ≡ false
     → lookup (λ k. bytes_eq name k.items) (drop at m.entries) ≡ value_of_name m name → lookup (λ k. bytes_eq name k.items) (drop (at + 1) m.entries) ≡ value_of_name m name
 passed {V = V} name m at key value is other so =

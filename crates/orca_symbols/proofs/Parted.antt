@@ -1,4 +1,4 @@
--- Pieces from the front on, and quotes that close.
+-- Pieces from the start on, and quotes that close.
 use Rattle.std.proofs.Common.{◌≡◌, ℕ, zero, suc, ◌+◌, ◌<◌, ◌≤◌, Bool, true, false, cond, eqb, ltb, List, [], ◌∷◌, ◌++◌, length, get_or, take, drop, Option, Some, None, refl, sym, ap, subst, ◌∙◌, append_assoc, append-nil, length-drop, arith}
 use Rattle.std.specs.Prelude.{position, slice_get}
 use Rattle.std.specs.List.{position_or_len}
@@ -24,7 +24,7 @@ drop_all (y ∷ l) (suc i) end = drop_all l i (omega (arith, end))
 pub drop_read : {A : Type 0} (l : List A) (i : ℕ) (x : A) → i < length l → x ≡ get_or l i x → (get_or l i x ≡ get_or l i x) × (drop i l ≡ x ∷ drop (i + 1) l)
 drop_read {A = A} l i x less is = (refl, drop_more l i x less ∙ ap (λ (y : A). y ∷ drop (i + 1) l) (sym is))
 
--- the first piece, and the pieces of what stands after its separator
+-- the first piece, and the pieces of what follows its separator
 after_first : ℕ → List ℕ → List (List ℕ)
 after_first separator [] = []
 after_first separator (byte ∷ following) = pieces separator following
@@ -82,7 +82,7 @@ none_found : (b : Bool) (n : ℕ) → cond b (Some n) None ≡ None → b ≡ fa
 none_found true n e = absurd cc
 none_found false n e = refl
 
--- the quote stands at a place
+-- the quote is at a place
 pub closes : (quote : ℕ) (following text others : List ℕ) (close : ℕ) → position (λ b. eqb b quote) following ≡ Some close → text ≡ take close following → others ≡ drop (close + 1) following
     → closed_at quote following ≡ Some (text, others)
 unfolding closed_at
@@ -128,7 +128,7 @@ unfolding joined_texts
 join_end pieces at out whole end so =
     sym so ∙ ap (λ (l : List (List ℕ)). appended_texts (Some out) (joined_texts l)) (drop_all pieces at end) ∙ ap (λ (t : List ℕ). Some t) (append-nil out)
 
--- a place at which something stands
+-- a place that holds an element
 pub get_inside : {A : Type 0} (l : List A) (i : ℕ) (x : A) → slice_get l i ≡ Some x → i + 1 ≤ length l
 get_inside [] i x is = absurd cc
 get_inside (y ∷ l) zero x is = omega arith

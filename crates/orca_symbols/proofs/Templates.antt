@@ -11,7 +11,7 @@ use Rattle.orca_symbols.specs.declared.template.TemplatePart.TheVariants.{Plain,
 use Rattle.orca_symbols.specs.declared.template.Replacement.{Replacement}
 use Rattle.orca_symbols.proofs.Fronts.{front_more, front_start, plain_front, plain_most, after_run, skipped, nothing_left}
 
--- ---- what comes in place of an `&`
+-- ---- what replaces an `&`
 
 pub ampersand : (text_of : List ℕ → Option (List ℕ)) (following : List ℕ) → in_place text_of Declared following ≡ with_more 0 (Some (0x26 ∷ []))
 ampersand text_of following = refl
@@ -75,9 +75,9 @@ adds_asked text_of old new run longer name tail part is push more =
     by_text None = refl
     by_text (Some t) = front_start [] (with_front longer tail) refl ∙ ap (λ (l : List ℕ). with_front l tail) more ∙ front_more run (0x26 ∷ []) tail
 
--- ---- parting a line
+-- ---- splitting a line
 
--- so far, where so many bytes of a line are left
+-- so far, where these bytes of a line are left
 abbrev pub AreSoFar : (ℕ → Naming) → List ℕ → List ℕ → List TemplatePart → List ℕ → Type 0
 AreSoFar naming text left parts run = (text_of : List ℕ → Option (List ℕ)) → text_before text_of parts (with_front run (substituted_from text_of naming (length text - length left) 0 left)) ≡ substituted_from text_of naming 0 0 text
 
@@ -93,7 +93,7 @@ parts_run naming text left rest run new parts within so rest_is copied = λ text
     ∙ ap (λ (r : List ℕ). with_front (take (plain_len left) left) (substituted_from text_of naming (length text - length rest) 0 r)) (sym rest_is) in
     ap (λ (n : List ℕ). text_before text_of parts (with_front n tail)) copied ∙ ap (text_before text_of parts) (front_more run (take (plain_len left) left) tail ∙ ap (with_front run) (sym here)) ∙ so text_of
 
--- an `&` with what comes in its place
+-- an `&` with what replaces it
 join_more : (text_of : List ℕ → Option (List ℕ)) (naming : ℕ → Naming) (at byte : ℕ) (following : List ℕ) (more : ℕ) (text : Option (List ℕ)) → byte ≡ 0x26
     → in_place text_of (naming at) following ≡ with_more more text → substituted_from text_of naming at 0 (byte ∷ following) ≡ join text (substituted_from text_of naming (at + 1) more following)
 unfolding substituted_from
@@ -124,9 +124,9 @@ parts_end naming text left rest run copied old new within so rest_is copied_is n
     closed text_of (Some []) ∙ ap (text_before text_of old) (ap (λ (t : List ℕ). Some t) (append-nil copied) ∙ sym (nothing_left text_of naming (length text - length rest) rest copied none))
     ∙ parts_run naming text left rest run copied old within so rest_is copied_is text_of
 
--- ---- with what all begins that comes of parts
+-- ---- how every text that parts make begins
 
--- what comes of the parts comes of those that are left
+-- every text that the parts make is also made by those that are left
 pub record Leads (parts left : List TemplatePart) : Type 0 where
   pub is : (text_of : List ℕ → Option (List ℕ)) (text : List ℕ) → text_before text_of parts (Some []) ≡ Some text → text_before text_of left (Some []) ≡ Some text
 

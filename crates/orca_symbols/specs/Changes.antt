@@ -10,7 +10,7 @@ abbrev pub IsDeclared : List ℕ → Declaration → Symbols → Symbols → Sha
 IsDeclared name (Local kind) old new texts texts' = (new ≡ with_name name (Own kind (first_text kind)) old) × (texts' ≡ texts)
 IsDeclared name (Shared kind) old new texts texts' = (new ≡ with_name name (Common kind) old) × (texts' ≡ shared_first name kind texts)
 
--- by what the name stands for
+-- by what the name represents
 abbrev pub IsAssigned : List ℕ → Kind → List ℕ → Option Symbol → Symbols → Symbols → SharedTexts → SharedTexts → Type 0
 IsAssigned name kind text None old new texts texts' = (new ≡ old) × (texts' ≡ texts)
 IsAssigned name kind text (Some (Own other was)) old new texts texts' = (new ≡ with_name name (Own kind text) old) × (texts' ≡ texts)
@@ -21,7 +21,7 @@ abbrev pub IsRenewed : Kind → List ℕ → Symbol → Symbol → Option (List 
 IsRenewed kind text (Own other was) new back = (new ≡ Own kind text) × (back ≡ None)
 IsRenewed kind text (Common other) new back = (new ≡ Common other) × (back ≡ Some text)
 
--- the same of all symbols, by what the name stands for
+-- what a setting makes of all symbols, and the text that it hands back, by what the name represents
 abbrev pub IsRenewedIn : List ℕ → Kind → List ℕ → Option Symbol → Symbols → Symbols → Option (List ℕ) → Type 0
 IsRenewedIn name kind text None old new back = (new ≡ old) × (back ≡ None)
 IsRenewedIn name kind text (Some (Own other was)) old new back = (new ≡ with_name name (Own kind text) old) × (back ≡ None)

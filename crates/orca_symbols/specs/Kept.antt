@@ -1,4 +1,4 @@
--- Where the bytes of texts stand.
+-- Where the bytes of texts are stored.
 use Rattle.std.specs.Prelude.{ℕ, List}
 use Rattle.orca_symbols.specs.declared.text.TextBytes.{TextBytes}
 use Rattle.orca_symbols.specs.declared.text.TextBytes.TheVariants.{Few, Many}

@@ -1,4 +1,4 @@
--- The front of a text without `&`.
+-- The prefix of a text without `&`.
 use Rattle.std.specs.Prelude.{ℕ, ◌+◌, ◌==◌, List, [], ◌∷◌, if◌then◌else◌}
 
 -- how many bytes are before the first `&`

@@ -1,4 +1,4 @@
--- Lines that are parted into what is copied and the symbols whose texts come between.
+-- Lines that are split into what is copied and the symbols whose texts go between.
 use Rattle.std.specs.Prelude.{◌≡◌, ℕ, List, [], ◌∷◌, ◌++◌, length, drop, Option, Some, None}
 use Rattle.macro_meaning.specs.Substitution.{naming_at, substituted_from, with_front}
 use Rattle.orca_meaning.specs.Line.{Line}
@@ -12,7 +12,7 @@ abbrev pub where_some : List ℕ → Option (List ℕ) → Option (List ℕ)
 where_some text None = None
 where_some text (Some other) = Some text
 
--- what comes of a part; None where its symbol isn't declared
+-- the text that a part makes; None where its symbol isn't declared
 abbrev pub part_text : (List ℕ → Option (List ℕ)) → TemplatePart → Option (List ℕ)
 part_text text_of (Plain bytes) = Some bytes
 part_text text_of (Put name) = text_of name
@@ -22,7 +22,7 @@ abbrev pub join : Option (List ℕ) → Option (List ℕ) → Option (List ℕ)
 join None tail = None
 join (Some front) tail = with_front front tail
 
--- what comes of parts with something behind them
+-- the text that parts make, with something after them
 abbrev pub text_before : (List ℕ → Option (List ℕ)) → List TemplatePart → Option (List ℕ) → Option (List ℕ)
 text_before text_of [] tail = tail
 text_before text_of (part ∷ parts) tail = join (part_text text_of part) (text_before text_of parts tail)
@@ -31,7 +31,7 @@ text_before text_of (part ∷ parts) tail = join (part_text text_of part) (text_
 pub record HasParts (line : Line) (parts : List TemplatePart) : Type 0 where
   pub is : (text_of : List ℕ → Option (List ℕ)) → text_before text_of parts (Some []) ≡ substituted_from text_of (naming_at line.text line.fields) 0 0 line.text
 
--- what comes in place of an `&`, and how many of the bytes after it go with it
+-- what replaces an `&`, and how many of the bytes after it go with it
 abbrev pub replacement_text : (List ℕ → Option (List ℕ)) → Replacement → Option (List ℕ)
 replacement_text text_of Ampersand = Some (0x26 ∷ [])
 replacement_text text_of (Text name more) = text_of name
@@ -46,6 +46,6 @@ abbrev pub with_more : ℕ → Option (List ℕ) → Option (List ℕ × ℕ)
 with_more more None = None
 with_more more (Some text) = Some (text, more)
 
--- all that comes of the parts begins with these bytes
+-- every text that the parts make begins with these bytes
 pub record BeginWith (parts : List TemplatePart) (front : List ℕ) : Type 0 where
   pub is : (text_of : List ℕ → Option (List ℕ)) (text : List ℕ) → text_before text_of parts (Some []) ≡ Some text → text ≡ front ++ drop (length front) text

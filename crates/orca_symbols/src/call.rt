@@ -145,7 +145,8 @@ fn bind_pieces(
     }
 }
 
-/// The same for an operand that may be missing.
+/// Binds all pieces of an operand in order, where the operand may be missing. Returns the place of the first parameter that
+/// wasn't reached, if each can be bound.
 #[tactic(auto, unfolding(macro_meaning::specs::Call::bound_all), using(crate::proofs::Binds::none_reached))]
 fn bind_all(
     alloc: Global,
@@ -175,7 +176,7 @@ fn bind_missing(alloc: Global, parameter: &Name, symbols: &mut Symbols) -> Resul
     symbols.add(alloc, parameter.bytes(), Symbol::Own(Kind::Text, text))
 }
 
-/// The same for all parameters from a place on.
+/// Gives an empty text to each parameter from a place on that isn't bound.
 fn bind_rest(
     alloc: Global,
     parameters: &[Name],
@@ -192,7 +193,7 @@ fn bind_rest(
     Ok(())
 }
 
-/// The same for the label parameter.
+/// Gives an empty text to the label parameter if it isn't bound.
 #[tactic(auto, unfolding(macro_meaning::specs::Call::with_missing))]
 fn bind_label(
     alloc: Global,
@@ -228,7 +229,7 @@ fn label_bound(
     Ok(symbols)
 }
 
-/// The symbols with which an expansion begins, where the operands fit. They stand in the memory of the spare ones.
+/// The symbols with which an expansion begins, where the operands fit. They are in the memory of the spare ones.
 #[tactic(auto, unfolding(macro_meaning::specs::Call::bound_arguments), using(crate::proofs::Binds::bound_none))]
 pub fn bind_arguments(
     alloc: Global,

@@ -193,7 +193,7 @@ pub fn number(
     }
 }
 
-/// The same, of any formula.
+/// The value of any formula that a text is, or what is wrong with it.
 fn long_number(
     alloc: Global,
     of: Values<'_>,
@@ -219,7 +219,7 @@ fn long_number(
     value_of(alloc, of, &found.formula)
 }
 
-/// The comparison at the start: whether it asks for equal texts, and what stands after it.
+/// The comparison at the start: whether it asks for equal texts, and what follows it.
 fn comparison_at(text: &[u8]) -> Option<(bool, &[u8])>
     ensures { MatchOption result (comparison_at text.now ≡ None) (λ x. comparison_at text.now ≡ Some (x.0, x.1.now)) }
 {
@@ -238,7 +238,7 @@ fn comparison_at(text: &[u8]) -> Option<(bool, &[u8])>
     None
 }
 
-/// Whether a text compared with the text in quotes that stands there is as is asked.
+/// Whether a text satisfies the comparison that follows it, with a text in quotes.
 fn compared_with(a: &[u8], following: &[u8]) -> Option<bool>
     ensures { result ≡ compared_with a.now (comparison_at following.now) }
 {

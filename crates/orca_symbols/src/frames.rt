@@ -62,7 +62,7 @@ impl Frames {
     }
 }
 
-/// What the visits have come to: the expansion whose line is visited, those that called it, the texts of the shared symbols,
+/// The state of the visits: the expansion whose line is visited, those that called it, the texts of the shared symbols,
 /// and how many macros were called.
 #[derive(Drop)]
 pub struct ExpansionState {

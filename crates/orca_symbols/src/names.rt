@@ -154,7 +154,7 @@ pub fn statement_of(operation: &[u8]) -> Option<Statement>
     None
 }
 
-/// What was found, where nothing stands after it.
+/// What was found, where nothing follows it.
 pub(crate) fn whole_match(found: Option<(Name, &[u8])>) -> Option<Name>
     ensures { result ≡ whole_match (option_map (λ x. (x.0, x.1.now)) found.entry) }
 {
@@ -209,7 +209,7 @@ pub(crate) fn is_sequence(text: &[u8]) -> bool
     }
 }
 
-/// Where a branch goes: a sequence symbol, maybe behind a `^`.
+/// Where a branch goes: a sequence symbol, maybe after a `^`.
 pub fn target_name(alloc: Global, text: LinePart<'_>) -> Result<Option<Name>, AllocError>
     ensures { IfOk result (λ name. name ≡ target_name text.entry.bytes.now) }
 {
@@ -219,7 +219,7 @@ pub fn target_name(alloc: Global, text: LinePart<'_>) -> Result<Option<Name>, Al
     }
 }
 
-/// Whether a text is a sequence symbol, maybe behind a `^`.
+/// Whether a text is a sequence symbol, maybe after a `^`.
 pub fn is_target(text: &[u8]) -> bool
     ensures { result ≡ is_some (target_name text.now) }
 {

@@ -1,4 +1,4 @@
-//! Texts parted by commas or plus signs, and texts in quotes.
+//! Texts separated by commas or plus signs, and texts in quotes.
 
 ghost use Rattle.std.specs.Prelude.{◌≡◌, ◌≤◌, ◌<◌, ◌+◌, ◌^◌, ◌∷◌, [], List, ℕ, map, length, take, drop, position, nat_eq, slice_get, Some, None, IfOk, IfSome, MatchOption, option_copied};
 ghost use Rattle.macro_meaning.specs.Pieces.{open_after, parts, pieces, closed_at, quoted_at, unquoted_text, joined_texts, appended_texts};
@@ -31,7 +31,7 @@ impl<'a> OperandPiece<'a> {
         OperandPiece { bytes: part.bytes }
     }
 
-    /// The same as a part of a line.
+    /// These bytes as a part of a line.
     pub fn part(&self) -> LinePart<'a>
         ensures { result.bytes.now ≡ self.now }
     {
@@ -49,7 +49,7 @@ pub(crate) fn piece_at<'a, 'b>(
     pieces.get(at)
 }
 
-/// How many parentheses are open behind a byte.
+/// How many parentheses are open after a byte.
 fn open_after(quote: Option<u8>, count: usize, byte: u8) -> usize
     requires { count + 1 < 2 ^ 63 }
     ensures value { result ≡ open_after quote count byte }
@@ -106,7 +106,7 @@ pub fn pieces<'a>(
     }
 }
 
-/// The first piece, and the text behind its separator, if there is one.
+/// The first piece, and the text after its separator, if there is one.
 #[tactic(auto, using(crate::proofs::Parted::and_more, crate::proofs::Parted::alone))]
 pub(crate) fn first_piece(separator: u8, text: LinePart<'_>) -> (LinePart<'_>, Option<&[u8]>)
     ensures following { IfSome result.1 (λ rest. length rest.now < length text.entry.bytes.now) }
@@ -136,7 +136,7 @@ pub fn two_pieces(separator: u8, text: LinePart<'_>) -> Option<(LinePart<'_>, Li
     Some((LinePart { bytes: first }, second))
 }
 
-/// Where the first quote of this kind stands.
+/// Where the first quote of this kind is.
 fn closing(quote: u8, following: &[u8]) -> Option<usize>
     ensures bound { IfSome result (λ i. i < length following.now) }
     ensures value { result ≡ position (λ byte. nat_eq byte quote) following.now }
@@ -144,7 +144,7 @@ fn closing(quote: u8, following: &[u8]) -> Option<usize>
     following.iter().position(|byte| *byte == quote)
 }
 
-/// The text up to the closing quote, and what stands after that.
+/// The text up to the closing quote, and what follows that.
 #[tactic(auto, unfolding(macro_meaning::specs::Pieces::closed_at), using(crate::proofs::Parted::closes, crate::proofs::Parted::never_closes))]
 fn closed_at(quote: u8, following: &[u8]) -> Option<(&[u8], &[u8])>
     ensures bound { IfSome result (λ x. length x.0.now ≤ length following.now) }
@@ -160,7 +160,7 @@ fn closed_at(quote: u8, following: &[u8]) -> Option<(&[u8], &[u8])>
     }
 }
 
-/// The text in quotes at the start, and what stands after it.
+/// The text in quotes at the start, and what follows it.
 #[tactic(auto, unfolding(macro_meaning::specs::Pieces::quoted_at))]
 pub(crate) fn quoted_at(text: &[u8]) -> Option<(&[u8], &[u8])>
     ensures bound { IfSome result (λ x. length x.0.now ≤ length text.now) }

@@ -7,7 +7,7 @@ ghost use Rattle.macro_meaning.specs.Substitution.{first_passes};
 use crate::names::is_sequence;
 use orca_text::{LinePart, label_in};
 
-/// Whether a dot stands at the start.
+/// Whether a dot is at the start.
 #[inline(always)]
 pub fn begins_dot(text: &[u8]) -> bool
     ensures { result ≡ first_passes (λ byte. byte == 0x2E) text.now }
@@ -18,7 +18,7 @@ pub fn begins_dot(text: &[u8]) -> bool
     }
 }
 
-/// The line behind a sequence symbol in column 1.
+/// The rest of the line after a sequence symbol in column 1.
 #[tactic(auto, unfolding(macro_meaning::specs::Effect::without_sequence_symbol), using(crate::proofs::Cuts::cut_none))]
 pub fn skip_sequence_symbol(text: LinePart<'_>) -> LinePart<'_>
     ensures value { result.bytes.now ≡ without_sequence_symbol text.entry.bytes.now }

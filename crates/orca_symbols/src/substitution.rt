@@ -1,4 +1,4 @@
-//! Symbols in a line, and the texts that come in their place (ORCA/M reference manual, "Symbolic parameters").
+//! Symbols in a line, and the texts that replace them (ORCA/M reference manual, "Symbolic parameters").
 
 ghost use Rattle.std.specs.Prelude.{◌≡◌, ◌≤◌, ◌+◌, ◌<◌, ◌-◌, List, ℕ, length, take, drop, Some, None, IfOk, OnOk, MatchOption, IsTrue, IfSome, ◌++◌, ◌==◌};
 ghost use Rattle.std.specs.Char.{to_ascii_uppercase};
@@ -23,7 +23,7 @@ use std::alloc::{AllocError, Global};
 /// What `&NAME` is at a place.
 #[derive(Clone, Copy)]
 pub(crate) enum Naming {
-    /// The symbol's text comes in its place.
+    /// The symbol's text replaces it.
     Replaced,
     /// It names the symbol, which must be declared.
     Named,
@@ -38,7 +38,7 @@ fn lies_in(field: Span, at: u32) -> bool
     field.from <= at && at < field.to
 }
 
-/// Whether `L:` or `C:` stands directly before a place.
+/// Whether `L:` or `C:` is directly before a place.
 fn asks_before(text: &[u8], at: u32) -> bool
     requires some { 2 ≤ at }
     requires within { at ≤ length text.now }
@@ -48,7 +48,7 @@ fn asks_before(text: &[u8], at: u32) -> bool
     (letter == b'L' || letter == b'C') && text[at as usize - 1] == b':'
 }
 
-/// Whether no quote is open behind a text.
+/// Whether no quote is open after a text.
 fn is_outside(front: &[u8]) -> bool
     ensures { result ≡ is_closed (quote_after None front.now) }
 {
@@ -59,7 +59,7 @@ fn is_outside(front: &[u8]) -> bool
     quote.is_none()
 }
 
-/// Whether `L:` or `C:` stands directly before a place of a field, outside its quotes.
+/// Whether `L:` or `C:` is directly before a place of a field, outside its quotes.
 fn is_asked(text: LinePart<'_>, field: Span, at: u32) -> bool
     requires { LiesIn text.bytes.now field }
     ensures { result ≡ is_asked text.entry.bytes.now field at }
@@ -154,7 +154,7 @@ fn naming_by(statement: Option<Statement>, of: &SourceLine, at: u32) -> Naming
     Naming::Replaced
 }
 
-/// Whether a letter stands at the start.
+/// Whether a letter is at the start.
 pub(crate) fn begins_letter(following: &[u8]) -> bool
     ensures { result ≡ first_passes is_letter following.now }
 {
@@ -174,7 +174,7 @@ pub(crate) fn begins_name(following: &[u8]) -> bool
     }
 }
 
-/// How many bytes go with the name at the start: its own, and a dot directly behind it.
+/// How many bytes go with the name at the start: its own, and a dot directly after it.
 #[tactic(auto, unfolding(macro_meaning::specs::Substitution::taken_length))]
 pub(crate) fn taken_length(following: &[u8]) -> usize
     ensures value { result ≡ taken_length following.now }
@@ -271,14 +271,14 @@ fn plain_len(text: &[u8]) -> usize
     count
 }
 
-/// Whether no `&` stands in a text.
+/// Whether a text contains no `&`.
 pub fn is_plain(text: &[u8]) -> bool
     ensures { result ≡ (plain_len text.now == length text.now) }
 {
     plain_len(text) == text.len()
 }
 
-/// Copies what stands before the first `&`, and gives what stands from there on.
+/// Copies what precedes the first `&`, and returns the text from there on.
 pub(crate) fn copy_plain<'a>(out: &mut Vec<u8>, text: &'a [u8]) -> Result<&'a [u8], AllocError>
     ensures rest { IfOk result (λ rest. rest.now ≡ drop (plain_len text.now) text.now) }
     ensures copied { OnOk result (out.new.items ≡ out.old.items ++ take (plain_len text.now) text.now) }
@@ -288,8 +288,8 @@ pub(crate) fn copy_plain<'a>(out: &mut Vec<u8>, text: &'a [u8]) -> Result<&'a [u
     Ok(rest)
 }
 
-/// The text of a line with the symbols' texts in place; none where a symbol isn't declared. It stands in the buffer, whose
-/// own bytes are gone.
+/// The text of a line with the symbols' texts in place; none where a symbol isn't declared. It is stored in the buffer, whose
+/// own bytes are lost.
 #[tactic(auto, using(crate::proofs::Fronts::run_starts))]
 pub fn substitute(
     alloc: Global,

@@ -1,4 +1,4 @@
-//! Symbols, and the texts for which they stand (ORCA/M reference manual, "Symbolic parameters").
+//! Symbols, and the texts that they represent (ORCA/M reference manual, "Symbolic parameters").
 
 ghost use Rattle.std.specs.Prelude.{◌≡◌, ◌+◌, ◌<◌, ◌≤◌, ◌^◌, [], List, ℕ, length, bytes_eq, Some, None, IfOk, IfSome, OnOk, MatchOption, is_none, IsTrue, if◌then◌else◌, option_map};
 ghost use Rattle.macro_meaning.specs.Symbol.{text_of, decimal, signed_decimal, kind_of, declaration_of, is_kind, is_declaration, first_text, is_count, with_name};
@@ -167,7 +167,7 @@ impl Symbols {
         symbols
     }
 
-    /// What a name stands for.
+    /// What a name represents.
     #[inline(always)]
     pub fn get(&self, name: &[u8]) -> Option<&Symbol>
         ensures { MatchOption result (symbols_of self.now name.now ≡ None) (λ s. symbols_of self.now name.now ≡ Some (symbol s.now)) }
@@ -175,7 +175,7 @@ impl Symbols {
         get_by_name(&self.map, name)
     }
 
-    /// Gives a name that mostly has no symbol yet one.
+    /// Gives a symbol to a name, which mostly has none yet.
     pub fn add(&mut self, alloc: Global, name: &[u8], value: Symbol) -> Result<(), AllocError>
         ensures { OnOk result (symbols_of self.new ≡ with_name name.now (symbol value) (symbols_of self.old)) }
     {
@@ -183,7 +183,7 @@ impl Symbols {
         Ok(())
     }
 
-    /// The same: whether the name had no symbol yet.
+    /// Gives a name a symbol. Returns whether the name had none yet.
     pub fn add_new(&mut self, alloc: Global, name: &[u8], value: Symbol) -> Result<bool, AllocError>
         ensures ok { OnOk result (symbols_of self.new ≡ with_name name.now (symbol value) (symbols_of self.old)) }
         ensures fresh { IfOk result (λ fresh. fresh ≡ is_none (symbols_of self.old name.now)) }

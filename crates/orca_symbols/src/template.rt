@@ -1,4 +1,4 @@
-//! Lines that are parted once into what is copied and the symbols whose texts come between (ORCA/M reference manual, "Symbolic parameters").
+//! Lines that are split once into what is copied and the symbols whose texts go between (ORCA/M reference manual, "Symbolic parameters").
 
 ghost use Rattle.std.specs.Prelude.{◌≡◌, ◌≤◌, ◌+◌, [], List, ℕ, length, take, Option, Some, None, IsTrue, false, IfOk, IfSome, OnOk, MatchOption};
 ghost use Rattle.macro_meaning.specs.Substitution.{in_place, with_front, name_length};
@@ -30,12 +30,12 @@ pub enum TemplatePart {
     Need(Name),
 }
 
-/// What comes in place of an `&`.
+/// What replaces an `&`.
 #[derive(Drop)]
 pub(crate) enum Replacement {
     /// It stays.
     Ampersand,
-    /// The text of this symbol, and so many of the bytes after it go with it.
+    /// The text of this symbol, and how many of the bytes after it go with it.
     Text(Name, usize),
     /// It stays, but the symbol must be declared.
     Asked(Name),
@@ -49,7 +49,7 @@ fn front_name(alloc: Global, following: LinePart<'_>) -> Result<Name, AllocError
     to_upper_case(alloc, LinePart { bytes })
 }
 
-/// What comes in place of an `&` before these bytes.
+/// What replaces an `&` before these bytes.
 #[tactic(auto, using(crate::proofs::Templates::ampersand, crate::proofs::Templates::not_letter, crate::proofs::Templates::not_name, crate::proofs::Templates::text, crate::proofs::Templates::asked))]
 fn place_of(alloc: Global, at: Naming, following: LinePart<'_>) -> Result<Replacement, AllocError>
     ensures place { IfOk result (λ p. (text_of : List ℕ → Option (List ℕ)) → in_place text_of (naming at) following.entry.bytes.now ≡ with_more (more_of p) (replacement_text text_of p)) }
@@ -74,7 +74,7 @@ fn place_of(alloc: Global, at: Naming, following: LinePart<'_>) -> Result<Replac
     }
 }
 
-/// Puts bytes that are copied behind the parts.
+/// Adds to the parts the bytes that are copied.
 #[tactic(auto, using(crate::proofs::Templates::closed_empty, crate::proofs::Templates::closed_some))]
 fn close(alloc: Global, parts: &mut Vec<TemplatePart>, run: LinePart<'_>) -> Result<(), AllocError>
     ensures { OnOk result ((text_of : List ℕ → Option (List ℕ)) (tail : Option (List ℕ)) → text_before text_of parts.new.items tail ≡ text_before text_of parts.old.items (with_front run.entry.bytes.now tail)) }
@@ -87,7 +87,7 @@ fn close(alloc: Global, parts: &mut Vec<TemplatePart>, run: LinePart<'_>) -> Res
     Ok(())
 }
 
-/// Puts what comes in place of an `&` behind the parts: how many of the bytes after it go with it.
+/// Adds to the parts what replaces an `&`. Returns how many of the bytes after the `&` go with it.
 #[tactic(auto, using(crate::proofs::Templates::adds_ampersand, crate::proofs::Templates::adds_text, crate::proofs::Templates::adds_asked))]
 fn add(
     alloc: Global,
@@ -151,7 +151,7 @@ pub fn parts_of(alloc: Global, of: &SourceLine) -> Result<Vec<TemplatePart>, All
     }
 }
 
-/// The bytes with which all begins that comes of parts.
+/// The bytes with which every text that the parts make begins.
 #[tactic(auto, using(crate::proofs::Parted::drop_read, crate::proofs::Templates::needs_more))]
 pub fn plain_front(parts: &[TemplatePart]) -> Option<LinePart<'_>>
     ensures { IfSome result (λ front. BeginWith parts.now front.bytes.now) }
@@ -170,7 +170,7 @@ pub fn plain_front(parts: &[TemplatePart]) -> Option<LinePart<'_>>
     None
 }
 
-/// What comes of a part, if its symbol is declared.
+/// The text that a part makes, if its symbol is declared.
 fn part_text<'a>(of: Values<'a>, part: &'a TemplatePart) -> Option<&'a [u8]>
     ensures { MatchOption result (part_text (text_of (values of.entry)) part.now ≡ None) (λ t. part_text (text_of (values of.entry)) part.now ≡ Some t.now) }
 {
@@ -184,7 +184,7 @@ fn part_text<'a>(of: Values<'a>, part: &'a TemplatePart) -> Option<&'a [u8]>
     }
 }
 
-/// Puts what comes of parts into a buffer, whose own bytes are gone: whether all their symbols are declared.
+/// Puts the text that parts make into a buffer, whose own bytes are lost. Returns whether all their symbols are declared.
 pub fn instantiate(
     of: Values<'_>,
     parts: &[TemplatePart],

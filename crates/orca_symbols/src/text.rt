@@ -22,7 +22,7 @@ pub(crate) fn name(alloc: Global, part: LinePart<'_>) -> Result<Name, AllocError
     }
 }
 
-/// Where the bytes of a text stand.
+/// Where the bytes of a text are stored.
 #[derive(Drop)]
 enum TextBytes {
     /// In the value itself.

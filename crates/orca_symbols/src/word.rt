@@ -1,4 +1,4 @@
-//! Short texts that are borrowed where they stand as they are wanted, and kept else.
+//! Short texts that are borrowed where they are already stored as wanted, and kept otherwise.
 
 ghost use Rattle.std.specs.Prelude.{◌≡◌, ◌≤◌, length, IfOk, IsTrue};
 ghost use Rattle.macro_meaning.specs.Statements.{whole_match, symbol_name, sequence_name, target_name};
@@ -109,7 +109,7 @@ fn sequence_word<'a>(alloc: Global, text: LinePart<'a>) -> Result<Option<Word<'a
     }
 }
 
-/// Where a branch goes: a sequence symbol, maybe behind a `^`.
+/// Where a branch goes: a sequence symbol, maybe after a `^`.
 #[inline(always)]
 pub fn target_word<'a>(alloc: Global, text: LinePart<'a>) -> Result<Option<Word<'a>>, AllocError>
     ensures { IfOk result (λ word. word ≡ target_name text.entry.bytes.now) }

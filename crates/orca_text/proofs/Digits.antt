@@ -12,7 +12,7 @@ use Rattle.orca_text.specs.Kept.{fitting}
 abbrev pub count : ℕ → List ℕ → ℕ
 count base text = prefix_len (λ byte. is_digit byte base) text
 
--- the digits that are left, behind this number, make the number of all, and stand before the same rest
+-- the digits that are left, after this number, make the number of all, and precede the same rest
 pub record HasDigits (base : ℕ) (text left : List ℕ) (value : ℕ) : Type 0 where
   pub number : digits_value_after base value (take (count base left) left) ≡ digits_value base (take (count base text) text)
   pub rest : drop (count base left) left ≡ drop (count base text) text
@@ -63,7 +63,7 @@ digits_large base text byte value following rest one has is large are =
     let some : count base text ≢ 0 = λ none. absurd (omega (arith, has.some, has.short, first, none)) in
     ap (seen_as fitting) (found_digits base text some) ∙ seen_large _ _ all ∙ ap (λ (r : List ℕ). Some (None, r)) (sym (are ∙ following_is'))
 
--- the same of what is left, at its first byte
+-- the digits that are left after the first byte of what was left
 pub digits_step : (base : ℕ) (text left following : List ℕ) (byte value next : ℕ) → HasDigits base text left value → left ≡ byte ∷ following → is_digit byte base ≡ true
     → next ≡ value * base + digit_value byte → next ≤ 4294967295 → HasDigits base text following next
 digits_step base text left following byte value next has first is sum small =

@@ -158,7 +158,7 @@ pair_at [] i d less = absurd (omega arith)
 pair_at (row ∷ rows) zero d less = (refl, refl)
 pair_at (row ∷ rows) (suc i) d less = pair_at rows i d (omega arith)
 
--- what is beside a number that was found
+-- the row of a number that was found
 pub row_found : (operation : List ℕ) (key i : ℕ) (numbers : List ℕ) (all : Names) (d : Mnemonic × OperandUse) → is_three (folded operation) ≡ true → key ≡ key_of (folded operation)
     → numbers ≡ keys mnemonics → all ≡ names mnemonics → IsBinarySearchResult (λ y. nat_cmp y key) numbers (Ok i)
     → (mnemonic_of operation ≡ Some (get_or all i d).0) × ((get_or all i d).1 ≡ use_of (get_or all i d).0)

@@ -122,7 +122,7 @@ accumulator_read m text o acc is = record {
   written = record { form_is = is.0; prefix_is = is.1; first_is = is.2; second_is = is.3 };
 }
 
--- one formula stands in the operand, and makes this form
+-- the operand has one formula, and this form
 pub record IsOneOf (m : Option Mnemonic) (text : List ℕ) (form : Form) (p : Prefix) (terms : List Term) (large : Bool) : Type 0 where
   pub tree : Tree
   pub is : IsOperand m text (written form p (tree ∷ []))
@@ -177,7 +177,7 @@ one_refused m text form p terms large here (Err BadNumber) here_is one is = reco
   large = or_none (has_large one.tree) ∙ sym one.large_of ∙ is.1;
 }
 
--- two formulas stand in it
+-- the operand has two formulas
 pub record IsTwoOf (m : Option Mnemonic) (text : List ℕ) (p : Prefix) (first second : List Term) (large larger : Bool) : Type 0 where
   pub tree : Tree
   pub other : Tree
@@ -257,7 +257,7 @@ two_refused m text p first second large larger here (Err BadNumber) here_is two 
 clash : (b : Bool) → b ≡ true → b ≡ false → ⊥
 clash b p q = let e : true ≡ false = sym p ∙ q in absurd cc
 
--- no formula stands where one has to
+-- there is no formula where one has to be
 pub no_first : (m : Option Mnemonic) (text at : List ℕ) → 0 < length text → is_accumulator m text ≡ false → at ≡ body m text → HasNoFormula Labels at → IsBadOperand m text
 no_first m text at some not_a at_is none meaning (IsMissing nothing is) shallow = absurd (omega (arith, some, ap length nothing))
 no_first m text at some not_a at_is none meaning (IsInAccumulator acc is) shallow = clash _ acc not_a
@@ -265,7 +265,7 @@ no_first m text at some not_a at_is none meaning (IsOne other tree rest form mea
 no_first m text at some not_a at_is none meaning (IsTwo other bare first second following means index means' is) shallow =
     none first (0x2C ∷ following) (subst (λ (t : List ℕ). MeansAt Labels t first (0x2C ∷ following)) (sym at_is) means)
 
--- what stands after the formula makes no form, and no pair
+-- what follows the formula makes no form, and no pair
 pub no_form : (m : Option Mnemonic) (text at : List ℕ) (o : Opening) (terms : List Term) (large : Bool) (rest : List ℕ) → 0 < length text → is_accumulator m text ≡ false
     → o ≡ opening m text → at ≡ body m text → IsFormulaAt Labels at terms large rest → None ≡ form_after o rest → (o ≡ Open → HasNoSecond rest) → IsBadOperand m text
 no_form m text at o terms large rest some not_a o_is at_is f none no_second meaning (IsMissing nothing is) shallow = absurd (omega (arith, some, ap length nothing))
@@ -296,7 +296,7 @@ second_goes_on rest following terms large more comma f some other tree is means 
 pub some_left : (b : Bool) (n : ℕ) → b ≡ eqb n 0 → b ≡ false → n ≡ 0 → ⊥
 some_left b n is other = eqb-false n 0 (sym is ∙ other)
 
--- behind another opening there is no second formula
+-- after another opening there is no second formula
 pub not_hash : (o : Opening) (rest : List ℕ) → o ≡ Hash → o ≡ Open → HasNoSecond rest
 not_hash o rest is bare = let e : Hash ≡ Open = sym is ∙ bare in absurd cc
 

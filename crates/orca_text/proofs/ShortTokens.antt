@@ -26,7 +26,7 @@ found_same {A} x y r s e = (ap (λ (p : A × List ℕ). p.0) both, ap (λ (p : A
     both : ◌≡◌ {A = A × List ℕ} (x, r) (y, s)
     both = inside (x, r) (y, s) e
 
--- ---- where no number stands
+-- ---- where there is no number
 
 -- a parenthesis
 pub opens_no_number : (text following : List ℕ) → text ≡ 0x28 ∷ following → (n : ℕ) (rest : List ℕ) → operand_token_at Symbols text ≡ Some (Value (Number n), rest) → n < 2 ^ 32 → ⊥
@@ -45,7 +45,7 @@ sign_no_number text sign following other found n rest token small = clash (sym (
     clash : there (Before sign) following ≡ there (Value (Number n)) rest → ⊥
     clash e = let same = (found_same (Before sign) (Value (Number n)) following rest e).0 in cc
 
--- the operand at the start, where neither of these stands there
+-- the operand at the start, where neither of these is there
 operand_there : (text : List ℕ) → ((following : List ℕ) → text ≢ 0x28 ∷ following) → sign_at text ≡ None → operand_token_at Symbols text ≡ seen_as Value (operand_at Symbols text)
 unfolding operand_token_at
 operand_there text other no_sign = rw (not_open text other, no_sign) refl
@@ -126,12 +126,12 @@ number_same a b r s e = (found_same (Value (Number a)) (Value (Number b)) r s e)
 operator_same : (a b : Operator) (r s : List ℕ) → there (Between a) r ≡ there (Between b) s → (a ≡ b) × (r ≡ s)
 operator_same a b r s e = let same = found_same (Between a) (Between b) r s e in let tokens = same.0 in (cc, same.1)
 
--- behind a number that is at the start
+-- after a number that is at the start
 after_number : (text : List ℕ) (a b : ℕ) (rest : List ℕ) (tokens : List Token) → operand_token_at Symbols text ≡ Some (Value (Number a), rest)
     → Stand Symbols true text (Value (Number b) ∷ tokens) [] → Stand Symbols false rest tokens []
 after_number text a b rest tokens first s = subst (λ (r : List ℕ). Stand Symbols false r tokens []) (number_same b a s.0 rest (sym s.1 ∙ first)) s.2
 
--- and behind an operator
+-- and after an operator
 after_operator : (text : List ℕ) (a b : Operator) (rest : List ℕ) (tokens : List Token) → operator_token_at text ≡ Some (Between a, rest)
     → Stand Symbols false text (Between b ∷ tokens) [] → (b ≡ a) × Stand Symbols true rest tokens []
 after_operator text a b rest tokens first s =
@@ -177,7 +177,7 @@ no_second text n rest between following first some then none (Three operator a s
     let u = (after_operator rest between operator following (Value (Number b) ∷ Between second ∷ Value (Number c) ∷ []) then t).1 in
     none b u.0 u.1 s.small.1
 
--- what stands after two numbers
+-- what follows two numbers
 record IsPair (text : List ℕ) (n m : ℕ) (between : Operator) (rest following last : List ℕ) : Type 0 where
   first : operand_token_at Symbols text ≡ Some (Value (Number n), rest)
   some : eqb (length rest) 0 ≡ false

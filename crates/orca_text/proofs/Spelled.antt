@@ -1,4 +1,4 @@
--- A text beside a spelling.
+-- A text compared with a spelling.
 use Rattle.std.proofs.Common.{◌≡◌, ℕ, suc, Bool, true, false, eqb, List, [], ◌∷◌, length, refl, ap, arith}
 use Rattle.std.specs.Prelude.{◌≢◌, ◌&&◌, bytes_eq, zip}
 use Rattle.std.specs.Char.{to_ascii_uppercase}

@@ -169,7 +169,7 @@ stepped s Closes new is = by_expects s.expects refl is
 
 -- ---- a formula that is being read
 
--- these tokens stand before what is left, and lead to this state
+-- these tokens precede what is left, and lead to this state
 pub record UnderWay (o : Operands) (text left : List ℕ) (kept : State) (large : Bool) : Type 0 where
   pub done : List Token
   pub real : State
@@ -192,7 +192,7 @@ under_way o text out waiting none nothing = record {
   large_is = refl;
 }
 
--- what is expected is what is expected behind the tokens
+-- what is expected is what is expected after the tokens
 expects_is : (o : Operands) (text left : List ℕ) (kept : State) (large : Bool) (u : UnderWay o text left kept large) → kept.expects ≡ expects_after true u.done
 expects_is o text left kept large u = ap (λ (s : State). s.expects) u.kept_is ∙ runs_expect start u.real u.done refl u.ran
 
@@ -294,7 +294,7 @@ found_as o text left kept large larger out terms u end same =
     let f = found o text left kept large out u end.0 in
     record { tree = f.tree; means = f.means; kept = same ∙ f.kept; large_is = end.1 ∙ f.large_is }
 
--- where none can end, none stands
+-- where no formula can end, there is none
 pub no_formula : (o : Operands) (text left : List ℕ) (kept : State) (large : Bool) → UnderWay o text left kept large → IsStuck o kept left → HasNoFormula o text
 no_formula o text left kept large u stuck tree rest means =
     by_order u.done refl (compared o true text u.done (tokens_of means.formula) left rest u.stands means.stands.spelled)
@@ -332,7 +332,7 @@ no_formula o text left kept large u stuck tree rest means =
             let e : Some (terms_of (tree_of means.formula)) ≡ None = sym some ∙ kept_ended none in
             absurd cc
 
-    -- another token of it stands there
+    -- another token of it is there
     at_token : (t : Token) (more : List Token) → tokens_of means.formula ≡ u.done ++ t ∷ more → (following : List ℕ) → token_at o (expects_after true u.done) left ≡ Some (t, following) → IsStuck o kept left → ⊥
     at_token t more is following found stuck = by_stuck (subst (λ (e : Bool). token_at o e left ≡ Some (t, following)) (sym (expects_is o text left kept large u)) found) stuck
       where

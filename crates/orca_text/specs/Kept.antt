@@ -7,7 +7,7 @@ use Rattle.orca_meaning.specs.Token.{Operand, Here, Number, Label, LengthOf, Cou
 abbrev pub fitting : ℕ → Option ℕ
 fitting n = if nat_lt n (2 ^ 32) then Some n else None
 
--- 0 stands for a number that is too large
+-- 0 represents a number that is too large
 abbrev pub kept_number : ℕ → ℕ
 kept_number n = if nat_lt n (2 ^ 32) then n else 0
 

@@ -8,14 +8,14 @@ use Rattle.orca_text.specs.declared.formula.Next.{Next}
 use Rattle.orca_text.specs.declared.formula.Next.TheVariants.{Goes, Ends, Fails}
 use Rattle.orca_text.specs.Kept.{kept_token}
 
--- a token stands there, and was taken; a number in it may be too large
+-- a token is there, and was taken; a number in it may be too large
 pub record Steps (o : Operands) (old new : State) (large larger : Bool) (left following : List ℕ) : Type 0 where
   pub token : Token
   pub found : token_at o old.expects left ≡ Some (token, following)
   pub steps : step old (kept_token token).0 ≡ Some new
   pub grows : larger ≡ (large || (kept_token token).1)
 
--- no token stands there, or a parenthesis that closes none
+-- no token is there, or a parenthesis that closes none
 pub data Stops (s : State) (left : List ℕ) : Type 0 where
   NoToken : operator_token_at left ≡ None → Stops s left
   Unmatched : (following : List ℕ) → operator_token_at left ≡ Some (Closes, following) → closed (reduced 6 s.out s.waiting) ≡ None → Stops s left

@@ -57,7 +57,7 @@ pub record IsOperandFault (line : SourceLine) (fault : TextFault) : Type 0 where
 
 -- ---- one formula or two
 
--- a comma stands at the start, and after it a formula up to the end
+-- a comma is at the start, and after it a formula up to the end
 pub record IsSecond (rest : List ℕ) (terms : List Term) (large : Bool) : Type 0 where
   pub following : List ℕ
   pub comma : rest ≡ 0x2C ∷ following

@@ -2,7 +2,7 @@
 use Rattle.std.specs.Prelude.{ℕ, ◌+◌, ◌-◌, max, List, [], ◌∷◌}
 use Rattle.omf_format.specs.Expression as expression
 
--- how many values are pending behind a term where so many are before it
+-- how many values are pending after a term, given how many are before it
 abbrev pub now_after : ℕ → expression.Term → ℕ
 now_after now (expression.Operator code) = now - expression.operand_count code + 1
 now_after now expression.Location = now + 1
@@ -18,7 +18,7 @@ now_at here now (expression.Constant n) = now + 1
 now_at here now (expression.Named code name) = now + 1
 now_at here now (expression.Offset n) = now + 1
 
--- the most at one of these terms, where so many are pending before them and so many were before
+-- the most at one of these terms, given how many are pending before them and the most so far
 abbrev pub peak : ℕ → ℕ → ℕ → List expression.Term → ℕ
 peak here now most [] = most
 peak here now most (term ∷ terms) = peak here (now_after now term) (max most (now_at here now term)) terms

@@ -91,7 +91,7 @@ fn ink_in(rest: &[u8]) -> usize
     }
 }
 
-/// Which quote is open behind a byte.
+/// Which quote is open after a byte.
 #[inline(always)]
 pub fn quote_following(quote: Option<u8>, byte: u8) -> Option<u8>
     ensures { result ≡ quote_following quote byte }
@@ -198,7 +198,7 @@ pub fn is_comment(text: &[u8]) -> bool
     }
 }
 
-/// Whether a semicolon stands at a place.
+/// Whether a semicolon is at a place.
 #[inline(always)]
 fn is_semicolon_at(text: &[u8], at: u32) -> bool
     ensures { result ≡ Rattle.std.specs.Prelude.nat_eq (slice_index text.now at) 0x3B }

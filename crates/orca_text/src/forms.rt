@@ -1,4 +1,4 @@
-//! What stands before and behind the formula of an operand, and the form that it makes.
+//! What precedes and what follows the formula of an operand, and the form that it makes.
 
 ghost use Rattle.std.specs.Prelude.{◌≡◌, ◌≢◌, ◌∷◌, ◌<◌, ◌≤◌, [], ℕ, drop, length, Some, None, MatchOption};
 ghost use Rattle.orca_meaning.specs.Operand.{opening_of, after_opening, prefix_of, prefix_by, after_prefix, address_prefix, immediate_prefix, register_of, index_at, whole_index, indexes_around, plain_form, round_form, square_form, immediate_form, form_after};
@@ -22,7 +22,7 @@ pub(crate) fn opening_of(is_instruction: bool, text: &[u8]) -> Opening
     }
 }
 
-/// What stands after it.
+/// What follows the opening.
 #[inline(always)]
 pub(crate) fn after_opening(opening: Opening, text: &[u8]) -> &[u8]
     ensures value { result.now ≡ after_opening opening text.now }
@@ -36,7 +36,7 @@ pub(crate) fn after_opening(opening: Opening, text: &[u8]) -> &[u8]
     }
 }
 
-/// A prefix behind `#`.
+/// A prefix after `#`.
 fn immediate_prefix(byte: u8) -> Prefix
     ensures { result ≡ immediate_prefix byte }
 {
@@ -61,7 +61,7 @@ fn address_prefix(byte: u8) -> Prefix
     }
 }
 
-/// The prefix behind the opening.
+/// The prefix after the opening.
 #[inline(always)]
 pub(crate) fn prefix_of(opening: Opening, text: &[u8]) -> Prefix
     ensures { result ≡ prefix_of opening text.now }
@@ -77,7 +77,7 @@ pub(crate) fn prefix_of(opening: Opening, text: &[u8]) -> Prefix
     }
 }
 
-/// What stands after the prefix.
+/// What follows the prefix.
 #[inline(always)]
 pub(crate) fn after_prefix(prefix: Prefix, text: &[u8]) -> &[u8]
     ensures value { result.now ≡ after_prefix prefix text.now }
@@ -105,7 +105,7 @@ fn register_of(letter: u8) -> Option<Index>
     }
 }
 
-/// The index at the start, and what stands after it.
+/// The index at the start, and what follows it.
 #[tactic(auto, unfolding(orca_meaning::specs::Operand::index_at))]
 #[inline(always)]
 fn index_at(text: &[u8]) -> (Index, &[u8])
@@ -139,7 +139,7 @@ fn whole_index(text: &[u8]) -> Option<Index>
     }
 }
 
-/// The indexes before and behind the closing byte, up to the end.
+/// The indexes before and after the closing byte, up to the end.
 #[tactic(auto, unfolding(orca_meaning::specs::Operand::indexes_around))]
 #[inline(always)]
 fn indexes_around(close: u8, text: &[u8]) -> Option<(Index, Index)>
@@ -192,7 +192,7 @@ fn square_form(indexes: (Index, Index)) -> Form
     }
 }
 
-/// The form by the opening and what stands after the formula.
+/// The form by the opening and what follows the formula.
 #[inline(always)]
 pub(crate) fn form_after(opening: Opening, rest: &[u8]) -> Option<Form>
     ensures { result ≡ form_after opening rest.now }

@@ -62,7 +62,7 @@ fn operator_code(operator: Operator) -> u8
     }
 }
 
-/// The same of an operator before one.
+/// What an operator before one operand is in an expression.
 fn sign_code(sign: Sign) -> u8
     ensures { result ≡ sign_code sign }
 {
@@ -72,7 +72,7 @@ fn sign_code(sign: Sign) -> u8
     }
 }
 
-/// The operand as a term. 0 stands for a number that is too large.
+/// The operand as a term. 0 represents a number that is too large.
 #[inline(always)]
 fn operand_term(of: FormulaOperand) -> FormulaTerm
     ensures { term result ≡ term_of (operand of).0 }
@@ -171,7 +171,7 @@ fn is_too_large(next: &OperandToken) -> bool
     }
 }
 
-/// Takes a token where an operand is expected: whether one is expected behind it too.
+/// Takes a token where an operand is expected. Returns whether one is expected after it too.
 #[tactic(auto, using(crate::proofs::Steps::map_push), unfolding(orca_meaning::specs::laws::Machine::step))]
 #[inline(always)]
 fn take_operand(
@@ -213,17 +213,17 @@ fn take_operator(
     Ok(())
 }
 
-/// How a formula goes on.
+/// How a formula continues.
 enum Next<'a> {
-    /// Behind one more token, where an operand is expected or not.
+    /// After one more token, where an operand is expected or not.
     Goes(bool, &'a [u8]),
-    /// It ends where it stands.
+    /// It ends here.
     Ends,
-    /// No formula stands there.
+    /// No formula is there.
     Fails,
 }
 
-/// Takes what stands where an operand is expected.
+/// Takes the token where an operand is expected.
 #[inline(always)]
 fn operand_next<'a>(
     alloc: Global,
@@ -243,7 +243,7 @@ fn operand_next<'a>(
     Ok(Next::Goes(again, following))
 }
 
-/// Takes what stands after an operand.
+/// Takes what follows an operand.
 #[inline(always)]
 fn operator_next<'a>(
     left: &'a [u8],
@@ -296,7 +296,7 @@ pub struct FormulaAt<'a> {
     pub formula: Formula,
     /// Whether a number in it is above 4,294,967,295.
     pub large: bool,
-    /// What stands after it.
+    /// What follows it.
     pub rest: &'a [u8],
 }
 

@@ -68,7 +68,7 @@ impl Lines {
         Ok(())
     }
 
-    /// Appends a line as it stands. Its fields are those of its bytes, so they aren't looked for again.
+    /// Appends a line unchanged. Its fields are those of its bytes, so they aren't looked for again.
     pub fn copy(&mut self, alloc: Global, of: &SourceLine) -> Result<(), AllocError>
         requires own { (line of.now).fields ≡ fields_of of.now.text }
         requires room { length self.old + 1 < 2 ^ 32 }

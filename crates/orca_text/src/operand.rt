@@ -25,7 +25,7 @@ use std::alloc::{AllocError, Global};
 pub struct Operand {
     /// Which of the forms it has.
     pub form: Form,
-    /// What stands before its first formula.
+    /// What precedes its first formula.
     pub prefix: Prefix,
     /// Its formula, empty where the form has none.
     pub first: Formula,
@@ -45,7 +45,7 @@ fn operand_count(code: u8) -> usize
     }
 }
 
-/// The most values that are pending at once in a formula, where the location counter counts so many.
+/// The most values that are pending at once in a formula, where the location counter counts as `here` values.
 #[inline(always)]
 fn most_pending(here: usize, terms: &[FormulaTerm]) -> usize
     requires { here ≤ 2 }
@@ -77,7 +77,7 @@ fn most_pending(here: usize, terms: &[FormulaTerm]) -> usize
     most
 }
 
-/// Whether more than 64 values are pending at once in a formula, where the location counter counts so many.
+/// Whether more than 64 values are pending at once in a formula, where the location counter counts as `here` values.
 pub fn is_too_deep(here: usize, formula: &Formula) -> bool
     requires { here ≤ 2 }
     ensures { IsTrue result ↔ (64 < peak here 0 0 formula.now) }
@@ -112,7 +112,7 @@ fn one_formula(
     })
 }
 
-/// The same of a pair.
+/// An operand with two formulas, unless one is too deep or has a number that is too large.
 fn two_formulas(
     here: usize,
     prefix: Prefix,
@@ -139,7 +139,7 @@ fn two_formulas(
     })
 }
 
-/// The formula behind the comma at the start, where it is all that stands there.
+/// The formula after the comma at the start, where nothing else is there.
 fn second_formula(alloc: Global, rest: LinePart<'_>) -> Result<Option<FormulaAt<'_>>, AllocError>
     ensures found { IfOk result (λ found. IfSome found (λ x. IsSecond rest.entry.bytes.now x.formula x.large)) }
     ensures none { IfOk result (λ found. IfNone found (HasNoSecond rest.entry.bytes.now)) }

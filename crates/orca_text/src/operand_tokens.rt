@@ -1,4 +1,4 @@
-//! The operands and operators of formulas, taken from the front of a text (ORCA/M reference manual, "Expressions").
+//! The operands and operators of formulas, taken from the start of a text (ORCA/M reference manual, "Expressions").
 
 ghost use Rattle.std.specs.Prelude.{◌≡◌, ◌≢◌, ℕ, List, ◌+◌, ◌≤◌, ◌<◌, ◌∷◌, true, false, map, length, take, drop, Some, None, IfOk, MatchOption, bytes_eq};
 ghost use Rattle.std.specs.Char.{to_ascii_uppercase};
@@ -44,7 +44,7 @@ pub(crate) enum OperandToken {
     Opens,
 }
 
-/// A token behind an operand.
+/// A token after an operand.
 #[derive(Clone, Copy)]
 pub(crate) enum OperatorToken {
     /// An operator between two.
@@ -96,7 +96,7 @@ pub fn to_upper_case(alloc: Global, text: LinePart<'_>) -> Result<Name, AllocErr
     Ok(Name::from_vec(name))
 }
 
-/// The longest name at the start of a text, in upper case, and what stands after it.
+/// The longest name at the start of a text, in upper case, and what follows it.
 #[tactic(auto, unfolding(orca_meaning::specs::Token::name_at))]
 pub fn name_at(alloc: Global, text: LinePart<'_>) -> Result<Option<(Name, &[u8])>, AllocError>
     ensures { IfOk result (λ found. MatchOption found (name_at text.entry.bytes.now ≡ None) (λ x. name_at text.entry.bytes.now ≡ Some (x.0, x.1.now))) }
@@ -112,7 +112,7 @@ pub fn name_at(alloc: Global, text: LinePart<'_>) -> Result<Option<(Name, &[u8])
     Ok(Some((name, rest)))
 }
 
-/// The name of a symbol behind `&` at the start of a text, and what stands after it.
+/// The name of a symbol after `&` at the start of a text, and what follows it.
 #[tactic(auto, unfolding(orca_meaning::specs::Token::symbol_at))]
 pub fn symbol_at(alloc: Global, text: LinePart<'_>) -> Result<Option<(Name, &[u8])>, AllocError>
     ensures { IfOk result (λ found. MatchOption found (symbol_at text.entry.bytes.now ≡ None) (λ x. symbol_at text.entry.bytes.now ≡ Some (x.0, x.1.now))) }
@@ -191,7 +191,7 @@ fn attribute_at(
     }
 }
 
-/// What stands after `*` at the start.
+/// What follows `*` at the start.
 #[tactic(auto, unfolding(orca_meaning::specs::Token::location_at))]
 #[inline(always)]
 fn after_star(text: &[u8]) -> Option<&[u8]>
@@ -271,7 +271,7 @@ fn operand_at(
     other_operand_at(alloc, operands, text)
 }
 
-/// What stands after a byte at the start.
+/// What follows a byte at the start.
 #[inline(always)]
 pub fn after_byte(text: &[u8], wanted: u8) -> Option<&[u8]>
     ensures { MatchOption result ((following : List ℕ) → text.now ≢ wanted ∷ following) (λ rest. text.now ≡ wanted ∷ rest.now) }
@@ -308,7 +308,7 @@ pub(crate) fn operand_token(
     }
 }
 
-/// The token at the start, behind an operand.
+/// The token at the start, after an operand.
 #[tactic(auto, unfolding(orca_meaning::specs::Token::operator_token_at, orca_meaning::specs::Token::byte_at))]
 #[inline(always)]
 pub(crate) fn operator_token(text: &[u8]) -> Option<(OperatorToken, &[u8])>

@@ -215,7 +215,7 @@ fn spellings() -> &'static [u32; 94]
     &SPELLINGS
 }
 
-/// The mnemonics beside them.
+/// The mnemonics of these spellings.
 #[tactic(auto, unfolding(orca_meaning::specs::Operation::mnemonics, orca_meaning::specs::Operation::use_of, orca_meaning::specs::Matrix::opcode_of, orca_meaning::specs::Matrix::matrix))]
 fn rows() -> &'static [(Mnemonic, OperandUse); 94]
     ensures { result.now ≡ map (λ row. (row.1, use_of row.1)) mnemonics }

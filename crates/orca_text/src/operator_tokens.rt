@@ -1,4 +1,4 @@
-//! The operators of formulas, taken from the front of a text.
+//! The operators of formulas, taken from the start of a text.
 
 ghost use Rattle.std.specs.Prelude.{◌≡◌, ◌≢◌, ◌≤◌, ◌<◌, ◌∷◌, length, take, drop, Some, None, MatchOption, bytes_eq, true, false};
 ghost use Rattle.std.specs.Bool.{MatchBool};
@@ -8,7 +8,7 @@ ghost use Rattle.orca_meaning.specs.Token.{sign_at, operator_at, spelled_at};
 use crate::operation::is_spelled;
 use orca_meaning::{Operator, Sign};
 
-/// What stands after a spelling at the start, in upper or lower case.
+/// What follows a spelling at the start, in upper or lower case.
 fn after_word<'a>(text: &'a [u8], spelling: &[u8]) -> Option<&'a [u8]>
     ensures { MatchOption result (bytes_eq spelling.now (folded (take (length spelling.now) text.now)) ≡ false)
         (λ rest. (bytes_eq spelling.now (folded (take (length spelling.now) text.now)) ≡ true) × (rest.now ≡ drop (length spelling.now) text.now)) }

@@ -22,8 +22,8 @@ pub enum ShortFormula {
     Three(Operator, u32, Operator, u32, u32),
 }
 
-/// The number at the start where an operand is expected, and what stands after it. None where another token stands there,
-/// and of a number above 4,294,967,295.
+/// The number at the start where an operand is expected, and what follows it. None where another token is there,
+/// and for a number above 4,294,967,295.
 #[tactic(auto, using(crate::proofs::Shorts::number_token, crate::proofs::ShortTokens::sign_no_number, crate::proofs::ShortTokens::none_no_number, crate::proofs::ShortTokens::large_no_number))]
 fn number_token(text: &[u8]) -> Option<(u32, &[u8])>
     ensures { MatchOption result ((n : ℕ) (rest : List ℕ) → operand_token_at Operands.Symbols text.now ≡ Some (Value (Number n), rest) → n < 2 ^ 32 → ⊥)
@@ -42,7 +42,7 @@ fn number_token(text: &[u8]) -> Option<(u32, &[u8])>
     }
 }
 
-/// The operator at the start behind an operand, and what stands after it.
+/// The operator at the start after an operand, and what follows it.
 fn operator_after(text: &[u8]) -> Option<(Operator, &[u8])>
     ensures { MatchOption result ((operator : Operator) (following : List ℕ) → operator_token_at text.now ≡ Some (Between operator, following) → ⊥)
         (λ x. operator_token_at text.now ≡ Some (Between x.0, x.1.now)) }
@@ -55,8 +55,8 @@ fn operator_after(text: &[u8]) -> Option<(Operator, &[u8])>
 }
 
 /// The formula that the whole text is, where it is one number, two with an operator between them, or three of which the last
-/// two are bound closer, without parentheses and with numbers of at most 4,294,967,295. None comes of every other text, and it
-/// may still be a formula.
+/// two are bound closer, without parentheses and with numbers of at most 4,294,967,295. None is returned for every other text,
+/// which may still be a formula.
 #[tactic(auto, using(crate::proofs::Shorts::one_means, crate::proofs::Shorts::two_mean, crate::proofs::Shorts::three_mean, crate::proofs::ShortTokens::no_first, crate::proofs::ShortTokens::no_operator, crate::proofs::ShortTokens::no_second, crate::proofs::ShortTokens::no_second_operator, crate::proofs::ShortTokens::no_third))]
 pub fn short_formula(text: &[u8]) -> Option<ShortFormula>
     ensures tokens { MatchOption result ((f : ShortFormula) → IsShort text.now f → ⊥) (IsShort text.now) }

@@ -1,4 +1,4 @@
-//! The tokens of formulas, taken from the front of a text.
+//! The tokens of formulas, taken from the start of a text.
 
 ghost use Rattle.std.specs.Prelude.{◌≡◌, ◌+◌, ◌*◌, ◌^◌, ◌<◌, ◌≤◌, true, false, length, drop, Some, None, IfOk, IfSome, MatchOption};
 ghost use Rattle.std.specs.Char.{digit_value, is_digit};
@@ -36,7 +36,7 @@ pub fn digit(byte: u8, base: u32) -> Option<u32>
     None
 }
 
-/// What stands after the digits at the start.
+/// What follows the digits at the start.
 fn after_digits(base: u32, text: &[u8]) -> &[u8]
     requires { base ≤ 36 }
     ensures { result.now ≡ drop (prefix_len (λ byte. is_digit byte base) text.now) text.now }
@@ -51,7 +51,7 @@ fn after_digits(base: u32, text: &[u8]) -> &[u8]
     left
 }
 
-/// The number that the digits of a base at the start write, `None` where it is above 4,294,967,295, and what stands after
+/// The number that the digits of a base at the start write, `None` where it is above 4,294,967,295, and what follows
 /// them. The base is 1 to 36.
 #[tactic(auto, unfolding(orca_meaning::specs::Token::digits_at))]
 pub fn digits_at(base: u32, text: &[u8]) -> Option<(Option<u32>, &[u8])>
@@ -78,14 +78,14 @@ pub fn digits_at(base: u32, text: &[u8]) -> Option<(Option<u32>, &[u8])>
     Some((Some(value), left))
 }
 
-/// Where the first quote of this kind stands.
+/// Where the first quote of this kind is.
 fn closing(quote: u8, following: &[u8]) -> Option<usize>
     ensures { result ≡ Rattle.std.specs.Prelude.position (λ byte. Rattle.std.specs.Prelude.nat_eq byte quote) following.now }
 {
     following.iter().position(|byte| *byte == quote)
 }
 
-/// The number that a text of one to four bytes is, and what stands after its closing quote.
+/// The number that a text of one to four bytes is, and what follows its closing quote.
 #[tactic(auto, unfolding(orca_meaning::specs::Token::text_at))]
 fn text_at(quote: u8, following: &[u8]) -> Option<(u32, &[u8])>
     ensures { MatchOption result (text_at quote following.now ≡ None) (λ x. (text_at quote following.now ≡ Some (x.0, x.1.now)) × (x.0 < 2 ^ 32)) }
@@ -99,7 +99,7 @@ fn text_at(quote: u8, following: &[u8]) -> Option<(u32, &[u8])>
     Some((number, from(following, close + 1)))
 }
 
-/// The number at the start, `None` where it is above 4,294,967,295, and what stands after it.
+/// The number at the start, `None` where it is above 4,294,967,295, and what follows it.
 #[tactic(auto, unfolding(orca_meaning::specs::Token::number_at))]
 #[inline(always)]
 pub(crate) fn number_at(text: &[u8]) -> Option<(Option<u32>, &[u8])>
@@ -117,7 +117,7 @@ pub(crate) fn number_at(text: &[u8]) -> Option<(Option<u32>, &[u8])>
     }
 }
 
-/// The same of a text of one to four bytes.
+/// The number that a text of one to four bytes is, which always fits, and what follows its closing quote.
 fn short_text_at(quote: u8, following: &[u8]) -> Option<(Option<u32>, &[u8])>
     ensures { MatchOption result (text_at quote following.now ≡ None) (λ x. seen_as fitting (text_at quote following.now) ≡ Some (x.0, x.1.now)) }
 {

@@ -14,7 +14,7 @@ pub(crate) enum Wait {
     Bracket,
     /// An operator before its operand.
     Before(Sign),
-    /// An operator behind its left operand.
+    /// An operator after its left operand.
     Between(Operator),
 }
 

@@ -39,16 +39,16 @@ pub enum File {
     Cut(Sample, usize),
     /// A sample with bytes changed at displacements.
     Changed(Sample, &'static [(usize, u8)]),
-    /// An object file of so many empty members, each in a load segment of its own.
+    /// An object file of a given number of empty members, each in a load segment of its own.
     Loads(u8),
-    /// An object file of a segment that has these numbers of D in USING, and of parts behind it.
+    /// An object file of a segment that has these numbers of D in USING, and of parts after it.
     Using(&'static [u16], &'static [Part]),
     /// An object file of parts.
     Parts(&'static [Part]),
-    /// An object file of a segment that names so many data segments by USING and uses as many names of a letter, and of the first of
-    /// these data segments.
+    /// An object file of a segment that names a number of data segments by USING and asks for as many names of a letter by STRONG, and of a
+    /// number of the first of these data segments.
     Uses(u16, u8, u16),
-    /// An object file of so many equates, each of which is the next one; the last is the one with this number.
+    /// An object file of a number of equates, each of which is the next one; the last is the one with this number.
     Equates(u16, u16),
 }
 
@@ -121,7 +121,7 @@ fn put(bytes: &mut [u8], changes: &[(usize, u8)]) {
     }
 }
 
-/// So many empty members, each in a load segment of its own.
+/// `count` empty members, each in a load segment of its own.
 fn loads(alloc: Global, count: u8) -> Result<Vec<u8>, AllocError> {
     let mut bytes = Vec::new(alloc);
     for number in 0..count {

@@ -1,4 +1,4 @@
-// Links whose faults no line of a command tells whole: cycles of equates, whose names aren't printed. And a program without values.
+// Links whose faults no line of a command reports whole: cycles of equates, whose names aren't printed. And a program without values.
 use crate::files::File::{Equates, Whole};
 use crate::files::Sample::Apart;
 use crate::files::{File, inputs_of};
@@ -8,7 +8,7 @@ use link_meaning::{LinkCause, LinkFault};
 use link_resolve::are_few;
 use std::alloc::Global;
 
-/// The fault of a link: its cause, the name that it tells or none where that is empty, and its displacement in the first segment.
+/// The fault of a link: its cause, the name that it reports or none where that is empty, and its displacement in the first segment.
 type Reported = (LinkCause, &'static [u8], u32);
 
 /// What is tested, the files, and the fault of their link, if it has one.
@@ -42,7 +42,7 @@ static LINKS: [Row; 5] = [
     ),
 ];
 
-/// Whether a fault tells a name, or none where it is empty.
+/// Whether a fault reports a name, or none where it is empty.
 fn names(fault: &LinkFault, want: &[u8]) -> bool {
     match &fault.name {
         Some(name) => !want.is_empty() && name.bytes() == want,

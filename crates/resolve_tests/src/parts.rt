@@ -50,7 +50,7 @@ fn segment_of(title: u16, label: u16, kind: u16) -> [u8; 72] {
     bytes
 }
 
-/// The first bytes of a segment whose records, without END, have so many bytes and give no cell.
+/// The first bytes of a segment whose records, without END, have `records` bytes and give no cell.
 fn head_of(records: usize) -> [u8; BODY] {
     let mut bytes = [0; BODY];
     bytes.copy_from_slice(&BARE[..BODY]);
@@ -85,8 +85,8 @@ pub fn using(alloc: Global, usings: &[u16], parts: &[Part]) -> Result<Vec<u8>, A
     Ok(bytes)
 }
 
-/// An object file of a segment that names so many data segments by USING and uses as many names of a letter, and of the first of these
-/// data segments.
+/// An object file of a segment that names `count` data segments by USING and asks for as many names of a letter by STRONG, and of the first
+/// `defined` of these data segments.
 pub fn uses(alloc: Global, count: u16, letter: u8, defined: u16) -> Result<Vec<u8>, AllocError> {
     let mut bytes = Vec::from_slice(alloc, &head_of(14 * usize::from(count)))?;
     for (code, first) in [(USING, b'D'), (STRONG, letter)] {
@@ -110,7 +110,7 @@ fn equate_of(number: u16, to: u16) -> [u8; 13] {
     ]
 }
 
-/// An object file of so many equates in one segment, each of which is the next one; the last is the one with this number.
+/// An object file of `count` equates in one segment, each of which is the next one; the last is the one with this number.
 pub fn equates(alloc: Global, count: u16, last: u16) -> Result<Vec<u8>, AllocError> {
     let mut bytes = Vec::from_slice(alloc, &head_of(13 * usize::from(count)))?;
     for number in 0..count {

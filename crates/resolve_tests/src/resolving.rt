@@ -12,7 +12,7 @@ use link_meaning::LinkCause::{
     SegmentTooLong, TooManySegments, Truncated, Unresolved, Unsupported,
 };
 
-/// Where the second of two such segments stands.
+/// Where the second of two such segments starts.
 const SECOND: usize = 66;
 
 static READING: [Row; 12] = [
@@ -70,7 +70,7 @@ static READING: [Row; 12] = [
         &[Changed(One, &[(0x3C, 0xE0), (0x08, 9), (0x14, 0x02)])],
         Read(1, Some((Unsupported, 1, 1, 0))),
     ),
-    // A header of the second segment comes before the type of the first.
+    // A header of the second segment is reported before the type of the first.
     (
         "a later header before the type",
         &[Changed(Two, &[(0x14, 0x02), (SECOND + 0x0E, 2)])],
@@ -137,7 +137,7 @@ static RESOLVING: [Row; 33] = [
         &[Whole(LibraryB)],
         Refused(Empty, 0, 0, 0),
     ),
-    // A later member asks for an address; a name that isn't there comes first, and a file that isn't read before.
+    // A later member asks for an address; a name that isn't there is reported first, and a file that isn't read before that.
     (
         "a later member with an address",
         &[Whole(Placed), Whole(Asking)],
@@ -228,7 +228,7 @@ static RESOLVING: [Row; 33] = [
         Refused(Truncated, 1, 1, 0x41),
     ),
     // Two members of $8000 cells each in one load segment: $10000 bytes in a bank are enough, $10001 too many; an address of the second
-    // member comes before.
+    // member is reported before.
     (
         "a bank",
         &[Changed(Two, HALVES)],

@@ -1,4 +1,4 @@
-// Run-time library files: what their names give, which faults they have, and what a program tells of them.
+// Run-time library files: what their names give, which faults they have, and what a program reports of them.
 use crate::files::File::{Changed, Cut, Whole};
 use crate::files::Sample::{
     After, Dynamic, EquateA, LibraryB, One, Runtime, RuntimeParts, RuntimeTwice, Skipped, Two,
@@ -26,7 +26,7 @@ enum Fact {
     Finds(u32, u16, u16, u32),
     /// X isn't found in the first member.
     FindsNothing,
-    /// So many run-time library files are told, the last of them by this path and by LENGTH of its first segment.
+    /// This number of run-time library files is reported, the last of them by this path and by LENGTH of its first segment.
     Reports(u32, Option<(&'static [u8], u32)>),
     /// There is a fault.
     Refused(LinkCause, u32, u32, u32),
@@ -120,7 +120,7 @@ fn finds(program: &Program) -> Option<(u32, u16, u16, u32)> {
     Some((found.member, found.file, found.segment, found.at))
 }
 
-/// So many run-time library files are told, and none past them.
+/// `count` run-time library files are reported, and none past them.
 fn reports(program: &Program, count: u32, last: Option<(&[u8], u32)>) -> bool {
     if program.runtimes() != count
         || program.runtime(count).is_some()
@@ -406,7 +406,7 @@ static FAULTS: [Row; 27] = [
         ProgramForm,
         Fact::Refused(BadRuntime, 2, 1, 0),
     ),
-    // Load segments that may not stand in a run-time library file.
+    // Load segments that aren't allowed in a run-time library file.
     (
         "a static load segment",
         &[Whole(One)],
@@ -508,7 +508,7 @@ fn faults_with_runtime_library_files(rt: HostRuntime) {
     all_are_so(&rt, rt.alloc(), &FAULTS);
 }
 
-/// So many run-time library files are linked with an object file, and all are told; or they may not be given.
+/// `count` run-time library files are linked with an object file, and all are reported; or they may not be given.
 fn is_so_with(alloc: Global, count: u32, fact: &Fact) -> bool {
     let mut members = Vec::new(alloc);
     for _ in 0..count {

@@ -17,7 +17,7 @@ use std::alloc::{AllocError, Global};
 /// Where the body of a segment with a name of one letter begins.
 const BODY: &str = "38";
 
-/// A word, and what stands after the space behind it.
+/// A word, and what follows the space after it.
 fn first_word(line: &str) -> (&str, &str) {
     match line.split_once(' ') {
         Some((word, rest)) => (word, rest),
@@ -45,7 +45,7 @@ pub fn act(alloc: Global, bench: &mut Fixture, line: &str) -> Result<(), AllocEr
     }
 }
 
-/// Begins a row, whose title is told.
+/// Begins a row, whose title is printed.
 fn begin(bench: &mut Fixture, line: &str) -> Result<(), AllocError> {
     bench.begin();
     reveal(bench.out(), "")?;
@@ -127,7 +127,7 @@ fn calls_of(alloc: Global, words: &str) -> Result<Vec<u32>, AllocError> {
     Ok(calls)
 }
 
-/// Sets which calls fail, or how many of the last lines are told.
+/// Sets which calls fail, or how many of the last lines are printed.
 fn set(alloc: Global, bench: &mut Fixture, word: &str, rest: &str) -> Result<(), AllocError> {
     match word {
         "store" => bench.store = calls_of(alloc, rest)?,
@@ -137,7 +137,7 @@ fn set(alloc: Global, bench: &mut Fixture, word: &str, rest: &str) -> Result<(),
     Ok(())
 }
 
-/// Holds what stands at `out` at a path of the row.
+/// Stores the bytes at `out` at a path of the row.
 fn hold(alloc: Global, bench: &mut Fixture, path: &str) -> Result<(), AllocError> {
     let bytes = match bench.outcome.output() {
         Some(bytes) => bytes.to_vec(alloc)?,
@@ -146,7 +146,7 @@ fn hold(alloc: Global, bench: &mut Fixture, path: &str) -> Result<(), AllocError
     bench.shelf.put(alloc, path, bytes)
 }
 
-/// Does what a line says that is told itself.
+/// Prints a line, and then does what it says.
 fn do_row(
     alloc: Global,
     bench: &mut Fixture,
@@ -171,7 +171,7 @@ fn do_row(
     }
 }
 
-/// Runs words over the row's files, and tells what they did.
+/// Runs the tool with these arguments over the row's files, and prints what it did.
 fn run_list(alloc: Global, bench: &mut Fixture, words: &Vec<String>) -> Result<(), AllocError> {
     let run = run(alloc, words, bench.shelf.row(), &bench.store, &bench.sink)?;
     let lines = bench.lines;
@@ -180,7 +180,7 @@ fn run_list(alloc: Global, bench: &mut Fixture, words: &Vec<String>) -> Result<(
     Ok(())
 }
 
-/// Runs words over one file, and tells this part of what stands at `out` then, or else what was printed.
+/// Runs the tool with these arguments over one file, and prints this part of the bytes at `out` then, or else what the tool printed.
 fn run_one(
     alloc: Global,
     bench: &mut Fixture,
@@ -219,7 +219,7 @@ fn between(
     Ok(bytes)
 }
 
-/// The source that two words and what stands after them say: the file of the first word, the text, and the file of the second.
+/// The source that two words and the text after them give: the file of the first word, the text, and the file of the second.
 fn source_of(
     alloc: Global,
     bench: &Fixture,
@@ -230,14 +230,14 @@ fn source_of(
     between(alloc, &bench.shelf, front, text, following)
 }
 
-/// Assembles a source, and tells the records of its first segment.
+/// Assembles a source, and prints the records of its first segment.
 fn assemble(alloc: Global, bench: &mut Fixture, front: &str, rest: &str) -> Result<(), AllocError> {
     let source = source_of(alloc, bench, front, rest)?;
     let file = held(alloc, "src", source)?;
     run_one(alloc, bench, "asm src out", file, ("bytes", BODY))
 }
 
-/// What the tool prints for a source of one statement, which is the front and a mnemonic with an operand.
+/// What the tool prints for a source of the text `front` and one statement of a mnemonic with an operand.
 fn said_of(
     alloc: Global,
     front: &[u8],
@@ -254,8 +254,8 @@ fn said_of(
     Ok(run.text)
 }
 
-/// Assembles a mnemonic with each of several operands behind the line `START`, and tells what is printed: once for neighbours that have it in
-/// common.
+/// Assembles a mnemonic with each of several operands after the line `START`, and reports what is printed: once for neighbours that have it
+/// in common.
 fn assemble_forms(
     alloc: Global,
     bench: &mut Fixture,
@@ -274,7 +274,7 @@ fn assemble_forms(
     Ok(())
 }
 
-/// Tells what is printed from an operand on.
+/// Reports what is printed from an operand on.
 fn report_form(
     alloc: Global,
     out: &mut Vec<u8>,
@@ -322,7 +322,7 @@ fn object_of(
     Ok(object)
 }
 
-/// Links records, and tells the body of the first load segment.
+/// Links records, and prints the body of the first load segment.
 fn link_records(
     alloc: Global,
     bench: &mut Fixture,

@@ -9,7 +9,7 @@ use std::alloc::{AllocError, Global};
 /// Where the body of a load segment without a name begins.
 const LOAD_BODY: usize = 0x37;
 
-/// The bytes from a displacement on, all or so many.
+/// The bytes from a displacement on, all or a given number of them.
 fn part_of<'a>(bytes: &'a [u8], words: &str) -> Option<&'a [u8]> {
     match words.split_once(' ') {
         Some((at, count)) => {
@@ -20,7 +20,7 @@ fn part_of<'a>(bytes: &'a [u8], words: &str) -> Option<&'a [u8]> {
     }
 }
 
-/// The last bytes, so many of them.
+/// The last `count` bytes.
 fn end_of(bytes: &[u8], count: usize) -> Option<&[u8]> {
     bytes.get(bytes.len().saturating_sub(count)..)
 }
@@ -36,7 +36,7 @@ fn body_of(bytes: &[u8]) -> Option<&[u8]> {
     }
 }
 
-/// What is asked for by a word of what stands at `out`.
+/// The part that a word asks for of the bytes at `out`.
 pub fn asked<'a>(run: &'a RunOutcome, word: &str, rest: &str) -> Option<&'a [u8]> {
     let bytes = run.output()?;
     match word {
@@ -47,7 +47,7 @@ pub fn asked<'a>(run: &'a RunOutcome, word: &str, rest: &str) -> Option<&'a [u8]
     }
 }
 
-/// Tells what is asked for by a word and what stands after it.
+/// Prints what is asked for by a word and the text after it.
 pub fn ask(alloc: Global, bench: &mut Fixture, word: &str, rest: &str) -> Result<(), AllocError> {
     let mut reported = Vec::new(alloc);
     match asked(&bench.outcome, word, rest) {
@@ -57,7 +57,7 @@ pub fn ask(alloc: Global, bench: &mut Fixture, word: &str, rest: &str) -> Result
     bench.out().extend_from_slice(&reported)
 }
 
-/// Tells how many bytes are at `out`, or how often the store was read.
+/// Prints how many bytes are at `out`, or how often the store was read.
 pub fn ask_number(alloc: Global, bench: &mut Fixture, word: &str) -> Result<(), AllocError> {
     let number = match (word, bench.outcome.output()) {
         ("size", Some(bytes)) => bytes.len() as u64,

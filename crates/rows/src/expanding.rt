@@ -17,7 +17,7 @@ fn macros_of(alloc: Global, row: &[ShelfFile]) -> Result<Vec<Vec<u8>>, AllocErro
     Ok(macros)
 }
 
-/// Tells the lines.
+/// Prints the lines.
 fn report_lines(out: &mut Vec<u8>, lines: &Lines) -> Result<(), AllocError> {
     for place in 0..lines.count() {
         if let Some(line) = lines.get(place) {
@@ -29,7 +29,7 @@ fn report_lines(out: &mut Vec<u8>, lines: &Lines) -> Result<(), AllocError> {
     Ok(())
 }
 
-/// Tells the file and the number of each line.
+/// Prints the file and the number of each line.
 fn report_places(alloc: Global, out: &mut Vec<u8>, lines: &Lines) -> Result<(), AllocError> {
     for place in 0..lines.count() {
         if let Some(line) = lines.get(place) {
@@ -40,7 +40,7 @@ fn report_places(alloc: Global, out: &mut Vec<u8>, lines: &Lines) -> Result<(), 
     Ok(())
 }
 
-/// Tells of the lines what a word asks for: the lines, or only where they are from, or only that there are some.
+/// Prints of the lines what a word asks for: the lines, or only where they are from, or only that there are some.
 fn report_given(
     alloc: Global,
     out: &mut Vec<u8>,
@@ -54,7 +54,7 @@ fn report_given(
     }
 }
 
-/// Expands a source with the row's files, and tells what a word asks for, or the fault.
+/// Expands a source with the row's files, and prints what a word asks for, or the fault.
 pub fn report_expanded(
     alloc: Global,
     out: &mut Vec<u8>,

@@ -9,7 +9,7 @@ use std::alloc::{AllocError, Global};
 /// More calls than any run here makes.
 const MOST: u32 = 64;
 
-/// What stands at `out`, beside what stands there where nothing fails.
+/// Whether anything is at `out`, and how it compares with what is there where nothing fails.
 fn left_of(run: &RunOutcome, whole: &RunOutcome) -> &'static str {
     match (run.output(), whole.output()) {
         (Some(left), Some(bytes)) if left == bytes => ", all at out",
@@ -19,7 +19,7 @@ fn left_of(run: &RunOutcome, whole: &RunOutcome) -> &'static str {
     }
 }
 
-/// Tells a run in which a call was to fail.
+/// Prints a run in which a call was to fail.
 fn report_failing(
     alloc: Global,
     out: &mut Vec<u8>,
@@ -51,7 +51,7 @@ fn run_failing(
     }
 }
 
-/// Tells the runs up to the one that meets no failure.
+/// Reports the runs up to the one that meets no failure.
 fn report_all(
     alloc: Global,
     words: &Vec<String>,
@@ -70,7 +70,7 @@ fn report_all(
     Ok(reported)
 }
 
-/// Runs words while each call fails in turn: those of the store, or those of the sink.
+/// Runs the tool with these arguments while each call fails in turn: those of the store, or those of the sink.
 pub fn run_each(
     alloc: Global,
     bench: &mut Fixture,

@@ -4,7 +4,7 @@ use crate::running::RunOutcome;
 use crate::shelf::Shelf;
 use std::alloc::Global;
 
-/// The files, what is to fail, the last run, and what was told.
+/// The files, what is to fail, the last run, and what was printed.
 #[derive(Drop)]
 pub struct Fixture {
     pub shelf: Shelf,
@@ -12,11 +12,11 @@ pub struct Fixture {
     pub store: Vec<u32>,
     /// The calls of the sink that fail.
     pub sink: Vec<u32>,
-    /// How many of the last lines of a text are told; all where it is 0.
+    /// How many of the last lines of a text are printed; all where it is 0.
     pub lines: usize,
     /// What the last run left.
     pub outcome: RunOutcome,
-    /// All that was told.
+    /// All that was printed.
     reported: Vec<u8>,
 }
 
@@ -40,12 +40,12 @@ impl Fixture {
         self.lines = 0;
     }
 
-    /// Where more is told.
+    /// Where more is printed.
     pub fn out(&mut self) -> &mut Vec<u8> {
         &mut self.reported
     }
 
-    /// All that was told.
+    /// All that was printed.
     pub fn into_reported(self) -> Vec<u8> {
         self.reported
     }

@@ -15,7 +15,7 @@ fn dump(alloc: Global, bytes: Vec<u8>) -> Result<RunOutcome, AllocError> {
     run(alloc, &words_of(alloc, "dump obj")?, &row, &[], &[])
 }
 
-/// Dumps the front of a file, as it is or with its length as BYTECNT.
+/// Dumps a prefix of a file, as it is or with its length as BYTECNT.
 fn dump_front(alloc: Global, front: &[u8], counted: bool) -> Result<RunOutcome, AllocError> {
     let mut bytes = front.to_vec(alloc)?;
     if counted {
@@ -25,7 +25,7 @@ fn dump_front(alloc: Global, front: &[u8], counted: bool) -> Result<RunOutcome, 
     dump(alloc, bytes)
 }
 
-/// Tells what is printed for the front of a given number of bytes, unless it is that the file is cut there: then the answer is that.
+/// Reports what the dump prints for a prefix, unless it says only that the file is cut there. Returns whether it says that.
 fn is_cut(
     alloc: Global,
     out: &mut Vec<u8>,
@@ -43,7 +43,7 @@ fn is_cut(
     Ok(false)
 }
 
-/// Tells it of all fronts of a file from so many bytes on, and how many are cut.
+/// Reports this for all prefixes of a file of at least `from` bytes, and how many are cut.
 fn report_prefixes(
     alloc: Global,
     file: &[u8],
@@ -61,7 +61,7 @@ fn report_prefixes(
     Ok(reported)
 }
 
-/// Dumps the fronts of the file at a path: all as they are, or those with a whole header with their length as BYTECNT.
+/// Dumps the prefixes of the file at a path: all as they are, or those with a whole header with their length as BYTECNT.
 pub fn dump_fronts(
     alloc: Global,
     bench: &mut Fixture,

@@ -22,7 +22,7 @@ fn fault_in(alloc: Global, file: &[u8]) -> Option<LoadFault> {
     }
 }
 
-/// Reads the load file at a path, and tells its fault or that it has none.
+/// Reads the load file at a path, and prints its fault or that it has none.
 pub fn load(alloc: Global, bench: &mut Fixture, path: &str) -> Result<(), AllocError> {
     let file = bench.shelf.copy_of(alloc, path)?;
     let Some(fault) = fault_in(alloc, &file) else {

@@ -1,5 +1,5 @@
-//! Tests as rows: reads rows from standard input, each of files and of words of the tool, runs the tool on them over stores and sinks in
-//! memory, and prints what it did. The file `stdin` beside `src/` says how a row is written, and `stdout` is what is expected.
+//! Tests as rows: reads rows from standard input, each of files and of arguments of the tool, runs the tool on them over stores and sinks
+//! in memory, and prints what it did. The file `stdin` beside `src/` says how a row is written, and `stdout` is what is expected.
 #![tactic(auto)]
 
 mod acts;
@@ -19,7 +19,7 @@ use fixture::Fixture;
 use std::alloc::{AllocError, Global};
 use std::io::{self, Write};
 
-/// What the rows of a text tell.
+/// What the rows of a text print.
 fn reported(alloc: Global, text: &str) -> Result<Vec<u8>, AllocError> {
     let mut bench = Fixture::new(alloc);
     for line in text.split('\n') {

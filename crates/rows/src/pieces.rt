@@ -18,7 +18,7 @@ pub fn hex(text: &str) -> usize {
     }
 }
 
-/// Where a field of a segment's header stands, by its name; or a hexadecimal number.
+/// The displacement of a field of a segment's header, by its name; or a hexadecimal number.
 pub fn displacement(word: &str) -> usize {
     match word {
         "BYTECNT" => 0x00,
@@ -58,7 +58,7 @@ pub fn put_hex(out: &mut Vec<u8>, words: &str) -> Result<(), AllocError> {
     Ok(())
 }
 
-/// Appends what a letter behind `\` stands for.
+/// Appends what a letter after `\` represents.
 fn put_escaped(out: &mut Vec<u8>, letter: u8) -> Result<(), AllocError> {
     let byte = match letter {
         b'n' => b'\n',
@@ -70,7 +70,7 @@ fn put_escaped(out: &mut Vec<u8>, letter: u8) -> Result<(), AllocError> {
     Ok(())
 }
 
-/// Appends a text, in which `\n`, `\r`, `\t` and `\\` stand for what they do in programs.
+/// Appends a text, in which `\n`, `\r`, `\t` and `\\` mean what they do in programs.
 pub fn put_text(out: &mut Vec<u8>, text: &str) -> Result<(), AllocError> {
     let mut escaped = false;
     for byte in text.bytes() {
@@ -93,7 +93,7 @@ pub fn text_of(alloc: Global, text: &str) -> Result<Vec<u8>, AllocError> {
     Ok(bytes)
 }
 
-/// Appends a text so many times.
+/// Appends a text `count` times.
 pub fn put_again(
     alloc: Global,
     out: &mut Vec<u8>,
@@ -124,7 +124,7 @@ fn byte_of(word: &str, number: u32) -> u8 {
     }
 }
 
-/// Appends these bytes for each of so many numbers from 0.
+/// Appends these bytes for each of `count` numbers from 0.
 pub fn put_series(out: &mut Vec<u8>, count: u32, words: &str) -> Result<(), AllocError> {
     for number in 0..count {
         for word in words.split(' ') {

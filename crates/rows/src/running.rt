@@ -12,7 +12,7 @@ pub struct RunOutcome {
     pub status: Status,
     /// What was printed.
     pub text: Vec<u8>,
-    /// What stands at `out`.
+    /// The bytes at `out`.
     pub made: Option<Vec<u8>>,
     /// Whether the files that the store held at first are as they were.
     pub is_kept: bool,
@@ -35,7 +35,7 @@ impl RunOutcome {
         }
     }
 
-    /// What stands at `out`.
+    /// The bytes at `out`.
     pub fn output(&self) -> Option<&[u8]> {
         match &self.made {
             Some(bytes) => Some(bytes.as_slice()),
@@ -44,7 +44,7 @@ impl RunOutcome {
     }
 }
 
-/// Words with spaces between them; `''` is a word without letters.
+/// Arguments with spaces between them; `''` is an argument without letters.
 pub fn words_of(alloc: Global, words: &str) -> Result<Vec<String>, AllocError> {
     let mut list = Vec::new(alloc);
     for word in words.split(' ') {
@@ -75,7 +75,7 @@ fn holds(files: &MemoryFiles, row: &[ShelfFile]) -> bool {
     true
 }
 
-/// What stands at `out`.
+/// The bytes at `out`.
 fn made_in(alloc: Global, files: &MemoryFiles) -> Result<Option<Vec<u8>>, AllocError> {
     match files.get("out") {
         Some(bytes) => Ok(Some(bytes.to_vec(alloc)?)),
@@ -101,8 +101,8 @@ fn outcome_of(
     })
 }
 
-/// Runs the tool on words, over a store that holds these files. The calls of the store and of the sink that fail are given by their
-/// numbers.
+/// Runs the tool with these arguments, over a store that holds these files. The calls of the store and of the sink that fail are given by
+/// their numbers.
 pub fn run(
     alloc: Global,
     words: &Vec<String>,

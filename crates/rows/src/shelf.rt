@@ -34,7 +34,7 @@ impl Shelf {
         self.files.truncate(self.common);
     }
 
-    /// Puts a file behind the others, as the last of the row.
+    /// Puts a file after the others, as the last of the row.
     pub fn put(&mut self, alloc: Global, path: &str, bytes: Vec<u8>) -> Result<(), AllocError> {
         let path = String::from_str(alloc, path)?;
         self.files.push(ShelfFile { path, bytes })?;

@@ -1,4 +1,4 @@
-//! What is told of a run.
+//! What is printed of a run.
 
 use crate::running::RunOutcome;
 use std::alloc::{AllocError, Global};
@@ -6,7 +6,7 @@ use std::alloc::{AllocError, Global};
 /// How many bytes a line has.
 const WIDTH: usize = 32;
 
-/// Tells a line.
+/// Prints a line.
 pub fn reveal(out: &mut Vec<u8>, line: &str) -> Result<(), AllocError> {
     out.extend_from_slice(line.as_bytes())?;
     out.push(b'\n')?;
@@ -27,7 +27,7 @@ fn report_byte(out: &mut Vec<u8>, byte: u8) -> Result<(), AllocError> {
     Ok(())
 }
 
-/// Tells some bytes in a line.
+/// Prints some bytes in a line.
 fn report_some(out: &mut Vec<u8>, bytes: &[u8]) -> Result<(), AllocError> {
     let mut between = false;
     for byte in bytes {
@@ -41,7 +41,7 @@ fn report_some(out: &mut Vec<u8>, bytes: &[u8]) -> Result<(), AllocError> {
     Ok(())
 }
 
-/// Tells bytes in lines.
+/// Prints bytes in lines.
 pub fn report_bytes(out: &mut Vec<u8>, bytes: &[u8]) -> Result<(), AllocError> {
     for line in bytes.chunks(WIDTH) {
         report_some(out, line)?;
@@ -49,7 +49,7 @@ pub fn report_bytes(out: &mut Vec<u8>, bytes: &[u8]) -> Result<(), AllocError> {
     Ok(())
 }
 
-/// Tells a text, each line behind `|`; where the last one has no end, `~` is behind it.
+/// Prints a text, each line after `|`; where the last one has no end, `~` follows it.
 pub fn report_text(out: &mut Vec<u8>, text: &[u8]) -> Result<(), AllocError> {
     let mut begins = true;
     for byte in text {
@@ -65,7 +65,7 @@ pub fn report_text(out: &mut Vec<u8>, text: &[u8]) -> Result<(), AllocError> {
     Ok(())
 }
 
-/// The last lines of a text, so many of them.
+/// The last `count` lines of a text.
 fn last_lines(text: &[u8], count: usize) -> &[u8] {
     let mut left = count;
     let mut from = text.len();
@@ -84,7 +84,7 @@ fn last_lines(text: &[u8], count: usize) -> &[u8] {
     }
 }
 
-/// Tells how a run ended, what it printed, or of this only the last lines, and whether something stands at `out`.
+/// Prints how a run ended, what it printed, or of this only the last lines, and whether anything is at `out`.
 pub fn report_run(
     alloc: Global,
     out: &mut Vec<u8>,
@@ -101,7 +101,7 @@ pub fn report_run(
     report_left(out, run)
 }
 
-/// Tells whether something stands at `out`, and where a file changed that the store held.
+/// Prints whether anything is at `out`, and whether a file changed that the store held.
 fn report_left(out: &mut Vec<u8>, run: &RunOutcome) -> Result<(), AllocError> {
     if run.made.is_some() {
         reveal(out, "written")?;

@@ -1,4 +1,4 @@
--- How far the reader of a script has come.
+-- How far a script has been read.
 use Rattle.std.proofs.Common.{◌≡◌, ℕ, ◌+◌, List, [], ◌∷◌, ◌++◌, length, append_assoc, sym, ap, subst, ◌∙◌, arith}
 use Rattle.std.proofs.lemmas.List.{length-append, append-nil}
 use Rattle.loader_machine.specs.Commands.{Command}
@@ -8,7 +8,7 @@ use Rattle.omf_format.specs.laws.LinesLaws.{lines_of-nil}
 use Rattle.loader_machine.specs.laws.ScriptLaws.{AreGood-push, AreGood-push_skipped}
 use Rattle.script_text.specs.Lines.{HasTaken, Skipped, Gave}
 
--- so many lines were read, none is bad, they gave these commands, and this text is left
+-- `before` lines were read, none is bad, they gave these commands, and this text is left
 pub record HasCome (text rest : List ℕ) (before : ℕ) (commands : List Command) : Type 0 where
   pub done : List (List ℕ)
   pub lines : lines_of text ≡ done ++ lines_of rest

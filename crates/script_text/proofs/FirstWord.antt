@@ -24,7 +24,7 @@ words_of_only line is =
     let past : length line ≤ n = ltb-false _ _ (none_from (ltb n (length line)) n is) in
     slice_split_none is_space line (λ k d less. fails_before_first is_space line k d (omega arith))
 
--- the first word stands before the first space
+-- the first word lies before the first space
 pub words_of_first : (line : List ℕ) (i byte : ℕ) (rest : List ℕ) → position is_space line ≡ Some i → drop i line ≡ byte ∷ rest
     → words_of line ≡ take i line ∷ words_of rest
 unfolding words_of
@@ -39,7 +39,7 @@ words_of_first line i byte rest is cut =
     before : (line : List ℕ) (i d k : ℕ) → position is_space line ≡ Some i → k < i → is_space (get_or line k d) ≡ false
     before line i d k is less = (position-Some is_space line i d is).2 k less
 
--- something stands from the first space on
+-- a line isn't empty from the first space on
 pub words_of_past : (line : List ℕ) (i : ℕ) → position is_space line ≡ Some i → drop i line ≡ [] → words_of line ≡ take i line ∷ []
 words_of_past line i is cut =
     let found = position-Some is_space line i 0 is in

@@ -1,4 +1,4 @@
--- Laws of scripts, in their own words.
+-- Laws of scripts, in their own terms.
 use Rattle.std.specs.Prelude.{◌≡◌, ℕ, true, false, List, [], ◌∷◌, ◌++◌, slice_index, ◌==◌}
 use Rattle.std.specs.List.{AllByRecursion, join_with_byte}
 use Rattle.loader_machine.specs.declared.script.ScriptCause.{ScriptCause}
@@ -7,15 +7,15 @@ use Rattle.omf_format.specs.Lines.{lines_of}
 use Rattle.loader_machine.specs.Script.{words_of, IsScript, IsFirstBadLine, AreCommands}
 use Rattle.omf_format.specs.Lines.{HasNoEnd}
 
--- bytes without LF and CR, and then LF, are a line; the lines behind are those of the rest
+-- bytes without LF and CR, and then LF, are a line; the lines after it are those of the rest
 abbrev pub LfEndsLine : Type 0
 LfEndsLine = (line following : List ℕ) → HasNoEnd line → lines_of (line ++ 0x0A ∷ following) ≡ line ∷ lines_of following
 
--- the same before CR LF
+-- such bytes before CR LF are a line too
 abbrev pub CrLfEndsLine : Type 0
 CrLfEndsLine = (line following : List ℕ) → HasNoEnd line → lines_of (line ++ 0x0D ∷ 0x0A ∷ following) ≡ line ∷ lines_of following
 
--- and before CR, where no LF comes next
+-- and before CR, where no LF follows
 abbrev pub CrEndsLine : Type 0
 CrEndsLine = (line following : List ℕ) → HasNoEnd line → (slice_index following 0 == 0x0A) ≡ false
     → lines_of (line ++ 0x0D ∷ following) ≡ line ∷ lines_of following

@@ -5,7 +5,7 @@ use Rattle.loader_machine.specs.declared.script.ScriptCause.TheVariants.{TooMany
 use Rattle.loader_machine.specs.Commands.{Command}
 use Rattle.loader_machine.specs.Script.{most_lines, is_skipped, line_command, is_start, IsBad}
 
--- the line, behind so many others, is skipped, or gives the command at the end
+-- the line, after `before` others, is skipped, or gives the command at the end
 pub data HasTaken (before : ℕ) (line : List ℕ) (old new : List Command) : Type 0 where
   Skipped : before < most_lines → is_skipped line ≡ true → new ≡ old → HasTaken before line old new
   Gave : before < most_lines → is_skipped line ≡ false → (command : Command) → line_command (is_start old) line ≡ Ok command

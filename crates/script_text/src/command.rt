@@ -100,7 +100,7 @@ pub enum Command {
     Where {
         address: u32,
     },
-    /// A user's segment to be told of.
+    /// A user's segment to be reported.
     Info {
         user: u16,
         segment: u16,
@@ -127,7 +127,7 @@ pub enum Command {
         handle: Handle,
         level: u8,
     },
-    /// A handle's block to be told of.
+    /// A handle's block to be reported.
     Handle {
         handle: Handle,
     },

@@ -508,7 +508,7 @@ fn compact(words: &mut Words) -> Result<Command, ScriptCause>
     }
 }
 
-/// The command that the words behind its name give.
+/// The command that the words after its name give.
 #[tactic(auto, unfolding(loader_machine::specs::Script::words_command))]
 fn words_command(
     alloc: Global,
@@ -617,7 +617,7 @@ fn command_by_name(word: &[u8]) -> Option<CommandName>
     None
 }
 
-/// Whether the command may stand where it does: `banks` is the first one and no later one.
+/// Whether the command may be where it is: `banks` is the first one and no later one.
 fn is_in_turn(name: CommandName, is_first: bool) -> bool
     ensures { result ≡ is_in_turn name is_first }
 {

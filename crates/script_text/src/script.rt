@@ -69,7 +69,7 @@ fn is_start(commands: &[Command]) -> bool
     }
 }
 
-/// Reads one more line, behind so many others.
+/// Reads one more line, after `before` others.
 fn take_line(
     alloc: Global,
     line: &[u8],
@@ -91,7 +91,7 @@ fn take_line(
     Ok(())
 }
 
-/// The fault of a line. Want of memory has line 0.
+/// The fault of a line. For lack of memory the line is 0.
 fn fault_of(cause: ScriptCause, line: u32) -> ScriptFault
     ensures cause { result.cause ≡ cause }
     ensures line { result.line ≡ line_for cause line }

@@ -23,14 +23,14 @@ impl<'a> Model for Words<'a> {
     ghost view = { λ words. words_left words.more words.rest.now };
 }
 
-/// Where the first space stands.
+/// Where the first space is.
 fn first_space(line: &[u8]) -> Option<usize>
     ensures { result ≡ position (λ byte. byte == 0x20) line.now }
 {
     line.iter().position(|byte| *byte == b' ')
 }
 
-/// The first word, and what stands after the space after it, if there is one.
+/// The first word, and what follows the space after it, if there is one.
 #[tactic(auto, using(crate::proofs::FirstWord::words_of_only, crate::proofs::FirstWord::words_of_first, crate::proofs::FirstWord::words_of_past))]
 fn split_word(line: &[u8]) -> (&[u8], Option<&[u8]>)
     ensures { words_of line.now ≡ result.0.now ∷ option_map_or (λ rest. words_of rest.now) result.1 [] }

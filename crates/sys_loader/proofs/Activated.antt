@@ -92,9 +92,9 @@ live_there slots h block live is = go block.at block.locked (sym (ap (lies_in h)
     go (Some a) true e = cc
     go (Some a) false e = cc
 
--- ---- over files that are told
+-- ---- over revealed files
 
--- a segment is made active as by the machine; or the read failed, or memory ran out, and all agrees as before
+-- a segment is made active as by the machine; or the read failed, or the call was out of memory, and all agrees as before
 abbrev pub IsMet : FileMap → Machine → ℕ → ℕ → (ℕ → Reply) → Bool → Reply → Loaded → ℕ → ℕ → Type 0
 IsMet held state id number of reads reply new before now =
     ((next : Machine) × MakesActive RoomRule held state id number of reply next × Agrees held new next × (now ≡ before))
@@ -164,7 +164,7 @@ module _ (held : FileMap) (old : Loaded) (state : Machine) (id number : ℕ) (so
         refl,
       )
 
-  -- ---- it comes
+  -- ---- it is placed
 
   plain : is_table head ≡ false
   plain = dynamic_plain is.does_agree.holds.file is.does_agree.segments is.does_agree.holds.loadable number head (ap (λ (hs : List SegmentHead). at_number hs number) (sym is.does_agree.heads) ∙ can.head') can.dynamic
@@ -238,7 +238,7 @@ module _ (held : FileMap) (old : Loaded) (state : Machine) (id number : ℕ) (so
           subst (λ (x : Slots). (puts' : PutsAnew RoomRule b x h (want_of head) last) × (puts'.address ≡ address)) es
           (subst (λ (x : List ℕ). (puts' : PutsAnew RoomRule x old.memory.slots h (want_of head) last) × (puts'.address ≡ address)) eb (puts, at))
 
-  -- ---- it doesn't come
+  -- ---- it isn't placed
 
   refused_first : (why : LoaderFault) (now : ℕ) (of : ℕ → Reply) → handle ≡ None → IsBringRefusal old.memory head handle number why → IsMet held state id number of true (Refused why) old now now
   refused_first why now of none is_refused =

@@ -118,7 +118,7 @@ kept_started user load path hs ids same handles path_is runs attached =
     ∙ ap (λ (gs : List SegmentHead). made path Running (spread_handles load hs) gs user.attached.items) same
     ∙ ap (made path Running (spread_handles load hs) (map head_of load)) attached
 
--- ---- users that are put behind others one by one
+-- ---- users that are put after others one by one
 
 pub none_left : {X : Type 0} (xs : List X) → length xs ≡ 0 → xs ≡ []
 none_left [] e = refl

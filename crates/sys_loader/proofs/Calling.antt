@@ -1,4 +1,4 @@
--- A JSL in memory to an entry of a jump table: the four bytes that stand there, and what comes of following them.
+-- A JSL in memory to an entry of a jump table: its four bytes, and the outcome of following them.
 use Rattle.std.proofs.Common.{◌≡◌, inl, inr, ℕ, Bool, true, false, ◌+◌, ◌^◌, ◌<◌, ◌≤◌, List, take, drop, Option, Some, None, Result, Ok, Err, nat_le, refl, sym, ap, subst, ◌∙◌, arith}
 use Rattle.std.specs.Prelude.{slice_get, slice_index}
 use Rattle.std.proofs.lemmas.Option.{same_Some, slice_get_within, get_or_from_slice_get}
@@ -50,7 +50,7 @@ first_in bytes at b is =
     let same : at + 0 ≡ at = omega arith in
     get_or_from_slice_get (take 4 (drop at bytes)) 0 b 0 (get_in bytes at 0 b (omega arith) (ap (slice_get bytes) same ∙ is))
 
--- the number behind the first of four bytes
+-- the number after the first of four bytes
 number_in : (bytes : List ℕ) (at a b c : ℕ) → slice_get bytes (at + 1 + 0) ≡ Some a → slice_get bytes (at + 1 + 1) ≡ Some b → slice_get bytes (at + 1 + 2) ≡ Some c
     → number_at 3 1 (take 4 (drop at bytes)) ≡ number_at 3 (at + 1) bytes
 number_in bytes at a b c one two three =
@@ -152,7 +152,7 @@ module _ (held : FileMap) (loader : Loaded) (state : Machine) (agrees : Agrees h
   lies : Steps RoomRule held state (Where (address_of four)) (Lies id call.table (entry_place call.k)) state
   lies = (In id call.table (entry_place call.k), at_code, refl, refl)
 
-  -- ---- what comes of them
+  -- ---- the outcome of following them
 
   answers_enter : (other : ℕ) → named_by (outlines state.users) id t.file ≡ Some other → (outcome : Activation) (result : Result answers.Entered LoaderFault) (next : Machine)
       → Answers state t.segment outcome (λ address. Entered other t.segment t.offset (address + t.offset)) (jsl_reply result) next → EntersTarget state id t result

@@ -1,4 +1,4 @@
--- A loader after a dynamic segment of its file has come.
+-- A loader after a dynamic segment of its file was placed.
 use Rattle.std.proofs.Common.{◌≡◌, ◌≢◌, inl, inr, ℕ, true, false, ◌+◌, ◌-◌, List, map, Option, Some, None, refl, sym, ap, subst, ◌∙◌}
 use Rattle.std.specs.Prelude.{slice_get}
 use Rattle.std.proofs.lemmas.Option.{same_Some}

@@ -119,7 +119,7 @@ module _ (f : Block → Block) (again : (b : Block) → f (f b) ≡ f b) where
       → (was : Block) × (block_in (slot_at slots n) ≡ Some was) × (was.user ≡ b.user)
   all_in user slots handles n b is = all_kept (λ (x : Block). x.user) user slots handles n b is
 
-  -- two lists of handles, one behind the other
+  -- two lists of handles, one after the other
   pub all_join : (slots : Slots) (xs ys : List (Option Handle)) → changed_all f slots (xs ++ ys) ≡ changed_all f (changed_all f slots xs) ys
   all_join slots [] ys = refl
   all_join slots (None ∷ xs) ys = all_join slots xs ys

@@ -569,7 +569,7 @@ module _ (old new : Loaded) (id number owner file : ℕ) (kept lead : LoadedUser
         go (Its same' one none) = none id f found
         go (Holder above ne there empty only) = let clash : None ≡ Some id = sym (empty f) ∙ found in cc
 
-    -- what stands in it depends on no attached user, since it is no table
+    -- its content depends on no attached user, since it is no table
     stands_now : (s : Segment) → segment_at is.does_agree.segments number ≡ Some s → IsFront (stands (setting_with (far_in new id) id new.memory.slots come.handles) no_pokes s) content
     stands_now s found =
         let same' : head_of s ≡ head = same_Some (head_of s) head (sym (heads_at number s found) ∙ head') in

@@ -149,7 +149,7 @@ module _ (handles : List (Option Handle)) (k : ℕ) (o : Option Handle) (found :
             subst (λ (x : Option ℕ). IsSome x) its there
       ]
 
--- ---- two lists of segments, one behind the other
+-- ---- two lists of segments, one after the other
 
 was_at : (old new : Memory) (handles : List (Option Handle)) → new.slots ≡ changed_all let_go old.slots handles → (place : ℕ) → IsThere new place → IsThere old place
 was_at old new handles same place there = go (block_in (slot_at new.slots place)) refl there

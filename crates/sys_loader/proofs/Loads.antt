@@ -35,7 +35,7 @@ cant_load : (made : ℕ) → max_users ≤ made → load_refusal made ≡ Some f
 unfolding load_refusal
 cant_load made full = let t : nat_lt made max_users ≡ false = grind (arith, nat_tests) in rw t refl
 
--- so many users more may be made, or may not
+-- one user more, and one for each row, may be made, or may not
 can_join : (made rows : ℕ) → made + 1 + rows ≤ max_users → rows_refusal made rows ≡ None
 unfolding rows_refusal
 can_join made rows few = let test : nat_le (made + 1 + rows) max_users ≡ true = grind arith in rw test refl
@@ -57,7 +57,7 @@ absent held path file none holds = let clash : None ≡ Some file = sym none ∙
 too_long : (held : FileMap) (path file : List ℕ) → IsSomeAnd (get held path) (λ bytes. max_file < length bytes) → HoldsFile held path file → ⊥
 too_long held path file long holds = let more : max_file < length file = rw holds.0 at long in omega (arith, more, holds.1)
 
--- what comes of reading the files of rows, where files are told: what the machine says; or the last couldn't be read
+-- the outcome of reading the files of rows, where files are revealed: what the machine says; or the last couldn't be read
 RowsReported : FileMap → List (List ℕ) → ℕ → ℕ → Joined → Type 0
 RowsReported held paths before now joined = (AreJoined held paths joined × (now ≡ before))
     ⊎ ((reads : ℕ) × (joined ≡ Stops reads fault.CannotRead) × (now ≡ one_more before) × (reads ≤ length paths))
@@ -100,7 +100,7 @@ module _ (held : FileMap) (old : Loaded) (state : Machine) (path : List ℕ) (ag
   some_needed : length old.users < max_users → (reads : ℕ) → 1 ≤ reads → reads ≤ 17 → now.asked ≡ saturating_sum reads before.asked → ReadsNeeded held state (Load path) 1 before.asked now.asked
   some_needed few reads one most count = (reads, (path ∷ [], first few, inr (omega (arith, one), omega (arith, most), omega arith)), count)
 
-  -- the file is found, and no row behind it
+  -- the file is found, and no row after it
   found_needed : length old.users < max_users → (found : FileFound) → IsFound held path found → rows_of state found ≡ [] → (reads : ℕ) → reads ≡ 1 → now.asked ≡ saturating_sum reads before.asked
       → ReadsNeeded held state (Load path) 0 before.asked now.asked
   found_needed few found is none reads one count = needed few [] 0 (inl (may few, found, is, sym none, Joins [], refl, refl)) reads (omega (arith, one)) count

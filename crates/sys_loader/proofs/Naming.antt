@@ -1,4 +1,4 @@
--- Three bytes that name a place: the number that stands there, and what is found at it.
+-- Three bytes that name a place: the number that they hold, and what is found at it.
 use Rattle.std.proofs.Common.{◌≡◌, ◌⊎◌, inl, inr, ℕ, zero, suc, Bool, true, false, cond, ◌+◌, ◌*◌, ◌/◌, ◌%◌, ◌^◌, ◌<◌, ◌≤◌, ◌==◌, List, [], ◌∷◌, ◌++◌, map, take, drop, All, get_or, Option, Some, None, IsSomeAnd, refl, sym, ap, subst, ◌∙◌, arith}
 use Rattle.std.specs.Prelude.{pos, slice_get, option_map, unwrap_or, MatchOption}
 use Rattle.std.specs.FinMap.{get}
@@ -122,7 +122,7 @@ plain_bytes : (at : AddressSetting) (s : Segment) → is_table s ≡ false → r
 unfolding read_bytes
 plain_bytes at s is = ap (λ (b : Bool). cond b (entries_bytes at (targets_of s)) (map (byte_of at.place) (cells s))) is
 
--- the byte of a cell stands where nothing was written
+-- the content has the byte of a cell where nothing was written
 pub cell_stands : (where' : AddressSetting) (pokes : Pokes) (s : Segment) (at : ℕ) (c : Cell) → is_table s ≡ false → slice_get (cells s) at ≡ Some c → get pokes at ≡ None
     → slice_get (stands where' pokes s) at ≡ Some (byte_of where'.place c)
 unfolding stands with_pokes

@@ -33,14 +33,14 @@ use Rattle.sys_loader.proofs.Followed as followed
 
 -- ---- one path, or none
 
--- so many paths, by whether the call is refused, and whether it reads
+-- the count of reads is one more for each path, by whether the call is refused, and whether it reads
 counted : (r : Refuse) (b : Bool) (path : List ℕ) (before now : ℕ) → (r ≡ None → b ≡ true → now ≡ one_more before) → (b ≡ false → now ≡ before) → (IsSome r → now ≡ before)
     → now ≡ saturating_sum (length (path_if r b path)) before
 counted (Some why) b path before now asked unasked refused = refused refl
 counted None true path before now asked unasked refused = asked refl refl
 counted None false path before now asked unasked refused = unasked refl
 
--- no file is read behind the first, where all reads are made
+-- no file is read after the first, where all reads are made
 abbrev Alone : ℕ → ℕ → Type 0
 Alone count reads = (◌≡◌ {A = ℕ} 0 0 × (rows : List (List ℕ)) × (following : ℕ) × ((rows ≡ []) × (following ≡ 0)) × (reads ≡ count + following))
     ⊎ ((count ≤ reads) × (reads ≤ 17 * count) × (count ≤ 0))

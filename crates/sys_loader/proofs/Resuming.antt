@@ -526,7 +526,7 @@ module _ (old new : Loaded) (id : ℕ) (kept : LoadedUser) (started : Started) (
     far_both : (file m : ℕ) → 2 ≤ file → a.target file m ≡ b.target file m
     far_both file m above = let other : (file == 1) ≡ false = grind arith in rw other (its_far file m)
 
-    -- a fresh segment stands where no attached segment is active
+    -- a fresh segment's content is the same where no attached segment is active
     alone_stands : (n : ℕ) (s : Segment) → segment_at is.does_agree.segments n ≡ Some s → stands (setting id old.memory.slots kept.handles) no_pokes s ≡ stands a no_pokes s
     alone_stands n s found =
         let front : AreAlike is.does_agree.segments n s (setting id old.memory.slots kept.handles) a = record {

@@ -60,7 +60,7 @@ IsBringRefusal memory head None number why = ((why ≡ fault.NoHandle) × (new_h
     ⊎ ((why ≡ fault.NoRoom number) × IsSome (new_handle memory.slots) × LacksRoom RoomRule memory.banks memory.slots (want_of head))
 IsBringRefusal memory head (Some h) number why = (why ≡ fault.NoRoom number) × LacksRoom RoomRule memory.banks memory.slots (want_of head)
 
--- The block of a segment of these is placed and begins with what stands in it, and the entries for it in the tables of the user that
+-- The block of one of these segments is placed and begins with the segment's content, and the entries for it in the tables of the user that
 -- leads to it follow, by file and number; nothing else is written.
 pub record HasCome (old : Loaded) (id number : ℕ) (kept : LoadedUser) (head : SegmentHead) (handle : Option Handle) (segments : List Segment) (address : ℕ) (new : Loaded) : Type 0 where
   pub h : Handle
@@ -75,26 +75,27 @@ pub record HasCome (old : Loaded) (id number : ℕ) (kept : LoadedUser) (head : 
       (length lead.heads)
   pub users : new.users ≡ with_user old.users id (Some (with_handle kept number h))
 
--- why a segment of a file that was read doesn't come: the file isn't loaded, or not the one that was loaded, or there is no handle or
--- room; or memory ran out
+-- why a segment of a file that was read isn't placed: the file isn't loaded, or not the one that was loaded, or there is no handle or room;
+-- or the call is out of memory
 abbrev pub IsComeRefusal : List ℕ → Loaded → ℕ → ℕ → LoadedUser → SegmentHead → Option Handle → LoaderFault → Type 0
 IsComeRefusal file old id number kept head handle why = IsBadFile (is_attached (kept_outlines old.users) id) file why
     ⊎ ((segments : List Segment) × IsReadAs (is_attached (kept_outlines old.users) id) file segments × (IsChanged kept.heads (map head_of segments) why
     ⊎ ((map head_of segments ≡ kept.heads) × IsBringRefusal old.memory head handle number why)))
 
--- a segment of a file that was read has come
+-- a segment of a file that was read is placed
 abbrev pub HasComeFrom : List ℕ → Loaded → ℕ → ℕ → LoadedUser → SegmentHead → Option Handle → ℕ → Loaded → Type 0
 HasComeFrom file old id number kept head handle address new =
     (segments : List Segment) × IsReadAs (is_attached (kept_outlines old.users) id) file segments × (map head_of segments ≡ kept.heads) × HasCome old id number kept head handle segments address new
 
--- why a segment of the file at a user's path doesn't come: the read is refused, memory ran out, or the file that was read gives none
+-- why a segment of the file at a user's path isn't placed: the read is refused, the call is out of memory, or the file that was read gives
+-- none
 pub data IsReadRefusal (held : Option FileMap) (old : Loaded) (id number : ℕ) (kept : LoadedUser) (head : SegmentHead) (handle : Option Handle) (before now : ℕ) (why : LoaderFault) : Type 0 where
   CantRead : IsUnread held kept.path before now → why ≡ fault.CannotRead → IsReadRefusal held old id number kept head handle before now why
   LacksMemory : why ≡ fault.Memory → now ≡ before → IsReadRefusal held old id number kept head handle before now why
   CantCome : (file : List ℕ) → IsRead held kept.path file → IsComeRefusal file old id number kept head handle why → now ≡ before
       → IsReadRefusal held old id number kept head handle before now why
 
--- what came of reading the file at a user's path: its segment has come, or none has and all stays
+-- the outcome of reading the file at a user's path: its segment is placed, or none is and all stays
 abbrev pub DidCome : Option FileMap → Loaded → ℕ → ℕ → LoadedUser → SegmentHead → Option Handle → Result ℕ LoaderFault → Loaded → ℕ → ℕ → Type 0
 DidCome held old id number kept head handle (Ok address) new before now =
     ((file : List ℕ) × IsRead held kept.path file × HasComeFrom file old id number kept head handle address new) × (now ≡ before)
@@ -106,7 +107,7 @@ DidCome held old id number kept head handle (Err why) new before now = IsReadRef
 abbrev pub segment_reads : Loaded → ℕ → ℕ → Bool
 segment_reads loader id number = option_map_or (λ kept. is_read (presence_at loader.memory.slots kept.handles number)) (user_of loader.users id) false
 
--- what came of a segment that can be made active, by where it is: nothing is done, it wakes, or it comes
+-- the outcome for a segment that can be made active, by where it is: nothing is done, it wakes, or it is placed
 abbrev pub HasActivated : Option FileMap → Loaded → ℕ → ℕ → LoadedUser → SegmentHead → Option Handle → Presence → Result ℕ LoaderFault → Loaded → ℕ → ℕ → Type 0
 HasActivated held old id number kept head handle (Active h at) result new before now = (result ≡ Ok at) × (new ≡ old) × (now ≡ before)
 HasActivated held old id number kept head handle (Idle h at) result new before now =

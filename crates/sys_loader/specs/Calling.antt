@@ -1,4 +1,4 @@
--- A JSL in memory that leads to an entry of a jump table, and what comes of following it.
+-- A JSL in memory that leads to an entry of a jump table, and the outcome of following it.
 use Rattle.std.specs.Prelude.{◌≡◌, ◌⊎◌, ℕ, ◌+◌, true, false, Some, None, slice_get, Result, Ok, Err}
 use Rattle.std.specs.FinMap.{get}
 use Rattle.omf_format.specs.Header.{is_skipped}
@@ -26,7 +26,7 @@ pub record HasCall (held : FileMap) (state : Machine) (id number at : ℕ) (targ
   pub entry : slice_get (targets_of address.t) k ≡ Some target
 
 -- The target's segment, of the user that the target names, is entered at the target's offset; or its file can't be read, or there is no
--- handle or no room for it, or memory ran out.
+-- handle or no room for it, or the call is out of memory.
 abbrev pub EntersTarget : Machine → ℕ → Target → Result Entered LoaderFault → Type 0
 EntersTarget state id target (Ok place) =
     (named_by (outlines state.users) id target.file ≡ Some place.user) × (place.segment ≡ target.segment) × (place.offset ≡ target.offset)

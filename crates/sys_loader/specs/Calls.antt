@@ -1,4 +1,4 @@
--- What a load does, whether the store tells its files or not.
+-- What a load does, whether the store reveals its files or not.
 use Rattle.std.specs.Prelude.{◌≡◌, ◌≢◌, ◌⊎◌, ℕ, ◌+◌, ◌^◌, ◌<◌, ◌≤◌, List, [], ◌∷◌, length, map, Option, Some, None, Result, Ok, Err, slice_get}
 use Rattle.omf_format.specs.File.{Segment, segment_at}
 use Rattle.omf_io.specs.Counts.{IsFront, saturating_sum}
@@ -36,7 +36,7 @@ IsBeginRefusal memory id heads why =
 
 -- ---- the files of rows
 
--- What comes of reading the files of these rows, one by one: the call stops at a read that is refused, or at a file that is no run-time
+-- The outcome of reading the files of these rows, one by one: the call stops at a read that is refused, or at a file that is no run-time
 -- library file; or all are. The count of the store's faults rises only with a read that is refused.
 abbrev pub AreRowsRead : Option FileMap → List (List ℕ) → ℕ → ℕ → Joined → Type 0
 AreRowsRead held [] before now joined = (joined ≡ Joins []) × (now ≡ before)
@@ -64,7 +64,7 @@ pub record HasStarted (held : Option FileMap) (old : Loaded) (path : List ℕ) (
   pub rows' : rows ≡ length all
 
 -- Why a program of a load file of these segments doesn't begin: there are too many rows; the reads of their files stop; an entry of the
--- table leads nowhere; or there are too few slots, or no room. Or memory ran out. The files of so many rows were read.
+-- table leads nowhere; or there are too few slots, or no room. Or the call is out of memory. The files of `rows` rows were read.
 pub data IsRowsRefusal (held : Option FileMap) (old : Loaded) (segments : List Segment) (before now rows : ℕ) (why : LoaderFault) : Type 0 where
   IsCrowded : max_users < length old.users + 1 + length (paths_of segments) → why ≡ fault.TooManyUsers → now ≡ before → rows ≡ 0
       → IsRowsRefusal held old segments before now rows why
@@ -77,8 +77,8 @@ pub data IsRowsRefusal (held : Option FileMap) (old : Loaded) (segments : List S
       → rows ≡ length all → IsRowsRefusal held old segments before now rows why
   RowsLackMemory : why ≡ fault.Memory → now ≡ before → rows ≤ most_paths → IsRowsRefusal held old segments before now rows why
 
--- Why a load refuses: 255 users were made; the read of the file is refused; it is no load file; or its program doesn't begin. Or memory
--- ran out. So many files were read.
+-- Why a load refuses: 255 users were made; the read of the file is refused; it is no load file; or its program doesn't begin. Or the call
+-- is out of memory. `reads` files were read.
 pub data IsLoadRefusal (held : Option FileMap) (old : Loaded) (path : List ℕ) (before now reads : ℕ) (why : LoaderFault) : Type 0 where
   IsFull : max_users ≤ length old.users → why ≡ fault.TooManyUsers → now ≡ before → reads ≡ 0 → IsLoadRefusal held old path before now reads why
   CantRead : length old.users < max_users → IsUnread held path before now → why ≡ fault.CannotRead → reads ≡ 1 → IsLoadRefusal held old path before now reads why
@@ -125,7 +125,7 @@ pub record AreJoinedUsers (paths : List (List ℕ)) (all : List (List Segment)) 
   pub runtimes : (j : ℕ) (other : List Segment) → slice_get all j ≡ Some other → (file : List ℕ) × IsRuntime file other
   pub users' : map (λ k. Some k) users ≡ joined_kepts paths all
 
--- the reads of the files of rows stop, or memory ran out
+-- the reads of the files of rows stop, or the call is out of memory
 abbrev pub RowsStop : Option FileMap → List (List ℕ) → StoreSeen → StoreSeen → LoaderFault → Type 0
 RowsStop held paths before now why =
     ((rows : ℕ) × AreRowsRead held paths before.faults now.faults (Stops rows why) × (now.asked ≡ saturating_sum rows before.asked))

@@ -26,7 +26,7 @@ abbrev pub jsl_reply : Result Entered LoaderFault → Reply
 jsl_reply (Ok place) = commands.Entered place.user place.segment place.offset place.address
 jsl_reply (Err why) = Refused why
 
--- a JSL to an address stands at an offset of an active segment
+-- a JSL to an address is at an offset of an active segment
 pub record HasJsl (loader : Loaded) (id number at address : ℕ) : Type 0 where
   pub bytes : List ℕ
   pub borrowed : HasBorrowed loader id number at 4 bytes
@@ -38,7 +38,7 @@ pub record LeadsTo (loader : Loaded) (id number at : ℕ) (place : Entered) : Ty
   pub call : HasJsl loader id number at place.address
   pub lies : LiesIn loader place.address place.user place.segment place.offset
 
--- the place is the code of an entry of a jump table, in which this target stands
+-- the place is the code of an entry of a jump table, and the entry holds this target
 pub record IsEntry (loader : Loaded) (place : Entered) (t : Target) : Type 0 where
   pub lies : LiesIn loader place.address place.user place.segment place.offset
   pub table : is_table lies.is.head ≡ true

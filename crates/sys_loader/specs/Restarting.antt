@@ -52,7 +52,7 @@ IsOtherFile users kept segments why = (lost_refusal (kept_heads users kept.attac
 
 -- ---- in place
 
--- The blocks of the segments that are read again begin with what stands in these, without pokes; nothing else is written.
+-- The blocks of the segments that are read again begin with the content of these segments, without pokes; nothing else is written.
 pub record AreReread (segments : List Segment) (id : ℕ) (kept : LoadedUser) (old new : Memory) : Type 0 where
   pub banks : new.banks ≡ old.banks
   pub slots : new.slots ≡ old.slots
@@ -94,8 +94,8 @@ pub data HasRestarted (held : Option FileMap) (old : Loaded) (id : ℕ) (kept : 
   Anew : is_whole old kept ≡ false → (file : List ℕ) → IsRead held kept.path file → (segments : List Segment) → IsLoadable file segments
       → lost_refusal (kept_heads old.users kept.attached) segments ≡ None → map head_of segments ≡ kept.heads → HasBegunAnew old id kept segments started new → HasRestarted held old id kept started new
 
--- why a file that was read restarts no program: it isn't loaded, or not the one that was loaded before; or its static segments lack
--- slots or room once all handles of the user are released; or memory ran out
+-- why a file that was read restarts no program: it isn't loaded, or not the one that was loaded before; or its static segments lack slots
+-- or room once all handles of the user are released; or the call is out of memory
 abbrev pub IsAgainRefusal : List ℕ → Loaded → ℕ → LoadedUser → LoaderFault → Type 0
 IsAgainRefusal file old id kept why = IsBadFile false file why
     ⊎ ((segments : List Segment) × IsLoadable file segments × (IsOtherFile old.users kept segments why

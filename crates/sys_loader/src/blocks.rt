@@ -248,7 +248,7 @@ impl Loader {
         self.set_level(h, n)
     }
 
-    /// What is told of a handle's block, whether it is there or was purged.
+    /// The state of a handle's block, whether it is there or was purged.
     pub fn handle(&self, h: Handle) -> Result<BlockState, LoaderFault>
         // Over files with which the loader agrees, it is the machine's step.
         ensures meets { (held : FileMap) (state : Machine) → Agrees held self.now state → Met RoomRule held state (StateOf h) (state_reply result) self.now }

@@ -183,7 +183,7 @@ impl Loader {
         Ok(address)
     }
 
-    // A segment of a file that was read comes.
+    // A segment of a file that was read is placed.
     fn load_from(
         &mut self,
         file: &[u8],
@@ -208,7 +208,7 @@ impl Loader {
         self.place_and_fill(&load, places, user, number, segment)
     }
 
-    // The file at the user's path is read, and a segment of it comes.
+    // The file at the user's path is read, and a segment of it is placed.
     fn read_and_load<F: Files>(
         &mut self,
         files: &mut F,
@@ -262,10 +262,10 @@ impl Loader {
         }
     }
 
-    /// Makes a dynamic segment of a user that runs active, and tells its address. An idle one becomes active as it is, with its
-    /// pokes; one that isn't there is read again from the file at the user's path, which must be the one that was loaded, and
-    /// placed. The entries for it, of the user's jump table or of that of the user to which it is attached, lead to it then. An active or
-    /// idle segment takes no memory.
+    /// Makes a dynamic segment of a user that runs active, and returns its address. An idle one becomes active as it is, with its pokes;
+    /// one that isn't there is read again from the file at the user's path, which must be the one that was loaded, and placed. The entries
+    /// for it, of the user's jump table or of that of the user to which it is attached, lead to it then. An active or idle segment takes no
+    /// memory.
     pub fn load_segment<F: Files>(
         &mut self,
         files: &mut F,
@@ -281,7 +281,7 @@ impl Loader {
         ensures unasked { segment_reads self.old user segment ≡ false → (F.seen files.new).asked ≡ (F.seen files.old).asked }
         ensures refused_unasked { IsSome (load_segment_refusal (seen_by self.old user) segment) → (F.seen files.new).asked ≡ (F.seen files.old).asked }
 
-        // Over files that are told, and with which the loader agrees, it is the machine's step, and reads what that needs.
+        // Where the store reveals its files, and the loader agrees with them, it is the machine's step, and reads what that needs.
         ensures meets { (held : FileMap) (state : Machine) → (F.seen files.old).held ≡ Some held → Agrees held self.old state
             → Meets RoomRule held state (LoadSegment user segment) (activation_reply (MadeActive segment) result) self.new (F.seen files.old).faults (F.seen files.new).faults }
         ensures needed { (held : FileMap) (state : Machine) → (F.seen files.old).held ≡ Some held → Agrees held self.old state

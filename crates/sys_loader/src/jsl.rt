@@ -221,7 +221,7 @@ impl Loader {
         // The file of the user that the entry names is read once where the entry's segment isn't there, and else not at all.
         ensures asked { HasAsked self.old user segment at (F.seen files.old).asked (F.seen files.new).asked }
 
-        // Over files that are told, and with which the loader agrees, it is the machine's step, and reads what that needs.
+        // Where the store reveals its files, and the loader agrees with them, it is the machine's step, and reads what that needs.
         ensures meets { (held : FileMap) (state : Machine) → (F.seen files.old).held ≡ Some held → Agrees held self.old state
             → Meets RoomRule held state (commands.Jsl user segment at) (jsl_reply result) self.new (F.seen files.old).faults (F.seen files.new).faults }
         ensures needed { (held : FileMap) (state : Machine) → (F.seen files.old).held ≡ Some held → Agrees held self.old state

@@ -167,7 +167,7 @@ fn join_all<F: Files>(
     Ok(users)
 }
 
-/// So many IDs from one on.
+/// `count` IDs, from one on.
 fn ids_from(alloc: Global, id: u16, count: usize) -> Result<Vec<u16>, AllocError>
     requires { id + count < 2 ^ 16 }
     ensures { IfOk result (λ ids. ids.items ≡ state.ids_from id count) }
@@ -179,7 +179,7 @@ fn ids_from(alloc: Global, id: u16, count: usize) -> Result<Vec<u16>, AllocError
     Ok(ids)
 }
 
-/// Users that are put behind others, for which there is room.
+/// Users that are put after others, for which there is room.
 fn push_all(users: &mut Vec<Option<User>>, joined: Vec<User>)
     requires { length users.old.items + length joined.items ≤ vec_capacity users.old }
     ensures pushed { map (option_map kept) users.new.items ≡ map (option_map kept) users.old.items ++ map (λ k. Some k) (map kept joined.items) }
@@ -191,7 +191,7 @@ fn push_all(users: &mut Vec<Option<User>>, joined: Vec<User>)
 }
 
 impl Loader {
-    // A program of a load file begins, with the users of its rows behind it.
+    // A program of a load file begins, with the users of its rows after it.
     fn start(
         &mut self,
         load: &LoadFile<'_>,
@@ -244,7 +244,7 @@ impl Loader {
         Ok(Started { user, entry })
     }
 
-    // The same, once what it takes is made.
+    // A program of a load file begins so, once what it takes is made.
     fn plan_and_start(
         &mut self,
         load: &LoadFile<'_>,
@@ -337,15 +337,15 @@ impl Loader {
         self.begin(files, &bytes, path)
     }
 
-    /// Loads a program: the static segments of a load file are placed, all or none, and are active then. The files of its rows are
-    /// read behind it, in order, before anything is placed: each is a run-time library file, and a user of its own that is attached to
-    /// the program, none of whose segments is there. No file is read where 255 users were made, and no row's where there is no place
-    /// for its user.
+    /// Loads a program: the static segments of a load file are placed, all or none, and are active then. The files of its rows are read
+    /// after it, in order, before anything is placed: each is a run-time library file, and a user of its own that is attached to the
+    /// program, none of whose segments is there. No file is read where 255 users were made, and no row's where there is no place for its
+    /// user.
     pub fn load<F: Files>(&mut self, files: &mut F, path: &str) -> Result<Started, LoaderFault>
         ensures held { (F.seen files.new).held ≡ (F.seen files.old).held }
         ensures never_falls { (F.seen files.old).faults ≤ (F.seen files.new).faults }
 
-        // Over files that are told, and with which the loader agrees, it is the machine's step, and reads what that needs.
+        // Where the store reveals its files, and the loader agrees with them, it is the machine's step, and reads what that needs.
         ensures meets { (held : FileMap) (state : Machine) → (F.seen files.old).held ≡ Some held → Agrees held self.old state
             → Meets RoomRule held state (Load path.now) (load_reply result) self.new (F.seen files.old).faults (F.seen files.new).faults }
         ensures needed { (held : FileMap) (state : Machine) → (F.seen files.old).held ≡ Some held → Agrees held self.old state

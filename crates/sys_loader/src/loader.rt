@@ -160,7 +160,7 @@ impl Loader {
         Ok(h)
     }
 
-    // The bytes of an active segment, so many from an offset on.
+    // The `count` bytes of an active segment from an offset on.
     pub(crate) fn borrow_bytes(
         &self,
         user: u16,
@@ -180,7 +180,7 @@ impl Loader {
         }
     }
 
-    /// The bytes of an active segment of a user that runs, so many from an offset on.
+    /// The `length` bytes, from an offset on, of an active segment of a user that runs.
     pub fn bytes(&self, user: u16, segment: u16, at: u32, length: u32) -> Result<&[u8], LoaderFault>
         // Over files with which the loader agrees, it is the machine's step.
         ensures shows { IfOk result (λ bytes. (held : FileMap) (state : Machine) → Agrees held self.now state

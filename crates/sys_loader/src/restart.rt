@@ -207,7 +207,7 @@ impl Loader {
         Started { user, entry }
     }
 
-    // The same of a dormant user once its segments that are read again are as this load file has them.
+    // A dormant user is resumed once its segments that are read again are as this load file has them.
     fn resume_from(&mut self, load: &LoadFile<'_>, mut places: Places, user: u16) -> Started
         requires taken { (file : List ℕ) × IsLoadable file load.now }
         requires room { length places ≡ length load.now }
@@ -241,7 +241,7 @@ impl Loader {
         compare(load, &found.segments)
     }
 
-    // The same once they are as a file that was read has them, if it is the one that was loaded.
+    // A dormant user is resumed once they are as a file that was read has them, if it is the one that was loaded.
     fn reload(&mut self, file: &[u8], user: u16) -> Result<Started, LoaderFault>
         requires short { length file.now < 2 ^ 32 }
         requires can { (k : LoadedUser) × CanRestart self.old user k }
@@ -302,7 +302,7 @@ impl Loader {
         Ok(Started { user, entry })
     }
 
-    // The same of a file that was read, if it is the one that was loaded.
+    // A program begins again from a file that was read, if it is the one that was loaded.
     fn start_anew(&mut self, file: &[u8], user: u16) -> Result<Started, LoaderFault>
         requires short { length file.now < 2 ^ 32 }
         requires can { (k : LoadedUser) × CanRestart self.old user k }
@@ -385,7 +385,7 @@ impl Loader {
         ensures unasked { restart_reads self.old user ≡ false → (F.seen files.new).asked ≡ (F.seen files.old).asked }
         ensures refused_unasked { IsSome (restart_refusal (is_attached (kept_outlines self.old.users) user) (seen_by self.old user)) → (F.seen files.new).asked ≡ (F.seen files.old).asked }
 
-        // Over files that are told, and with which the loader agrees, it is the machine's step, and reads what that needs.
+        // Where the store reveals its files, and the loader agrees with them, it is the machine's step, and reads what that needs.
         ensures meets { (held : FileMap) (state : Machine) → (F.seen files.old).held ≡ Some held → Agrees held self.old state
             → Meets RoomRule held state (Restart user) (load_reply result) self.new (F.seen files.old).faults (F.seen files.new).faults }
         ensures needed { (held : FileMap) (state : Machine) → (F.seen files.old).held ≡ Some held → Agrees held self.old state

@@ -89,7 +89,7 @@ fn lines_have_their_fields(rt: HostRuntime) {
     }
 }
 
-/// How many lines a source has, behind which there is none.
+/// How many lines a source has, if there is none past them.
 fn count_of(alloc: Global, source: &[u8]) -> Option<u32> {
     let lines = read_lines(alloc, 0, source).ok()?;
     let count = lines.count();
@@ -135,7 +135,7 @@ fn lines_end_with_lf_cr_or_both(rt: HostRuntime) {
     assert!(rt; is_second(alloc, b"A\r\nBC\rD", b"BC"));
 }
 
-/// File 7 with these bytes has so many lines, or this fault.
+/// File 7 with these bytes has this number of lines, or this fault.
 fn has(rt: &impl Abort, alloc: Global, source: &[u8], want: Result<u32, TextFault>) {
     let lines = read_lines(alloc, 7, source);
     assert_eq!(rt; lines.map(|lines| lines.count()), want);
@@ -370,7 +370,7 @@ fn terms_stand_in_postfix_order(rt: HostRuntime) -> Result<(), Fail> {
     Ok(())
 }
 
-/// The fault of a statement behind other lines.
+/// The fault of a statement after other lines.
 fn fault_after(alloc: Global, front: &str, text: &str) -> Result<Option<TextFault>, AllocError> {
     let source = format!(in alloc; "{front}{text}")?;
     Ok(last_operand(alloc, source.as_str().as_bytes()).err())

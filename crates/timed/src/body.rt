@@ -1,4 +1,4 @@
-//! `body input|body COUNT`: makes so many patches, and writes the body of a load segment of them, for `bench/body`.
+//! `body input|body COUNT`: makes COUNT patches, and writes the body of a load segment of them, for `bench/body`.
 
 ghost use Rattle.std.specs.Prelude.{◌≤◌, map, length};
 ghost use Rattle.std.specs.Bool.{OnTrue};
@@ -27,7 +27,7 @@ fn is_inside(patch: &Patch, from: usize, size: usize) -> bool
     from <= patch.at as usize && end <= size
 }
 
-/// The patches rise, don't overlap and lie inside so many bytes.
+/// The patches rise, don't overlap and lie inside `size` bytes.
 fn are_written(patches: &[Patch], size: usize) -> bool
     requires { size ≤ 0xFFFFFF }
     ensures { OnTrue result (AreWritten size 0 (map seen patches.now)) }
@@ -42,7 +42,7 @@ fn are_written(patches: &[Patch], size: usize) -> bool
     true
 }
 
-/// So many bytes from 1 to 251 by turns.
+/// `size` bytes from 1 to 251 by turns.
 fn bytes(alloc: Global, size: u32) -> Result<Vec<u8>, AllocError> {
     let mut bytes = Vec::new(alloc);
     for at in 0..size {
@@ -96,14 +96,14 @@ fn report_input(
     }
 }
 
-/// Makes the input for so many patches, and prints what is reported for it.
+/// Makes the input for `count` patches, and prints what is reported for it.
 fn make(rt: &HostRuntime, what: &str, count: u32) -> io::Result<()> {
     let content = bytes(rt.alloc(), count.wrapping_mul(16))?;
     let patches = patches(rt.alloc(), count)?;
     report_input(rt, what, &content, &patches)
 }
 
-/// Does what the words say: `input` makes the input alone, and `body` writes the body too.
+/// Does what the arguments say: `input` makes the input alone, and `body` writes the body too.
 pub fn run<'w>(rt: &HostRuntime, words: &'w [String]) -> io::Result<TaskEnd<'w>> {
     let [what, count] = words else {
         return Ok(TaskEnd::Misused);

@@ -6,15 +6,15 @@ use std::process::ExitCode;
 /// How a task ended.
 #[derive(Clone, Copy)]
 pub enum TaskEnd<'w> {
-    /// It printed what it had to tell.
+    /// It printed what it had to report.
     Done,
-    /// The words say no task.
+    /// The arguments say no task.
     Misused,
     /// The word isn't a number.
     NoNumber(&'w str),
     /// The file at the path can't be read.
     Unread(&'w str),
-    /// Memory ran out.
+    /// Out of memory.
     Memory,
 }
 
@@ -24,7 +24,7 @@ pub fn done(printed: io::Result<()>) -> io::Result<TaskEnd<'static>> {
     Ok(TaskEnd::Done)
 }
 
-/// The words that the program takes.
+/// The arguments that the program takes.
 const USAGE: &str =
     "timed TASK [, TASK].. where a TASK is link read|resolve FILE.., load input|read|patch|cells FILE, \
     library FILE, body input|body COUNT, text lines|operands FILE or macro SOURCE MACROS..";

@@ -24,7 +24,7 @@ fn has_title(program: &Program, place: u32) -> bool {
     }
 }
 
-/// How many of so many members have a definition of their first name.
+/// How many of the first `members` members have a definition of their first name.
 fn count_titles(program: &Program, members: u32) -> u32 {
     let mut count = 0u32;
     for place in 1..=members {
@@ -75,7 +75,7 @@ fn reveal(rt: &HostRuntime, what: &str, inputs: &Vec<Vec<u8>>) -> io::Result<()>
     }
 }
 
-/// Does what the words say.
+/// Does what the arguments say.
 pub fn run<'w>(rt: &HostRuntime, words: &'w [String]) -> io::Result<TaskEnd<'w>> {
     let Some((what, paths)) = words.split_first() else {
         return Ok(TaskEnd::Misused);

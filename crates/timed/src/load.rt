@@ -1,5 +1,5 @@
-//! `load input|read|patch|cells FILE`: reads a load file, writes what stands in memory for its first segment, or looks up
-//! cells of it, for `bench/load`.
+//! `load input|read|patch|cells FILE`: reads a load file, writes its first segment's bytes in memory, or looks up cells of it, for
+//! `bench/load`.
 
 use crate::ending::{TaskEnd, done};
 use omf_cells::{Cell, LoadCause, LoadFault, LoadFile, Places, PlacesFault, patch_into, read_load};
@@ -80,7 +80,7 @@ fn part_count(load: &LoadFile) -> u32 {
     count
 }
 
-/// What is told of a file that is read, for a word: the sum of its bytes in memory, its parts, or how many segments it has.
+/// What is reported of a file that is read, for a word: the sum of its bytes in memory, its parts, or how many segments it has.
 fn reported_of(alloc: Global, what: &str, load: &LoadFile) -> Result<u32, AllocError> {
     match what {
         "patch" => patched_sum(alloc, load),
@@ -89,7 +89,7 @@ fn reported_of(alloc: Global, what: &str, load: &LoadFile) -> Result<u32, AllocE
     }
 }
 
-/// What is told of the file for a word, which may also ask for nothing.
+/// What is reported of the file for a word, which may also ask for nothing.
 fn reported(alloc: Global, what: &str, file: &[u8]) -> Result<u32, AllocError> {
     if what == "input" {
         return Ok(0);

@@ -5,7 +5,7 @@ use crate::files::{read, read_all};
 use orca_macro::expand;
 use std::io;
 
-/// Prints how many lines come of a source with macro files.
+/// Prints how many lines a source with macro files expands to.
 fn reveal(rt: &HostRuntime, source: &[u8], macros: &Vec<Vec<u8>>) -> io::Result<()> {
     match expand(rt.alloc(), source, macros) {
         Ok(lines) => println!(rt; "lines {}", lines.count()),
@@ -21,7 +21,7 @@ fn run_with<'w>(rt: &HostRuntime, source: &[u8], paths: &'w [String]) -> io::Res
     }
 }
 
-/// Does what the words say.
+/// Does what the arguments say.
 pub fn run<'w>(rt: &HostRuntime, words: &'w [String]) -> io::Result<TaskEnd<'w>> {
     let Some((path, macros)) = words.split_first() else {
         return Ok(TaskEnd::Misused);

@@ -45,7 +45,7 @@ fn run_on_file<'w>(rt: &HostRuntime, task: &str, words: &'w [String]) -> io::Res
     }
 }
 
-/// Does the task that the words say.
+/// Does the task that the arguments say.
 fn run<'w>(rt: &HostRuntime, words: &'w [String]) -> io::Result<TaskEnd<'w>> {
     let Some((task, words)) = words.split_first() else {
         return Ok(TaskEnd::Misused);
@@ -58,7 +58,7 @@ fn run<'w>(rt: &HostRuntime, words: &'w [String]) -> io::Result<TaskEnd<'w>> {
     }
 }
 
-/// Does the tasks that the words say one after another, up to the first that isn't done.
+/// Does the tasks that the arguments say one after another, up to the first that isn't done.
 fn run_all<'w>(rt: &HostRuntime, words: &'w [String]) -> io::Result<TaskEnd<'w>> {
     for task in words.split(|word| word.as_str() == ",") {
         match run(rt, task)? {
@@ -69,7 +69,7 @@ fn run_all<'w>(rt: &HostRuntime, words: &'w [String]) -> io::Result<TaskEnd<'w>>
     Ok(TaskEnd::Done)
 }
 
-/// Does the tasks of the words behind the program's name, and answers the program's status.
+/// Does the tasks of the arguments after the program's name, and returns the program's status.
 fn run_words(rt: &HostRuntime, words: &[String]) -> io::Result<ExitCode> {
     let ended = match words.split_first() {
         Some((_, tasks)) => run_all(rt, tasks)?,

@@ -26,7 +26,7 @@ fn run_twice(
     Ok((first, again))
 }
 
-/// The same of a new loader.
+/// Where the JSL leads, before and after, with a new loader.
 fn entered_twice(
     alloc: Global,
     files: &mut MemoryFiles,

@@ -217,7 +217,7 @@ fn places() -> [Option<u64>; 6] {
     places
 }
 
-/// Two pages are passed over, and the third has two locations; the fourth has one, and after 127 pages more comes one.
+/// Two pages are passed over, and the third has two locations; the fourth has one, and after 127 more pages there is one.
 static PLACES: [Option<u64>; 6] = [
     Some(0x201),
     Some(0x205),

@@ -4,13 +4,13 @@ use orca_macro::{MacroCause, expand};
 use std::alloc::{AllocError, Global};
 use std::test::Fail;
 
-/// A loop of 333,332 passes where the counter allows more: two lines are visited in front of it, and three in each pass.
+/// A loop of 333,332 passes where the counter allows more: two lines are visited before it, and three in each pass.
 const LOOP: &str = " ACTR 600000\n LCLA &I\n.A ANOP\n&I SETA &I+1\n AIF &I<333332,.A\n";
 
 /// A fault's cause, its file and its line.
 type Reported = (MacroCause, u32, u32);
 
-/// Lines behind the loop, of which two are the most, and the fault.
+/// Lines after the loop, of which two are the most, and the fault.
 static AFTER: [(&str, Option<Reported>); 2] = [
     (" ANOP\n ANOP\n", None),
     (

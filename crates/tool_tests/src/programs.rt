@@ -18,7 +18,7 @@ pub(crate) struct Segment {
     pub(crate) org: [u8; 4],
     /// ENTRY.
     pub(crate) entry: u8,
-    /// What stands after its header.
+    /// What follows its header.
     pub(crate) body: &'static [u8],
 }
 
@@ -90,7 +90,7 @@ pub(crate) static SIX: [Segment; 6] = [
     },
 ];
 
-/// Where KIND's high byte stands of its segment 2.
+/// The displacement of KIND's high byte of its segment 2.
 pub(crate) const DATA_KIND: usize = 0x87;
 
 /// The second byte of its data.

@@ -19,7 +19,7 @@ fn restarted(files: &mut MemoryFiles, loader: &mut Loader) -> &'static str {
     }
 }
 
-/// Whether the data of the first user stands so.
+/// Whether the data of the first user are these.
 fn shows(loader: &Loader, data: &[u8]) -> bool {
     match loader.bytes(0x1001, 2, 0, 4) {
         Ok(bytes) => bytes == data,
@@ -36,7 +36,7 @@ static LEFT: [(&str, File); 2] = [
     ("prog", File::Six(&[(DATA_KIND, 4)])),
 ];
 
-/// What stands at `prog` then, one after the other, and what a restart answers: the program without its change, no file, and one with another
+/// What `prog` holds then, one after the other, and what a restart answers: the program without its change, no file, and one with another
 /// byte of data.
 static OTHERS: [(File, &str); 3] = [
     (File::Six(&[]), "changed"),
@@ -57,7 +57,7 @@ fn over_others(alloc: Global, loader: &mut Loader) -> Result<bool, Fail> {
     Ok(shows(loader, &[0x11, 0x33, 0, 0]))
 }
 
-/// The same of the loader that a run hands out.
+/// Whether restarts of the loader that a run hands out answer so.
 fn left_over_others(alloc: Global) -> Result<bool, Fail> {
     let (_status, last) = run_whole(alloc, "run s", &LEFT, &[], &[])?;
     match last {

@@ -1,7 +1,7 @@
 // How a test of rows ends.
 use std::process::Abort;
 
-/// Ends the test where a row is unlike what was run, and tells its place.
+/// Ends the test where a row is unlike what was run, and reports its place.
 pub(crate) fn all_alike(rt: &impl Abort, unlike: Option<usize>) {
     assert_eq!(rt; unlike, None);
 }

@@ -16,7 +16,7 @@ fn store_of(alloc: Global, held: &[(&str, File)], store: &[u32]) -> Result<Memor
     Ok(files)
 }
 
-/// Words that stand with spaces between them, as a list.
+/// Arguments with spaces between them, as a list.
 fn words_of(alloc: Global, words: &str) -> Result<Vec<String>, AllocError> {
     let mut list = Vec::new(alloc);
     for word in words.split(' ') {
@@ -25,8 +25,8 @@ fn words_of(alloc: Global, words: &str) -> Result<Vec<String>, AllocError> {
     Ok(list)
 }
 
-/// Runs the tool on words, over a store that holds these files, each with its path. The calls of the store and of the sink that fail
-/// are given by their numbers. Answers how it ends, and the loader that was handed out.
+/// Runs the tool with these arguments, over a store that holds these files, each with its path. The calls of the store and of the sink that
+/// fail are given by their numbers. Returns how it ends, and the loader that was handed out.
 pub(crate) fn run_whole(
     alloc: Global,
     words: &str,

@@ -22,7 +22,7 @@ static WORKLOADS: [Workload; 4] = [
 /// What the store holds, whose first call would fail.
 static KEPT: [(&str, File); 1] = [("prog", File::Of(b"kept"))];
 
-/// Whether a user has more segments than so many.
+/// Whether a user has more than `segments` segments.
 fn has_more(loader: &Loader, segments: u16) -> bool {
     loader.info(0x1001, segments.wrapping_add(1)).is_ok()
 }

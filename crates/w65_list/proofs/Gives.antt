@@ -30,7 +30,7 @@ unfolding split_last
 none_split [] none = refl
 none_split (byte ∷ run) none = absurd (omega (arith, none))
 
--- ---- lines behind a run
+-- ---- lines after a run
 
 pub lines_gave : (g : Given) (more : List ListedStatement) (old mid new : ListingText) (after : PendingRun) → Gave g old mid after → WroteAll more mid new → Gave (then_said more g) old new after
 lines_gave g more old mid new after gave wrote = record { wrote = wrote_both g.0 more old mid new gave.wrote wrote; left = gave.left }

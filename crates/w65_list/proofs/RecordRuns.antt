@@ -12,7 +12,7 @@ Answer = Result (Option (ℕ × Record)) RecordFault
 abbrev gave : ℕ × Record → Answer
 gave found = Ok (Some found)
 
--- these come first, then this one, and then others
+-- first these, then this one, and then others
 pub record Rest (all before : List (ℕ × Record)) (found : ℕ × Record) : Type 0 where
   pub following : List (ℕ × Record)
   pub whole : all ≡ before ++ found ∷ following

@@ -42,7 +42,7 @@ widths_first w opcode following = let bytes = take (after_opcode w opcode) follo
 
 -- ---- one step along a run
 
--- the front of a run is its first instruction
+-- the start of a run is its first instruction
 pub front_is : (w : Widths) (left front : List ℕ) → 1 ≤ length left → front ≡ take (after_opcode w (get_or left 0 0) + 1) left
     → (said_rest w 0 left ≡ said_instruction w (get_or front 0 0) (drop 1 front) ++ said_rest (widths_past w (get_or front 0 0) (drop 1 front)) 0 (drop (length front) left))
     × (widths_rest w 0 left ≡ widths_rest (widths_past w (get_or front 0 0) (drop 1 front)) 0 (drop (length front) left))
@@ -86,7 +86,7 @@ unfolding widths_rest
 widths_end w [] none = refl
 widths_end w (byte ∷ left) none = absurd (omega (arith, none))
 
--- the widths behind the first instruction
+-- the widths after the first instruction
 pub widths_on : (w u : Widths) (left front : List ℕ) → 1 ≤ length left → front ≡ take (after_opcode w (get_or left 0 0) + 1) left → u ≡ widths_past w (get_or front 0 0) (drop 1 front)
     → widths_rest u 0 (drop (length front) left) ≡ widths_rest w 0 left
 widths_on w u left front some is past = ap (λ (x : Widths). widths_rest x 0 (drop (length front) left)) past ∙ sym ((front_is w left front some is).1)

@@ -91,7 +91,7 @@ pub expression_here : (f : HeaderFields) (names : Names) (start at : Reader) (fi
 expression_here f names start at first before old now r on same is =
     subst (λ (n : ℕ). HasExpression n r) (ap (λ (l : Layout). l.lab_len) (layout_same start on.so_far at on.run) ∙ same) (expression_of at.layout r is)
 
--- lines behind lines
+-- lines after lines
 then_again : (x : Result (List ListedStatement) ℕ) (a b : List ListedStatement) → ((x >>= λ more. Ok (b ++ more)) >>= λ more. Ok (a ++ more)) ≡ (x >>= λ more. Ok ((a ++ b) ++ more))
 then_again (Ok more) a b = ap (λ (l : List ListedStatement). Ok l) (sym (append_assoc a b more))
 then_again (Err e) a b = refl

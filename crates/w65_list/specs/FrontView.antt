@@ -24,16 +24,16 @@ abbrev pub has_listable_length : Segment → Bool
 has_listable_length s =
     not (has_lost_place s) && s.fields.length == body_size s + s.fields.res_spc && nat_le s.fields.length (greatest_length s.fields.bank_size)
 
--- an ALIGN of 0 stands away from place 0 in records of which the first stands at this place
+-- an ALIGN of 0 is at another place than 0, in records of which the first is at this place
 abbrev pub is_lost_from : ℕ → List (ℕ × Record) → Bool
 is_lost_from at founds = list_any (λ l. is_lost l.location l.content) (located_from at founds)
 
--- no place is lost, and the records give so many cells
+-- no place is lost, and the records give n cells
 pub record HaveCells (n : ℕ) (founds : List (ℕ × Record)) : Type 0 where
   pub lost : is_lost_from 0 founds ≡ false
   pub size : place_after 0 founds ≡ n
 
--- a place is lost, or the records give more than so many cells
+-- a place is lost, or the records give more than `most` cells
 abbrev pub AreOver : ℕ → List (ℕ × Record) → Type 0
 AreOver most founds = (is_lost_from 0 founds ≡ true) ⊎ (most < place_after 0 founds)
 

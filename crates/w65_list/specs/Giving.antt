@@ -37,7 +37,7 @@ held_with None wanted = None
 held_with (Some opcode) None = None
 held_with (Some opcode) (Some wanted) = Some (opcode, wanted)
 
--- what an equate gives, where it may stand
+-- what an equate gives, where it is allowed
 abbrev pub equate_by : Bool → Option Given → Option Given
 equate_by holds given = if holds then given else None
 

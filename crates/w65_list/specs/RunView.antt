@@ -1,4 +1,4 @@
--- How the widths are seen, and how far the lines of a run have come.
+-- How the widths are seen, and how much of a run the lines have covered.
 use Rattle.std.specs.Prelude.{◌≡◌, ℕ, Bool, List, [], ◌∷◌, if◌then◌else◌}
 use Rattle.std.specs.List.{list_all}
 use Rattle.asm_meaning.specs.declared.directives.Switch.{Switch}

@@ -45,7 +45,7 @@ pub record WroteFile (segments : List Segment) (out : ListingText) : Type 0 wher
 abbrev pub equates_in : List (ℕ × Record) → List (List ℕ)
 equates_in founds = flat_map (λ found. equate_name found.1) founds
 
--- what stopped stands at this place
+-- the refusal for a stop at this place
 abbrev pub IsStop : ℕ → LineStop → Refusal → Type 0
 IsStop place stops.NotListable refusal = refusal ≡ refusals.NotListable place
 IsStop place stops.Memory refusal = refusal ≡ refusals.Memory
@@ -55,7 +55,7 @@ abbrev pub IsRefusal : Refusal → (ℕ → Type 0) → Type 0
 IsRefusal (refusals.NotListable at) P = P at
 IsRefusal refusals.Memory P = Unit {0}
 
--- memory ran out, or this is the first place that can't be listed
+-- out of memory, or this is the first place that can't be listed
 abbrev pub IsSegmentFault : List Segment → ListFault → Type 0
 IsSegmentFault segments fault =
     (fault ≡ record { cause = Memory; segment = 0; at = 0 })

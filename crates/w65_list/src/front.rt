@@ -34,14 +34,14 @@ fn name_size(text: &[u8]) -> usize
     }
 }
 
-/// LOADNAME without the spaces behind it.
+/// LOADNAME without the spaces after it.
 fn trim_padding(load_name: &[u8]) -> &[u8]
     ensures { result.now ≡ without_padding load_name.now }
 {
     first_bytes(load_name, name_size(load_name))
 }
 
-/// What stands after a name.
+/// What follows a name.
 fn padding_of(load_name: &[u8]) -> &[u8]
     ensures { result.now ≡ drop (position_or_len (λ byte. byte == ascii.space) load_name.now) load_name.now }
 {
@@ -65,7 +65,7 @@ fn is_none_or_listable(name: &[u8]) -> bool
     }
 }
 
-/// Whether LOADNAME is spaces, or a name that can be listed with spaces behind it.
+/// Whether LOADNAME is spaces, or a name that can be listed with spaces after it.
 fn is_listable_load_name(load_name: &[u8]) -> bool
     ensures { result ≡ is_listable_load_name load_name.now }
 {
@@ -135,7 +135,7 @@ fn is_lost(rec: &Rec, place: u32) -> bool
     }
 }
 
-/// How many cells records give, or None where there are more than so many, or a place is lost.
+/// How many cells records give, or None where there are more than `most`, or a place is lost.
 fn cells(records: Records, most: u32) -> Option<u32>
     requires { IsBody records }
     ensures { MatchOption result (AreOver most (records_of records.entry)) (λ n. HaveCells n (records_of records.entry)) }

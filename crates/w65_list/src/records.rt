@@ -34,8 +34,7 @@ use omf_records::Rec;
 use orca_meaning::{Mnemonic, Mode};
 use std::alloc::{AllocError, Global};
 
-/// What the lines so far leave: the present widths, the constant bytes that stand directly before, and the names that were
-/// defined.
+/// What the lines so far leave: the present widths, the constant bytes directly before, and the names that were defined.
 #[derive(Drop)]
 pub(crate) struct PendingRun<'a> {
     widths: RegisterWidths,

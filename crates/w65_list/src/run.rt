@@ -46,7 +46,7 @@ fn first_byte(bytes: &[u8]) -> u8
     }
 }
 
-/// The widths behind an instruction with constant bytes.
+/// The widths after an instruction with constant bytes.
 #[tactic(auto, unfolding(list_meaning::specs::Listing::widths_following))]
 fn widths_after(widths: RegisterWidths, mnemonic: Mnemonic, operand: &[u8]) -> RegisterWidths
     ensures { widths_view result ≡ widths_following mnemonic operand.now (widths_view widths) }
@@ -128,7 +128,7 @@ fn number_of(bytes: &[u8]) -> u32
     }
 }
 
-/// The two banks of a block move: the destination stands first.
+/// The two banks of a block move: the destination is first.
 fn banks(bytes: &[u8]) -> Wanted<'static>
     ensures { operand_view result ≡ Banks (little_number 1 (drop 1 put_dc_bytes.now)) (little_number 1 put_dc_bytes.now) }
 {
@@ -174,7 +174,7 @@ fn put_whole(
     }
 }
 
-/// The lines of an instruction of the rest of a run, which may be cut, and the widths behind it.
+/// The lines of an instruction of the rest of a run, which may be cut, and the widths after it.
 #[tactic(auto, using(list_lines::proofs::Written::wrote_one, list_lines::proofs::Written::long_one, list_lines::proofs::Written::wrote_both, list_lines::proofs::Written::long_first, list_lines::proofs::Written::long_second), unfolding(list_meaning::specs::Listing::said_instruction))]
 fn list_instruction(
     out: &mut ListingText,
@@ -216,7 +216,7 @@ fn front_of(widths: RegisterWidths, run: &[u8]) -> &[u8]
     }
 }
 
-/// The lines of the rest of a run, and the widths behind it.
+/// The lines of the rest of a run, and the widths after it.
 #[tactic(auto, using(crate::proofs::RunLaws::on_step, crate::proofs::RunLaws::on_end, crate::proofs::RunLaws::on_long))]
 pub fn put_rest(
     out: &mut ListingText,
@@ -238,7 +238,7 @@ pub fn put_rest(
     Ok(widths)
 }
 
-/// The widths behind an instruction of the rest of a run, which may be cut.
+/// The widths after an instruction of the rest of a run, which may be cut.
 fn widths_after_front(widths: RegisterWidths, instruction: &[u8]) -> RegisterWidths
     requires some { 1 ≤ length instruction.now }
     requires most { length instruction.now ≤ after_opcode (widths_view widths) (get_or instruction.now 0 0) + 1 }
@@ -251,7 +251,7 @@ fn widths_after_front(widths: RegisterWidths, instruction: &[u8]) -> RegisterWid
     widths_after(widths, instruction_of(opcode).0, &instruction[1..])
 }
 
-/// The widths behind the rest of a run.
+/// The widths after the rest of a run.
 #[tactic(auto, using(crate::proofs::RunLaws::widths_on))]
 pub fn widths_following(widths: RegisterWidths, run: &[u8]) -> RegisterWidths
     ensures { widths_view result ≡ widths_rest (widths_view widths) 0 run.now }

@@ -69,9 +69,9 @@ fn add_equate<'a>(names: &mut Names<'a>, rec: &Rec<'a>) -> Result<(), AllocError
 /// Why a segment has no listing, and where.
 #[derive(Clone, Copy, Debug, PartialEq, Eq)]
 enum Refusal {
-    /// There is no line for what stands at this displacement.
+    /// There is no line for what is at this displacement.
     NotListable(u32),
-    /// Memory ran out.
+    /// Out of memory.
     Memory,
 }
 
@@ -198,8 +198,8 @@ fn put_file(alloc: Global, list: &SegmentList) -> Result<ListingText, ListFault>
     Ok(out)
 }
 
-/// The source of an object file: assembled without macros it gives segments that stand for the same. Or the first fault of the
-/// file, else the first place that can't be listed, else that the text is too long.
+/// The source of an object file: assembled without macros it gives segments that represent the same. Or the first fault of the file, else
+/// the first place that can't be listed, else that the text is too long.
 pub fn list_source(alloc: Global, file: &[u8]) -> Result<Vec<u8>, ListFault>
     requires { length file.now < 2 ^ 32 }
     ensures listed { IfOk result (λ text. IsListing file.now text.items) }

@@ -38,7 +38,7 @@ no_call i = flat_map-cons (spelling written_layout) End [] ∙ append-nil (spell
 
 -- ---- the calls
 
--- so many calls are left from a number on, and after these bytes they make the records of MAIN
+-- `more` calls are left from a number on, and after these bytes they make the records of MAIN
 pub record CallsLeft (n i : ℕ) (body : List ℕ) : Type 0 where
   pub more : ℕ
   pub count : i + more ≡ n + 1
@@ -140,7 +140,7 @@ pub no_segment : (i : ℕ) → object_text (dynamic_segments i []) ≡ []
 unfolding object_text
 no_segment i = refl
 
--- so many segments are left from a number on, whose sizes are drawn behind a number; behind these bytes they make the object
+-- `more` segments are left from a number on, whose sizes are drawn after the number `x`; after these bytes they make the object
 pub record SegmentsLeft (n seed i x : ℕ) (text : List ℕ) : Type 0 where
   pub more : ℕ
   pub count : i + more ≡ n + 1

@@ -55,7 +55,7 @@ pub quiet_refused : (command : Command) (fault : LoaderFault) (E : Type 0) (resu
 quiet_refused command fault E (Ok outcome) old new none is meets = quiet_done command (commands.Refused fault) outcome old new none is meets
 quiet_refused command fault E (Err short) old new none is meets = tt
 
--- ---- a call that may read, over a store that tells its files and never fails
+-- ---- a call that may read, over a store that reveals its files and never fails
 
 module _ (command : Command) (old new : Loaded) (before now : StoreContent) where
   -- it is answered as by the machine, and reads what that needs
@@ -209,7 +209,7 @@ front_more n x count =
 pub early : (n draw : ℕ) → draw % 4 ≤ 1 → Jsl first_id 1 (4 * (1 + draw / 4 % n - 1)) ≡ round_of n draw
 early n draw small = let test : nat_le (draw % 4) 1 ≡ true = le-leb (draw % 4) 1 small in rw test refl
 
--- so many rounds were made
+-- `count` rounds were made
 pub record IsUnderWay (held files : FileMap) (n x count last : ℕ) (counts : Counts) (loader : Loaded) : Type 0 where
   pub same : files ≡ held
   pub drawn : last ≡ following count x

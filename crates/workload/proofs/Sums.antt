@@ -1,4 +1,4 @@
--- The sum of what stands in active segments.
+-- The sum of the contents of active segments.
 use Rattle.std.proofs.Common.{◌≡◌, ℕ, zero, suc, ◌+◌, ◌%◌, ◌^◌, ◌<◌, ◌≤◌, List, [], length, take, refl, ap, subst, ◌∙◌, arith, get_or}
 use Rattle.std.specs.Prelude.{sum}
 use Rattle.std.proofs.lemmas.List.Sums.{sum_by_more}
@@ -36,7 +36,7 @@ is_none held state number fault bytes loader info none = IsNone fault (info.0, i
 
 -- ---- all of them
 
--- so many segments were added up, from 1 to before a number
+-- the segments from 1 to before a number were added up
 pub record SumLeft (held : FileMap) (state : Machine) (count number n : ℕ) : Type 0 where
   pub more : ℕ
   pub left : number + more ≡ count + 1

@@ -13,7 +13,7 @@ use Rattle.workload.specs.declared.rounds.Counts.{Counts}
 use Rattle.workload_meaning.specs.Draws.{draws}
 use Rattle.workload.specs.Rounds.{banks, program, round_of, is_entered, is_refused}
 
--- what a reply comes to
+-- the outcome that a reply means
 abbrev pub outcome_of : Reply → RoundOutcome
 outcome_of (commands.Entered user segment offset address) = Entered
 outcome_of (commands.Refused fault) = Fails
@@ -49,6 +49,6 @@ pub record AreDone (held : FileMap) (commands : List Command) (counts : Counts) 
   pub entered' : counts.entered ≡ count_by is_entered replies
   pub refused' : counts.refused ≡ count_by is_refused replies
 
--- the program was loaded, and so many rounds were made, by the draws behind a number
+-- the program was loaded, and `count` rounds were made, by the draws after a number
 abbrev pub front_of : ℕ → ℕ → ℕ → List Command
 front_of n x count = Load program ∷ map (round_of n) (draws count x)

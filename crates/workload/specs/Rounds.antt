@@ -23,7 +23,7 @@ round_of n draw =
     else if draw % 4 == 2 then UnloadSegment first_id (named n draw + 1)
     else Purge first_id
 
--- the program is loaded, and 8 n rounds follow, by the draws behind those of the object's sizes
+-- the program is loaded, and 8 n rounds follow, by the draws after those of the object's sizes
 abbrev pub commands : ℕ → ℕ → List Command
 commands n seed = Load program ∷ map (round_of n) (draws (8 * n) (following n seed))
 

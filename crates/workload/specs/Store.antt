@@ -14,6 +14,6 @@ held_code =
     code_by (FileMap × ℕ) (coded× (map.code (coded_list coded_ℕ) (coded_list coded_ℕ)) coded_ℕ) (λ s. (s.files, s.asked))
     (λ p. record { files = p.0; asked = p.1 }) (λ _. refl)
 
--- it tells its files, and nothing of it ever fails
+-- it reveals its files, and nothing of it ever fails
 abbrev pub seen : StoreContent → StoreSeen
 seen store = record { held = Some store.files; faults = 0; asked = store.asked }

@@ -3,14 +3,14 @@
 ghost use Rattle.std.specs.Prelude.{◌≡◌, ◌<◌, ◌/◌, ◌^◌};
 ghost use Rattle.workload_meaning.specs.Draws.{next};
 
-/// Draws behind a number.
+/// The draws after a number.
 #[derive(Clone, Copy, Debug, PartialEq, Eq)]
 pub struct Draws {
-    /// The number behind which the next draw is made.
+    /// The number after which the next draw is made.
     pub last: u32,
 }
 
-/// The number behind one.
+/// The number that follows a given one.
 fn next(x: u32) -> u32
     ensures { result ≡ next x }
 {

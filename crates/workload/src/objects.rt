@@ -81,7 +81,7 @@ fn put_value(alloc: Global, body: &mut Vec<u8>, code: u8, name: &[u8]) -> Result
     )
 }
 
-/// Appends so many bytes.
+/// Appends `size` bytes.
 fn put_bytes(alloc: Global, body: &mut Vec<u8>, byte: u8, size: u32) -> Result<(), AllocError>
     ensures { OnOk result (body.new.items ≡ body.old.items ++ spelling written_layout (LongConst (replicate size byte))) }
 {
@@ -115,7 +115,7 @@ fn calls(alloc: Global, n: u32) -> Result<Vec<u8>, AllocError>
     Ok(body)
 }
 
-/// The records of a dynamic segment with so many bytes behind its name's value.
+/// The records of a dynamic segment with `size` bytes after its name's value.
 fn content(alloc: Global, i: u32, name: &[u8], size: u32) -> Result<Vec<u8>, AllocError>
     requires is_name { IsName 0 name.now }
     requires short { length name.now ≤ 10 }
@@ -214,8 +214,7 @@ fn put_dynamic(alloc: Global, object: &mut Vec<u8>, i: u32, size: u32) -> Result
     )
 }
 
-/// The object of so many dynamic segments, 1 to 64: one that calls them, and these. The sizes are drawn, and `draws` goes on
-/// behind them.
+/// The object of `n` dynamic segments, 1 to 64: one that calls them, and these. The sizes are drawn, and `draws` continues after them.
 #[tactic(auto, using(crate::proofs::Parts::segments_start, crate::proofs::Parts::segments_step))]
 pub fn object(alloc: Global, n: u32, draws: &mut Draws) -> Result<Vec<u8>, AllocError>
     requires { n ≤ 64 }

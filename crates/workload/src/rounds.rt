@@ -16,7 +16,7 @@ use sys_loader::{Loader, LoaderFault};
 /// The ID of the user that is made first.
 pub const USER: u16 = 0x1001;
 
-/// What came of a call.
+/// The outcome of a call.
 #[derive(Clone, Copy, Debug, PartialEq, Eq)]
 pub enum RoundOutcome {
     /// A JSL entered a segment.
@@ -34,7 +34,7 @@ pub struct Counts {
 }
 
 impl Counts {
-    /// Counts what came of a call.
+    /// Counts the outcome of a call.
     pub fn count(&mut self, outcome: RoundOutcome)
         requires { self.old.entered + self.old.refused < 1000 }
         ensures counted { self.new ≡ counted outcome self.old }
@@ -48,7 +48,7 @@ impl Counts {
     }
 }
 
-/// What a refusal comes to, unless out of memory.
+/// The outcome that a refusal means, unless out of memory.
 fn refused_round(fault: LoaderFault) -> Result<RoundOutcome, AllocError>
     ensures refused { IfOk result (λ outcome. outcome ≡ RoundOutcome.Refused) }
     ensures other { OnOk result (fault ≢ LoaderFault.Memory) }
@@ -127,7 +127,7 @@ fn round(
     }
 }
 
-/// All rounds, behind the load.
+/// All rounds, after the load.
 pub fn rounds(
     loader: &mut Loader,
     files: &mut ReliableFiles,

@@ -9,7 +9,7 @@ use omf_io::{Files, MemoryFiles, ReadFault, WriteFault};
 use std::alloc::{AllocError, Global};
 use std::marker::Model;
 
-/// A store of files in memory, which tells its files, and no call of which fails but when out of memory.
+/// A store of files in memory, which reveals its files, and no call of which fails but when out of memory.
 ///
 /// Contracts see it as its files and how often it was read.
 #[derive(Drop)]

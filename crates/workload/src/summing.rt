@@ -1,4 +1,4 @@
-//! The sum of what stands in active segments.
+//! The sum of the contents of active segments.
 
 ghost use Rattle.std.specs.Prelude.{◌≡◌, ◌<◌, ◌+◌, ◌-◌, ◌%◌, ◌^◌, sum};
 ghost use Rattle.omf_io.specs.Files.{FileMap};
@@ -35,7 +35,7 @@ fn active_bytes(loader: &Loader, segment: u16) -> &[u8]
     }
 }
 
-/// The sum of all bytes of the user's active segments, modulo 2^32, among so many segments.
+/// The sum of all bytes of the user's active segments, modulo 2^32, among the first `count` segments.
 #[tactic(auto, using(crate::proofs::Sums::sum_start, crate::proofs::Sums::sum_step, crate::proofs::Sums::sum_end))]
 pub fn active_sum(loader: &Loader, count: u16) -> u32
     requires { count < 2 ^ 16 - 1 }

@@ -15,7 +15,7 @@ use crate::summing::active_sum;
 use std::alloc::{AllocError, Global};
 use sys_loader::{BanksFault, Loader};
 
-/// What a run of the workload came to.
+/// The outcome of a run of the workload.
 #[derive(Drop)]
 pub struct Worked {
     /// The loader that answered all calls.
@@ -40,7 +40,7 @@ fn loader_of(alloc: Global) -> Result<Loader, AllocError>
     }
 }
 
-/// Loads the file at the path `prog`, which has so many segments, and makes 8 n calls by the draws.
+/// Loads the file at the path `prog`, which has `count` segments, and makes 8 n calls by the draws.
 #[tactic(auto, using(crate::proofs::Steps::has_worked))]
 pub fn work(
     alloc: Global,

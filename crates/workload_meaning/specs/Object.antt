@@ -42,7 +42,7 @@ header_for kind size number name = record {
   name = name;
 }
 
--- JSLs to so many dynamic segments from one with a number on, and then END: each is the byte $22 and LEXPR of three bytes
+-- JSLs to a given number of dynamic segments, from one with a number on, and then END: each JSL is the byte $22 and LEXPR of three bytes
 abbrev pub calls : ℕ → ℕ → List Record
 calls zero i = End ∷ []
 calls (suc more) i = Const (0x22 ∷ []) ∷ Formula 0xF3 3 0 (value_of (name_of i)) ∷ calls more (i + 1)
@@ -51,7 +51,7 @@ calls (suc more) i = Const (0x22 ∷ []) ∷ Formula 0xF3 3 0 (value_of (name_of
 abbrev pub main_segment : ℕ → FinishedSegment
 main_segment n = record { header = header_for 0x0000 (4 * n) 1 (codes "MAIN"); body = calls n 1 }
 
--- a dynamic segment: EXPR of three bytes of its own name, and so many bytes that are its number
+-- a dynamic segment: EXPR of three bytes of its own name, and `size` bytes that are its number
 abbrev pub dynamic_segment : ℕ → ℕ → FinishedSegment
 dynamic_segment i size = record {
   header = header_for 0x8000 (3 + size) (i + 1) (name_of i);
@@ -63,6 +63,6 @@ abbrev pub dynamic_segments : ℕ → List ℕ → List FinishedSegment
 dynamic_segments i [] = []
 dynamic_segments i (draw ∷ draws) = dynamic_segment i (16 + draw % 4096) ∷ dynamic_segments (i + 1) draws
 
--- the object of so many dynamic segments for a seed
+-- the object of `n` dynamic segments for a seed
 unfoldable pub object : ℕ → ℕ → List ℕ
 object n seed = object_text (main_segment n ∷ dynamic_segments 1 (draws n seed))

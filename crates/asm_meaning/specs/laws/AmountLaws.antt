@@ -144,7 +144,7 @@ unfolding number_of_one
 number_of_one-lt code a =
     small_cond (eqb code 0x06) (wrapped_to_32_bits (2 ^ 32 - a)) _ (wrapped-lt (2 ^ 32 - a)) (small_cond (eqb code 0x0B) _ (bit_not w32 a) (small_truth _) (omega arith))
 
--- a worth's number has 32 bits
+-- the number of a known value has 32 bits
 abbrev pub IsSmallWorth : KnownValue → Type 0
 IsSmallWorth (Number n) = n < 2 ^ 32
 IsSmallWorth Open = Unit {0}
@@ -187,7 +187,7 @@ small_worth constants small (Binary code a b) is = small_two code (known_value c
 abbrev amount_is : Amount → Answer Amount
 amount_is x = Ok x
 
--- an amount that can be written, where the location counter counts so many values
+-- an amount that can be written, where the location counter counts as a given number of values
 abbrev pub IsFineAmount : ℕ → Amount → Type 0
 IsFineAmount here (Known n) = n < 2 ^ 32
 IsFineAmount here (Written t) = IsTree 0 t × (pending here t ≤ 64)

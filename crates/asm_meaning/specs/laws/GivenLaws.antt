@@ -119,7 +119,7 @@ instruction_plain constants widths m text operand pieces small short good e =
     let fine = fine_operand widths m text operand short good in
     modes_plain constants widths m operand.prefix operand.trees (modes_of_form m operand.form operand.prefix) pieces small fine.trees fine.modes e
 
--- ---- formulas that stand alone
+-- ---- formulas on their own
 
 abbrev good : Tree → Answer Tree
 good t = Ok t
@@ -277,7 +277,7 @@ width_is (digit ∷ following) = by_digit (leb 0x31 digit && leb digit 0x34) ref
         rw (low, high) refl
     by_digit false is = refl
 
--- a type that was found, and what stands after it
+-- a type that was found, and what follows it
 abbrev IsFoundKind : ℕ → Found ElementType → Type 0
 IsFoundKind size None = Unit {0}
 IsFoundKind size (Some x) = IsWidth x.0 × (length x.1 ≤ size)
@@ -426,7 +426,7 @@ closed_rest-le text inner rest e = by_end (ltb n (length text)) e
     by_end true e = omega (arith, ap (λ (x : List ℕ × List ℕ). length x.1) (same e), length-drop (n + 1) text)
     by_end false e = absurd cc
 
--- what stands after something that was found
+-- what follows something that was found
 abbrev IsFollowing : ℕ → Found (List ℕ) → Type 0
 IsFollowing size None = Unit {0}
 IsFollowing size (Some x) = length x.1 ≤ size

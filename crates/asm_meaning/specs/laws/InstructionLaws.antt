@@ -192,7 +192,7 @@ operand_plain mnemonic (Distance bytes) width t some is shallow =
 operand_plain mnemonic Banks width t some is shallow = expr_plain width (expression_text t) some (expression_fine t is shallow)
 operand_plain mnemonic Sign width t some is shallow = expr_plain width (expression_text t) some (expression_fine t is shallow)
 
--- a shift behind an expression
+-- a shift after an expression
 shift_fine : (count : ℕ) (t : Tree) → IsTree 0 t → depth t ≤ 64 → IsTree 0 (with_right_shift count t) × (depth (with_right_shift count t) ≤ 64)
 shift_fine count t is shallow = by_count (eqb count 0) refl
   where

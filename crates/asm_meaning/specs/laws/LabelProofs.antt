@@ -1,4 +1,4 @@
--- Why labels stand where they do: a label's place is the sum of the lengths of the statements before it, and the linker takes it from there.
+-- Why labels are where they are: a label's place is the sum of the lengths of the statements before it, and the linker takes it from there.
 use Rattle.std.proofs.Common.{◌≡◌, ℕ, ◌+◌, List, [], ◌∷◌, ◌++◌, length, map, Some, refl, sym, ap, ◌∙◌, arith}
 use Rattle.std.specs.Prelude.{slice_get}
 use Rattle.omf_format.specs.Record.{Record}

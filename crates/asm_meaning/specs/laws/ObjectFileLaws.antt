@@ -1,5 +1,5 @@
 -- Why the object is a file: its segments have the headers and the records that the lines leave, LENGTH is the number of cells, and
--- the linker takes the place of a label from where its LOCAL or GLOBAL stands.
+-- the linker takes the place of a label from where its LOCAL or GLOBAL is.
 use Rattle.std.proofs.Common.{◌≡◌, ℕ, ◌+◌, ◌^◌, ◌<◌, ◌≤◌, false, true, List, [], ◌∷◌, ◌++◌, length, take, drop, map, refl, sym, ap, subst, ◌∙◌, append_assoc, append-nil, arith}
 use Rattle.std.specs.List.{flat_map, AllByRecursion}
 use Rattle.std.proofs.lemmas.List.{take_at, drop_at, length-append}

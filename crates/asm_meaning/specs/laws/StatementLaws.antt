@@ -22,7 +22,7 @@ use Rattle.asm_meaning.specs.Pieces.{records_of}
 use Rattle.asm_meaning.specs.State.{StartedSegment, State, within_length}
 use Rattle.asm_meaning.specs.Statement.{following_here, IsOperandOf, Good, Bad, Large, constants_of, IsMoveText, IsMove, marking, equating, equating_global, spacing, align_state, moving, kinding, IsDone, IsPlaced, IsKnown, IsStep, label_of, is_misplaced}
 
--- ---- found at a front
+-- ---- found at the start of a text
 
 pub same_some : {A : Type 0} (o : Option A) (a b : A) → o ≡ Some a → o ≡ Some b → a ≡ b
 same_some o a b p q = let both : Some a ≡ Some b = sym p ∙ q in cc
@@ -98,7 +98,7 @@ names_once text (x ∷ z ∷ xs) (y ∷ w ∷ ys) p q =
     let rest : z ∷ xs ≡ w ∷ ys = names_once p.0 (z ∷ xs) (w ∷ ys) p.2 (subst (λ (t : List ℕ). AreNames t (w ∷ ys)) (sym following) q.2) in
     ap (λ (n : List ℕ). n ∷ (z ∷ xs)) first.0 ∙ ap (λ (ns : List (List ℕ)). y ∷ ns) rest
 
--- a value of one type, and what stands after it
+-- a value of one type, and what follows it
 abbrev pub SameValue : ElementValue → ElementValue → List ℕ → List ℕ → Type 0
 SameValue v w r s = (v ≡ w) × (r ≡ s)
 

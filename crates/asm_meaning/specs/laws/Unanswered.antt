@@ -94,7 +94,7 @@ a_step state line go = by_operation (operation_of (part line.text line.fields.op
 
 -- ---- lines
 
--- a line with a fault behind lines that have none
+-- a line with a fault after lines that have none
 record StopsAt (state : State) (lines : List Line) : Type 0 where
   before : List Line
   following : List Line

@@ -1,7 +1,7 @@
 //! Expressions, and what is reported for them.
 use omf_expr::{ExprFault, Value, ValueFault};
 
-/// What is told of an expression: that it is none, or its value, or why it has none.
+/// What is reported of an expression: that it is none, or its value, or why it has none.
 pub type Reported = Result<Result<Value, ValueFault>, ExprFault>;
 
 pub fn place(segment: u16, offset: u32, shift: i8) -> Value {
@@ -13,7 +13,7 @@ pub fn place(segment: u16, offset: u32, shift: i8) -> Value {
     }
 }
 
-/// What is to be told of an expression.
+/// What is to be reported of an expression.
 pub enum Want {
     /// A place in segment 2: its offset and shift.
     Place(u32, i8),
@@ -33,7 +33,7 @@ pub fn as_reported(want: &Want) -> Reported {
     }
 }
 
-/// Expressions, LABLEN, and what is told. There is one name AB, at offset $100; the location counter is $40 and the start $30, all in
+/// Expressions, LABLEN, and what is reported. There is one name AB, at offset $100; the location counter is $40 and the start $30, all in
 /// segment 2.
 pub static REPORTED: [(&[u8], u8, Want); 53] = [
     // Places move, differ and shift.

@@ -1,11 +1,11 @@
-//! What the operators give, worked out by a throwaway script from the rules in words: two's complement in 32 bits,
-//! division towards zero, remainders with the dividend's sign, shifts with zeros coming in.
+//! What the operators give, worked out by a throwaway script from the rules in prose: two's complement in 32 bits, division towards zero,
+//! remainders with the dividend's sign, shifts that fill with zeros.
 
 /// The operands.
 pub static VALUES: [u32; 5] = [0, 1, 0x7FFFFFFF, 0x80000000, 0xFFFFFFFF];
 
-/// Each operator of two numbers with what it gives for each left operand and, for it, each right one. A quotient and a
-/// remainder by 0 stand as 0.
+/// Each operator of two numbers with what it gives for each left operand and, for it, each right one. A quotient and a remainder by 0 are
+/// entered as 0.
 pub static OF_TWO: [(u8, [[u32; 5]; 5]); 18] = [
     (
         0x01,

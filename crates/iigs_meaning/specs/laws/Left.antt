@@ -7,7 +7,7 @@ use Rattle.iigs_meaning.specs.Fits.{Slots, block_in}
 use Rattle.iigs_meaning.specs.Placement.{can_purge}
 use Rattle.iigs_meaning.specs.Slide.{can_move, holding, moved_to}
 
--- a slot is as it was; or its block was purgeable and is empty; or it moves, and stands at another address
+-- a slot is as it was; or its block was purgeable and is empty; or it can move, and lies at another address
 pub data IsLeft (was : Slot Block) (now : Slot Block) : Type 0 where
   Unmoved : now ≡ was → IsLeft was now
   Emptied : (block : Block) → block_in was ≡ Some block → can_purge block ≡ true → now ≡ holding was (record block { at = None }) → IsLeft was now

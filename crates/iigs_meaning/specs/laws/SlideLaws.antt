@@ -1,4 +1,4 @@
--- Laws of slides: each movable block's present address fits when its turn comes, so no address rises.
+-- Laws of slides: each movable block's present address fits when its turn occurs, so no address rises.
 use Rattle.std.proofs.Common.{◌≡◌, ◌≢◌, inl, inr, ℕ, zero, suc, Bool, true, false, cond, ◌+◌, ◌<◌, ◌≤◌, List, length, Option, Some, None, refl, sym, ap, subst, ◌∙◌, arith}
 use Rattle.std.specs.Prelude.{◌&&◌, is_some, not, unwrap_or, slice_set, All}
 use Rattle.std.specs.Option.{option_and_then}
@@ -46,12 +46,12 @@ mover_stays slot block is none = cc
 
 -- ---- the law of a turn
 
--- the blocks that move and lay below an address stand where they go
+-- the blocks that move and lay below an address are where they go
 pub record AreMoved (banks : List ℕ) (old now : Slots) (limit : ℕ) : Type 0 where
   pub goes : (place : ℕ) (block : Block) → movable_block (slot_at old place) ≡ Some block → place_of block < limit
       → (address : ℕ) × GoesBeside banks old now block address × (slot_at now place ≡ holding (slot_at old place) (moved_to address block))
 
--- they stand nowhere above where they lay
+-- none of them is above where it lay
 abbrev pub AreLow : Slots → Slots → ℕ → Type 0
 AreLow old now limit = (place : ℕ) (block : Block) → movable_block (slot_at old place) ≡ Some block → place_of block < limit
     → (address : ℕ) × (address ≤ place_of block) × (slot_at now place ≡ holding (slot_at old place) (moved_to address block))
@@ -70,7 +70,7 @@ module _ (banks : List ℕ) (old now : Slots) (apart : AreApart banks old) (sett
     | inr within ↦ within
   ]
 
-  -- The law: when a block's turn comes, its present address fits, if the blocks that moved before it stand nowhere above where they lay.
+  -- The law: when a block's turn occurs, its present address fits, if none of the blocks that moved before it is above where it lay.
   present_fits : (place : ℕ) (block : Block) → movable_block (slot_at old place) ≡ Some block → AreLow old now (place_of block) → FitsBeside banks old now block (place_of block)
   present_fits place block is low = record {
     open_ = settled.fits place block (place_of block) (mover_in (slot_at old place) block is).0 (lies (slot_at old place) block is);
@@ -96,7 +96,7 @@ module _ (banks : List ℕ) (old now : Slots) (apart : AreApart banks old) (sett
       → FitsBeside banks old now block (place_of block)
   turn_fits limit moved place block is le = present_fits place block is (are_low limit moved (place_of block) le)
 
--- where a block fits follows from where the blocks stand that moved before it
+-- where a block fits follows from where the blocks are that moved before it
 pub fits_there : (banks : List ℕ) (old a b : Slots) (block : Block) (address : ℕ)
     → ((place : ℕ) (other : Block) → movable_block (slot_at old place) ≡ Some other → place_of other < place_of block → slot_at a place ≡ slot_at b place)
     → FitsBeside banks old a block address → FitsBeside banks old b block address

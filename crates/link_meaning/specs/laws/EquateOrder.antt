@@ -1,4 +1,4 @@
--- Equates stand in the order of their members and displacements, so no two numbers are one equate's.
+-- Equates are in the order of their members and displacements, so no two numbers are one equate's.
 use Rattle.std.proofs.Common.{◌≡◌, ◌⊎◌, inl, inr, ℕ, zero, suc, ◌+◌, ◌<◌, ◌≤◌, Bool, true, false, List, [], ◌∷◌, ◌++◌, map, Some, refl, sym, ap, subst, ◌∙◌, append_assoc, arith}
 use Rattle.std.specs.Prelude.{slice_get}
 use Rattle.std.specs.List.{flat_map}
@@ -18,7 +18,7 @@ use Rattle.link_meaning.specs.EquateValues.{OneNumber}
 
 -- ---- order
 
--- an equate stands after a member's place and a displacement there
+-- an equate is at or after a member's place and a displacement there
 abbrev After : ℕ → ℕ → FoundDefinition → Type 0
 After place at e = (place < e.place) ⊎ ((place ≡ e.place) × (at ≤ e.definition.at))
 
@@ -98,11 +98,11 @@ one_or_none at place (Entry segment offset name) = inl refl
 abbrev founds : ℕ → Member → List Definition → List FoundDefinition
 founds place m ds = map (λ (d : Definition). record { place = place; member = m; definition = d }) ds
 
--- what stands after the member's equates is in order behind any of its places
+-- what follows the member's equates is in order after any of its places
 abbrev IsRest : ℕ → List FoundDefinition → Type 0
 IsRest place rest = (p a : ℕ) → p ≤ place → Ordered p a rest
 
--- the place and displacement come before those of the member from there on
+-- the place and displacement are before those of the member from there on
 abbrev Before : ℕ → ℕ → ℕ → ℕ → Type 0
 Before p a place low = (p < place) ⊎ ((p ≡ place) × (a ≤ low))
 
@@ -118,7 +118,7 @@ after_of : (p a place at : ℕ) (m : Member) (d : Definition) → d.at ≡ at �
 after_of p a place at m d is (inl lt) = inl lt
 after_of p a place at m d is (inr same) = inr (same.0, omega (arith, same.1, is))
 
--- what one record defines, and what stands after it
+-- what one record defines, and what follows it
 ordered_own : (place : ℕ) (m : Member) (at p a : ℕ) (ds : List Definition) (tail : List FoundDefinition) → OneOrNone at ds → Before p a place at → ((q b : ℕ) → Before q b place (at + 1) → Ordered q b tail)
     → Ordered p a (founds place m ds ++ tail)
 ordered_own place m at p a ds tail (inl none) before go =

@@ -41,7 +41,7 @@ lower low at (found ∷ founds) le rising = (omega (arith, le, rising.0), rising
 abbrev nothing : Result (Option (ℕ × Record)) RecordFault
 nothing = Ok None
 
--- a record is told with its place
+-- a record is returned with its place
 place_is : (r : Reader) (found : ℕ × Record) → next_answer r ≡ Ok (Some found) → found.0 ≡ place_of r
 unfolding next_answer
 place_is r found e = by_end r.ended e
@@ -236,6 +236,6 @@ apart files list bytes resolved e f is other place at =
         following [] = inl refl
         following (o ∷ front) = inr (following front)
 
--- The table of resolved files tells each equate its value, and nothing else does.
+-- The table of resolved files gives each equate its value, and nothing else does.
 pub table_of_values : TableOfValues
 table_of_values files list table bytes resolved = (λ reveal. are_table list table reveal (apart files list bytes resolved), report_values list table)

@@ -1,4 +1,4 @@
--- An equate has one value at most, none on a ring; and the values of all equates are the table.
+-- An equate has one value at most, none on a cycle; and the values of all equates are the table.
 use Rattle.std.proofs.Common.{◌≡◌, inl, inr, Bool, true, false, eqb, cond, List, [], ◌∷◌, Result, refl, sym, ap, subst, ◌∙◌}
 use Rattle.std.specs.Prelude.{◌&&◌}
 use Rattle.std.proofs.lemmas.Bool.{and_parts, and_from, eqb-true, eq-eqb}
@@ -18,7 +18,7 @@ pub one_value : OneValue
 one_value list e a b (ByOthers x t c p go) (ByOthers y u d q other) =
     p ∙ equate_same list t u e (alike_from list t u e (λ g leads. one_value list g (value_of_definition t g.place g.definition.at) (value_of_definition u g.place g.definition.at) (go g leads) (other g leads))) ∙ sym q
 
--- ---- none on a ring
+-- ---- none on a cycle
 
 no_way : (list : List Member) (x y : FoundDefinition) (a : Result Value ValueFault) → HasValue list x a → Path list x y → x ≡ y → ⊥
 no_way list x y a (ByOthers e t c p go) (Last from to leads) same =
@@ -63,7 +63,7 @@ module _ (list : List Member) (table : List EquateAnswer) (reveal : GiveValues l
   reported_value : (e : FoundDefinition) → IsIn (equates list) e → HasValue list e (value_of_definition table e.place e.definition.at)
   reported_value e is = reports list (equates list) table e reveal is (λ f there place at. apart f e there is place at)
 
-  -- what the table tells of an equate is what its expression stands for there
+  -- what the table says of an equate is what its expression means there
   reports_own : (e : FoundDefinition) → IsIn (equates list) e → (a : Result Value ValueFault) → HasValue list e a → a ≡ equate_value list table e
   reports_own e is a (ByOthers x u c p go) =
       p ∙ equate_same list u table e (alike_from list u table e (λ g leads. one_value list g (value_of_definition u g.place g.definition.at) (value_of_definition table g.place g.definition.at) (go g leads) (reported_value g (in_equates list e g leads))))

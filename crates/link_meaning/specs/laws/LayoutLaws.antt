@@ -1,4 +1,4 @@
--- The offset of a member is settled: it is the least multiple of its alignment behind the members before it.
+-- The offset of a member is settled: it is the least multiple of its alignment at or after the end of the members before it.
 use Rattle.std.proofs.Common.{◌≡◌, ℕ, zero, suc, ◌+◌, ◌-◌, ◌*◌, ◌/◌, ◌%◌, ◌<◌, ◌≤◌, refl, sym, ap, ◌∙◌, arith}
 use Rattle.std.specs.Prelude.{take}
 use Rattle.std.specs.Int.{next_multiple_of}
@@ -7,7 +7,7 @@ use Rattle.std.proofs.Math.Nat.{lt_of_mul-lt-mul_right, mul-mod_left, mod_self, 
 use Rattle.omf_format.specs.Header.{alignment_of}
 use Rattle.link_meaning.specs.Layout.{IsOffsetAfter, aligned_from, end_from, offset_of, OffsetIsLeast, OneOffset}
 
--- two offsets behind one end are one
+-- two offsets after one end are one
 pub one_offset : OneOffset
 one_offset end align a b p q = omega (arith, p.least b q.aligned q.not_below, q.least a p.aligned p.not_below)
 

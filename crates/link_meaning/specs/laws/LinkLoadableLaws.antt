@@ -1,4 +1,4 @@
--- The written file as it is read: it stands for the linked cells, and is loaded where nothing names a skipped load segment.
+-- The written file as it is read: it represents the linked cells, and is loaded where nothing names a skipped load segment.
 use Rattle.std.proofs.Common.{drop, Result, Ok, Err, ◌≡◌, ℕ, suc, ◌+◌, ◌-◌, ◌<◌, ◌≤◌, Bool, true, false, not, eqb, ltb, List, [], ◌∷◌, ◌++◌, length, map, take, replicate, Option, Some, None, refl, sym, ap, subst, ◌∙◌, append_assoc, arith, inl, inr}
 use Rattle.std.specs.Prelude.{◌⊎◌, ◌&&◌, ◌||◌, cond, option_map}
 use Rattle.std.specs.List.{AllByRecursion, list_any, flat_map}

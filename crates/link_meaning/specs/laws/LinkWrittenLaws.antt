@@ -1,4 +1,4 @@
--- The load file that the linker writes is a file of the load segments and the table, and each stands for its cells.
+-- The load file that the linker writes is a file of the load segments and the table, and each represents its cells.
 use Rattle.std.proofs.Common.{suc, ◌≡◌, ℕ, ◌+◌, ◌^◌, ◌<◌, ◌≤◌, Bool, true, false, not, eqb, ltb, List, [], ◌∷◌, ◌++◌, length, map, filter, get_or, refl, sym, ap, subst, ◌∙◌, append_assoc, arith, inl, inr}
 use Rattle.std.specs.Prelude.{◌||◌, ◌&&◌, cond}
 use Rattle.std.specs.List.{flat_map, AllByRecursion}
@@ -94,7 +94,7 @@ no_kinds : (files : LinkInput) (list : List Member) → IsResolved files list �
 no_kinds files list resolved fault has =
     no_layout files list fault resolved (record { before = Orgs ∷ Count ∷ Lengths ∷ []; item = Kinds; after = []; parts = refl; none = none_more (HasLayoutFault list) (Orgs ∷ Count ∷ []) Lengths (none_two files list resolved) (no_lengths files list resolved); here = has })
 
--- each load segment may stand in what is linked
+-- each load segment is allowed in what is linked
 standing_from : (files : LinkInput) (list : List Member) (before rest : List HeaderFields) → IsResolved files list → load_headers list ≡ before ++ rest → HasNone (HasKindFault list) before
     → AllByRecursion (λ f. may_not_stand (form_in list) f ≡ false) rest
 standing_from files list before [] resolved parts none = tt
@@ -296,7 +296,7 @@ path_read number (r ∷ runtimes) [] are = absurd are
 path_read number (r ∷ runtimes) (s ∷ []) are = (pathnames_cells number (map (λ (one : RuntimeFile). one.path) (r ∷ runtimes)) s are.0, tt)
 path_read number (r ∷ runtimes) (s ∷ u ∷ segments) are = absurd are.1
 
--- the table, and what stands after it
+-- the table, and what follows it
 following_read : (number : ℕ) (ts : List Target) (more : List Image) (last : List (List Cell)) (segments : List Segment) → number < 2 ^ 16 → length ts ≤ 4680
     → ((rest : List Segment) → AreReadAs more rest → HaveCells last rest) → AreReadAs (table_images number ts ++ more) segments → HaveCells (table_cells ts ++ last) segments
 following_read number [] more last segments small few rest are = rest segments are

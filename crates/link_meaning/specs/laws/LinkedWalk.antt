@@ -12,7 +12,7 @@ use Rattle.link_meaning.specs.LinkedCells.{Item, LinkState, Made, zeros, items_f
 use Rattle.link_meaning.specs.LinkWritten.{start}
 use Rattle.link_meaning.specs.laws.LinkedRuns.{item, items_from-append, state_from-append, state_place, are_below, up_to}
 
--- ---- what is there behind the first members of the list
+-- ---- what there is after the first members of the list
 
 -- what their records made
 unfoldable pub state_of : List Member → List EquateAnswer → List Member → LinkState

@@ -69,7 +69,7 @@ cells_read [] (s ∷ segments) have = absurd have
 cells_read (cs ∷ all) [] have = absurd have
 cells_read (cs ∷ all) (s ∷ segments) have = ap (λ (c : List Cell). c ∷ map cells segments) have.0 ∙ ap (λ (l : List (List Cell)). cs ∷ l) (cells_read all segments have.1)
 
--- the headers behind those of the load segments
+-- the headers after those of the load segments
 abbrev pub after_headers : List Member → List EquateAnswer → List HeaderFields
 after_headers list table =
     table_headers (table_number list) (targets list table) ++ path_headers (table_number list + length (table_headers (table_number list) (targets list table))) (setting_in list).runtimes
@@ -121,7 +121,7 @@ is_read_whole files output is = subst (λ (l : List ℕ). length l ≤ most_byte
 
 -- ---- numbers of load segments
 
--- no text stands twice
+-- no text occurs twice
 abbrev Apart : List (List ℕ) → Type 0
 Apart [] = Unit {0}
 Apart (x ∷ xs) = (IsIn xs x → ⊥) × Apart xs
@@ -173,7 +173,7 @@ number_is list front x back parts =
 
 -- ---- lists by places
 
--- what stands before a place and behind it
+-- what is before a place and after it
 pub record Split {A : Type 0} (xs : List A) (k : ℕ) (x : A) : Type 0 where
   pub front : List A
   pub back : List A
@@ -312,7 +312,7 @@ pub length_read : (list : List Member) (segments : List Segment) (number : ℕ) 
 length_read list segments number l =
     l.length' ∙ sym (ap (λ (o : Option HeaderFields). elim o as (λ x. ℕ) [ None ↦ 0 | Some f ↦ f.length ]) l.header)
 
--- a patch that names what it may, and nothing that is skipped, may stand there
+-- a patch that names what it may, and nothing that is skipped, is allowed there
 patch_passes : (list : List Member) (table : List EquateAnswer) (segments : List Segment) (s : Segment) (own : ℕ) (p : Patch) → StandFor list table segments → s.fields.seg_num ≡ own → p.file ≡ 1 → p.location + p.count ≤ s.fields.length
     → Reaches list (targets list table) own p.segment → is_skipped_load (load_headers list) p.segment ≡ false → patch_refusal segments s p ≡ None
 unfolding patch_refusal

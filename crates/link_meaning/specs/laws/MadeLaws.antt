@@ -243,7 +243,7 @@ fit_runs table count targets all (fitting.Entry t) small few counts is =
 
 -- ---- a record
 
--- what is known of the record: a count is 1 to 4, and the places that its expression stands for fit
+-- what is known of the record: a count is 1 to 4, and where the value of its expression is a place, that fits
 abbrev pub IsSoundAt : List Member → List EquateAnswer → Item → Record → Type 0
 IsSoundAt list table i End = Unit {0}
 IsSoundAt list table i (Const bytes) = Unit {0}

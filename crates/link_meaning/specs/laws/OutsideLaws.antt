@@ -1,4 +1,4 @@
--- Names of run-time library files stand for places in these.
+-- Names of run-time library files represent places in them.
 use Rattle.std.proofs.Common.{◌≡◌, ◌⊎◌, ℕ, ◌+◌, ◌<◌, ◌≤◌, List, [], ◌∷◌, ◌++◌, length, Option, Some, None, refl, sym, ap, arith, inl, inr}
 use Rattle.std.specs.Prelude.{filter_map, option_map}
 use Rattle.std.specs.List.{cons_option}
@@ -12,7 +12,7 @@ use Rattle.link_meaning.specs.LinkValues.{outside_value}
 use Rattle.link_meaning.specs.laws.MadeLaws.{FitsPlace, FitsPatch}
 use Rattle.link_meaning.specs.LinkLoadable.{IsRuntimeFile, IsNamed}
 
--- the number of the file that a name stands for
+-- the number of the file in which a name has its place
 file_one : (file : ℕ) (r : RuntimeFile) (es : List Export) (f : FoundDefinition) → IsIn (filter_map (outside_of file r) es) f → f.member.file ≡ file
 file_one file r [] f is = absurd is
 file_one file r (e ∷ es) f is = by_segment (λ h. file_one file r es f h) (segment_at r.segments e.segment) is

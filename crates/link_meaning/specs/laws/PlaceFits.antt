@@ -23,7 +23,7 @@ use Rattle.link_meaning.specs.LinkValues.{place_value}
 use Rattle.link_meaning.specs.laws.MadeLaws.{FitsPatch}
 use Rattle.link_meaning.specs.laws.LinkWrittenLaws.{few_loads, short_loads, short_length}
 
--- so many bytes from the start of a member are a place in it, or its end
+-- the place `at` bytes from the start of a member is in it, or its end
 pub record IsPlaceIn (list : List Member) (place : ℕ) (m : Member) (at : ℕ) : Type 0 where
   pub front : List Member
   pub back : List Member

@@ -1,4 +1,4 @@
--- What expressions stand for: places whose segments are among those of the places that they name.
+-- Values of expressions: places whose segments are among those of the places that they name.
 use Rattle.std.proofs.Common.{◌≡◌, ℕ, pos, ◌+◌, ◌-◌, ◌^◌, ◌<◌, Bool, true, false, not, eqb, leb, List, [], ◌∷◌, ◌++◌, Option, Some, None, Result, Ok, Err, refl, sym, ap, subst, ◌∙◌, arith, inl, inr, ◌≤◌}
 use Rattle.std.specs.Prelude.{◌&&◌, cond}
 use Rattle.std.specs.List.{AllByRecursion}
@@ -78,7 +78,7 @@ module _ (P : ℕ → ℕ → Type 0) where
 
   -- ---- trees
 
-  -- what a name is told in that member fits
+  -- the value of a name in that member fits
   abbrev LabelFits : List Member → List EquateAnswer → ℕ → Member → List ℕ → Type 0
   LabelFits list table place m name = (weak : Bool) (v : Value) → label_value list table weak (finds list place m name) ≡ Some v → FitsPlace P v
 
@@ -162,11 +162,11 @@ module _ (P : ℕ → ℕ → Type 0) where
   label_fits list table [] each false v e = absurd cc
   label_fits list table (f ∷ found) each weak v e = each f (inl refl) v (if_ok_is (found_value list table f) v e)
 
-  -- what an equate is told fits
+  -- the table's value of an equate fits
   abbrev ReportedFits : List EquateAnswer → FoundDefinition → Type 0
   ReportedFits table e = (v : Value) → value_of_definition table e.place e.definition.at ≡ Ok v → FitsPlace P v
 
-  -- where each entry is a place, and what each equate to which it leads is told fits, what a name found fits
+  -- where the place of what a name found fits, and so does its value in the table if it is an equate, the value of the name fits
   found_fits : (list : List Member) (table : List EquateAnswer) (f : FoundDefinition) → FitsPlace P (cond (eqb f.place 0) (outside_value f) (place_value list f.place f.member f.definition.place)) → (is_equate f ≡ true → ReportedFits table f)
       → (v : Value) → found_value list table f ≡ Ok v → FitsPlace P v
   found_fits list table f here equate v e = by_expr f.definition.expr refl e
@@ -189,7 +189,7 @@ module _ (P : ℕ → ℕ → Type 0) (list : List Member) (table : List EquateA
   places : (place : ℕ) (m : Member) (at : ℕ) → IsPlaceIn list place m at → HasPlaces P list place m at
   places place m at is = record { here = there place m at is; first = there place m 0 (from_start place m at is) }
 
-  -- what is found stands in a member or beyond
+  -- the place of what is found fits, in a member or beyond
   stands : (place : ℕ) (m : Member) (name : List ℕ) (f : FoundDefinition) → IsIn (finds list place m name) f → FitsPlace P (cond (eqb f.place 0) (outside_value f) (place_value list f.place f.member f.definition.place))
   stands place m name f found = elim (in_found list place m name f found) [
     | inl h ↦
@@ -210,7 +210,7 @@ module _ (P : ℕ → ℕ → Type 0) (list : List Member) (table : List EquateA
   names place m asked equate =
       all_in (LabelFits P list table place m) asked (λ name is. label_fits P list table (finds list place m name) (λ f found. found_fits P list table f (stands place m name f found) (equate name is f found)))
 
-  -- what an equate is told fits, where it fits for those to which it leads
+  -- the table's value of an equate fits, where those of the equates to which it leads fit
   reported_step : (e : FoundDefinition) → IsIn (equates list) e → ((f : FoundDefinition) → LeadsTo list e f → ReportedFits P table f) → ReportedFits P table e
   unfolding value_in equates
   reported_step e is go v t = by_expr e.definition.expr refl (sym (reports_of list table (equates list) table is_table.rows e is) ∙ t)
@@ -236,14 +236,14 @@ module _ (P : ℕ → ℕ → Type 0) (list : List Member) (table : List EquateA
   unfolding equates
   equate_in place m name f found is = filter_in is_equate (entries list) f (in_entries list place m name f is found) is
 
-  -- what an expression in a member stands for fits
+  -- the value of an expression in a member fits
   pub expression_fits : (place : ℕ) (m : Member) (location : ℕ) (text : List ℕ) → IsPlaceIn list place m location → (v : Value) → value_in list table place m location text ≡ Ok v → FitsPlace P v
   unfolding value_in
   expression_fits place m location text is =
       let tree = tree_in m.segment.fields.lab_len text in
       tree_fits P list table place m location tree (places place m location is) (names place m (asked_in tree) (λ name asked f found equate. reported_fits f (equate_in place m name f found equate)))
 
-  -- what an entry stands for fits
+  -- the value of an entry fits
   pub entry_fits : (f : FoundDefinition) → IsIn (entries list) f → (v : Value) → found_value list table f ≡ Ok v → FitsPlace P v
   unfolding equates
   entry_fits f is = found_fits P list table f (in_member f is) (λ equate. reported_fits f (filter_in is_equate (entries list) f is equate))

@@ -227,7 +227,7 @@ keeps_is list own before a x e is = subst (Keeps list own before) (one_made a x 
 keeps_bytes : (list : List Member) (own : ℕ) (targets : List Target) (cells : List Cell) (x : Made) → AllByRecursion (IsCalled list) targets → AllByRecursion (Names (Reaches list targets own)) cells → okay (cells, targets) ≡ okay x → Keeps list own targets x
 keeps_bytes list own targets cells x all names e = keeps_is list own targets (cells, targets) x e (record { cells' = names; called = all; grows = λ none. none })
 
--- an expression that stands here names load segments
+-- an expression at this record names load segments
 abbrev pub ValuesIn : List Member → List EquateAnswer → Item → Type 0
 ValuesIn list table i = (text : List ℕ) (v : Value) → value_in list table i.place i.member i.here.location text ≡ Ok v → FitsPlace (IsNamed list) v
 
@@ -260,7 +260,7 @@ made_keeps list table state i (Entry segment offset name) x in' all e = keeps_by
 
 -- ---- records one after another
 
--- what is known behind some records: the targets, and the cells of the member at a place
+-- what is known after some records: the targets, and the cells of the member at a place
 record Reached (list : List Member) (place own : ℕ) (before : List Target) (state : LinkState) : Type 0 where
   called : AllByRecursion (IsCalled list) state.targets
   cells' : AllByRecursion (Names (Reaches list state.targets own)) (cond (eqb state.place place) state.cells [])
@@ -294,7 +294,7 @@ own_walk list table place own before state (i ∷ is) are of r =
     let here : Reached list place own before (state_after_item state i (made list table state i)) = subst (λ (g : Result Made LinkCause). Reached list place own before (state_after_item state i g)) (sym are.1) one in
     own_walk list table place own before (state_after_item state i (made list table state i)) is are.2 of.1 here
 
--- the targets alone, behind records of any members
+-- the targets alone, after records of any members
 pub record Called (list : List Member) (before after : List Target) : Type 0 where
   pub called : AllByRecursion (IsCalled list) after
   pub grows : after ≡ [] → before ≡ []
@@ -308,7 +308,7 @@ called_walk list table before state (i ∷ is) are in' c =
     let next : Called list before (state_after_item state i (Ok are.0)).targets = record { called = k.called; grows = λ none. c.grows (k.grows none) } in
     called_walk list table before (state_after_item state i (made list table state i)) is are.2 in'.1 (subst (λ (g : Result Made LinkCause). Called list before (state_after_item state i g).targets) (sym are.1) next)
 
--- behind a member's records the state stands at its place
+-- after a member's records the state has its place
 at_place : (list : List Member) (table : List EquateAnswer) (place : ℕ) (state : LinkState) (is : List Item) → state.place ≡ place → AreMade list table state is → AllByRecursion (λ (i : Item). i.place ≡ place) is → (state_from list table state is).place ≡ place
 at_place list table place state [] at are of = at
 at_place list table place state (i ∷ is) at are of =

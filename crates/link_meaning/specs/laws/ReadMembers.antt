@@ -1,4 +1,4 @@
--- Each member of a linked list stands in one of the files, and passes the checks of reading.
+-- Each member of a linked list is in one of the files, and passes the checks of reading.
 use Rattle.std.proofs.Common.{◌≡◌, ℕ, zero, suc, ◌+◌, ◌-◌, ◌/◌, ◌%◌, ◌^◌, ◌<◌, ◌≤◌, Bool, true, false, eqb, List, [], ◌∷◌, ◌++◌, length, take, drop, Option, Some, None, refl, sym, ap, subst, ◌∙◌, arith, inl, inr}
 use Rattle.std.specs.Prelude.{◌⊎◌, ◌&&◌, ◌==◌, not, cond, option_map, slice_get, filter_map, Result, Ok, Err}
 use Rattle.std.specs.Option.{option_or}
@@ -104,7 +104,7 @@ record IsOf (inputs : List Input) (s : Segment) : Type 0 where
 abbrev with_number : ℕ → LinkCause × ℕ → ℕ × (LinkCause × ℕ)
 with_number number found = (number, found)
 
--- behind the first segment no dictionary is sound
+-- after the first segment no dictionary is sound
 no_dictionaries : (number : ℕ) (segments : List Segment) (s : Segment) → segments_fault number segments ≡ None → (number ≡ 1 → is_library segments ≡ false) → 1 ≤ number → IsIn segments s → (form_of s.fields.kind == 0x08) ≡ false
 no_dictionaries number [] s e first some is = absurd is
 no_dictionaries number (t ∷ segments) s e first some is = by_place is (no_dictionaries (number + 1) segments s both.1 (λ one. absurd (omega (arith, one, some))) (omega arith))

@@ -48,7 +48,7 @@ length-parts : (p : Patch) (index n : ℕ) → length (parts_from p index n) ≡
 length-parts p index zero = refl
 length-parts p index (suc n) = ap suc (length-parts p (index + 1) n)
 
--- the bytes of a place don't depend on where they stand
+-- the bytes of a place don't depend on where they are
 parts_same : (p q : Patch) (index n : ℕ) → p.file ≡ q.file → p.segment ≡ q.segment → p.offset ≡ q.offset → p.shift ≡ q.shift → parts_from p index n ≡ parts_from q index n
 parts_same p q index zero a b c d = refl
 parts_same p q index (suc n) a b c d =
@@ -87,7 +87,7 @@ runs_on p index (suc n) rest e =
     let more = runs_on p (index + 1) n rest (ap (λ (i : ℕ). run_length p i rest) (omega arith) ∙ e) in
     ap (λ (t : Bool). cond t (1 + run_length p (index + 1) (parts_from p (index + 1) n ++ rest)) 0) (same_place p.file p.segment p.offset index p.shift) ∙ omega (arith, more)
 
--- behind its first cell no patch begins in a run
+-- after its first cell no patch begins in a run
 none_inside : (p : Patch) (at index n : ℕ) (rest : List Cell) → 1 ≤ index → patches_from at (parts_from p index n ++ rest) ≡ patches_from (at + n) rest
 none_inside p at index zero rest le = ap (λ (i : ℕ). patches_from i rest) (omega arith)
 none_inside p at index (suc n) rest le =

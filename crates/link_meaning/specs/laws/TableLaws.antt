@@ -46,7 +46,7 @@ in_found list place m name f is = elim (in_either (first_step_found (steps_of li
   | inr h ↦ inr (in_filter _ (outside (setting_in list)) f h)
 ]
 
--- names of run-time library files stand at place 0, and aren't equates
+-- names of run-time library files are at place 0, and aren't equates
 pub record IsOutside (f : FoundDefinition) : Type 0 where
   pub nowhere : f.place ≡ 0
   pub place : f.definition.expr ≡ None
@@ -97,9 +97,9 @@ pub in_equates : (list : List Member) (e f : FoundDefinition) → LeadsTo list e
 unfolding equates
 in_equates list e f leads = filter_in is_equate (entries list) f (in_entries list e.place e.member leads.name f leads.equate leads.found) leads.equate
 
--- ---- the same value where the same names are told
+-- ---- the same value where names have the same values
 
--- two tables tell the same of what a name found first
+-- two tables give the same value to what a name found first
 abbrev pub Alike : List Member → List EquateAnswer → List EquateAnswer → List FoundDefinition → Type 0
 Alike list a b [] = Unit {0}
 Alike list a b (f ∷ found) = found_value list a f ≡ found_value list b f
@@ -237,7 +237,7 @@ below_length [] k x e = absurd cc
 below_length (y ∷ ys) zero x e = omega arith
 below_length (y ∷ ys) (suc k) x e = omega (arith, below_length ys k x e)
 
--- an equate stands at this place from which the other is reached
+-- at this place is an equate from which the other is reached
 abbrev Before : List Member → FoundDefinition → ℕ → Type 0
 Before list e v = (g : FoundDefinition) × (slice_get (equates list) v ≡ Some g) × Path list g e
 
@@ -251,7 +251,7 @@ some f = Some f
 one_found : (f g : FoundDefinition) → some f ≡ some g → f ≡ g
 one_found f g e = cc
 
--- without rings an equate isn't among those before it
+-- without cycles an equate isn't among those before it
 apart : (list : List Member) (f : FoundDefinition) (j : ℕ) (visited : List ℕ) → (IsCircular list f → ⊥) → slice_get (equates list) j ≡ Some f
     → AllByRecursion (Before list f) visited → AllByRecursion (λ v. eqb j v ≡ false) visited
 apart list f j [] straight at all = tt
@@ -385,7 +385,7 @@ by_cycles_from (suc n) list P visited e k straight step at before distinct size 
     by_cycles_from n list P (k ∷ visited) f place.0 straight step place.1 reached
     (apart list f place.0 (k ∷ visited) (straight f inside) place.1 reached, distinct) (omega (arith, size)))
 
--- Without rings, what holds of an equate where it holds of all to which it leads, holds of every equate.
+-- Without cycles, what holds of an equate where it holds of all to which it leads, holds of every equate.
 pub by_cycles : (list : List Member) (P : FoundDefinition → Type 0) → ((g : FoundDefinition) → IsIn (equates list) g → IsCircular list g → ⊥)
     → ((g : FoundDefinition) → IsIn (equates list) g → ((f : FoundDefinition) → LeadsTo list g f → P f) → P g) → (e : FoundDefinition) → IsIn (equates list) e → P e
 unfolding IsDistinct

@@ -1,4 +1,4 @@
--- What expressions of a resolved list stand for fits patch records.
+-- The values of expressions of a resolved list fit patch records.
 use Rattle.std.proofs.Common.{◌≡◌, ℕ, ◌+◌, ◌^◌, ◌<◌, ◌≤◌, List, [], ◌∷◌, ◌++◌, length, map, Ok, refl, sym, ap, subst, ◌∙◌, append_assoc, arith, inl, inr}
 use Rattle.std.specs.List.{AllByRecursion}
 use Rattle.std.proofs.lemmas.List.{length-append}
@@ -36,7 +36,7 @@ module _ (files : LinkInput) (list : List Member) (table : List EquateAnswer) (b
   beyond : (f : FoundDefinition) → IsIn (outside (setting_in list)) f → FitsPatch (outside_value f)
   beyond = outside_fits list
 
-  -- what an expression in a member stands for fits
+  -- the value of an expression in a member fits
   pub expression_fits : (place : ℕ) (m : Member) (location : ℕ) (text : List ℕ) → IsPlaceIn list place m location → (v : Value) → value_in list table place m location text ≡ Ok v → FitsPatch v
   expression_fits = values.expression_fits (λ (file segment : ℕ). file ≡ 1 → segment < 2 ^ 16) list table is_table there beyond
 
@@ -95,7 +95,7 @@ module _ (files : LinkInput) (list : List Member) (table : List EquateAnswer) (b
   unfolding items
   all_sound = items_sound [] list refl
 
--- The file that the linker writes stands for the linked cells.
+-- The file that the linker writes represents the linked cells.
 pub linked_stands_for : LinkedStandsFor
 linked_stands_for files list table bytes resolved is_table are short =
     stands_for files list table bytes resolved (all_sound files list table bytes resolved is_table) are short

@@ -1,4 +1,4 @@
--- Lines one after another inside a segment: what the lister keeps beside them, what the assembler has behind them.
+-- Lines one after another inside a segment: what the lister keeps beside them, what the assembler has after them.
 use Rattle.std.proofs.Common.{◌≡◌, ℕ, ◌+◌, ◌^◌, ◌<◌, ◌≤◌, Bool, true, false, List, [], ◌∷◌, ◌++◌, length, Option, Some, None, Ok, refl, sym, ap, subst, ◌∙◌, arith, append_assoc, append-nil}
 use Rattle.std.specs.Prelude.{is_some, bytes_eq, ◌||◌, map, cond}
 use Rattle.std.specs.Int.{is_power_of_two}
@@ -49,7 +49,7 @@ leads_steps a b number (said ∷ all) p = (p.0, p.1.0, leads_steps p.0 b (number
 
 -- ---- lines and their records
 
--- the records, the widths and the names behind lines
+-- the records of lines, and the widths and the names after them
 abbrev pub given : Widths → List ListedStatement → List Record
 given w [] = []
 given w (said ∷ rest) = records_said w said ++ given (widths_said said w) rest
@@ -85,7 +85,7 @@ KnowsOnly equates constants = (name : List ℕ) → is_among equates name ≡ fa
 abbrev pub IsNew : List (List ℕ) → List ℕ → Type 0
 IsNew names name = IsPlainName name × (is_among names name ≡ false)
 
--- a line that can stand where these names are defined, at these widths
+-- a line that is allowed where these names are defined, at these widths
 abbrev pub IsFine : List (List ℕ) → ℕ → List (List ℕ) → Widths → ListedStatement → Type 0
 IsFine equates align names w (NextAlignIs n) = ⊥
 IsFine equates align names w (NextOrg n) = ⊥

@@ -52,7 +52,7 @@ dc_step state s number text element contents here ink are gives room =
     (inside state s (line_of 0 number (statement_text [] (codes "DC") text)) (Direct directives.Constants) [] text (with_local_record [] 0x4E contents) here refl
     (Some (element ∷ []), are, rw gives refl) room)
 
--- ---- bytes that don't stand in a formula
+-- ---- bytes that don't occur in a formula
 
 module _ (p : ℕ → Bool) (named : (byte : ℕ) → is_name_byte byte ≡ true → p byte ≡ false) (digit : (byte : ℕ) → digit_value byte < 16 → p byte ≡ false)
     (special : AllByRecursion (λ byte. p byte ≡ false) (codes "$*()")) (operator : (o : Operator) → AllByRecursion (λ byte. p byte ≡ false) (listed.operator_text (operator_code o)))

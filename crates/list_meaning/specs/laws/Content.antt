@@ -1,5 +1,5 @@
--- What records give place by place, what they define and use: the same for a record of the file and for the records that stand
--- for its lines.
+-- What records give place by place, what they define and use: the same for a record of the file and for the records that its lines
+-- represent.
 use Rattle.std.proofs.Common.{◌≡◌, ℕ, zero, suc, ◌+◌, List, [], ◌∷◌, ◌++◌, length, map, refl, sym, ap, subst, ◌∙◌, arith, append_assoc, append-nil, length-append}
 use Rattle.std.specs.List.{AllByRecursion, flat_map}
 use Rattle.std.proofs.lemmas.List.{map-append}
@@ -60,7 +60,7 @@ consts_give at (Const bytes ∷ rs) are =
     }
 consts_give at (_ ∷ rs) are = absurd are.0
 
--- ---- a record and the one that stands for its line
+-- ---- a record and the one that its line represents
 
 -- the same at each place
 pub record IsLike (l : ℕ) (r x : Record) : Type 0 where

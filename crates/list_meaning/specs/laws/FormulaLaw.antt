@@ -24,12 +24,12 @@ use Rattle.list_meaning.specs.Listed as listed
 
 -- ---- names
 
--- a name that is written as it stands
+-- a name that can be written unchanged
 abbrev pub IsPlainName : List ℕ → Type 0
 IsPlainName [] = ⊥
 IsPlainName (byte ∷ name) = (is_name_start byte ≡ true) × AllByRecursion (λ b. is_name_byte b ≡ true) name × (folded (byte ∷ name) ≡ byte ∷ name)
 
--- no byte of a name and no colon stands at the start
+-- the start is no byte of a name and no colon
 abbrev pub EndsName : List ℕ → Type 0
 EndsName [] = Unit {0}
 EndsName (byte ∷ rest) = (is_name_byte byte ≡ false) × ((byte == 0x3A) ≡ false)
@@ -168,7 +168,7 @@ unfolding tokens.operand_token_at tokens.byte_at tokens.sign_at tokens.spelled_a
 sign_token Negate rest = refl
 sign_token Not rest = refl
 
--- behind an operand an operator, a parenthesis or the end of a value
+-- after an operand: an operator, a parenthesis or the end of a value
 pub operator_ends : (operator : Operator) (rest : List ℕ) → EndsName (spelling_of operator ++ rest)
 unfolding listed.operator_text
 operator_ends Multiply rest = (refl, refl)
@@ -266,7 +266,7 @@ expects_none (Group inner) = expects_append true (tokens_of inner) (Closes ∷ [
 expects_none (Signed sign operand) = expects_none operand
 expects_none (Joined operator left right) = expects_append true (tokens_of left) (Between operator ∷ tokens_of right) ∙ expects_none right
 
--- ---- they stand there
+-- ---- they are there
 
 begins_text : (t : Tree) (rest : List ℕ) → CanWrite t → BeginsOperand (as_operand t (formula_text t) ++ rest)
 begins_text (Leaf (expression.Operator code)) rest can = absurd can
@@ -372,7 +372,7 @@ stands_there (Binary code a b) can rest ends =
     subst (λ (l : List ℕ). Stand Labels true l (tokens_of (as_formula (Binary code a b))) rest) (sym same) (stand_append true (left ++ (spelling_of operator ++ (right ++ rest))) (tokens_of (grouped a (as_formula a))) (Between operator ∷ tokens_of (grouped b (as_formula b))) (spelling_of operator ++ (right ++ rest)) rest first
     (rw (expects_none (grouped a (as_formula a))) second))
 
--- the formula of a tree is read again as this tree, where no operator stands after it
+-- the formula of a tree is read again as this tree, where no operator follows it
 pub formula_read : (t : Tree) (rest : List ℕ) → CanWrite t → EndsName rest → operator_at rest ≡ None → MeansAt Labels (formula_text t ++ rest) t rest
 formula_read t rest can ends none = record {
   formula = as_formula t;

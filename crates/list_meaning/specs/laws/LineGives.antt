@@ -34,7 +34,7 @@ use Rattle.list_meaning.specs.laws.ConstantLines.{IsCount, asks_step, weakly_ste
 use Rattle.list_meaning.specs.laws.BytesLine.{AreBytes, bytes_step}
 use Rattle.list_meaning.specs.laws.NumberLine.{TakesNumber, number_records, number_step, accumulator_step, banks_step}
 
--- ---- which lines can stand there
+-- ---- which lines are allowed there
 
 -- a name that the segment doesn't define yet
 abbrev pub IsFree : StartedSegment → List ℕ → Type 0
@@ -255,7 +255,7 @@ left_kind state s number n here step = record {
 
 -- ---- the law
 
--- a line that can stand there, in a segment that it doesn't make too long
+-- a line that is allowed there, in a segment that it doesn't make too long
 abbrev pub Room : State → StartedSegment → ListedStatement → Type 0
 Room state s said = place_after 0 (s.body ++ records_said state.widths said) ≤ greatest_length s.class
 

@@ -58,7 +58,7 @@ step_of state number label operation operand op answer front named ink taken is 
     let fields = laid label operation operand front named ink taken in
     rw (fields.label_is, fields.operation_is, fields.operand_is, is) placed
 
--- a statement in the open segment, which isn't too long behind it
+-- a statement in the open segment, which isn't too long after it
 pub fits_in : (state : State) (s : StartedSegment) (change : StartedSegment → StartedSegment) → state.segment ≡ Some s → cells_of (change s) ≤ greatest_length (change s).class
     → within_length (in_segment change state) ≡ Ok (in_segment change state)
 fits_in state s change here room =

@@ -1,4 +1,4 @@
--- A listing is assembled to segments that stand for the same.
+-- A listing is assembled to segments that represent the same.
 use Rattle.std.proofs.Common.{◌≡◌, ℕ, ◌+◌, Bool, true, false, List, [], ◌∷◌, ◌++◌, length, map, None, Ok, refl, sym, ap, subst, ◌∙◌, arith, append-nil, leb}
 use Rattle.std.specs.List.{AllByRecursion, flat_map}
 use Rattle.std.proofs.lemmas.Bool.{leb-true, leb-false}
@@ -31,7 +31,7 @@ use Rattle.list_meaning.specs.laws.SegmentLines.{Ready, IsEndedAs, AreEndedAs, F
 
 -- ---- definitions
 
--- the displacement in the file isn't told
+-- the displacement in the file isn't compared
 same_reported : (l at place : ℕ) (r : Record) → map (comparable_definition l) (defined_by at place r) ≡ defs_at l place r
 same_reported l at place (Rattle.omf_format.specs.Record.Label global name size form private) = refl
 same_reported l at place (Rattle.omf_format.specs.Record.Equate global name size form private expr) = refl

@@ -17,7 +17,7 @@ use Rattle.orca_meaning.specs.Token as tokens
 use Rattle.orca_meaning.specs.Token.{Number, Value, Found, digits_at, number_at, operand_at, operand_token_at, operator_at, token_at}
 use Rattle.orca_meaning.specs.Formula.{Single, MeansAt}
 
--- no hexadecimal digit stands at the start
+-- the start is no hexadecimal digit
 abbrev pub HasNoDigit : List ℕ → Type 0
 HasNoDigit [] = Unit {0}
 HasNoDigit (byte ∷ rest) = is_digit byte 16 ≡ false

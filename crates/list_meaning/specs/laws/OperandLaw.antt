@@ -119,7 +119,7 @@ TakesName _ = Unit {0}
 abbrev pub meaning_in : Mode → Wanted → Meaning
 meaning_in way w = record { form = form_in way; prefix = prefix_in way; trees = tree_of w ∷ [] }
 
--- what stands before the name opens the operand and says the prefix
+-- the text before the name opens the operand and says the prefix
 after_prefix_is : (m : Mnemonic) (w : Wanted) (way : Mode) (rest : List ℕ) → HasName w → form_after (opening (Some m) (operand_text way w)) rest ≡ Some (form_in way)
     → is_accumulator (Some m) (operand_text way w) ≡ false → body (Some m) (operand_text way w) ≡ wanted_text w ++ rest → prefix (Some m) (operand_text way w) ≡ prefix_in way
     → EndsName rest → operator_at rest ≡ None → IsOperand (Some m) (operand_text way w) (meaning_in way w)
@@ -165,7 +165,7 @@ plain_read m w way rest has text bare form other ends none =
     (ap (λ (l : List ℕ). form_after (opening (Some m) l) rest) text ∙ ap (λ (o : Opening). form_after o rest) (plain_open m w rest has) ∙ form) other
     (ap (body (Some m)) text ∙ plain_body m w rest has) (ap (prefix (Some m)) text ∙ plain_prefix m w rest has ∙ sym bare) ends none
 
--- behind `#`, or behind `(`, without a prefix
+-- after `#`, or after `(`, without a prefix
 bare_prefix : (o : Opening) (w : Wanted) (rest : List ℕ) → HasName w → prefix_of o (wanted_text w ++ rest) ≡ Bare
 bare_prefix o w rest has = no_prefix o (wanted_text w ++ rest) (begins w rest has)
 

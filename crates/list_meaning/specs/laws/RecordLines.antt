@@ -1,4 +1,4 @@
--- The lines of a record can stand after those before it, and stand for the same as the record.
+-- The lines of a record are allowed after those before it, and represent the same as the record.
 use Rattle.std.proofs.Common.{◌≡◌, ℕ, ◌^◌, ◌<◌, ◌≤◌, Bool, true, false, cond, eqb, List, [], ◌∷◌, ◌++◌, Option, Some, None, refl, sym, ap, subst, ◌∙◌, arith, append_assoc}
 use Rattle.std.specs.Prelude.{◌&&◌, ◌||◌, ◌==◌, not, nat_le, slice_get, IsTrue}
 use Rattle.std.specs.Int.{is_power_of_two}
@@ -45,7 +45,7 @@ use Rattle.list_meaning.specs.laws.Content.{IsLike, SameAt, same_const, same_lon
 
 -- ---- what the lines of a record do
 
--- the lines can stand there, leave this, and stand for the record behind the run
+-- the lines are allowed there, leave this, and represent the record after the run
 pub record IsPut (f : HeaderFields) (equates : List (List ℕ)) (b : PendingRun) (r : Record) (g : Given) : Type 0 where
   pub fine : AreFine equates f.align b.names b.widths g.0
   pub widths : widths_after b.widths g.0 ≡ g.1.widths
@@ -56,7 +56,7 @@ pub record IsPut (f : HeaderFields) (equates : List (List ℕ)) (b : PendingRun)
 abbrev pub widths_at : PendingRun → Widths
 widths_at b = widths_rest b.widths 0 b.run
 
--- the lines of the run and one more, which stands for one record
+-- the lines of the run and one more, which represents one record
 put_line : (f : HeaderFields) (equates : List (List ℕ)) (b : PendingRun) (r x : Record) (said : ListedStatement) (names : List (List ℕ)) → AreBytes b.run
     → IsFine equates f.align b.names (widths_at b) said → records_said (widths_at b) said ≡ x ∷ [] → widths_said said (widths_at b) ≡ widths_at b → name_said said ++ b.names ≡ names
     → IsLike f.lab_len r x → IsPut f equates b r (said_rest b.widths 0 b.run ++ said ∷ [], record { widths = widths_at b; run = []; names = names })

@@ -1,4 +1,4 @@
--- The lines of the rest of a run can stand where they are, and give the run's bytes.
+-- The lines of the rest of a run are allowed where they are, and give the run's bytes.
 use Rattle.std.proofs.Common.{◌≡◌, ℕ, zero, suc, ◌^◌, ◌<◌, ◌≤◌, Bool, true, false, cond, eqb, List, [], ◌∷◌, ◌++◌, length, take, drop, Some, refl, sym, ap, subst, ◌∙◌, arith, append-nil}
 use Rattle.std.specs.Prelude.{slice_get}
 use Rattle.std.specs.List.{AllByRecursion, flat_map}
@@ -60,7 +60,7 @@ abbrev pub IsConst : Record → Type 0
 IsConst (Const bytes) = Unit {0}
 IsConst _ = ⊥
 
--- these lines can stand there, leave these widths, and give these bytes
+-- these lines are allowed there, leave these widths, and give these bytes
 pub record Runs (equates : List (List ℕ)) (align : ℕ) (names : List (List ℕ)) (w v : Widths) (lines : List ListedStatement) (bytes : List ℕ) : Type 0 where
   pub fine : AreFine equates align names w lines
   pub widths : widths_after w lines ≡ v
@@ -217,7 +217,7 @@ module _ (equates : List (List ℕ)) (align : ℕ) (names : List (List ℕ)) whe
           (written_runs w (instruction_of_opcode opcode).0 (instruction_of_opcode opcode).1 opcode bytes (decoded_is opcode fits) (opcode_is opcode fits) fits are (eqb-true (length bytes) (after_opcode w opcode) e)) (turns_run w v))
       by false e = bytes_run w opcode bytes fits are few
 
-  -- the rest of a run, of which so many bytes were taken
+  -- the rest of a run, of which the first `taken` bytes were taken
   pub rest_runs : (w : Widths) (taken : ℕ) (run : List ℕ) → AreBytes run → Runs equates align names w (widths_rest w taken run) (said_rest w taken run) (drop taken run)
   unfolding said_rest widths_rest
   rest_runs w zero [] are = record { fine = tt; widths = refl; same_names = refl; consts = tt; bytes_given = refl }

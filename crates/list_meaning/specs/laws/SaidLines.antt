@@ -172,7 +172,7 @@ quoted_clean form value p q = push form (codes "'" ++ (value ++ codes "'")) p (r
 
 -- ---- a line of three fields
 
--- the fields of a line, and that the assembler gets it as it stands
+-- the fields of a line, and that the assembler gets it unchanged
 record Shape (said : ListedStatement) : Type 0 where
   label : List ℕ
   operation : List ℕ
@@ -237,7 +237,7 @@ shaped said short s =
 
 -- ---- directives
 
--- an operation that is none of conditional assembly, and that can stand in a line
+-- an operation that is none of conditional assembly, and that a line can have
 record IsDirective (operation : List ℕ) : Type 0 where
   named : IsOperation operation
   clean : AreClean operation
@@ -369,7 +369,7 @@ instruction_shape m way operand is = record {
   assembles = Other (spelled m).statement;
 }
 
--- the lines of the front and the last
+-- the lines before a segment's records, and the last line
 pub front_line : (n : ℕ) → n < 2 ^ 32 → is_short (NextAlignIs n) ≡ true → IsSaidLine (NextAlignIs n)
 unfolding said_text
 front_line n fits short = shaped (NextAlignIs n) short (directive_shape (NextAlignIs n) [] (codes "ALIGN") (number_text 8 n) refl align_is tt tt (number_clean 8 n fits))

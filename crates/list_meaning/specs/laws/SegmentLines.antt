@@ -1,4 +1,4 @@
--- The lines of a segment and of a file: read again, they leave segments that stand for the same.
+-- The lines of a segment and of a file: read again, they leave segments that represent the same.
 use Rattle.std.proofs.Common.{◌≡◌, ℕ, zero, suc, ◌+◌, ◌-◌, ◌^◌, ◌<◌, ◌≤◌, Bool, true, false, cond, eqb, List, [], ◌∷◌, ◌++◌, length, take, drop, map, Option, Some, None, Ok, Err, refl, sym, ap, subst, ◌∙◌, arith, append_assoc, append-nil, length-append}
 use Rattle.std.specs.Prelude.{◌&&◌, ◌||◌, ◌==◌, not, nat_le, bytes_eq, is_some, replicate, Result}
 use Rattle.std.specs.Int.{is_power_of_two}
@@ -47,7 +47,7 @@ use Rattle.list_meaning.specs.laws.ReadFacts.{HasBytes, EndsLast, IsReadSegment}
 
 -- ---- the records of a segment
 
--- the lines of records up to END: those before END can stand there, and stand for the same
+-- the lines of records up to END: those before END are allowed there, and represent the same
 pub record IsWritten (f : HeaderFields) (equates : List (List ℕ)) (b : PendingRun) (rs : List Record) (lines : List ListedStatement) : Type 0 where
   pub mids : List ListedStatement
   pub whole : lines ≡ mids ++ EndIs ∷ []
@@ -75,7 +75,7 @@ right_lines l = Ok l
 same_lines : (a b : List ListedStatement) → right_lines a ≡ right_lines b → a ≡ b
 same_lines a b e = cc
 
--- the lines of a record, and of those behind it
+-- the lines of a record, and of those after it
 record Parts (f : HeaderFields) (equates : List (List ℕ)) (b : PendingRun) (found : ℕ × Record) (founds : List (ℕ × Record)) (lines : List ListedStatement) : Type 0 where
   first : Given
   gives : given_by f equates b found.1 ≡ Some first
@@ -282,7 +282,7 @@ load_name_is text size is =
     by [] is few = tt
     by (byte ∷ name) is few = (plain_name (byte ∷ name) is, few)
 
--- ---- the front
+-- ---- the lines before the records
 
 -- no segment is open, and nothing waits but this ALIGN and this ORG
 pub record Ready (align org : ℕ) (ended : List FinishedSegment) (state : State) : Type 0 where
@@ -326,7 +326,7 @@ abbrev pub class_of : Bool → Class
 class_of true = Data
 class_of false = Code
 
--- behind START or DATA
+-- after START or DATA
 record HasBegun (crosses : Bool) (name load_name : List ℕ) (align org : ℕ) (ended : List FinishedSegment) (state : State) (number : ℕ) : Type 0 where
   next : State
   step : IsStep state (line_of 0 number (said_text (StartIs crosses name load_name))) (Ok next)
@@ -401,7 +401,7 @@ begins false name load_name align org ended state number is load ready =
 
 -- ---- a segment
 
--- an ended segment has this header, and its records stand for the same
+-- an ended segment has this header, and its records represent the same
 pub record IsEndedAs (s : format.Segment) (e : FinishedSegment) : Type 0 where
   pub name : e.header.name ≡ s.fields.name
   pub load_name : e.header.load_name ≡ s.fields.load_name
@@ -549,7 +549,7 @@ module _ (s : format.Segment) (lines : List ListedStatement) (ended : List Finis
   abbrev records' : List Record
   records' = given both_long written.mids
 
-  -- LENGTH is the place behind the records
+  -- LENGTH is the place after the records
   cells : place_after 0 records' ≡ f.length
   unfolding body_size
   cells = sym ((written.alike 0).following) ∙ ap (λ (k : ℕ). k + s.fields.res_spc) (sym (same_place 0 s.records)) ∙ sym listed'.size

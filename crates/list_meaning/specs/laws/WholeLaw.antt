@@ -9,7 +9,7 @@ use Rattle.macro_meaning.specs.Expansion.{IsExpanded}
 use Rattle.list_meaning.specs.laws.Expands.{IsPlainLine, plain_source_expands}
 use Rattle.list_meaning.specs.Listed.{ListedStatement, said_text, line_text, listing_text}
 
--- a line that can stand in a listing
+-- a line that a listing can contain
 pub record IsSaidLine (said : ListedStatement) : Type 0 where
   pub no_end : HasNoEnd (said_text said)
   pub plain : IsPlainLine (said_text said)

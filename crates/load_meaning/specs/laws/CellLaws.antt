@@ -131,7 +131,7 @@ sound_records segments s (found ∷ founds) e =
     subst (AllByRecursion (IsPatch segments s)) (sym (patches-cons s found founds))
     (all-both (IsPatch segments s) (patches_in s found.1) _ (sound_all segments s (patches_in s found.1) patches.1) (sound_records segments s founds here.1))
 
--- where phase 3 finds nothing in a segment, each of its patches may stand there
+-- where phase 3 finds nothing in a segment, each of its patches is allowed there
 pub sound_patches : (segments : List Segment) (number : ℕ) (s : Segment) → target_fault segments number s ≡ None → AllByRecursion (IsPatch segments s) (patch_list s)
 unfolding patches_of
 sound_patches segments number s e = sound_records segments s s.records e

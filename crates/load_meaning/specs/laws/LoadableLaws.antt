@@ -31,7 +31,7 @@ passes found fault none e =
     let clash : some fault ≡ None = sym e ∙ ap (option_map (λ (cause : LoadCause). (cause, found.0))) none in
     cc
 
--- at a fault no allowed record comes
+-- where there is a fault, the next record isn't an allowed one
 no_more : (r : Reader) (found : Found) (fault : Fault) → next_answer r ≡ Ok (Some found) → IsAllowed found → answer_fault (next_answer r) ≡ Some fault → ⊥
 no_more r found fault e allowed stops = passes found fault allowed (sym (ap answer_fault e) ∙ stops)
 
@@ -66,7 +66,7 @@ no_stop r (found ∷ xs) [] x last a p q ended all e =
     open_at_some r found p.0 (ap (λ (m : Reader). m.ended) q ∙ ended)
 no_stop r (found ∷ xs) (other ∷ ys) x last a p q ended all e = no_stop (after_next r) xs ys x last a p.1 q.1 ended all.1 e
 
--- where the header passes and isn't refused, the front has no fault
+-- where the header passes and isn't refused, `front_fault` finds nothing
 pub front-none : (start : ℕ) (f : HeaderFields) (file : List ℕ) → IsHeader start f file → segment_refusal f ≡ None → front_fault start file ≡ None
 unfolding front_fault
 front-none start f file header front =
@@ -74,7 +74,7 @@ front-none start f file header front =
     let kind : segment_refusal (fields_of (drop start file)) ≡ None = ap segment_refusal (sym header.fields) ∙ front in
     rw (passes', kind) refl
 
--- no segment that passes stands where a fault of phase 1 is
+-- no segment that passes begins where a fault of phase 1 is
 no_load_segment : (at : ℕ) (file : List ℕ) (fault : Fault) (s : Segment) → HasReadFault at file fault → s.start ≡ at → IsSegment s file → IsLoadSegment s → ⊥
 no_load_segment at file fault s (OfFront is) start segment pass =
     let header : IsHeader at s.fields file = subst (λ (n : ℕ). IsHeader n s.fields file) start segment.header in
@@ -99,7 +99,7 @@ read_same at file a b (OfRecord f xs x header front run all e) (OfRecord g ys y 
     let fields : g ≡ f = header'.fields ∙ sym header.fields in
     stops_same (body_reader at f file) xs ys x y a b run (subst (λ (h : HeaderFields). HandsOut (body_reader at h file) ys y) fields run') all all' e e'
 
--- two segments of a file at fault in phase 1, behind segments that pass, are one
+-- two segments of a file that have a fault in phase 1, after segments that pass, are the same one
 faults_same : (xs ys : List Segment) (at x y : ℕ) (file : List ℕ) (a b : Fault) → AreSegments xs at file x → AreSegments ys at file y
     → AllByRecursion IsLoadSegment xs → AllByRecursion IsLoadSegment ys → HasReadFault x file a → HasReadFault y file b → (a ≡ b) × (length xs ≡ length ys)
 faults_same [] [] at x y file a b p q all_x all_y h k =
@@ -178,7 +178,7 @@ first_fault_same file a b (OfSegments l) (OfSegments m) =
 abbrev some_header : HeaderFault → Option HeaderFault
 some_header of = Some of
 
--- a header's fault is told as in any file
+-- a header's fault is reported as in any file
 pub header_fault-reported : (of : HeaderFault) (start : ℕ) (file : List ℕ) → header_fault (drop start file) ≡ Some of
     → HasReadFault start file (as_load (to_file_header_fault start (version_of (drop start file)) of))
 unfolding front_fault

@@ -50,7 +50,7 @@ row_is number at bytes is e =
       len,
     )
 
--- the number that stands there: 0 behind a row, with nothing behind it, or a row's
+-- the number at the start: 0 after a row, with nothing after it, or a row's
 data Ends (rows : ℕ) (bytes : List ℕ) (row : Option ℕ) : Type 0 where
   AtZero : number_at 2 0 bytes ≡ 0 → length bytes ≡ 2 → 1 ≤ rows → Ends rows bytes row
   AtRow : row ≡ None → Ends rows bytes row
@@ -75,7 +75,7 @@ ends rows at bytes row e = by_zero (eqb (number_at 2 0 bytes) 0 && ltb 0 rows) r
 some_none : (at : ℕ) → Some at ≡ None → ⊥
 some_none at e = cc
 
--- what so many rows at most are, behind others
+-- what the bytes are as `more` rows at most, after `rows` others
 pub record RowsThere (more rows : ℕ) (bytes : List ℕ) : Type 0 where
   pub are : AreRows (rows + 2) (paths_in more bytes) bytes
   pub few : length (paths_in more bytes) ≤ more
@@ -88,7 +88,7 @@ nonzero n le = by_test (eqb n 0) refl
     by_test true e = absurd (omega (arith, le, eqb-true n 0 e))
     by_test false e = refl
 
--- behind the last row no path is read
+-- after the last row no path is read
 no_more : (n : ℕ) (bytes : List ℕ) → number_at 2 0 bytes ≡ 0 → paths_in (suc n) bytes ≡ []
 no_more n bytes is = ap (λ (k : ℕ). if eqb k 0 then [] else first_path bytes ∷ paths_in n (after_path bytes)) is
 

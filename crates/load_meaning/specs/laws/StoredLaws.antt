@@ -1,5 +1,4 @@
--- What stands in the data of a written body: the low bytes of each patch, the content elsewhere, and zeros at the end
--- that are left out.
+-- What is stored in the data of a written body: the low bytes of each patch, the content elsewhere, and zeros at the end that are left out.
 use Rattle.std.proofs.Common.{◌≡◌, ℕ, zero, suc, ◌+◌, ◌-◌, ◌<◌, ◌≤◌, true, false, eqb, List, [], ◌∷◌, ◌++◌, length, take, drop, map, replicate, Option, Some, None, refl, sym, ap, subst, ◌∙◌, append_assoc, arith, inl, inr}
 use Rattle.std.specs.Prelude.{◌⊎◌, slice_get, get_or, option_map}
 use Rattle.std.specs.List.{list_all}
@@ -73,7 +72,7 @@ fit-parts size patches are p has = let is = written_is size 0 patches p are has 
 pub fit-stored : (own size : ℕ) (patches : List Patch) → AreWritten size 0 patches → Fit (stored_bytes own) size patches
 fit-stored own size patches are p has = let is = written_is size 0 patches p are has in (length-stored own p, is.0.inside)
 
--- ---- a piece stands whole
+-- ---- a piece is whole
 
 pub piece_at : {A : Type 0} (piece : Patch → List A) (patches : List Patch) (xs : List A) (p : Patch) → Fit piece (length xs) patches → Apart patches → Has patches p
     → take p.count (drop p.location (laid piece xs patches)) ≡ piece p
@@ -302,7 +301,7 @@ zeros_exact cells n each (inr some) le =
 pub cells_size : (content : List ℕ) (patches : List Patch) → AreWritten (length content) 0 patches → length (patched_cells (map Byte content) patches) ≡ length content
 cells_size content patches are = ap length (patched-laid (map Byte content) patches) ∙ length-laid parts patches (map Byte content) (fit-cells patches content are) ∙ length-map content (λ (n : ℕ). Byte n)
 
--- what is left behind the data
+-- what is left after the data
 pub zeros_left : (own : ℕ) (content : List ℕ) (patches : List Patch) → AreWritten (length content) 0 patches → length content - length (written_data own content patches) ≡ zeros_after (written_cells content patches)
 unfolding written_data written_cells
 zeros_left own content patches are =

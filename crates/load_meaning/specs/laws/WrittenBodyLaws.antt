@@ -1,4 +1,4 @@
--- Read back as the body of a load segment, a written body stands for the content with the patches over it.
+-- Read back as the body of a load segment, a written body represents the content with the patches over it.
 use Rattle.std.proofs.Common.{◌≡◌, ℕ, zero, suc, ◌+◌, ◌-◌, ◌^◌, ◌<◌, ◌≤◌, Bool, true, false, leb, List, [], ◌∷◌, ◌++◌, length, map, replicate, Option, Some, None, refl, sym, ap, subst, ◌∙◌, arith, inl, inr}
 use Rattle.std.specs.Prelude.{◌⊎◌, ◌&&◌, ◌||◌, slice_get, option_map}
 use Rattle.std.specs.List.{flat_map, filter, AllByRecursion}
@@ -263,7 +263,7 @@ super_patches s form (p ∷ l) rise again =
     ∙ ap (map (super_patch s form)) (read_places (places (p ∷ l)) rise)
     ∙ again_all s form (p ∷ l) again
 
--- those of so many types
+-- the patches of n types from one on
 abbrev pub by_forms : ℕ → List Patch → ℕ → ℕ → List Patch
 by_forms own patches form zero = []
 by_forms own patches form (suc n) = of_form own patches form ++ by_forms own patches (form + 1) n

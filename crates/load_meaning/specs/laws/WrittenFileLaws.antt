@@ -1,4 +1,4 @@
--- What is written for load segments is a file of exactly these, and each stands for its cells.
+-- What is written for load segments is a file of exactly these, and each represents its cells.
 use Rattle.std.proofs.Common.{◌≡◌, ℕ, ◌+◌, ◌-◌, ◌<◌, ◌≤◌, false, true, List, [], ◌∷◌, ◌++◌, length, take, drop, refl, sym, ap, subst, ◌∙◌, append_assoc, arith, Bool, map, replicate}
 use Rattle.std.specs.List.{flat_map, AllByRecursion}
 use Rattle.std.proofs.lemmas.List.{append-nil, take_at, drop_at, length-append}
@@ -31,7 +31,7 @@ body_cut front header body rest a h n fa hh nn =
     ∙ take_at (front ++ (header ++ body)) rest (a + (h + n)) (omega (arith, length-append front (header ++ body), length-append header body, fa, hh, nn)) in
     ap (drop (a + h)) whole ∙ drop-more front (header ++ body) a h fa ∙ drop_at header body h hh
 
--- a reader of a written body stands at its front
+-- a reader of a written body is at its start
 reader-written : (f : HeaderFields) (at n : ℕ) (body file : List ℕ) → drop (at + (0x37 + length f.name)) (take (at + (0x37 + length f.name + n)) file) ≡ body
     → body_reader at (written_fields f n) file ≡ reader_at (at + (0x37 + length f.name + n)) body false
 unfolding body_reader length_width_of
@@ -79,7 +79,7 @@ image_fit image is = all-append (cond image.whole (data_records image.content) (
     all-append [] ys p q = q
     all-append (x ∷ xs) ys p q = (p.0, all-append xs ys p.1 q)
 
--- a segment without patches whose records are its content stands for the content
+-- a segment without patches whose records are its content represents the content
 whole_cells : (content : List ℕ) (exports : List Record) (end : ℕ) (s : Segment) → AllByRecursion IsExport exports → s.fields.length ≡ length content → s.records ≡ placed end (data_records content ++ exports)
     → cells s ≡ written_cells content []
 unfolding cells written_cells segment_bytes body_bytes patches_of
@@ -96,7 +96,7 @@ whole_cells content exports end s all len is =
     ap (λ (l : List ℕ). patched_cells (map Byte l) (map (λ (p : ℕ × Patch). p.1) (flat_map (λ (found : ℕ × Record). map (λ (p : Patch). (found.0, p)) (patches_in s found.1)) s.records))) all_bytes
     ∙ ap (λ (l : List Patch). patched_cells (map Byte content) l) none
 
--- a part of a file: what stands before a segment, the segment, and what stands after it
+-- a part of a file: what is before a segment, the segment, and what is after it
 record IsPart (at : ℕ) (image : Image) (rest file : List ℕ) : Type 0 where
   front : List ℕ
   size : length front ≡ at

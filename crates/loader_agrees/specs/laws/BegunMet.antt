@@ -22,7 +22,7 @@ use Rattle.loader_agrees.specs.laws.Rows.{few_paths, runtime_called, all_reached
 use Rattle.loader_agrees.specs.laws.RowUsers.{AreCalled}
 use Rattle.loader_agrees.specs.laws.Lists.{get_inside}
 
--- so many users more may be made
+-- one user more, and one for each row, may be made
 pub may_join : (made rows : ℕ) → made + 1 + rows ≤ max_users → rows_refusal made rows ≡ None
 unfolding rows_refusal
 may_join made rows few = let test : nat_le (made + 1 + rows) max_users ≡ true = grind arith in rw test refl

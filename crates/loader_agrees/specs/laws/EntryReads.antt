@@ -25,7 +25,7 @@ use Rattle.loader_agrees.specs.laws.EntryBytes.{file_is, segment_is, offset_is}
 use Rattle.loader_agrees.specs.laws.Lists.{get_inside}
 use Rattle.loader_agrees.specs.laws.Reads.{head_at}
 
--- an element of a list, and what is before and behind it
+-- an element of a list, and what is before and after it
 record Splits {X : Type 0} (xs : List X) (k : ℕ) (x : X) : Type 0 where
   before : List X
   following : List X

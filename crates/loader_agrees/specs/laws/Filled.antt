@@ -1,4 +1,4 @@
--- A segment that was filled in from its file, where the segments lie at these addresses: its block begins with what stands in it.
+-- A segment that was filled in from its file, where the segments lie at these addresses: its block begins with its content.
 use Rattle.std.proofs.Common.{◌≡◌, ℕ, Bool, false, cond, List, [], ◌∷◌, map, refl, sym, ap, ◌∙◌}
 use Rattle.omf_format.specs.File.{Segment}
 use Rattle.load_meaning.specs.Cells as load
@@ -16,7 +16,7 @@ map_same : (p q : ℕ → ℕ) → ((n : ℕ) → p n ≡ q n) → (cs : List Ce
 map_same p q same [] = refl
 map_same p q same (c ∷ cs) = cc (byte_same p q same c, map_same p q same cs)
 
--- what a file stands for at these addresses is what stands in a segment that is no table, without pokes
+-- the content that a file gives a segment at these addresses is its content in memory, where it is no table and has no pokes
 pub plain_stands : (at : AddressSetting) (s : Segment) (places : ℕ → ℕ) → is_table s ≡ false → ((n : ℕ) → places n ≡ at.place n) → stands at no_pokes s ≡ load.stands places s
 unfolding stands read_bytes
 plain_stands at s places plain same =

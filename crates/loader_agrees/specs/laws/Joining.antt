@@ -1,4 +1,4 @@
--- Users that are made before they have anything in memory: a place for a user, and those that are to be attached to it behind it.
+-- Users that are made before they have anything in memory: a place for a user, and after it those that are to be attached to it.
 use Rattle.std.proofs.Common.{◌≡◌, ◌⊎◌, inl, inr, ℕ, Bool, true, false, cond, ◌==◌, ◌+◌, ◌-◌, ◌^◌, ◌<◌, ◌≤◌, List, [], length, Option, Some, None, nat_lt, refl, sym, ap, subst, ◌∙◌, arith}
 use Rattle.std.specs.Prelude.{slice_get, option_map}
 use Rattle.std.specs.Option.{option_and_then}
@@ -67,7 +67,7 @@ module _ (old new : List (Option LoadedUser)) (stay : (place : ℕ) (kept : Load
     loaded = is.loaded;
   }
 
-  -- users to which nothing is attached may come
+  -- users to which nothing is attached may be added
   pub attached_more : ((place : ℕ) (kept : LoadedUser) → slice_get new place ≡ Some (Some kept) → (slice_get old place ≡ Some (Some kept)) ⊎ (kept.attached ≡ [])) → AreAttached old → AreAttached new
   attached_more which attached = record {
     few = λ place kept made. elim (which place kept made) [

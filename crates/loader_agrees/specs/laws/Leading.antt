@@ -35,7 +35,7 @@ not_in : (one n : ℕ) (ids : List ℕ) → one ≢ n → ((j : ℕ) → slice_g
 not_in one n ids ne none zero is = ne (same_Some one n is)
 not_in one n ids ne none (suc j) is = none j is
 
--- an ID isn't found, and stands nowhere, or it is at a place
+-- an ID isn't found, and is nowhere in the list, or it is at a place
 file_cases : (n file : ℕ) (ids : List ℕ) → ((file_in file ids n ≡ None) × ((j : ℕ) → slice_get ids j ≡ Some n → ⊥)) ⊎ ((j : ℕ) × (slice_get ids j ≡ Some n))
 file_cases n file [] = inl (refl, λ j is. nothing_at j n is)
 file_cases n file (one ∷ ids) = elim (cases_eq one n) [
@@ -46,7 +46,7 @@ file_cases n file (one ∷ ids) = elim (cases_eq one n) [
   ]
 ]
 
--- of this user and those behind it none has the ID
+-- neither this user nor any after it has the ID
 none_first : (n : ℕ) (first : Option Outline) (users : List (Option Outline)) → ((j : ℕ) (u : Outline) → first ≡ Some u → slice_get u.attached j ≡ Some n → ⊥)
     → ((q j : ℕ) (u : Outline) → slice_get users q ≡ Some (Some u) → slice_get u.attached j ≡ Some n → ⊥)
     → (q j : ℕ) (u : Outline) → slice_get (first ∷ users) q ≡ Some (Some u) → slice_get u.attached j ≡ Some n → ⊥

@@ -59,7 +59,7 @@ pub all_there : (held : FileMap) (loader : Loaded) (id : ℕ) (kept : LoadedUser
     → AreThere loader.memory.slots kept.handles agrees.segments
 all_there held loader id kept user agrees runs number s is static = active_there (presence_at loader.memory.slots kept.handles number) (agrees.statics runs number s is static)
 
--- so many bytes within a front
+-- `count` bytes within a prefix are the same bytes of the whole list
 pub within_front : (front rest : List ℕ) (at count : ℕ) → at + count ≤ length front → take count (drop at (front ++ rest)) ≡ take count (drop at front)
 within_front front rest at count within =
     ap (take count) (drop-append-le at front rest (omega arith))
@@ -88,7 +88,7 @@ module _ (held : FileMap) (loader : Loaded) (state : Machine) (agrees : Agrees h
     pub present : presence_at loader.memory.slots is.kept.handles number ≡ Active h is.address
     present = ap (presence loader.memory.slots) is.handle ∙ is.active
 
-    -- its block begins with what stands in it
+    -- its block begins with its content
     pub begins : IsFront (stands (setting_with (far_in loader id) id loader.memory.slots is.kept.handles) (held_at user number).pokes its_segment.0) (bytes_at loader.memory h.slot)
     begins = one.does_agree.begins (all_there held loader id is.kept user one.does_agree is.runs) number its_segment.0 h its_segment.1 is.handle
         (rw present refl)
@@ -147,7 +147,7 @@ module _ (held : FileMap) (loader : Loaded) (state : Machine) (agrees : Agrees h
       agrees,
     )
 
-    -- what is reported for a segment is what the machine tells
+    -- what the loader reports for a segment is what the machine reports
     pub reported_met : (id number : ℕ) (where' : Presence) (length' kind : ℕ) → HasReported loader id number where' length' kind
         → Met Makes held state (Info id number) (SegmentIs where' length' kind) loader
     reported_met id number where' length' kind reported =

@@ -1,4 +1,4 @@
--- A user behind others, and after it those that are to be attached to it.
+-- A user after others, and after it those that are to be attached to it.
 use Rattle.std.proofs.Common.{◌≡◌, ℕ, zero, suc, true, false, ◌+◌, ◌-◌, ◌<◌, ◌≤◌, List, [], ◌∷◌, ◌++◌, length, map, Option, Some, None, nat_lt, refl, sym, ap, subst, ◌∙◌, arith}
 use Rattle.std.specs.Prelude.{slice_get, option_map}
 use Rattle.std.specs.Option.{option_and_then}
@@ -128,7 +128,7 @@ id_there first (suc n) (suc j) less = let same : first + 1 + j ≡ first + suc j
 abbrev pub AreCalled : List Segment → Type 0
 AreCalled segments = (n : ℕ) (s : Segment) → segment_at segments n ≡ Some s → (is_dynamic s.fields.kind ≡ true) × (is_skipped s.fields.kind ≡ false) × (is_table s ≡ false)
 
--- behind these users one with the ID can be made with attached users of these paths, whose files have these segments
+-- after these users one with the ID can be made, with attached users of these paths, whose files have these segments
 pub record AreRows (users : List (Option LoadedUser)) (paths : List (List ℕ)) (all : List (List Segment)) (id : ℕ) : Type 0 where
   pub attached : AreAttached users
   pub id_is : id ≡ first_id + length users

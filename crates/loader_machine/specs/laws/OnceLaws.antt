@@ -1,4 +1,4 @@
--- A command has one reply and one next state, where the blocks lie apart and no handle stands twice.
+-- A command has one reply and one next state, where the blocks lie apart and no handle is held twice.
 use Rattle.std.proofs.Common.{◌≡◌, ℕ, Bool, true, false, cond, ◌==◌, ◌+◌, ◌^◌, ◌<◌, ◌≤◌, List, [], ◌∷◌, length, map, take, drop, Option, Some, None, IsSome, refl, sym, ap, subst, ◌∙◌, arith}
 use Rattle.std.proofs.lemmas.Option.{same_Some}
 use Rattle.omf_format.specs.File.{Segment, segment_at}
@@ -35,7 +35,7 @@ use Rattle.loader_machine.specs.laws.PutLaws.{counts_once, puts_once, anew_once,
 abbrev pub AreSame : Reply → Reply → Machine → Machine → Type 0
 AreSame one other next last = (one ≡ other) × (next ≡ last)
 
--- blocks lie apart, no handle stands twice, and each block of a segment has room for LENGTH bytes
+-- blocks lie apart, no handle is held twice, and each block of a segment has room for LENGTH bytes
 pub record IsApartState (held : FileMap) (state : Machine) : Type 0 where
   pub apart : AreApart state.banks state.slots
   pub once : (id other n m : ℕ) (one : Sees held state id) (two : Sees held state other) (h k : Handle) → handle_at (handles_of one.user) n ≡ Some h
@@ -119,7 +119,7 @@ joins_same Unread Rest one a b x y = x ∙ sym y
 joins_same (Bad fault) Rest one a b x y = x ∙ sym y
 joins_same (Good segments) Rest one a b x y = x.2 ∙ ap (joined_after segments) (one x.0 y.0 x.1 y.1) ∙ sym y.2
 
--- the files of rows come to one thing
+-- the files of rows have one outcome
 pub joined_once : (held : FileMap) (paths : List (List ℕ)) (a b : Joined) → AreJoined held paths a → AreJoined held paths b → a ≡ b
 joined_once held [] a b p q = p ∙ sym q
 joined_once held (path ∷ paths) a b p q = joins_same q.0 (AreJoined held paths) (joined_once held paths) a b

@@ -289,7 +289,7 @@ none_other n (m ∷ numbers) zero none less same =
 none_other n (m ∷ numbers) (suc k) none less same =
     none_other n numbers k (or_parts (n == m) (list_any (λ other. n == other) numbers) none).1 (omega arith) same
 
--- numbers of which none stands twice are distinct
+-- numbers of which none occurs twice are distinct
 pub stands_twice-distinct : (numbers : List ℕ) → stands_twice numbers ≡ false → AreDistinctTo (length numbers) numbers
 unfolding stands_twice
 stands_twice-distinct [] none i j less inside same = omega arith

@@ -126,7 +126,7 @@ no_script text commands number cause script first =
     not_good first.before first.following first.line cause first.commands commands first.good first.bad
     (subst (λ (lines : List (List ℕ)). AreGood lines commands) first.lines script)
 
--- two lists that are one, parted at an element each
+-- two lists that are equal, each split at an element
 sides : (a b xs ys : List (List ℕ)) (x y : List ℕ) → a ++ x ∷ xs ≡ b ++ y ∷ ys
     → ((a ≡ b) × (x ≡ y)) ⊎ (((r : List (List ℕ)) × (b ≡ a ++ x ∷ r)) ⊎ ((r : List (List ℕ)) × (a ≡ b ++ y ∷ r)))
 sides [] [] xs ys x y e = inl (refl, cc)

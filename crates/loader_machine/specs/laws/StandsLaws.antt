@@ -107,8 +107,8 @@ module _ (segments : List Segment) (number : ℕ) (s : Segment) (sound : IsSound
       go true is = table_same a b alike.id (targets_of s) (all_weaker (IsTarget segments) (λ (t : Target). a.target t.file t.segment ≡ b.target t.file t.segment) (entry_target is) (targets_of s) (sound.table is).targets)
       go false is = cells_same a.place b.place s (all_weaker (IsPatch segments s) (λ (patch : Patch). a.place patch.segment ≡ b.place patch.segment) patch_place (patch_list s) sound.patches)
 
-  -- what stands in a segment of a load file depends on the user, on the segment's place and those of the static segments, and in a table
-  -- on its targets
+  -- the content of a segment of a load file depends on the user, on the segment's place and those of the static segments, and in a table on
+  -- its targets
   pub stands_alike : (pokes : Pokes) → stands a pokes s ≡ stands b pokes s
   unfolding stands
   stands_alike pokes = ap (with_pokes pokes) read_same

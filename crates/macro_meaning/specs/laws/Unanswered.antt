@@ -133,7 +133,7 @@ last_visit program before v most go = by_line (line_at program v.macro v.line) g
     by_line None go = go [] Ends (refl, refl) tt
     by_line (Some line) go = go [] (Stops line TooManyLines) (subst (λ (b : Bool). IsVisitOf program before v line b [] (Stops line TooManyLines)) (sym full) (refl, refl)) tt
 
--- the visits end, after so many more at most
+-- the visits end, after at most n more
 visits_end : (n : ℕ) (program : MacroProgram) (before : List Visit) (v : Visit) → length before + n ≡ most_visits
     → ((visits : List Visit) (given : List Line) (end : Move) → Follow program before v visits given end → IsEnd end → ⊥) → ⊥
 visits_end zero program before v most go = last_visit program before v (none_more (length before) most_visits most) (λ given end is ends. go [] given end is ends)

@@ -101,7 +101,7 @@ effect_once s line d e p q = by_comment (is_comment line.text) p q
 
 -- ---- visits
 
--- what a visit gives, and what follows on it
+-- what a visit gives, and what follows it
 pub visit_once : (program : MacroProgram) (before : List Visit) (v : Visit) (given given' : List Line) (move move' : Move) → IsVisit program before v given move → IsVisit program before v given' move'
     → (given ≡ given') × (move ≡ move')
 visit_once program before v given given' move move' p q = by_line (line_at program v.macro v.line) p q

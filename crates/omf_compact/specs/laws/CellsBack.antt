@@ -1,4 +1,4 @@
--- A segment that is written for cells has these cells, whatever records that give no cell stand after its patches.
+-- A segment that is written for cells has these cells, whatever records that give no cell follow its patches.
 use Rattle.std.proofs.Common.{◌≡◌, ℕ, ℤ, pos, negsuc, ◌+◌, ◌-◌, true, List, [], ◌∷◌, ◌++◌, length, map, replicate, None, refl, sym, ap, ◌∙◌}
 use Rattle.std.specs.Prelude.{◌==◌, nat_le, if◌then◌else◌}
 use Rattle.std.specs.List.{flat_map, AllByRecursion}
@@ -162,7 +162,7 @@ following f records entries none all = flat_map-append f records entries ∙ ap 
 
 -- ---- the cells of a written segment
 
--- its records are those of a body, and entries behind them
+-- its records are those of a body, and entries after them
 pub record HasBodyAnd (own : ℕ) (content : List ℕ) (patches : List Patch) (entries : List Record) (s : Segment) : Type 0 where
   pub end : ℕ
   pub records' : s.records ≡ placed end (body_records own content patches ++ entries)

@@ -36,7 +36,7 @@ all-zero (c ∷ cells) e =
     let both = and_parts (is_zero c) (list_all is_zero cells) e in
     ap (λ (d : Cell). d ∷ cells) (zero-is c both.0) ∙ ap (λ (l : List Cell). Byte 0 ∷ l) (all-zero cells both.1)
 
--- zeros stand after them
+-- zeros follow them
 pub front-zeros : (cells : List Cell) → cells ≡ front cells ++ zero_cells (zeros_after cells)
 front-zeros [] = refl
 front-zeros (c ∷ cells) = elim (cases_Bool (list_all is_zero (c ∷ cells))) [
@@ -52,7 +52,7 @@ all-zeros : (n : ℕ) → list_all is_zero (zero_cells n) ≡ true
 all-zeros zero = refl
 all-zeros (suc n) = all-zeros n
 
--- no zeros stand at their end
+-- no zeros are at their end
 pub front-ends : (cells : List Cell) → zeros_after (front cells) ≡ 0
 front-ends [] = refl
 front-ends (c ∷ cells) = elim (cases_Bool (list_all is_zero (c ∷ cells))) [
@@ -99,7 +99,7 @@ pub stretches-front : (cells : List Cell) → stretches cells ≡ stretches (fro
 unfolding stretches
 stretches-front cells = ap (stretches_from 0) (front-zeros cells) ∙ stretches-more 0 (front cells) (zeros_after cells)
 
--- ---- pieces lie inside the front
+-- ---- pieces lie before the last zeros
 
 pub laid-more : {A : Type 0} (piece : Patch → List A) (patches : List Patch) (xs ys : List A) → Fit piece (length xs) patches → laid piece (xs ++ ys) patches ≡ laid piece xs patches ++ ys
 laid-more piece [] xs ys fit = refl
@@ -121,7 +121,7 @@ laid-more {A} piece (p ∷ patches) xs ys fit =
         ∙ ap (λ (l : List A). take p.location xs ++ piece p ++ l) (drop-append-le (p.location + p.count) xs ys here.1)
         ∙ sym (append_assoc (take p.location xs ++ piece p) (drop (p.location + p.count) xs) ys)
 
--- ---- a body for all cells is that of the front
+-- ---- a body for all cells is that of the cells before the last zeros
 
 bytes-more : (cells : List Cell) → bytes_in cells ≡ bytes_in (front cells) ++ replicate (zeros_after cells) 0
 bytes-more cells = ap bytes_in (front-zeros cells) ∙ map-append byte_in (front cells) (zero_cells (zeros_after cells)) ∙ ap (λ (l : List ℕ). bytes_in (front cells) ++ l) (zeros (zeros_after cells))
@@ -185,7 +185,7 @@ records-front own cells un all =
     ap (λ (l : List ℕ). data_records l ++ (map (lone_record own) (patches_stored_alone own (stretches cells)) ++ supers_from own (stretches cells) 0 38)) (data-front own cells un all)
     ∙ ap (λ (l : List Patch). data_records (written_data own (bytes_in (front cells)) (stretches (front cells))) ++ (map (lone_record own) (patches_stored_alone own l) ++ supers_from own l 0 38)) (stretches-front cells)
 
--- Its records can be written where the front is short enough for a file, however great LENGTH is.
+-- Its records can be written where the cells before the last zeros are few enough for a file, however great LENGTH is.
 pub records_fit_front : (own : ℕ) (cells : List Cell) → first_broken cells ≡ None → AllByRecursion IsWrittenCell cells → length (front cells) ≤ 0xFFFFFF
     → AllByRecursion IsBodyRecord (body_records own (bytes_in cells) (stretches cells))
 records_fit_front own cells un all small =

@@ -226,7 +226,7 @@ body_content own content patches =
     ∙ append-nil (flat_map content_of (data_records (written_data own content patches)))
     ∙ data_content (written_data own content patches)
 
--- ---- where parts come from
+-- ---- the origin of parts
 
 abbrev some_cell : Cell → Option Cell
 some_cell c = Some c
@@ -262,7 +262,7 @@ byte_no_part [] k f g o sh i is = cc
 byte_no_part (b ∷ bytes) zero f g o sh i is = cc
 byte_no_part (b ∷ bytes) (suc k) f g o sh i is = byte_no_part bytes k f g o sh i is
 
--- a part of a load file's segment comes from one of its patches
+-- a part of a load file's segment is from one of its patches
 part-from : (segments : List Segment) (number : ℕ) (s : Segment) (k f g o : ℕ) (sh : ℤ) (i : ℕ) → IsSoundSegment segments number s → slice_get (cells s) k ≡ Some (Part f g o sh i) → Comes (patch_list s) g
 unfolding cells
 part-from segments number s k f g o sh i sound is =
@@ -437,7 +437,7 @@ fault_at (Some at) e = absurd cc
 
 -- ---- a segment that was written, and the one for which it was
 
--- the new segment `t` with this number stands for the old one `s`
+-- the new segment `t` with this number represents the old one `s`
 record IsTwin (number : ℕ) (s t : Segment) : Type 0 where
   same : plain_of s ≡ plain_of t
   held : IsHeld number (plain_of s)
@@ -507,7 +507,7 @@ module _ (number : ℕ) (s t : Segment) (twin' : IsTwin number s t) where
       sym (flat-placed (patches_in t) twin'.of.end rs refl) ∙ given_same t t0 (placed twin'.of.end rs) refl bytes0 ∙ sym (patches_given t0)
       ∙ patches_are number (bytes_in p.cells') ps t0 has0 (stands number (bytes_in p.cells') ps t0 number-is length-is are has0)
 
-  -- a stretch may stand in the new file where its parts' patches stood in the old one
+  -- a stretch is allowed in the new file where its parts' patches were in the old one
   module _ (segments others : List Segment) (sound : IsSoundSegment segments number s) (all_same : plain segments ≡ plain others) where
     cells-are : cells s ≡ p.cells'
     unfolding plain_of

@@ -1,4 +1,4 @@
--- Patches that rise and lie apart are the stretches of their cells: what is written so is parted so again.
+-- Patches that rise and lie apart are the stretches of their cells: what is written so is divided so again.
 use Rattle.std.proofs.Common.{◌≡◌, ℕ, ℤ, zero, suc, ◌+◌, ◌-◌, ◌<◌, ◌≤◌, false, leb, List, [], ◌∷◌, length, map, drop, Option, Some, None, refl, sym, ap, subst, ◌∙◌, arith, inl, inr}
 use Rattle.std.specs.Prelude.{not, slice_get, option_map}
 use Rattle.std.specs.List.{AllByRecursion}

@@ -184,7 +184,7 @@ lone_of file segments k s loadable at is =
 
 -- ---- the paths of a file
 
--- the paths that segments hold, so many at most
+-- the paths that segments hold, `more` at most
 pub paths_held : ℕ → List Plain → List (List ℕ)
 paths_held more [] = []
 paths_held more (p ∷ plains) = cond (is_pathname p) (paths_in more (bytes_in p.cells')) (paths_held more plains)

@@ -1,4 +1,4 @@
--- Files that hold the same are seen alike by the loader's machine, so one can stand in the other's place.
+-- Files that hold the same are seen alike by the loader's machine, so one can replace the other.
 use Rattle.std.proofs.Common.{◌≡◌, ℕ, suc, ◌+◌, ◌≤◌, Bool, true, false, cond, List, [], ◌∷◌, length, map, Option, Some, None, refl, sym, ap, subst, ◌∙◌, arith, inl, inr}
 use Rattle.std.specs.Prelude.{◌⊎◌, ◌≢◌, slice_get, not, ◌&&◌}
 use Rattle.std.specs.Str.{bytes_eq}

@@ -59,7 +59,7 @@ at_alike segments others (suc k) s alike is =
 head_alike : (s t : Segment) → sight_of s ≡ sight_of t → head_of s ≡ head_of t
 head_alike s t e = ap (λ (v : Sight). v.head) e
 
--- what stands in a segment, by its sight
+-- the bytes of a segment in memory, by its sight
 read_sight : AddressSetting → Sight → List ℕ
 read_sight at v = cond (is_table v.head) (entries_bytes at v.targets) (map (byte_of at.place) v.cells')
 
@@ -179,7 +179,7 @@ targets_alike s t e is =
 abbrev pub Alike : (Reply → Type 0) → Reply → Type 0
 Alike P reply = (reply' : Reply) × P reply' × IsLikeReply reply reply'
 
--- what comes of rows is alike: both stop at the same one, or both read files with the same headers
+-- the results of rows are alike: both stop at the same one, or both read files with the same headers
 pub data IsLikeJoined (joined joined' : Joined) : Type 0 where
   Stopped : (reads : ℕ) (why why' : LoaderFault) → joined ≡ Stops reads why → joined' ≡ Stops reads why' → IsLikeReply (Refused why) (Refused why') → IsLikeJoined joined joined'
   AllJoin : (all others : List (List Segment)) → joined ≡ Joins all → joined' ≡ Joins others → map (map head_of) all ≡ map (map head_of) others → IsLikeJoined joined joined'

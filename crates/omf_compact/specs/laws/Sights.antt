@@ -33,7 +33,7 @@ pub record AreAlike (segments others : List Segment) : Type 0 where
   pub paths : paths_of segments ≡ paths_of others
 
 -- where one store holds a file that can be read, so does the other: with the same sights, or with the same first fault; and as a run-time
--- library file likewise, but for the place of a segment that may not stand there
+-- library file likewise, but for the place of a segment that isn't allowed there
 pub record Shows (held other : FileMap) : Type 0 where
   pub readable : (path file : List ℕ) → HoldsFile held path file → (file' : List ℕ) × HoldsFile other path file'
   pub good : (path : List ℕ) (segments : List Segment) → HoldsLoad held path segments → (others : List Segment) × HoldsLoad other path others × AreAlike segments others

@@ -93,7 +93,7 @@ length-run f s o sh i (c ∷ cells) = elim (cases_Bool (same_cell c (Part f s o 
 
 -- ---- unbroken cells
 
--- where none is broken, the first isn't, and none behind it
+-- where none is broken, the first isn't, and none after it
 pub unbroken-both : (at : ℕ) (before : Option Cell) (c : Cell) (cells : List Cell) → broken_from at before (c ∷ cells) ≡ None
     → (is_broken before c ≡ false) × (broken_from (at + 1) (Some c) cells ≡ None)
 unbroken-both at before c cells un = elim (cases_Bool (is_broken before c)) [
@@ -111,7 +111,7 @@ not-is false e = absurd cc
 follows : (c : Cell) (f s o : ℕ) (sh : ℤ) (i : ℕ) → is_broken (Some c) (Part f s o sh (suc i)) ≡ false → c ≡ Part f s o sh i
 follows c f s o sh i sound = same_is c (Part f s o sh i) (not-is (same_cell c (Part f s o sh i)) sound)
 
--- before a byte above 0 of a number stands the byte before it
+-- the cell before a byte above 0 of a number is the byte before it
 unbroken-first : (at : ℕ) (c : Cell) (cells : List Cell) (f s o : ℕ) (sh : ℤ) (i : ℕ) → broken_from at (Some c) cells ≡ None
     → slice_get cells 0 ≡ Some (Part f s o sh (suc i)) → c ≡ Part f s o sh i
 unbroken-first at c [] f s o sh i un is = absurd cc
@@ -126,7 +126,7 @@ unbroken-next at before (c ∷ cells) zero f s o sh i un is =
     ap (λ (d : Cell). some_cell d) (unbroken-first (at + 1) c cells f s o sh i (unbroken-both at before c cells un).1 is)
 unbroken-next at before (c ∷ cells) (suc k) f s o sh i un is = unbroken-next (at + 1) (Some c) cells k f s o sh i (unbroken-both at before c cells un).1 is
 
--- nothing stands before the first cell
+-- there is nothing before the first cell
 unbroken-zero : (at : ℕ) (cells : List Cell) (f s o : ℕ) (sh : ℤ) (i : ℕ) → broken_from at None cells ≡ None → slice_get cells 0 ≡ Some (Part f s o sh (suc i)) → ⊥
 unbroken-zero at [] f s o sh i un is = cc
 unbroken-zero at (d ∷ cells) f s o sh i un is =

@@ -1,4 +1,4 @@
--- Going over the parts of cells one by one, from the front.
+-- Going over the parts of cells one by one, from the start.
 use Rattle.std.specs.Prelude.{◌≡◌, ◌<◌, ℕ, zero, suc, ◌+◌, ◌==◌, ◌&&◌, Bool, false, List, [], ◌∷◌, ◌++◌, map, Option, Some, None, option_map, Result, Ok, Err, if◌then◌else◌}
 use Rattle.std.specs.Ordering.{int_eq}
 use Rattle.load_meaning.specs.Cells.{Cell, Byte, Part}
@@ -17,13 +17,13 @@ Found = ℕ × Cell
 abbrev pub placed : Single → Found
 placed s = (s.at, Part 1 s.segment s.offset s.shift s.index)
 
--- no part stands there
+-- no part is there
 abbrev pub IsNoPart : Option Cell → Type 0
 IsNoPart None = Unit {0}
 IsNoPart (Some (Byte b)) = Unit {0}
 IsNoPart (Some (Part file segment offset shift index)) = ⊥
 
--- this part stands there, one of at most four bytes
+-- this part is there, one of at most four bytes
 abbrev pub IsPartAt : Single → ℕ → Option Cell → Type 0
 IsPartAt s at found = (s.at ≡ at) × (found ≡ Some (placed s).1) × (s.index < 4)
 
@@ -44,13 +44,13 @@ goes_on p at (Part file segment offset shift index) =
 abbrev pub longer : format.Patch → format.Patch
 longer p = record p { count = p.count + 1 }
 
--- the patches with the last one longer, if the part goes on behind it
+-- the patches with the last one longer, if the part continues it
 abbrev pub extended : List format.Patch → ℕ → Cell → Option (List format.Patch)
 extended [] at c = None
 extended (p ∷ []) at c = if goes_on p at c then Some (longer p ∷ []) else None
 extended (p ∷ q ∷ patches) at c = option_map (λ l. p ∷ l) (extended (q ∷ patches) at c)
 
--- the patches with one part more: byte 0 begins a patch, and each other one goes on behind the last
+-- the patches with one part more: byte 0 begins a patch, and each other one continues the last
 abbrev pub with_part : List format.Patch → ℕ → Cell → Option (List format.Patch)
 with_part patches at (Byte b) = None
 with_part patches at (Part file segment offset shift zero) =

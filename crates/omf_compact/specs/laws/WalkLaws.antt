@@ -70,15 +70,15 @@ abbrev pub answer : Option ℕ → List format.Patch → Result (List format.Pat
 answer None patches = Ok patches
 answer (Some at) patches = Err at
 
--- the cell before a place, as far as the last patch tells: its last byte where it ends there, and else no part
+-- the cell before a place, as far as the last patch shows: its last byte where it ends there, and else no part
 abbrev last_cell : format.Patch → ℕ → Cell
 last_cell p at = cond (eqb (p.location + p.count) at) (Part p.file p.segment p.offset p.shift (p.count - 1)) (Byte 0)
 
--- the last patch, with the cells that go on behind it where it ends there
+-- the last patch, with the cells that continue it where it ends there
 abbrev grown : format.Patch → ℕ → List Cell → format.Patch
 grown p at of = cond (eqb (p.location + p.count) at) (record p { count = p.count + run_length p.file p.segment p.offset p.shift p.count of }) p
 
--- whatever byte stands before, no part goes on from it
+-- whatever byte is before, no part goes on from it
 broken-byte : (at b : ℕ) (of : List Cell) → broken_from at (Some (Byte b)) of ≡ broken_from at (Some (Byte 0)) of
 broken-byte at b [] = refl
 broken-byte at b (Byte c ∷ of) = refl
@@ -115,7 +115,7 @@ run-zero f s o sh i g t p th of some = elim (cases_Bool (same_cell (Part g t p t
   | inr other ↦ rw other refl
 ]
 
--- what the walk answers from a place on, behind patches of which this is the last
+-- what the walk answers from a place on, after patches of which this is the last
 Claim : List format.Patch → format.Patch → ℕ → List Cell → Type 0
 Claim done p at of = walk (done ++ p ∷ []) (parts_at at of) ≡ answer (broken_from at (Some (last_cell p at)) of) (done ++ grown p at of ∷ stretches_from at of)
 
@@ -266,7 +266,7 @@ claim-more done p at f s o sh i of some goes again =
         let next : p.count + 1 ≡ suc p.count = omega arith in let same = ap (λ (n : ℕ). run_length p.file p.segment p.offset p.shift n of) next in omega (arith, same) in
         rw (ends, ends', first) (ap (λ (n : ℕ). counted n) more)
 
--- behind patches, whatever cells come
+-- after patches, whatever cells follow
 claim : (done : List format.Patch) (p : format.Patch) (at : ℕ) (of : List Cell) → p.location + p.count ≤ at → 1 ≤ p.count → Claim done p at of
 claim done p at [] le some = claim-end done p at
 claim done p at (Byte b ∷ of) le some = claim-byte done p at b of le (claim done p (at + 1) of (omega (arith, le)) some)
@@ -276,7 +276,7 @@ claim done p at (Part f s o sh (suc i) ∷ of) le some = elim (cases_Bool (goes_
   | inr stops ↦ claim-stop done p at f s o sh i of some stops
 ]
 
--- behind no patch
+-- after no patch
 claim-empty : (at : ℕ) (of : List Cell) → walk [] (parts_at at of) ≡ answer (broken_from at (Some (Byte 0)) of) (stretches_from at of)
 unfolding Claim
 claim-empty at [] = refl

@@ -42,7 +42,7 @@ pub record AreStretches (segments : List Segment) (lists : List (Vec code.Patch 
   pub count : length lists ≡ length segments
   pub each : (k : ℕ) (s : Segment) (patches : Vec code.Patch Global) → slice_get segments k ≡ Some s → slice_get lists k ≡ Some patches → HasStretches s (map seen patches.items)
 
--- the fault tells the first broken part, unless out of memory
+-- the fault reports the first broken part, unless out of memory
 abbrev pub IsJudgedBy : CompactCause → CompactFault → List Segment → Type 0
 IsJudgedBy BrokenPart fault segments = broken_in 1 (plain segments) ≡ Some (fault.segment, fault.at)
 IsJudgedBy Memory fault segments = (fault.segment ≡ 0) × (fault.at ≡ 0)
@@ -69,10 +69,10 @@ entries_text s = flat_map (spelling written_layout) (entries_in s)
 abbrev pub entry_of : Export → Record
 entry_of e = Entry e.segment e.offset e.name
 
--- so many exports stand before those of the segment with this number
+-- `place` exports are before those of the segment with this number
 abbrev pub AtExports : List Segment → ℕ → ℕ → Type 0
 AtExports segments number place = drop place (exports_of segments) ≡ exports_from number (drop (number - 1) segments)
 
--- the fields that are written for a header with so many zeros after the data
+-- the fields that are written for a header with `zeros` zeros after the data
 abbrev pub fields_with : HeaderFields → ℕ → HeaderFields
 fields_with f zeros = record f { byte_count = 0; res_spc = zeros; lab_len = 0; version = 2; disp_name = 0; disp_data = 0 }

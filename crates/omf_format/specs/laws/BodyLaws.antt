@@ -1,4 +1,4 @@
--- The records that a reader hands out are the body, and a segment of a file is the one whose header stands there.
+-- The records that a reader hands out are the body, and a segment of a file is the one whose header is at its start.
 use Rattle.std.proofs.Common.{◌≡◌, ℕ, zero, suc, ◌+◌, ◌≤◌, Bool, true, false, cond, List, [], ◌∷◌, ◌++◌, length, Option, Some, None, Result, Ok, Err, refl, sym, ap, subst, ◌∙◌, append_assoc, arith}
 use Rattle.std.specs.List.{flat_map, AllByRecursion}
 use Rattle.std.proofs.lemmas.List.{length-append}
@@ -14,7 +14,7 @@ use Rattle.omf_format.specs.laws.RecordLaws.{front-takes}
 use Rattle.omf_format.specs.Reading.{Reader, first_record, answer_of_reader, next_answer, after_next, HandsOut, answer_then, first_records, records_of}
 use Rattle.omf_format.specs.File.{Segment, body_reader, IsSegment, segment_of}
 
--- after END nothing comes
+-- after END there is no record
 pub none_at_end : (r : Reader) → r.ended ≡ true → next_answer r ≡ Ok None
 unfolding next_answer
 none_at_end r ended = rw ended refl
@@ -68,7 +68,7 @@ found_by r found e = by_end r.ended refl e
     by_end true is e = absurd cc
     by_end false is e = by_answer (first_record r.layout r.left) refl is e
 
--- the records that a reader hands out are the body as it stands: their spellings, in order, and what is left
+-- the records that a reader hands out are the body as it is: their spellings, in order, and what is left
 pub handed_out : (reader last : Reader) (founds : List (ℕ × Record)) → IsBytes reader.left → HandsOut reader founds last
     → AllByRecursion (λ found. IsRecord reader.layout found.1) founds × (reader.left ≡ flat_map (λ found. spelling reader.layout found.1) founds ++ last.left)
 handed_out reader last [] fits run = (tt, ap (λ (r : Reader). r.left) run)
@@ -125,7 +125,7 @@ pub body_fits : (start : ℕ) (f : HeaderFields) (file : List ℕ) → IsBytes f
 unfolding body_reader
 body_fits start f file fits = IsBytes-drop (start + f.disp_data) _ (IsBytes-take (start + f.byte_count) file fits)
 
--- a segment of a file is the one whose header stands there
+-- a segment of a file is the one whose header is at its start
 pub segment_is : (s : Segment) (file : List ℕ) → IsBytes file → IsSegment s file → segment_of (record { start = s.start; fields = s.fields; file = file }) ≡ s
 segment_is s file fits is =
     let reader = body_reader s.start s.fields file in

@@ -1,5 +1,5 @@
--- The laws of expressions: each is the spelling of one tree, none begins another, an expression is read exactly where it
--- stands, and otherwise there is exactly one first fault.
+-- The laws of expressions: each is the spelling of one tree, none begins another, an expression is read exactly where there is one, and
+-- otherwise there is exactly one first fault.
 use Rattle.std.proofs.Common.{◌≡◌, ℕ, zero, suc, ◌+◌, ◌-◌, ◌<◌, ◌≤◌, List, [], ◌∷◌, ◌++◌, length, take, drop, Option, Some, None, Result, Ok, Err, refl, sym, ap, subst, ◌∙◌, append_assoc, append-nil, arith}
 use Rattle.std.proofs.lemmas.List.{take_at, drop_at, append_cancel_right, length-append}
 use Rattle.omf_format.specs.declared.expression.ExprFault.{ExprFault}
@@ -66,7 +66,7 @@ read-through l n at pending last (term ∷ terms) rest are leads =
     first ∙ ap (λ (k : ℕ). read_from (length terms + n) l k (pending_after pending term) more) place ∙ others ∙ ap (λ (k : ℕ). read_from n l k last rest) sum in
     rw (fuel, append_assoc text (terms_text l terms) rest) whole
 
--- the terms, and what stands after them
+-- the terms, and what follows them
 pub record Runs (l pending : ℕ) (bytes : List ℕ) (last : ℕ) (rest : List ℕ) : Type 0 where
   pub terms : List Term
   pub parts : bytes ≡ terms_text l terms ++ rest
@@ -262,7 +262,7 @@ pub record TakesExpression (lab_len : ℕ) (bytes : List ℕ) (found : List ℕ 
   pub expression : IsExpression lab_len found.0
   pub taken : Takes bytes found.0 found.1
 
--- the text in front of the rest
+-- the text before the rest
 pub text_before : (bytes text rest : List ℕ) → bytes ≡ text ++ rest → take (length bytes - length rest) bytes ≡ text
 text_before bytes text rest parts =
     let size : length text ≡ length bytes - length rest = omega (arith, ap length parts, length-append text rest) in
@@ -288,7 +288,7 @@ expression-again l text rest is =
     let text_is = text_before (text ++ rest) text rest refl in
     rw (read-all-again l text rest is, text_is) refl
 
--- where no expression stands, the first fault decides
+-- where there is no expression, the first fault decides
 pub expression-flaw : (l : ℕ) (bytes : List ℕ) (fault : ExprFault) → IsFirstFault l bytes fault → expression_field l bytes ≡ Err (flaw_of fault)
 unfolding expression_field
 expression-flaw l bytes fault is = rw (read-all-fault-again l bytes fault is) refl

@@ -30,7 +30,7 @@ IsBytes-take n bytes h i =
       | inr le ↦ rw (get_or_past (take n bytes) i 0 (omega (arith, length-take n bytes))) (omega arith)
     ]
 
--- the bytes in front of others
+-- the bytes before others
 pub IsBytes-front : (bytes text rest : List ℕ) → IsBytes bytes → bytes ≡ text ++ rest → IsBytes text
 IsBytes-front bytes text rest h parts = subst IsBytes (take_at text rest (length text) refl) (IsBytes-take (length text) (text ++ rest) (subst IsBytes parts h))
 
@@ -63,7 +63,7 @@ pub chosen : {A : Type 0} (b : Bool) (x y z : A) → cond b x y ≡ z → ((b �
 chosen true x y z e = inl (refl, e)
 chosen false x y z e = inr (refl, e)
 
--- what a reader took from the front
+-- what a reader took from the start of the bytes
 pub record Takes (bytes text rest : List ℕ) : Type 0 where
   pub parts : bytes ≡ text ++ rest
   pub rest_fits : IsBytes rest
@@ -102,7 +102,7 @@ bytes-next : (k j n : ℕ) → bytes_low_first (suc j) k n ≡ bytes_low_first j
 bytes-next zero j n = refl
 bytes-next (suc k) j n = rw (byte_at-next j n, bytes-next k (suc j) n) refl
 
--- the bytes of the number that bytes stand for are these bytes
+-- the bytes of the number that bytes represent are these bytes
 pub bytes_back : (w : ℕ) (bytes : List ℕ) → length bytes ≡ w → IsBytes bytes → little_bytes w (little_number w bytes) ≡ bytes
 bytes_back zero [] len fits = refl
 bytes_back zero (b ∷ bytes) len fits = absurd (omega arith)

@@ -23,7 +23,7 @@ failed fault = Err fault
 pub same_found : (a b : ℕ × Record) → gave a ≡ gave b → a ≡ b
 same_found a b e = cc
 
--- after END nothing comes
+-- after END there is no record
 nothing_more : (r : Reader) (found : ℕ × Record) → r.ended ≡ true → next_answer r ≡ Ok (Some found) → ⊥
 unfolding next_answer
 nothing_more r found ended e =
@@ -34,7 +34,7 @@ nothing_more r found ended e =
 abbrev nothing : Answer
 nothing = Ok None
 
--- and nothing comes only then
+-- and only then is there none
 pub ended_at_none : (r : Reader) → next_answer r ≡ Ok None → r.ended ≡ true
 unfolding next_answer
 ended_at_none r e = cases r.ended refl e
@@ -89,7 +89,7 @@ open_at_fault r fault e ended =
     let clash : failed fault ≡ Ok None = sym e ∙ none in
     cc
 
--- where a record is at fault no run comes to END
+-- where a record is at fault, no run reaches END
 pub no_run : (r : Reader) (before all : List (ℕ × Record)) (reader last : Reader) (fault : RecordFault) → HandsOut r before reader → next_answer reader ≡ Err fault → HandsOut r all last → last.ended ≡ true → ⊥
 no_run r before all reader last fault p e q ended =
     let open' = open_at_fault reader fault e in
@@ -115,7 +115,7 @@ segment_same a b file p q start =
     made : ℕ → HeaderFields → List (ℕ × Record) → Segment
     made start fields records = record { start = start; fields = fields; records = records }
 
--- segments behind segments
+-- segments after segments
 pub AreSegments-append : (before more : List Segment) (at : ℕ) (file : List ℕ) (next end : ℕ) → AreSegments before at file next → AreSegments more next file end → AreSegments (before ++ more) at file end
 AreSegments-append [] more at file next end p q = subst (λ (n : ℕ). AreSegments more n file end) (sym p) q
 AreSegments-append (s ∷ before) more at file next end p q =
@@ -148,7 +148,7 @@ some of = Some of
 some_same : (a b : HeaderFault) → some a ≡ some b → a ≡ b
 some_same a b e = cc
 
--- no segment stands where a fault is
+-- no segment is where a fault is
 no_segment : (at : ℕ) (file : List ℕ) (reported : FaultAt) (s : Segment) → HasFault at file reported → s.start ≡ at → IsSegment s file → ⊥
 no_segment at file reported s (InHeader of is says) start segment =
     let none : header_fault (drop at file) ≡ None = ap (λ (n : ℕ). header_fault (drop n file)) (sym start) ∙ segment.header.passes in
@@ -198,7 +198,7 @@ reported_same at file a b (InRecord f xs x of header run is says) (InRecord g ys
     let same = stops_same (body_reader at f file) xs ys x y of of' run (subst (λ (h : HeaderFields). HandsOut (body_reader at h file) ys y) fields run') is is' in
     says ∙ ap to_file_record_fault same ∙ sym says'
 
--- two segments at fault, behind sound segments of one file, are one
+-- two segments at fault, after sound segments of one file, are the same one
 faults_same : (xs ys : List Segment) (at x y : ℕ) (file : List ℕ) (a b : FaultAt) → AreSegments xs at file x → AreSegments ys at file y
     → HasFault x file a → HasFault y file b → (a ≡ b) × (length xs ≡ length ys)
 faults_same [] [] at x y file a b p q h k = (reported_same y file a b (subst (λ (n : ℕ). HasFault n file a) (sym p ∙ q) h) k, refl)

@@ -105,7 +105,7 @@ number_at-laid_out (field ∷ fields) (suc k) w n rest at fits =
 
 -- ---- what a fault says
 
--- a cut header ends with the bytes, and a fault of a field comes only where all fields are there
+-- a cut header ends with the bytes, and a field has a fault only where all fields are there
 abbrev pub FitsFault : HeaderFault → ℕ → Type 0
 FitsFault (Truncated n) size = n ≡ size
 FitsFault (Unsupported field) size = 44 ≤ size

@@ -49,7 +49,7 @@ pub lines_of-cr_lf : (line following : List ℕ) → HasNoEnd line → lines_of 
 unfolding lines_of
 lines_of-cr_lf line following h = lines_of-ended line (ascii.carriage_return ∷ ascii.line_feed ∷ following) following h refl
 
--- a line before a CR with no LF behind it
+-- a line before a CR with no LF after it
 pub lines_of-cr : (line following : List ℕ) → HasNoEnd line → (slice_index following 0 == ascii.line_feed) ≡ false
     → lines_of (line ++ ascii.carriage_return ∷ following) ≡ line ∷ lines_of following
 unfolding lines_of

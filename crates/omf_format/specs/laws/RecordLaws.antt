@@ -55,7 +55,7 @@ Both IsA IsB x = IsA x.0 × IsB x.1
 abbrev texts : {A B : Type 0} → (A → List ℕ) → (B → List ℕ) → A × B → List ℕ
 texts textA textB x = textA x.0 ++ textB x.1
 
--- two fields, one behind the other
+-- two fields, one after the other
 both : {A B : Type 0} (IsA : A → Type 0) (IsB : B → Type 0) (textA : A → List ℕ) (textB : B → List ℕ) (readA : Reads A) (readB : Reads B)
     → IsField IsA textA readA → IsField IsB textB readB → IsField (Both IsA IsB) (texts textA textB) (readA ⊗ readB)
 both IsA IsB textA textB readA readB fieldA fieldB = both_are_field IsA IsB textA textB readA readB fieldA fieldB
@@ -165,7 +165,7 @@ pub record TakesRecord (l : Layout) (bytes : List ℕ) (found : Record × List �
   pub record' : IsRecord l found.0
   pub taken : Takes bytes (spelling l found.0) found.1
 
--- behind the code of the row a record is read that is spelled so
+-- what is read after the row's code is a record, and the code and the bytes read are its spelling
 abbrev TakesRow : Layout → ℕ × Reads Record → Type 0
 TakesRow l row = (rest : List ℕ) (found : Record × List ℕ) → IsBytes rest → row.1 rest ≡ Ok found → TakesRecord l (row.0 ∷ rest) found
 

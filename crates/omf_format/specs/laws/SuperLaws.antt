@@ -7,7 +7,7 @@ use Rattle.omf_format.specs.Number.{IsBytes}
 use Rattle.omf_format.specs.laws.FieldLaws.{IsBytes-rest}
 use Rattle.omf_format.specs.Super.{Page, Passed, Located, IsPage, page_text, HavePages, locations_from, end_pages, are_pages, locations_left}
 
--- the low bytes that are to come, and subrecords behind them
+-- the low bytes that are left, and subrecords after them
 record Ends (lows : ℕ) (bytes : List ℕ) : Type 0 where
   front : List ℕ
   rest : List ℕ
@@ -15,11 +15,11 @@ record Ends (lows : ℕ) (bytes : List ℕ) : Type 0 where
   size : length front ≡ lows
   pages : HavePages rest
 
--- one more subrecord in front
+-- one more subrecord before them
 more_pages : (page : Page) (rest : List ℕ) → IsPage page → HavePages rest → HavePages (page_text page ++ rest)
 more_pages page rest is have = record { pages = page ∷ have.pages; each = (is, have.each); text = ap (λ (t : List ℕ). page_text page ++ t) have.text }
 
--- behind no low bytes there are subrecords at once
+-- where no low bytes are left, all bytes are subrecords
 none_left : (bytes : List ℕ) → Ends 0 bytes → HavePages bytes
 none_left bytes e = by_front e.front e.size e.parts
   where
@@ -89,7 +89,7 @@ pages-again bytes have = rw have.text (all_past have.pages have.each)
 
 -- ---- locations
 
--- the page behind a subrecord
+-- the page after a subrecord
 abbrev next_page : ℕ → Page → ℕ
 next_page page (Passed pages) = page + pages
 next_page page (Located lows) = page + 1

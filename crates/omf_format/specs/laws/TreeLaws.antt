@@ -1,5 +1,5 @@
--- The laws of trees: the terms of a tree lead from so many pending values to one more; terms that lead to one value are those
--- of a tree; and no two trees have the same terms.
+-- The laws of trees: the terms of a tree lead from any number of pending values to one more; terms that lead to one value are those of a
+-- tree; and no two trees have the same terms.
 use Rattle.std.proofs.Common.{◌≡◌, ℕ, ◌+◌, ◌≤◌, max, Bool, true, false, cond, eqb, List, [], ◌∷◌, ◌++◌, length, refl, sym, ap, subst, ◌∙◌, append_assoc, arith, inl, inr}
 use Rattle.std.specs.Prelude.{◌||◌}
 use Rattle.std.proofs.lemmas.Bool.{eq-eqb, ne_eqb, cases_eq}
@@ -66,7 +66,7 @@ abbrev pub forest_terms : List Tree → List Term
 forest_terms [] = []
 forest_terms (t ∷ trees) = forest_terms trees ++ terms_of t
 
--- the trees behind a term
+-- the trees after a term
 pub record Grown (l : ℕ) (trees : List Tree) (term : Term) : Type 0 where
   pub grown : List Tree
   pub forest : IsForest l grown
@@ -121,7 +121,7 @@ grow l trees (Constant n) forest is some room = grow_operand l trees (Constant n
 grow l trees (Named code name) forest is some room = grow_operand l trees (Named code name) forest is room
 grow l trees (Offset n) forest is some room = grow_operand l trees (Offset n) forest is room
 
--- the trees behind terms
+-- the trees after terms
 pub record Forest (l : ℕ) (terms : List Term) (last : ℕ) : Type 0 where
   pub trees : List Tree
   pub forest : IsForest l trees

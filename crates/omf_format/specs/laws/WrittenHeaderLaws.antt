@@ -25,7 +25,7 @@ pub record FitsFields (f : HeaderFields) : Type 0 where
   pub disp_name : f.disp_name < 2 ^ 16
   pub disp_data : f.disp_data < 2 ^ 16
 
--- the numbers of a header stand at their displacements
+-- the numbers of a header are at their displacements
 record Stands (f : HeaderFields) (bytes : List ℕ) : Type 0 where
   byte_count : number_at 4 0x00 bytes ≡ f.byte_count
   res_spc : number_at 4 0x04 bytes ≡ f.res_spc
@@ -72,7 +72,7 @@ length-numbers f = length-laid_out (written_numbers f)
 
 -- ---- names
 
--- behind the numbers stand the load name, and the length and the text of the segment's name
+-- after the numbers are the load name, and the length and the text of the segment's name
 named : List ℕ → List ℕ → List ℕ → List ℕ → List ℕ
 named numbers load_name name rest = numbers ++ (load_name ++ (length name ∷ (name ++ rest)))
 
@@ -153,7 +153,7 @@ unfolding names_end name_size
 names_end-written f n bytes w =
     rw (w.numbers.disp_name, w.numbers.lab_len) (omega (arith, w.name_length))
 
--- in version 2 BYTECNT counts bytes, and KIND stands at $14
+-- in version 2 BYTECNT counts bytes, and KIND is at $14
 in_version_2 : (bytes : List ℕ) → version_of bytes ≡ 2 → (byte_count_of bytes ≡ number_at 4 0x00 bytes) × (kind_of bytes ≡ number_at 2 0x14 bytes)
 unfolding byte_count_of kind_of
 in_version_2 bytes is = (rw is refl, rw is refl)
@@ -215,7 +215,7 @@ header_fault-written f n rest fits writable long =
     both_false : (a b : Bool) → a ≡ false → b ≡ false → (a || b) ≡ false
     both_false a b p q = rw (p, q) refl
 
--- the same of bytes that are a written header
+-- bytes that are a written header pass the checks, and are read as its fields
 pub written_passes : (f : HeaderFields) (n : ℕ) (header rest : List ℕ) → header ≡ header_bytes f n → FitsWritten f n → IsWritable f → n ≤ length rest → header_fault (header ++ rest) ≡ None
 written_passes f n header rest is fits writable long = ap (λ (h : List ℕ). header_fault (h ++ rest)) is ∙ header_fault-written f n rest fits writable long
 

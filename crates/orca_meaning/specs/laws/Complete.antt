@@ -38,7 +38,7 @@ IsLooser level [] = Unit {0}
 IsLooser level (Bracket ∷ ws) = Unit {0}
 IsLooser level (Pending m code ∷ ws) = level < m
 
--- the same, where the level is one of operators between two
+-- the operator on top is looser, or none is there, where the level is one of operators between two
 abbrev pub IsRoom : ℕ → List Wait → Type 0
 IsRoom level ws = 2 ≤ level → IsLooser level ws
 

@@ -106,7 +106,7 @@ same_formula o text f g r s p q = by_order (compared o true text (tokens_of f) (
         let all = taken (tokens_of f) (terms_of (tree_of f)) (complete f p.formed) in
         absurd (formula_ends o text g s all.last (tokens_of f) t more r q is stand all.ran)
 
--- at the start of a text stands one tree at most, before one rest
+-- a text begins with a formula of at most one tree, and leaves one rest
 pub one_tree : (o : Operands) (text : List ℕ) (t u : Tree) (r s : List ℕ) → MeansAt o text t r → MeansAt o text u s → (t ≡ u) × (r ≡ s)
 one_tree o text t u r s p q =
     let same = same_formula o text p.formula q.formula r s p.stands q.stands in

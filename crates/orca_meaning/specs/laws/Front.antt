@@ -1,4 +1,4 @@
--- Where a formula at the start of a text ends: tokens that stand there are compared with those of a formula.
+-- Where a formula at the start of a text ends: the tokens there are compared with those of a formula.
 use Rattle.std.proofs.Common.{◌≡◌, ℕ, Bool, true, false, cond, List, [], ◌∷◌, ◌++◌, Option, Some, None, refl, sym, ap, subst, ◌∙◌, eqb}
 use Rattle.std.proofs.lemmas.Bool.{eqb-true}
 use Rattle.std.specs.Option.{option_or}
@@ -12,7 +12,7 @@ use Rattle.orca_meaning.specs.laws.Complete.{complete}
 
 -- ---- tokens one after another
 
--- what is expected behind tokens
+-- what is expected after tokens
 abbrev pub expects_after : Bool → List Token → Bool
 expects_after expects [] = expects
 expects_after expects (token ∷ tokens) = expects_after (expects_following token) tokens
@@ -23,7 +23,7 @@ pub stand_push : (o : Operands) (e : Bool) (text : List ℕ) (done : List Token)
 stand_push o e text [] left following t stand is = (following, subst (λ (x : List ℕ). token_at o e x ≡ Some (t, following)) stand is, refl)
 stand_push o e text (x ∷ done) left following t stand is = (stand.0, stand.1, stand_push o (expects_following x) stand.0 done left following t stand.2 is)
 
--- of tokens that are at one front, one list begins the other
+-- of two lists of tokens at the start of one text, one begins the other
 pub data Compared (o : Operands) (e : Bool) (a b : List Token) (r s : List ℕ) : Type 0 where
   Longer : (more : List Token) → b ≡ a ++ more → Stand o (expects_after e a) r more s → Compared o e a b r s
   Shorter : (t : Token) (more : List Token) → a ≡ b ++ t ∷ more → Stand o (expects_after e b) s (t ∷ more) r → Compared o e a b r s
@@ -86,7 +86,7 @@ closed-expects (out, []) m is = absurd cc
 closed-expects (out, Bracket ∷ ws) m is = ap (λ (s : State). s.expects) (sym (some_first true (state out ws false) m is))
 closed-expects (out, Pending level code ∷ ws) m is = absurd cc
 
--- what is expected in a state is what is expected behind its tokens
+-- what is expected in a state is what is expected after its tokens
 pub step-expects : (s m : State) (t : Token) → step s t ≡ Some m → m.expects ≡ expects_following t
 unfolding step
 step-expects s m (Value operand) is = ap (λ (x : State). x.expects) (sym (some_first s.expects _ m is))
@@ -135,7 +135,7 @@ unfolding ended closed
 ended-not_closed (out, []) terms is = refl
 ended-not_closed (out, w ∷ ws) terms is = absurd cc
 
--- no operator stands at the start of a parenthesis
+-- where the token of a byte is found, the text begins with that byte
 pub byte-found : (wanted : ℕ) (t : Token) (text : List ℕ) (x : Token × List ℕ) → byte_at wanted t text ≡ Some x → text ≡ wanted ∷ x.1
 unfolding byte_at
 byte-found wanted t [] x is = absurd cc
@@ -158,7 +158,7 @@ byte-token wanted t (byte ∷ following) x is = by_test (eqb byte wanted) is
     by_test true is = let pair : (t, following) ≡ x = cc in ap (λ (z : Token × List ℕ). z.0) (sym pair)
     by_test false is = absurd cc
 
--- where no operator stands, only a closing parenthesis can
+-- where there is no operator, only a closing parenthesis can follow
 pub only_closes : (o : Operands) (text : List ℕ) (t : Token) (following : List ℕ) → operator_at text ≡ None → token_at o false text ≡ Some (t, following) → t ≡ Closes
 unfolding operator_token_at
 only_closes o text t following none is = by_byte (byte_at 0x29 Closes text) refl is
@@ -169,7 +169,7 @@ only_closes o text t following none is = by_byte (byte_at 0x29 Closes text) refl
         let clash : seen_as Between None ≡ Some (t, following) = subst (λ (f : Found operators.Operator). seen_as Between f ≡ Some (t, following)) none is in
         absurd cc
 
--- behind the tokens of a formula, where no operator stands, no token can be taken
+-- after the tokens of a formula, where no operator follows, no token can be taken
 pub formula_ends : (o : Operands) (text : List ℕ) (f : Formula) (rest : List ℕ) (s : State) (done : List Token) (t : Token) (more : List Token) (left : List ℕ)
     → StandsAt o text f rest → done ≡ tokens_of f ++ t ∷ more → Stand o (expects_after true (tokens_of f)) rest (t ∷ more) left → run start done ≡ Some s → ⊥
 unfolding step

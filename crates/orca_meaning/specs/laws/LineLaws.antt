@@ -63,7 +63,7 @@ have_fields text = by_comment (is_comment text)
         let three = three_lie text in
         record { label = three.label; operation = three.operation; operand = operand_lies _ text _ three.operand }
 
--- ---- blanks part them
+-- ---- blanks separate them
 
 abbrev AllPassing : (ℕ → Bool) → List ℕ → Type 0
 AllPassing p text = AllByRecursion (λ byte. p byte ≡ true) text

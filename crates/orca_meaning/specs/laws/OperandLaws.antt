@@ -32,7 +32,7 @@ has_token (Group inner) = record { first = Opens; others = tokens_of inner ++ Cl
 has_token (Signed sign operand) = record { first = Before sign; others = tokens_of operand; is = refl }
 has_token (Joined operator left right) = has_token_before (tokens_of left) (Between operator ∷ tokens_of right) (has_token left)
 
--- no formula stands at the start of nothing
+-- no formula is at the start of an empty text
 pub none_in_nothing : (o : Operands) (tree : Tree) (rest : List ℕ) → MeansAt o [] tree rest → ⊥
 none_in_nothing o tree rest is =
     let has = has_token is.formula in

@@ -9,7 +9,7 @@ use Rattle.orca_meaning.specs.Formula.{sign_code, operator_code, operator_level,
 use Rattle.orca_meaning.specs.laws.Machine.{Wait, Bracket, Pending, State, state, reduced, closed, step, and_then, run, ended, finish, start, postfix}
 use Rattle.orca_meaning.specs.laws.Complete.{IsLooser, operator_levels}
 
--- what a formula that is being read stands in, the innermost first
+-- what encloses a formula that is being read, the innermost first
 pub data Frame : Type 0 where
   InGroup : Frame
   AtSign : (sign : signs.Sign) → Frame

@@ -103,7 +103,7 @@ symbol-is (byte ∷ following) = by_test (eqb byte 0x26) (name_more byte followi
 
 -- ---- operands
 
--- a name in the operand isn't empty, and has at most so many bytes
+-- a name in the operand isn't empty, and has at most a given number of bytes
 abbrev pub HasFineName : ℕ → Operand → Type 0
 HasFineName most Here = Unit {0}
 HasFineName most (Number n) = Unit {0}

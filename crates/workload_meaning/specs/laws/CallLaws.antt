@@ -102,7 +102,7 @@ record HasFit (targets : List Target) (answer : Result Fit LinkCause) : Type 0 w
   is : answer ≡ Ok fit
   few : length (targets_after targets fit) ≤ length targets + 1
 
--- what a call of a place in the file itself comes to, once it may call
+-- the outcome of a call of a place in the file itself, once it may call
 abbrev room_fit : List HeaderFields → List Target → ℕ → ℕ → Result Fit LinkCause
 room_fit headers targets segment offset = cond (leb (length_of headers segment) offset) (Err fault.OutOfSegment)
     (cond (not (has_room_for targets (target_of 1 segment offset))) (Err fault.TooManyEntries) (Ok (fitting.Entry (target_of 1 segment offset))))
@@ -135,7 +135,7 @@ own_fits headers f targets before segment offset own = rw (eq-eqb segment f.own 
 abbrev okay : Made → Result Made LinkCause
 okay x = Ok x
 
--- behind a record that gave these cells
+-- after a record that gave these cells
 step : (list : List Member) (table : List EquateAnswer) (state : LinkState) (i : Item) (more : List Item) (x : Made) → made list table state i ≡ okay x → AreMade list table (state_after_item state i (okay x)) more → AreMade list table state (i ∷ more)
 step list table state i more x e rest = (x, e, subst (λ (g : Result Made LinkCause). AreMade list table (state_after_item state i g) more) (sym e) rest)
 
@@ -190,7 +190,7 @@ module _ (n : ℕ) (list : List Member) (table : List EquateAnswer) (few : n ≤
     is' : made list table state i ≡ okay x
     small : length x.1 ≤ length state.targets + 1
 
-  -- behind the byte $22 a dynamic segment is called
+  -- after the byte $22 a dynamic segment is called
   jsl_made : (i : ℕ) (state : LinkState) (it : Item) → IsOwn n it.member.segment → 1 ≤ i → i ≤ n → it.here.content ≡ Formula 0xF3 3 0 (value_of (name_of i)) → ends_in_jsl (cells_before state it) ≡ true
       → length state.targets < 4680 → HasMade state it
   unfolding place_value
@@ -288,7 +288,7 @@ module _ (n : ℕ) (list : List Member) (table : List EquateAnswer) (few : n ≤
       body_made m place i (16 + draw % 4096) s.records state (items_from (place + 1) (members_from without_runtimes 1 (number + 1) segments)) are.0 are.1.load_name some (omega (arith, less)) are.1.records
       (λ later. dynamics_made (i + 1) (place + 1) (number + 1) all segments later (omega (arith, some)) (omega (arith, less)) are.2)
 
--- each record gives its cells, whatever values equates are told
+-- each record gives its cells, whatever values are reported for equates
 pub all_made : (n : ℕ) (sizes : List ℕ) (segments : List Segment) (table : List EquateAnswer) → n ≤ 64 → length sizes ≡ n → IsWorkload n sizes segments → AreMade (members_from without_runtimes 1 1 segments) table start (items (members_from without_runtimes 1 1 segments))
 unfolding items records_with_offsets
 all_made n sizes segments table few size w =

@@ -58,7 +58,7 @@ passed x (o ∷ list) m is = by_test (in_load x o) refl is (passed x list m)
     by_test true here (inr more) go = go more
     by_test false other more go = go more
 
--- ---- the phases behind layout
+-- ---- the phases after layout
 
 abbrev refused : LinkFault → Result (List ℕ) LinkFault
 refused fault = Err fault

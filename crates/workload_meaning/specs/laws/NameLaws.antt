@@ -43,12 +43,12 @@ is_value name is = record { tree = Leaf (Named 0x83 name); spells = value_spells
 
 -- ---- names differ
 
--- the number in the digits at the start, behind one that was read
+-- the number in the digits at the start, after one that was read
 number_from : ℕ → List ℕ → ℕ
 number_from n [] = n
 number_from n (b ∷ bytes) = cond (leb 48 b && leb b 57) (number_from (n * 10 + (b - 48)) bytes) n
 
--- the number in a name behind its first byte
+-- the number in a name after its first byte
 number_named : List ℕ → ℕ
 unfolding number_from
 number_named [] = 0

@@ -100,7 +100,7 @@ are_sound n seed few = (main_sound n few, dynamics_sound 1 (draws n seed) (omega
 
 -- ---- what is read
 
--- a record among so many dynamic segments: bytes, or the place of one of them
+-- a record among `n` dynamic segments: bytes, or the place of one of them
 abbrev pub IsOwnRecord : ℕ → Record → Type 0
 IsOwnRecord n End = Unit {0}
 IsOwnRecord n (Const bytes) = Unit {0}

@@ -218,7 +218,7 @@ named_at i j place (m ∷ ms) are le less few = elim (cases_lt j i) [
       }
 ]
 
--- behind the segment MAIN too
+-- after the segment MAIN too
 pub named_after : (i : ℕ) (main : Member) (ms : List Member) → main.segment.fields.name ≡ codes "MAIN" → AreNamed 1 ms → 1 ≤ i → i ≤ length ms → length ms ≤ 64 → IsNamedAt i 1 (main ∷ ms)
 unfolding with_this_name
 named_after i main ms title_is are some less few =

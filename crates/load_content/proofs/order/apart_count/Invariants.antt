@@ -4,7 +4,7 @@ use Rattle.load_content.specs.declared.spots.PatchSpot.{PatchSpot}
 use Rattle.load_content.specs.Content.{end_of}
 use Rattle.load_content.proofs.order.apart_count.Given as goal
 
--- the spots so far lie apart, and none ends behind the end
+-- the spots so far lie apart, and none ends after `end`
 abbrev pub invariant-spots : goal.invariant-spots
 invariant-spots l = record {
   count : l.count ≡ l.spot-index;

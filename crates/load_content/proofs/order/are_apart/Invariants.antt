@@ -4,7 +4,7 @@ use Rattle.load_content.specs.declared.spots.PatchSpot.{PatchSpot}
 use Rattle.load_content.specs.Content.{end_of}
 use Rattle.load_content.proofs.order.are_apart.Given as goal
 
--- the spots so far lie apart, and none ends behind the end
+-- the spots so far lie apart, and none ends after `end`
 abbrev pub invariant-spots : goal.invariant-spots
 invariant-spots l = record {
   apart : (i j : ℕ) (s t : PatchSpot) → i < j → j < l.spot-index → slice_get l.spots i ≡ Some s → slice_get l.spots j ≡ Some t → end_of s ≤ t.at;

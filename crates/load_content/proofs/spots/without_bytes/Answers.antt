@@ -5,7 +5,7 @@ use Rattle.load_content.proofs.spots.without_bytes.Goals as goal
 none_left : (n : ℕ) → n ≡ n / 256 ^ 0
 none_left n = omega arith
 
--- behind the fourth byte there is none
+-- after the fourth byte there is none
 past : (n i : ℕ) → n < 2 ^ 32 → 4 ≤ i → 0 ≡ n / 256 ^ i
 past n i lt le =
     let most : 256 ^ 4 ≤ 256 ^ i = pow-le-pow_right {n = 256} (omega arith) le in

@@ -5,7 +5,7 @@ use Rattle.omf_records.specs.Segments.{segment_of_view}
 use Rattle.load_content.specs.Content.{spread_all, shown_spots}
 use Rattle.load_content.proofs.targets.take_super.Given as goal
 
--- the patches so far may stand there, and their bytes were added
+-- the patches so far are allowed there, and their bytes were added
 abbrev pub invariant-locations : goal.invariant-locations
 invariant-locations l = record {
   same : first_refusal (map segment_of_view l.views.items) (segment_of_view l.view) (map (super_patch (segment_of_view l.view) l.form) l.initial.locations)

@@ -1,7 +1,7 @@
 use Rattle.std.proofs.Common.{◌≡◌, ◌-◌, ◌≤◌, [], length, map, replicate}
 use Rattle.load_writer.proofs.by_form.no_locations.Given as goal
 
--- so many lists without locations
+-- the lists so far are without locations, and there are at most 38
 abbrev pub invariant-forms : goal.invariant-forms
 invariant-forms l = (map (λ of. of.items) l.lists.items ≡ replicate (length l.lists.items) []) × (length l.lists.items ≤ 38)
 

@@ -5,7 +5,7 @@ use Rattle.load_tables.proofs.ExportWalks.{exports_by}
 use Rattle.omf_cells.proofs.ReadSegments.{Read}
 use Rattle.omf_cells.proofs.reading.read_load.Given as goal
 
--- the segments so far stand one after another up to the start of the next, and pass phase 1; what they export was kept
+-- the segments so far follow one another up to the start of the next, and pass phase 1; what they export was kept
 abbrev pub invariant-segments : goal.invariant-segments
 invariant-segments l = record {
   read : Read l.file l.views.items l.start l.number;

@@ -10,7 +10,7 @@ use Rattle.std.proofs.lemmas.List.Folds.{list_all-map}
 use Rattle.omf_making.specs.Words.{is_path, are_paths, words_of}
 use Rattle.omf_making.proofs.form.are_paths.Goals as goal
 
--- enough words and not too many: what is left to say of them is that they are paths
+-- enough arguments and not too many: what is left to say of them is that they are paths
 all_that_is_left : (least most : ℕ) (words : List (String Global)) → least ≤ length words → length words ≤ most
     → list_all (λ word. is_path (string_bytes word)) words ≡ are_paths least most (words_of words)
 all_that_is_left least most words few many =

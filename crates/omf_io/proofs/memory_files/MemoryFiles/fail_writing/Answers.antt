@@ -6,11 +6,11 @@ use Rattle.omf_io.specs.Files.{FileMap, StoreSeen}
 use Rattle.omf_io.specs.Memory.{Store}
 use Rattle.omf_io.proofs.memory_files.MemoryFiles.fail_writing.Goals as goal
 
--- what is seen of a store that tells its files
+-- what is seen of a store that reveals its files
 abbrev seen : FileMap → ℕ → ℕ → StoreSeen
 seen files faults asked = record { held = Some files; faults = faults; asked = asked }
 
--- the first half stands at the path, and the count is one more
+-- the first half is held at the path, and the count is one more
 pub returns-in-Ok-clause-answer : goal.returns-in-Ok-clause-answer
 returns-in-Ok-clause-answer c =
     let old = c.args.self.now in

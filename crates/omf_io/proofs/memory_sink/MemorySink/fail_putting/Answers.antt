@@ -5,7 +5,7 @@ use Rattle.omf_io.specs.Sinks.{SinkSeen}
 use Rattle.omf_io.specs.Memory.{Text}
 use Rattle.omf_io.proofs.memory_sink.MemorySink.fail_putting.Goals as goal
 
--- what is seen of a sink that tells its bytes
+-- what is seen of a sink that reveals its bytes
 abbrev seen : List ℕ → ℕ → SinkSeen
 seen bytes faults = record { written = Some bytes; faults = faults }
 
