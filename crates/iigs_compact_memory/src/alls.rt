@@ -13,11 +13,11 @@ use crate::needs::least_purges;
 use crate::place::place;
 use iigs_meaning::{Handle, PlaceFault, Want};
 use iigs_memory::Banks;
-use iigs_places::Places;
+use iigs_places::BlockPlaces;
 use std::mem;
 
 // Places a block for a want on the plan, locked with level 0, after purges and a slide where it needs them, if there is room.
-fn plan_one(plan: &mut Places, trial: &mut Places, want: &Want, user: u16) -> bool
+fn plan_one(plan: &mut BlockPlaces, trial: &mut BlockPlaces, want: &Want, user: u16) -> bool
     requires want { IsWant want.now }
     requires banks { trial.old.banks ≡ plan.old.banks }
     requires settled { AreSettled plan.old.banks plan.old.slots }
@@ -52,8 +52,8 @@ fn plan_one(plan: &mut Places, trial: &mut Places, want: &Want, user: u16) -> bo
 /// Places blocks for wants in order on the plan, locked with level 0, with purges and slides as they need them. `trial` is
 /// scratch space.
 pub fn plan_all(
-    plan: &mut Places,
-    trial: &mut Places,
+    plan: &mut BlockPlaces,
+    trial: &mut BlockPlaces,
     user: u16,
     wants: &[Want],
 ) -> Result<(), PlaceFault>
@@ -78,7 +78,7 @@ pub fn plan_all(
 /// scratch space.
 pub fn place_each(
     banks: &mut Banks,
-    trial: &mut Places,
+    trial: &mut BlockPlaces,
     user: u16,
     wants: &[Want],
     handles: &mut Vec<Handle>,

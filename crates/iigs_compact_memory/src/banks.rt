@@ -22,7 +22,7 @@ use crate::carry::carry_out;
 use crate::place::{place, replace};
 use iigs_meaning::{BanksFault, BlockFault, BlockState, Handle, PlaceFault, Want};
 use iigs_memory::Banks;
-use iigs_places::Places;
+use iigs_places::BlockPlaces;
 use std::alloc::Global;
 use std::marker::Model;
 
@@ -31,8 +31,8 @@ use std::marker::Model;
 pub struct CompactBanks {
     banks: Banks,
     // Scratch space: on `plan` several blocks are placed, and on `trial` a slide is planned.
-    plan: Places,
-    trial: Places,
+    plan: BlockPlaces,
+    trial: BlockPlaces,
     handles: Vec<Handle>,
 }
 
@@ -57,8 +57,8 @@ impl CompactBanks {
         ensures made { IfOk result (IsNew banks.now) }
         ensures refused { IfErr result (IsBanksRefusal banks.now) }
     {
-        let plan = Places::new(alloc, banks)?;
-        let trial = Places::new(alloc, banks)?;
+        let plan = BlockPlaces::new(alloc, banks)?;
+        let trial = BlockPlaces::new(alloc, banks)?;
         let handles = match Vec::with_capacity(alloc, 4096) {
             Ok(handles) => handles,
             Err(_) => return Err(BanksFault::Memory),

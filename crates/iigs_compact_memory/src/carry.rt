@@ -9,10 +9,10 @@ ghost use Rattle.iigs_compact_memory.specs.Carried.{CanCarry};
 
 use iigs_meaning::Stale;
 use iigs_memory::{Banks, Handle, ShiftFault};
-use iigs_places::Places;
+use iigs_places::BlockPlaces;
 
 // Moves a block, which is at an address, to where it is in the plan, and counts it if that is another one.
-fn carry(banks: &mut Banks, plan: &Places, h: Handle, at: u32) -> u32
+fn carry(banks: &mut Banks, plan: &BlockPlaces, h: Handle, at: u32) -> u32
     requires can { CanCarry banks.old.banks banks.old.slots plan.now.slots h at }
     ensures carried { banks.new.slots ≡ slice_set banks.old.slots h.slot (slot_at plan.now.slots h.slot) }
     ensures kept { KeepsBut banks.old banks.new [] }
@@ -38,7 +38,7 @@ fn carry(banks: &mut Banks, plan: &Places, h: Handle, at: u32) -> u32
 }
 
 /// Slides blocks down as in the plan, and counts those that changed their address.
-pub fn carry_out(banks: &mut Banks, plan: &Places) -> u32
+pub fn carry_out(banks: &mut Banks, plan: &BlockPlaces) -> u32
     requires apart { AreApart banks.old.banks banks.old.slots }
     requires settled { AreSettled banks.old.banks banks.old.slots }
     requires planned { Slides banks.old.banks banks.old.slots plan.now.slots }

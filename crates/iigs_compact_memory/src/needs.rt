@@ -7,11 +7,11 @@ ghost use Rattle.iigs_compact_memory.specs.Needs.{NoneAfter, NeedsPurges};
 
 use crate::purge_bound::bound_of_purges;
 use iigs_meaning::Want;
-use iigs_places::Places;
+use iigs_places::BlockPlaces;
 
 /// The least number of purges after which a want fits somewhere once the movable blocks are slid down, which is done in
 /// `trial` then.
-pub fn least_purges(places: &Places, trial: &mut Places, want: &Want) -> Option<u32>
+pub fn least_purges(places: &BlockPlaces, trial: &mut BlockPlaces, want: &Want) -> Option<u32>
     requires want { IsWant want.now }
     requires banks { trial.old.banks ≡ places.now.banks }
     requires settled { AreSettled places.now.banks places.now.slots }

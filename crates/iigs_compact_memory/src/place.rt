@@ -13,11 +13,11 @@ use crate::carry::carry_out;
 use crate::needs::least_purges;
 use iigs_meaning::{Handle, PlaceFault, Want};
 use iigs_memory::Banks;
-use iigs_places::Places;
+use iigs_places::BlockPlaces;
 
 // Purges as few blocks as are needed for a slide to make room for the want, and slides. Where none makes room, nothing is
 // done.
-fn make_room(banks: &mut Banks, trial: &mut Places, want: &Want) -> bool
+fn make_room(banks: &mut Banks, trial: &mut BlockPlaces, want: &Want) -> bool
     requires want { IsWant want.now }
     requires banks { trial.old.banks ≡ banks.old.banks }
     requires settled { AreSettled banks.old.banks banks.old.slots }
@@ -40,7 +40,7 @@ fn make_room(banks: &mut Banks, trial: &mut Places, want: &Want) -> bool
 // Places a block for which there is no room by purges alone.
 fn slide_and_place(
     banks: &mut Banks,
-    trial: &mut Places,
+    trial: &mut BlockPlaces,
     want: &Want,
     user: u16,
     locked: bool,
@@ -75,7 +75,7 @@ fn slide_and_place(
 /// a slide to make it. `trial` is scratch space.
 pub fn place(
     banks: &mut Banks,
-    trial: &mut Places,
+    trial: &mut BlockPlaces,
     want: &Want,
     user: u16,
     locked: bool,
@@ -106,7 +106,7 @@ pub fn place(
 // Places an empty block anew for which there is no room by purges alone.
 fn slide_and_replace(
     banks: &mut Banks,
-    trial: &mut Places,
+    trial: &mut BlockPlaces,
     h: Handle,
     want: &Want,
 ) -> Result<(), PlaceFault>
@@ -137,7 +137,7 @@ fn slide_and_replace(
 /// Places an empty block anew under its handle, with room made as for `place`. `trial` is scratch space.
 pub fn replace(
     banks: &mut Banks,
-    trial: &mut Places,
+    trial: &mut BlockPlaces,
     h: Handle,
     want: &Want,
 ) -> Result<(), PlaceFault>

@@ -7,10 +7,10 @@ ghost use Rattle.iigs_compact_memory.specs.Needs.{NoneAfter};
 ghost use Rattle.iigs_compact_memory.specs.Still.{marked_still, LeavesStill};
 
 use iigs_meaning::{Block, Handle, Stale, Want};
-use iigs_places::Places;
+use iigs_places::BlockPlaces;
 
 // Lets a block be purged if it moves, and locks it if it stays.
-fn mark_still(places: &mut Places, h: Handle)
+fn mark_still(places: &mut BlockPlaces, h: Handle)
     requires { IsSome (get places.old.slots h) }
     ensures { IsSomeAnd (get places.old.slots h) (λ block. places.new ≡ record places.old { slots = with_value places.old.slots h (marked_still block) }) }
 {
@@ -31,7 +31,7 @@ fn mark_still(places: &mut Places, h: Handle)
 }
 
 // Lets the blocks go that move in a slide.
-fn leave_still(places: &mut Places)
+fn leave_still(places: &mut BlockPlaces)
     ensures still { LeavesStill places.old.slots places.new.slots }
     ensures banks { places.new.banks ≡ places.old.banks }
 {
@@ -45,7 +45,7 @@ fn leave_still(places: &mut Places)
 }
 
 // Whether a want fits somewhere beside the blocks that stay in a slide, once `count` blocks are purged. `trial` is scratch space.
-fn fits_still(places: &Places, trial: &mut Places, want: &Want, count: u32) -> bool
+fn fits_still(places: &BlockPlaces, trial: &mut BlockPlaces, want: &Want, count: u32) -> bool
     requires want { IsWant want.now }
     requires banks { trial.old.banks ≡ places.now.banks }
     ensures no { result ≡ false → (fewer : ℕ) → fewer ≤ count → NoneAfter places.now.banks places.now.slots want.now fewer }
@@ -59,7 +59,7 @@ fn fits_still(places: &Places, trial: &mut Places, want: &Want, count: u32) -> b
 
 /// A number of purges, with fewer than which no slide makes room for a want; none where no number lets one make it. `trial` is
 /// scratch space.
-pub fn bound_of_purges(places: &Places, trial: &mut Places, want: &Want) -> Option<u32>
+pub fn bound_of_purges(places: &BlockPlaces, trial: &mut BlockPlaces, want: &Want) -> Option<u32>
     requires want { IsWant want.now }
     requires banks { trial.old.banks ≡ places.now.banks }
     ensures none { MatchOption result ((count : ℕ) → NoneAfter places.now.banks places.now.slots want.now count)

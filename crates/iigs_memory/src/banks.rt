@@ -23,7 +23,7 @@ use iigs_meaning::{
     BanksFault, Block, BlockFault, BlockState, EmptyFault, Handle, PlaceFault, ShiftFault, Stale,
     Want,
 };
-use iigs_places::{PlacedBlock, Places};
+use iigs_places::{BlockPlaces, PlacedBlock};
 use std::alloc::{AllocError, Global};
 use std::marker::Model;
 use std::mem;
@@ -31,9 +31,9 @@ use std::mem;
 /// Banks of memory with blocks under handles.
 #[derive(Drop)]
 pub struct Banks {
-    places: Places,
+    places: BlockPlaces,
     // Scratch space for the placement of several blocks, all or none.
-    plan: Places,
+    plan: BlockPlaces,
     made: Vec<PlacedBlock>,
     // The bytes of all configured banks.
     bytes: Vec<u8>,
@@ -77,7 +77,7 @@ fn scratch<T>(alloc: Global, count: usize) -> Result<Vec<T>, AllocError>
 }
 
 // What `new` makes beside the places.
-fn parts(alloc: Global, places: Places, plan: Places) -> Result<Banks, AllocError>
+fn parts(alloc: Global, places: BlockPlaces, plan: BlockPlaces) -> Result<Banks, AllocError>
     requires { plan.banks ≡ places.banks }
     ensures { IfOk result (λ banks. (banks.banks ≡ places.banks) × (banks.slots ≡ places.slots)) }
 {
@@ -101,8 +101,8 @@ impl Banks {
         ensures made { IfOk result (IsNew banks.now) }
         ensures refused { IfErr result (IsBanksRefusal banks.now) }
     {
-        let places = Places::new(alloc, banks)?;
-        let plan = Places::new(alloc, banks)?;
+        let places = BlockPlaces::new(alloc, banks)?;
+        let plan = BlockPlaces::new(alloc, banks)?;
         match parts(alloc, places, plan) {
             Ok(banks) => Ok(banks),
             Err(_) => Err(BanksFault::Memory),
@@ -382,7 +382,7 @@ impl Banks {
     }
 
     /// Where the blocks lie.
-    pub fn places(&self) -> &Places
+    pub fn places(&self) -> &BlockPlaces
         ensures { result.now ≡ record { banks = self.now.banks; slots = self.now.slots } }
     {
         &self.places

@@ -6,7 +6,7 @@ ghost use Rattle.iigs_memory.specs.Cleared.{FitIn, with_zeroed_blocks};
 ghost use Rattle.iigs_memory.specs.Store.{IsBlank};
 
 use iigs_meaning::{Handle, Want};
-use iigs_places::{PlacedBlock, Places};
+use iigs_places::{BlockPlaces, PlacedBlock};
 
 fn fill(bytes: &mut Vec<u8>, start: usize, size: usize)
     requires { start + size ≤ length bytes.old.items }
@@ -50,7 +50,7 @@ pub fn copy_bytes(bytes: &mut Vec<u8>, blank: bool, from: usize, size: usize, st
 
 /// Makes the bytes of all these blocks zeros. Where the buffer is blank they are zeros already.
 pub fn clear_all(
-    places: &Places,
+    places: &BlockPlaces,
     bytes: &mut Vec<u8>,
     blank: bool,
     wants: &[Want],

@@ -16,5 +16,5 @@ mod slide;
 mod spots;
 mod table;
 
-pub use places::Places;
+pub use places::BlockPlaces;
 pub use table::PlacedBlock;

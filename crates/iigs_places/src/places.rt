@@ -39,7 +39,7 @@ use std::marker::Model;
 
 /// Where blocks lie among banks, under handles.
 #[derive(Drop)]
-pub struct Places {
+pub struct BlockPlaces {
     map: BankMap,
     table: Handles<Block>,
     layout: BlockLayout,
@@ -48,7 +48,7 @@ pub struct Places {
     turns: Vec<u32>,
 }
 
-impl Model for Places {
+impl Model for BlockPlaces {
     ghost use Rattle.iigs_places.specs.Arranged.{Arrangement};
 
     ghost Value = { Arrangement };
@@ -80,11 +80,11 @@ fn table(alloc: Global) -> Result<Handles<Block>, AllocError>
 }
 
 // What `new` makes beside the map of the banks.
-fn parts(alloc: Global, map: BankMap) -> Result<Places, AllocError>
+fn parts(alloc: Global, map: BankMap) -> Result<BlockPlaces, AllocError>
     requires { All (λ bank. bank < 256) map }
     ensures { IfOk result (λ places. (places.banks ≡ map) × (places.slots ≡ new_slots)) }
 {
-    Ok(Places {
+    Ok(BlockPlaces {
         map,
         table: table(alloc)?,
         layout: new_layout(alloc)?,
@@ -93,12 +93,12 @@ fn parts(alloc: Global, map: BankMap) -> Result<Places, AllocError>
     })
 }
 
-impl Places {
+impl BlockPlaces {
     ghost use Rattle.iigs_places.specs.Holder.{Has, IsHolder};
     ghost use Rattle.iigs_places.specs.Lowest.{IsFirstPut};
 
     /// The places of these banks, without blocks. It takes all the memory that it ever takes.
-    pub fn new(alloc: Global, banks: &[u8]) -> Result<Places, BanksFault>
+    pub fn new(alloc: Global, banks: &[u8]) -> Result<BlockPlaces, BanksFault>
         ensures made { IfOk result (λ places. (places.banks ≡ banks.now) × (places.slots ≡ new_slots)) }
         ensures some { OnOk result (banks.now ≢ []) }
         ensures distinct { OnOk result (AreDistinctTo (length banks.now) banks.now) }
@@ -259,7 +259,7 @@ impl Places {
 
     /// Takes over the blocks of others among the same banks; with `fresh` without those of a user, whose handles are
     /// released.
-    pub fn start_from(&mut self, other: &Places, user: u16, fresh: bool)
+    pub fn start_from(&mut self, other: &BlockPlaces, user: u16, fresh: bool)
         requires { self.old.banks ≡ other.now.banks }
         ensures { self.new ≡ record self.old { slots = slots_for other.now.slots user fresh } }
     {

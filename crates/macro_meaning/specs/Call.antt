@@ -2,7 +2,7 @@
 use Rattle.std.specs.Prelude.{ℕ, ◌+◌, Bool, ◌==◌, List, [], ◌∷◌, bytes_eq, slice_get, Option, Some, None, is_some, if◌then◌else◌}
 use Rattle.std.specs.List.{list_any}
 use Rattle.omf_format.specs.Ascii as ascii
-use Rattle.macro_meaning.specs.declared.statements.Kind.TheVariants.{Text}
+use Rattle.macro_meaning.specs.declared.statements.SymbolKind.TheVariants.{Text}
 use Rattle.orca_meaning.specs.Token.{Found, name_at}
 use Rattle.macro_meaning.specs.Definition.{Model}
 use Rattle.macro_meaning.specs.Pieces.{pieces}

@@ -80,7 +80,7 @@ model_of text = if is_comment text then None else model_by text (three_fields te
 
 -- Lines that are visited one after another, and how many of them, from the first on, a branch can go to: of a macro, the
 -- lines after the model line, and then its MEND line, to which no branch goes.
-pub record Body : Type 0 where
+pub record MacroBody : Type 0 where
   pub lines : List Line
   pub reach : ℕ
 
@@ -88,7 +88,7 @@ pub record Body : Type 0 where
 pub record MacroDefinition : Type 0 where
   pub model : Model
   pub visible_after : ℕ
-  pub body : Body
+  pub body : MacroBody
 
 abbrev pub definition_by : ℕ → List Line → Line → Option Model → Option MacroDefinition
 definition_by following inner ends None = None
@@ -122,7 +122,7 @@ source_line (Plain line) = line
 source_line (Closed begins inner ends) = begins
 source_line (Open begins inner) = begins
 
-abbrev pub source_body : List DefinitionPart → Body
+abbrev pub source_body : List DefinitionPart → MacroBody
 source_body ps = record { lines = map source_line ps; reach = length ps }
 
 -- ---- what is wrong with definitions

@@ -5,8 +5,8 @@ use Rattle.omf_format.specs.Value.{signed}
 use Rattle.orca_meaning.specs.Line.{Line, LineFields, part, is_comment, three_fields}
 use Rattle.macro_meaning.specs.declared.faults.MacroCause.{MacroCause}
 use Rattle.macro_meaning.specs.declared.faults.MacroCause.TheVariants.{LineTooLong, TooManyLines, NoSuchSymbol, BadSetting, BadArguments, NoSequenceSymbol, Unclosed, Counter, TooNested, Noted, Memory}
-use Rattle.macro_meaning.specs.declared.statements.Kind.{Kind}
-use Rattle.macro_meaning.specs.declared.statements.Kind.TheVariants.{Number, Flag, Text}
+use Rattle.macro_meaning.specs.declared.statements.SymbolKind.{SymbolKind}
+use Rattle.macro_meaning.specs.declared.statements.SymbolKind.TheVariants.{Number, Flag, Text}
 use Rattle.macro_meaning.specs.declared.statements.Declaration.{Declaration}
 use Rattle.macro_meaning.specs.declared.statements.Declaration.TheVariants.{Local, Shared}
 use Rattle.macro_meaning.specs.declared.statements.Statement.{Statement}
@@ -28,7 +28,7 @@ pub data Effect : Type 0 where
   -- it declares a symbol
   DeclareSymbol : (name : List ℕ) (declaration : Declaration) → Effect
   -- it sets a symbol to a text
-  SetSymbol : (name : List ℕ) (kind : Kind) (text : List ℕ) → Effect
+  SetSymbol : (name : List ℕ) (kind : SymbolKind) (text : List ℕ) → Effect
   -- it branches to a sequence symbol
   BranchTo : (name : List ℕ) → Effect
   -- it sets the counter
@@ -76,7 +76,7 @@ redeclaration_effect name declaration (Some symbol) =
     Some (if is_declaration declaration (declaration_of symbol) then NoEffect else Fail BadSetting)
 
 -- a shared symbol has one kind everywhere
-abbrev pub first_time : List ℕ → Declaration → Option (Kind × List ℕ) → Effect
+abbrev pub first_time : List ℕ → Declaration → Option (SymbolKind × List ℕ) → Effect
 first_time name (Local kind) shared = DeclareSymbol name (Local kind)
 first_time name (Shared kind) None = DeclareSymbol name (Shared kind)
 first_time name (Shared kind) (Some (other, text)) = if is_kind kind other then DeclareSymbol name (Shared kind) else Fail BadSetting
@@ -93,30 +93,30 @@ declaring values declaration (Some name) =
 
 -- ---- settings
 
-abbrev pub of_kind : List ℕ → Kind → Option Symbol → Result (List ℕ) MacroCause
+abbrev pub of_kind : List ℕ → SymbolKind → Option Symbol → Result (List ℕ) MacroCause
 of_kind name kind None = Err NoSuchSymbol
 of_kind name kind (Some symbol) = if is_kind kind (kind_of symbol) then Ok name else Err BadSetting
 
 -- the symbol of this kind that a label names
-unfoldable pub settable : Values → Kind → Option (List ℕ) → Result (List ℕ) MacroCause
+unfoldable pub settable : Values → SymbolKind → Option (List ℕ) → Result (List ℕ) MacroCause
 settable values kind None = Err BadSetting
 settable values kind (Some name) = if is_count name then Err BadSetting else of_kind name kind (values.symbols name)
 
-abbrev pub set_to : Kind → Result (List ℕ × List ℕ) MacroCause → Effect
+abbrev pub set_to : SymbolKind → Result (List ℕ × List ℕ) MacroCause → Effect
 set_to kind (Ok (name, text)) = SetSymbol name kind text
 set_to kind (Err cause) = Fail cause
 
 -- the symbol in the label is set to this text
-unfoldable pub setting : Values → Kind → List ℕ → Result (List ℕ) MacroCause → Effect
+unfoldable pub setting : Values → SymbolKind → List ℕ → Result (List ℕ) MacroCause → Effect
 setting values kind label text = set_to kind (pair_or_earlier_fault (settable values kind (symbol_name label)) text)
 
 -- a number as SETA and SETB print it
-abbrev pub printed_number : Kind → ℕ → List ℕ
+abbrev pub printed_number : SymbolKind → ℕ → List ℕ
 printed_number Number n = signed_decimal (signed n)
 printed_number Flag n = if n == 0 then codes "0" else codes "1"
 printed_number Text n = signed_decimal (signed n)
 
-abbrev pub printed_answer : Kind → Answer → Result (List ℕ) MacroCause
+abbrev pub printed_answer : SymbolKind → Answer → Result (List ℕ) MacroCause
 printed_answer kind (Ok n) = Ok (printed_number kind n)
 printed_answer kind (Err cause) = Err cause
 
@@ -177,7 +177,7 @@ IsNote values (text ∷ severity ∷ []) effect_done =
     (answer : Answer) × IsNumber values severity answer × (effect_done ≡ noting (pair_or_earlier_fault (or_bad (unquoted_text text)) answer))
 IsNote values _ effect_done = effect_done ≡ Fail BadSetting
 
-abbrev pub IsSetting : Values → Kind → List ℕ → List ℕ → Effect → Type 0
+abbrev pub IsSetting : Values → SymbolKind → List ℕ → List ℕ → Effect → Type 0
 IsSetting values Number label operand effect_done =
     (answer : Answer) × IsCondition values operand answer × (effect_done ≡ setting values Number label (printed_answer Number answer))
 IsSetting values Flag label operand effect_done =

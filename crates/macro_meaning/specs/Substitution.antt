@@ -7,7 +7,7 @@ use Rattle.orca_meaning.specs.declared.lines.Span.{Span}
 use Rattle.orca_meaning.specs.Characters.{is_letter, is_name_start, is_name_byte, folded}
 use Rattle.orca_meaning.specs.Quotes.{is_closed, quote_after}
 use Rattle.orca_meaning.specs.Line.{LineFields, part}
-use Rattle.macro_meaning.specs.declared.statements.Kind.TheVariants.{Number, Flag}
+use Rattle.macro_meaning.specs.declared.statements.SymbolKind.TheVariants.{Number, Flag}
 use Rattle.macro_meaning.specs.declared.statements.Statement.{Statement}
 use Rattle.macro_meaning.specs.declared.statements.Statement.TheVariants.{Declare, Set, Middle, BranchIf, Count, Note}
 use Rattle.macro_meaning.specs.Statements.{statement_of}

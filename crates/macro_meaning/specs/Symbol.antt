@@ -2,22 +2,22 @@
 use Rattle.std.specs.Prelude.{ℕ, Bool, true, false, List, [], ◌∷◌, codes, bytes_eq, Option, Some, None, ℤ, pos, negsuc, ◌+◌, if◌then◌else◌}
 use Rattle.std.specs.Fmt.{digits}
 use Rattle.omf_format.specs.Ascii as ascii
-use Rattle.macro_meaning.specs.declared.statements.Kind.{Kind}
-use Rattle.macro_meaning.specs.declared.statements.Kind.TheVariants.{Number, Flag, Text}
+use Rattle.macro_meaning.specs.declared.statements.SymbolKind.{SymbolKind}
+use Rattle.macro_meaning.specs.declared.statements.SymbolKind.TheVariants.{Number, Flag, Text}
 use Rattle.macro_meaning.specs.declared.statements.Declaration.{Declaration}
 use Rattle.macro_meaning.specs.declared.statements.Declaration.TheVariants.{Local, Shared}
 
 -- a symbol of an expansion: its own, with its text, or one that all expansions share
 pub data Symbol : Type 0 where
-  Own : (kind : Kind) (text : List ℕ) → Symbol
-  Common : (kind : Kind) → Symbol
+  Own : (kind : SymbolKind) (text : List ℕ) → Symbol
+  Common : (kind : SymbolKind) → Symbol
 
 -- what names represent in an expansion, and the texts of the shared symbols with their kinds
 abbrev pub Symbols : Type 0
 Symbols = List ℕ → Option Symbol
 
 abbrev pub SharedTexts : Type 0
-SharedTexts = List ℕ → Option (Kind × List ℕ)
+SharedTexts = List ℕ → Option (SymbolKind × List ℕ)
 
 -- these values with one more name
 abbrev pub with_name : {A : Type 0} → List ℕ → A → (List ℕ → Option A) → List ℕ → Option A
@@ -39,7 +39,7 @@ is_count name = bytes_eq count_name name
 abbrev pub decimal : ℕ → List ℕ
 decimal n = digits 10 false n
 
-abbrev pub shared_text : Option (Kind × List ℕ) → Option (List ℕ)
+abbrev pub shared_text : Option (SymbolKind × List ℕ) → Option (List ℕ)
 shared_text None = None
 shared_text (Some (kind, text)) = Some text
 
@@ -54,7 +54,7 @@ text_of values name = if is_count name then Some (decimal values.calls) else sym
 
 -- ---- what symbols hold
 
-abbrev pub kind_of : Symbol → Kind
+abbrev pub kind_of : Symbol → SymbolKind
 kind_of (Own kind text) = kind
 kind_of (Common kind) = kind
 
@@ -62,7 +62,7 @@ abbrev pub declaration_of : Symbol → Declaration
 declaration_of (Own kind text) = Local kind
 declaration_of (Common kind) = Shared kind
 
-abbrev pub is_kind : Kind → Kind → Bool
+abbrev pub is_kind : SymbolKind → SymbolKind → Bool
 is_kind Number Number = true
 is_kind Flag Flag = true
 is_kind Text Text = true
@@ -74,7 +74,7 @@ is_declaration (Shared a) (Shared b) = is_kind a b
 is_declaration _ _ = false
 
 -- what a symbol holds at first
-abbrev pub first_text : Kind → List ℕ
+abbrev pub first_text : SymbolKind → List ℕ
 first_text Number = codes "0"
 first_text Flag = codes "0"
 first_text Text = []

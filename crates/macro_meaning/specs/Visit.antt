@@ -4,17 +4,17 @@ use Rattle.std.specs.Prelude.{◌≡◌, ℕ, zero, suc, ◌+◌, ◌-◌, ◌==
 use Rattle.orca_meaning.specs.Line.{Line, line_of, part}
 use Rattle.macro_meaning.specs.declared.faults.MacroCause.{MacroCause}
 use Rattle.macro_meaning.specs.declared.faults.MacroCause.TheVariants.{TooManyLines, NoSequenceSymbol, Counter, TooNested}
-use Rattle.macro_meaning.specs.declared.statements.Kind.{Kind}
+use Rattle.macro_meaning.specs.declared.statements.SymbolKind.{SymbolKind}
 use Rattle.macro_meaning.specs.declared.statements.Declaration.TheVariants.{Local, Shared}
 use Rattle.macro_meaning.specs.Call.{no_symbols}
 use Rattle.macro_meaning.specs.Effect.{Effect, NoEffect, Emit, DeclareSymbol, SetSymbol, BranchTo, SetCounter, Exit, CallMacro, Fail, SymbolSetting, IsEffect}
-use Rattle.macro_meaning.specs.Definition.{Body, MacroDefinition}
+use Rattle.macro_meaning.specs.Definition.{MacroBody, MacroDefinition}
 use Rattle.macro_meaning.specs.Statements.{sequence_name}
 use Rattle.macro_meaning.specs.Symbol.{Symbol, Own, Common, Symbols, SharedTexts, with_name, first_text}
 
 -- the lines of the source, and the macros
 pub record MacroProgram : Type 0 where
-  pub source : Body
+  pub source : MacroBody
   pub definitions : List MacroDefinition
 
 -- A visited line: the macro whose line it is by its place among the definitions, or the source; the line's place there; how
@@ -40,14 +40,14 @@ pub data Move : Type 0 where
 
 -- ---- lines
 
-abbrev pub no_body : Body
+abbrev pub no_body : MacroBody
 no_body = record { lines = []; reach = 0 }
 
-abbrev pub body_from : Option MacroDefinition → Body
+abbrev pub body_from : Option MacroDefinition → MacroBody
 body_from None = no_body
 body_from (Some d) = d.body
 
-abbrev pub body_of : MacroProgram → Option ℕ → Body
+abbrev pub body_of : MacroProgram → Option ℕ → MacroBody
 body_of program None = program.source
 body_of program (Some place) = body_from (slice_get program.definitions place)
 
@@ -73,13 +73,13 @@ setting_of program v number = record {
 
 -- ---- what an effect leaves
 
-abbrev pub set_by : List ℕ → Kind → List ℕ → Visit → Option Symbol → Visit
+abbrev pub set_by : List ℕ → SymbolKind → List ℕ → Visit → Option Symbol → Visit
 set_by name kind text v None = v
 set_by name kind text v (Some (Own other old)) = record v { symbols = with_name name (Own kind text) v.symbols }
 set_by name kind text v (Some (Common other)) = record v { texts = with_name name (kind, text) v.texts }
 
 -- the first declaration of a shared symbol gives it a text
-abbrev pub shared_first : List ℕ → Kind → SharedTexts → SharedTexts
+abbrev pub shared_first : List ℕ → SymbolKind → SharedTexts → SharedTexts
 shared_first name kind texts = if is_some (texts name) then texts else with_name name (kind, first_text kind) texts
 
 abbrev pub visit_after : Visit → Effect → Visit
@@ -134,7 +134,7 @@ only_one (place ∷ []) = Some place
 only_one (place ∷ next ∷ places) = None
 
 -- the only line to which a branch can go
-unfoldable pub target_of : Body → List ℕ → Option ℕ
+unfoldable pub target_of : MacroBody → List ℕ → Option ℕ
 target_of body name = only_one (places_from 0 name (take body.reach body.lines))
 
 -- a branch lowers the counter of its expansion

@@ -8,4 +8,4 @@ mod statements;
 
 pub use faults::{MacroCause, MacroFault};
 pub use laws::sources_have_one_answer;
-pub use statements::{Declaration, Kind, Statement};
+pub use statements::{Declaration, Statement, SymbolKind};

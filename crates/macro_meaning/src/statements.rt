@@ -2,7 +2,7 @@
 
 /// What a symbol holds.
 #[derive(Clone, Copy, PartialEq, Eq, Debug)]
-pub enum Kind {
+pub enum SymbolKind {
     /// A number, as LCLA and GBLA declare it.
     Number,
     /// 0 or 1, as LCLB and GBLB declare it.
@@ -15,9 +15,9 @@ pub enum Kind {
 #[derive(Clone, Copy, PartialEq, Eq, Debug)]
 pub enum Declaration {
     /// For its expansion alone: LCLA, LCLB, LCLC.
-    Local(Kind),
+    Local(SymbolKind),
     /// For all expansions: GBLA, GBLB, GBLC.
-    Shared(Kind),
+    Shared(SymbolKind),
 }
 
 /// A statement that expansion carries out.
@@ -26,7 +26,7 @@ pub enum Statement {
     /// LCLA, LCLB, LCLC, GBLA, GBLB or GBLC.
     Declare(Declaration),
     /// SETA, SETB or SETC.
-    Set(Kind),
+    Set(SymbolKind),
     /// AMID.
     Middle,
     /// AIF.

@@ -13,8 +13,8 @@ use Rattle.orca_meaning.specs.Characters.{folded}
 use Rattle.macro_meaning.specs.declared.faults.MacroCause.{MacroCause}
 use Rattle.macro_meaning.specs.declared.faults.MacroCause.TheVariants.{LineTooLong, TooManyLines, NoSuchSymbol, BadSetting, BadArguments, NoSequenceSymbol, Unclosed, Counter, TooNested, Noted, Memory}
 use Rattle.macro_meaning.specs.declared.faults.MacroFault.{MacroFault}
-use Rattle.macro_meaning.specs.declared.statements.Kind.{Kind}
-use Rattle.macro_meaning.specs.declared.statements.Kind.TheVariants.{Number, Flag, Text}
+use Rattle.macro_meaning.specs.declared.statements.SymbolKind.{SymbolKind}
+use Rattle.macro_meaning.specs.declared.statements.SymbolKind.TheVariants.{Number, Flag, Text}
 use Rattle.macro_meaning.specs.declared.statements.Declaration.{Declaration}
 use Rattle.macro_meaning.specs.declared.statements.Declaration.TheVariants.{Local, Shared}
 use Rattle.macro_meaning.specs.declared.statements.Statement.{Statement}
@@ -134,7 +134,7 @@ unfolding declaring
 declaring_free values declaration None = bad_free
 declaring_free values declaration (Some name) = cond_effect (is_count name) _ _ bad_free (by_symbol (values.symbols name))
   where
-    by_text : (d : Declaration) (o : Option (Kind × List ℕ)) → EffectFree (first_time name d o)
+    by_text : (d : Declaration) (o : Option (SymbolKind × List ℕ)) → EffectFree (first_time name d o)
     by_text (Local kind) o = tt
     by_text (Shared kind) None = tt
     by_text (Shared kind) (Some x) = cond_effect (is_kind kind x.0) _ _ tt bad_free
@@ -143,7 +143,7 @@ declaring_free values declaration (Some name) = cond_effect (is_count name) _ _ 
     by_symbol None = by_text declaration (values.texts name)
     by_symbol (Some s) = cond_effect (is_declaration declaration (declaration_of s)) _ _ tt bad_free
 
-settable_free : (values : Values) (kind : Kind) (o : Option (List ℕ)) → Free (settable values kind o)
+settable_free : (values : Values) (kind : SymbolKind) (o : Option (List ℕ)) → Free (settable values kind o)
 unfolding settable
 settable_free values kind None = bad_free
 settable_free values kind (Some name) = cond_free (is_count name) _ _ bad_free (by_symbol (values.symbols name))
@@ -152,15 +152,15 @@ settable_free values kind (Some name) = cond_free (is_count name) _ _ bad_free (
     by_symbol None = lost_free
     by_symbol (Some s) = cond_free (is_kind kind (kind_of s)) _ _ tt bad_free
 
-set_to_free : (kind : Kind) (r : Result (List ℕ × List ℕ) MacroCause) → Free r → EffectFree (set_to kind r)
+set_to_free : (kind : SymbolKind) (r : Result (List ℕ × List ℕ) MacroCause) → Free r → EffectFree (set_to kind r)
 set_to_free kind (Ok x) p = tt
 set_to_free kind (Err c) p = p
 
-setting_free : (values : Values) (kind : Kind) (label : List ℕ) (text : Result (List ℕ) MacroCause) → Free text → EffectFree (setting values kind label text)
+setting_free : (values : Values) (kind : SymbolKind) (label : List ℕ) (text : Result (List ℕ) MacroCause) → Free text → EffectFree (setting values kind label text)
 unfolding setting
 setting_free values kind label text p = set_to_free kind (pair_or_earlier_fault (settable values kind (symbol_name label)) text) (both_free _ text (settable_free values kind (symbol_name label)) p)
 
-printed_free : (kind : Kind) (a : Answer) → Free a → Free (printed_answer kind a)
+printed_free : (kind : SymbolKind) (a : Answer) → Free a → Free (printed_answer kind a)
 printed_free kind (Ok n) p = tt
 printed_free kind (Err c) p = p
 
@@ -215,7 +215,7 @@ note_free values (a ∷ []) d p = effect_as d (Fail BadSetting) p bad_free
 note_free values (a ∷ b ∷ []) d p = effect_as d _ p.2 (noting_free _ (both_free (or_bad (unquoted_text a)) p.0 (or_bad_free (unquoted_text a)) (is_number_free values b p.0 p.1)))
 note_free values (a ∷ b ∷ c ∷ ps) d p = effect_as d (Fail BadSetting) p bad_free
 
-setting_effect_free : (values : Values) (kind : Kind) (label operand : List ℕ) (d : Effect) → IsSetting values kind label operand d → EffectFree d
+setting_effect_free : (values : Values) (kind : SymbolKind) (label operand : List ℕ) (d : Effect) → IsSetting values kind label operand d → EffectFree d
 setting_effect_free values Number label operand d p = effect_as d _ p.2 (setting_free values Number label _ (printed_free Number p.0 (condition_free values operand p.0 p.1)))
 setting_effect_free values Flag label operand d p = effect_as d _ p.2 (setting_free values Flag label _ (printed_free Flag p.0 (condition_free values operand p.0 p.1)))
 setting_effect_free values Text label operand d p = effect_as d _ p (setting_free values Text label _ (or_bad_free (joined_texts (pieces 0x2B operand))))

@@ -4,7 +4,7 @@ use Rattle.std.proofs.lemmas.Bool.{ne_eqb}
 use Rattle.std.specs.Prelude.{slice_get}
 use Rattle.orca_meaning.specs.Line.{Line}
 use Rattle.macro_meaning.specs.declared.faults.MacroCause.TheVariants.{Counter, TooNested}
-use Rattle.macro_meaning.specs.declared.statements.Kind.{Kind}
+use Rattle.macro_meaning.specs.declared.statements.SymbolKind.{SymbolKind}
 use Rattle.macro_meaning.specs.declared.statements.Declaration.{Declaration}
 use Rattle.macro_meaning.specs.declared.statements.Declaration.TheVariants.{Local, Shared}
 use Rattle.macro_meaning.specs.Effect as effects
@@ -198,7 +198,7 @@ declared_stands before v name (Shared kind) f fs texts texts' calls symbols' s i
   texts_are = ap (λ (t : SharedTexts). shared_first name kind t) s.texts_are ∙ sym is.1;
 }
 
-pub assigned_stands : (before : List Visit) (v : Visit) (name : List ℕ) (kind : Kind) (text : List ℕ) (f : Frame) (fs : List Frame) (texts texts' : SharedTexts) (calls : ℕ) (symbols' : Symbols)
+pub assigned_stands : (before : List Visit) (v : Visit) (name : List ℕ) (kind : SymbolKind) (text : List ℕ) (f : Frame) (fs : List Frame) (texts texts' : SharedTexts) (calls : ℕ) (symbols' : Symbols)
     → Stands before v f fs texts calls → IsAssigned name kind text (f.symbols name) f.symbols symbols' texts texts'
     → Stands before (visit_after v (effects.SetSymbol name kind text)) (record f { symbols = symbols' }) fs texts' calls
 assigned_stands before v name kind text f fs texts texts' calls symbols' s is =

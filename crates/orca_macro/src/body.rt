@@ -27,14 +27,14 @@ pub(crate) enum BranchTarget {
 /// Lines that are visited one after another. Branches go to the first `reach` of them, whose sequence symbols are in a
 /// map. For a macro's lines it keeps what is known of each. Contracts see the lines and `reach`.
 #[derive(Drop)]
-pub(crate) struct Body {
+pub(crate) struct MacroBody {
     lines: Lines,
     reach: u32,
     targets: IndexMap<Vec<u8>, BranchTarget>,
     plans: Vec<LinePlan>,
 }
 
-impl Model for Body {
+impl Model for MacroBody {
     ghost use Rattle.std.specs.Prelude.{◌≡◌, ◌≤◌, ℕ, List, length, take};
     ghost use Rattle.macro_meaning.specs.Definition as meaning;
     ghost use Rattle.macro_meaning.specs.Visit.{places_from};
@@ -42,7 +42,7 @@ impl Model for Body {
     ghost use Rattle.orca_macro.specs.DefinitionView.{summary};
     ghost use Rattle.orca_macro.specs.Plan.{HavePlans};
 
-    ghost Value = { meaning.Body };
+    ghost Value = { meaning.MacroBody };
 
     ghost view = { λ body. record { lines = body.lines; reach = body.reach } };
 
@@ -127,17 +127,17 @@ fn plan_at(plans: &[LinePlan], at: usize) -> Option<&LinePlan>
     plans.get(at)
 }
 
-impl Body {
+impl MacroBody {
     ghost use Rattle.std.specs.Prelude.{slice_get};
 
     /// The lines of the source. A branch can go to all of them.
     #[tactic(auto, using(crate::proofs::Plans::no_plans))]
-    pub(crate) fn of_source(alloc: Global, lines: Lines) -> Result<Body, AllocError>
+    pub(crate) fn of_source(alloc: Global, lines: Lines) -> Result<MacroBody, AllocError>
         ensures { IfOk result (λ body. body ≡ record { lines = lines; reach = length lines }) }
     {
         let reach = lines.count();
         let targets = targets_of(alloc, &lines, reach)?;
-        Ok(Body {
+        Ok(MacroBody {
             lines,
             reach,
             targets,
@@ -146,13 +146,13 @@ impl Body {
     }
 
     /// The lines of a macro, and how many of them a branch can go to.
-    pub(crate) fn of_macro(alloc: Global, lines: Lines, reach: u32) -> Result<Body, AllocError>
+    pub(crate) fn of_macro(alloc: Global, lines: Lines, reach: u32) -> Result<MacroBody, AllocError>
         requires { reach ≤ length lines }
         ensures { IfOk result (λ body. body ≡ record { lines = lines; reach = reach }) }
     {
         let targets = targets_of(alloc, &lines, reach)?;
         let plans = plans_of(alloc, &lines)?;
-        Ok(Body {
+        Ok(MacroBody {
             lines,
             reach,
             targets,

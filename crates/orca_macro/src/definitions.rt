@@ -12,7 +12,7 @@ ghost use Rattle.orca_symbols.specs.ModelView.{model};
 ghost use Rattle.orca_macro.specs.Parts.{definition, HaveOwn, IsScanned, IsBegun, Judged, Scanned};
 ghost use Rattle.orca_text.specs.View.{line};
 
-use crate::body::Body;
+use crate::body::MacroBody;
 use macro_meaning::{MacroCause, MacroFault};
 use orca_symbols::{ModelLine, model_of, operation_is};
 use orca_text::{LinePart, Lines, SourceLine};
@@ -26,7 +26,7 @@ pub(crate) struct MacroDefinition {
     /// It counts in expansions that began after this line of the source, in all where that is 0.
     pub(crate) visible_after: u32,
     /// The lines after the model line, with the MEND line, to which no branch goes.
-    pub(crate) body: Body,
+    pub(crate) body: MacroBody,
 }
 
 /// Copies a line to the end of others.
@@ -89,7 +89,7 @@ fn closed_with(
     }) }
 {
     let inner = copy_range(alloc, lines, from, mend + 1)?;
-    let body = Body::of_macro(alloc, inner, mend - from)?;
+    let body = MacroBody::of_macro(alloc, inner, mend - from)?;
     Ok(MacroDefinition {
         model: said,
         visible_after: following,

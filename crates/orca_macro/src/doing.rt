@@ -8,7 +8,7 @@ ghost use Rattle.orca_macro.specs.EffectView.{effect_view};
 ghost use Rattle.macro_meaning.specs.Condition.{Answer, IsCondition};
 
 use crate::effect::Effect;
-use macro_meaning::{Declaration, Kind, MacroCause, Statement};
+use macro_meaning::{Declaration, MacroCause, Statement, SymbolKind};
 use orca_symbols::{
     OperandPiece, SharedTextTable, SymbolText, Values, Word, condition, declaration_of, is_count,
     is_declaration, is_kind, is_target, join_quoted, kind_of, number, pieces, signed_decimal,
@@ -100,7 +100,11 @@ fn declaring<'a>(of: Values<'_>, declaration: Declaration, named: Option<Word<'a
 /// The symbol of this kind that a label names.
 #[tactic(auto, unfolding(macro_meaning::specs::Effect::settable))]
 #[inline(always)]
-fn settable<'a>(of: Values<'_>, kind: Kind, named: Option<Word<'a>>) -> Result<Word<'a>, MacroCause>
+fn settable<'a>(
+    of: Values<'_>,
+    kind: SymbolKind,
+    named: Option<Word<'a>>,
+) -> Result<Word<'a>, MacroCause>
     ensures { result ≡ settable (values of.entry) kind named.entry }
 {
     let Some(name) = named else {
@@ -126,7 +130,7 @@ fn settable<'a>(of: Values<'_>, kind: Kind, named: Option<Word<'a>>) -> Result<W
 fn setting<'a>(
     alloc: Global,
     of: Values<'_>,
-    kind: Kind,
+    kind: SymbolKind,
     label: LinePart<'a>,
     text: Result<SymbolText, MacroCause>,
 ) -> Result<Effect<'a>, AllocError>
@@ -140,25 +144,25 @@ fn setting<'a>(
 }
 
 /// A number as SETA and SETB print it.
-fn printed_number(alloc: Global, kind: Kind, n: u32) -> Result<SymbolText, AllocError>
+fn printed_number(alloc: Global, kind: SymbolKind, n: u32) -> Result<SymbolText, AllocError>
     ensures { IfOk result (λ v. v ≡ printed_number kind n) }
 {
     match kind {
-        Kind::Flag => {
+        SymbolKind::Flag => {
             if n == 0 {
                 return SymbolText::of(alloc, LinePart { bytes: b"0" });
             }
             SymbolText::of(alloc, LinePart { bytes: b"1" })
         }
-        Kind::Number => signed_decimal(alloc, n.cast_signed()),
-        Kind::Text => signed_decimal(alloc, n.cast_signed()),
+        SymbolKind::Number => signed_decimal(alloc, n.cast_signed()),
+        SymbolKind::Text => signed_decimal(alloc, n.cast_signed()),
     }
 }
 
 /// An answer as SETA and SETB print it.
 fn printed_answer(
     alloc: Global,
-    kind: Kind,
+    kind: SymbolKind,
     answer: Result<u32, MacroCause>,
 ) -> Result<Result<SymbolText, MacroCause>, AllocError>
     ensures { IfOk result (λ v. v ≡ printed_answer kind answer) }
@@ -176,18 +180,18 @@ fn printed_answer(
 fn effect_of_set<'a>(
     alloc: Global,
     of: Values<'_>,
-    kind: Kind,
+    kind: SymbolKind,
     label: LinePart<'a>,
     operand: LinePart<'_>,
 ) -> Result<Effect<'a>, AllocError>
     ensures { IfOk result (λ d. IsSetting (values of.entry) kind label.entry.bytes.now operand.entry.bytes.now (effect_view d)) }
 {
     match kind {
-        Kind::Number => set_number(alloc, of, Kind::Number, label, operand),
-        Kind::Flag => set_number(alloc, of, Kind::Flag, label, operand),
-        Kind::Text => {
+        SymbolKind::Number => set_number(alloc, of, SymbolKind::Number, label, operand),
+        SymbolKind::Flag => set_number(alloc, of, SymbolKind::Flag, label, operand),
+        SymbolKind::Text => {
             let text = joined_text(alloc, operand)?;
-            setting(alloc, of, Kind::Text, label, text)
+            setting(alloc, of, SymbolKind::Text, label, text)
         }
     }
 }
@@ -197,7 +201,7 @@ fn effect_of_set<'a>(
 fn set_number<'a>(
     alloc: Global,
     of: Values<'_>,
-    kind: Kind,
+    kind: SymbolKind,
     label: LinePart<'a>,
     operand: LinePart<'_>,
 ) -> Result<Effect<'a>, AllocError>
@@ -284,18 +288,24 @@ fn middle_with<'a>(
     text: LinePart<'_>,
     numbers: Result<(u32, u32), MacroCause>,
 ) -> Result<Effect<'a>, AllocError>
-    ensures { IfOk result (λ d. effect_view d ≡ setting (values of.entry) Kind.Text label.entry.bytes.now (middle_of (pair_or_earlier_fault (or_bad (unquoted_text text.entry.bytes.now)) numbers))) }
+    ensures { IfOk result (λ d. effect_view d ≡ setting (values of.entry) SymbolKind.Text label.entry.bytes.now (middle_of (pair_or_earlier_fault (or_bad (unquoted_text text.entry.bytes.now)) numbers))) }
 {
     match numbers {
         Ok((start, count)) => match unquote(text.bytes) {
             Some(inside) => {
                 let inside = LinePart { bytes: inside };
                 let found = middle_from(alloc, inside, start.cast_signed(), count.cast_signed())?;
-                setting(alloc, of, Kind::Text, label, found)
+                setting(alloc, of, SymbolKind::Text, label, found)
             }
-            None => setting(alloc, of, Kind::Text, label, Err(MacroCause::BadSetting)),
+            None => setting(
+                alloc,
+                of,
+                SymbolKind::Text,
+                label,
+                Err(MacroCause::BadSetting),
+            ),
         },
-        Err(cause) => setting(alloc, of, Kind::Text, label, Err(cause)),
+        Err(cause) => setting(alloc, of, SymbolKind::Text, label, Err(cause)),
     }
 }
 
@@ -320,7 +330,13 @@ fn effect_of_amid<'a>(
                 pair_or_earlier_fault(start, count),
             )
         }
-        _ => setting(alloc, of, Kind::Text, label, Err(MacroCause::BadSetting)),
+        _ => setting(
+            alloc,
+            of,
+            SymbolKind::Text,
+            label,
+            Err(MacroCause::BadSetting),
+        ),
     }
 }
 

@@ -1,6 +1,6 @@
 //! What a visited line can do (ORCA/M reference manual, "Conditional assembly directives").
 
-use macro_meaning::{Declaration, Kind, MacroCause};
+use macro_meaning::{Declaration, MacroCause, SymbolKind};
 use orca_symbols::{SymbolText, Symbols, Word};
 
 /// What a visited line does.
@@ -13,7 +13,7 @@ pub(crate) enum Effect<'a> {
     /// It declares a symbol.
     DeclareSymbol(Word<'a>, Declaration),
     /// It sets a symbol to a text.
-    SetSymbol(Word<'a>, Kind, SymbolText),
+    SetSymbol(Word<'a>, SymbolKind, SymbolText),
     /// It branches to a sequence symbol.
     BranchTo(Word<'a>),
     /// It sets the counter.

@@ -18,7 +18,7 @@ ghost use Rattle.orca_symbols.specs.View.{texts_of};
 ghost use Rattle.orca_text.specs.Refusals.{IsRefused};
 ghost use Rattle.orca_text.specs.View.{line};
 
-use crate::body::Body;
+use crate::body::MacroBody;
 use crate::definitions::{MacroDefinition, fault_at, scan_file, scan_source};
 use crate::effect::Effect;
 use crate::plan::LinePlan;
@@ -127,7 +127,7 @@ fn build_expansion(
 ) -> Result<MacroProgram, AllocError>
     ensures { IfOk result (λ program. program ≡ record { source = record { lines = plain; reach = length plain }; definitions = map definition definitions.items }) }
 {
-    let body = Body::of_source(alloc, plain)?;
+    let body = MacroBody::of_source(alloc, plain)?;
     MacroProgram::of(alloc, body, definitions)
 }
 

@@ -9,7 +9,7 @@ ghost use Rattle.orca_macro.specs.Parts.{definition};
 ghost use Rattle.orca_macro.specs.Plan.{Fits};
 ghost use Rattle.orca_text.specs.View.{line};
 
-use crate::body::Body;
+use crate::body::MacroBody;
 use crate::definitions::MacroDefinition;
 use crate::plan::LinePlan;
 use indexmap::IndexMap;
@@ -21,7 +21,7 @@ use std::marker::Model;
 /// The lines of the source, and the macros with their names. Contracts see the lines and the macros.
 #[derive(Drop)]
 pub(crate) struct MacroProgram {
-    source: Body,
+    source: MacroBody,
     definitions: Vec<MacroDefinition>,
     names: IndexMap<Vec<u8>, usize>,
 }
@@ -88,7 +88,7 @@ impl MacroProgram {
     /// These lines and macros.
     pub(crate) fn of(
         alloc: Global,
-        source: Body,
+        source: MacroBody,
         definitions: Vec<MacroDefinition>,
     ) -> Result<MacroProgram, AllocError>
         ensures { IfOk result (λ program. program ≡ record { source = source; definitions = map definition definitions.items }) }
@@ -117,7 +117,7 @@ impl MacroProgram {
     }
 
     /// The body of the macro at a place, or of the source.
-    fn body(&self, place: Option<usize>) -> Option<&Body>
+    fn body(&self, place: Option<usize>) -> Option<&MacroBody>
         ensures { MatchOption result (body_of self.now place ≡ no_body) (λ body. body_of self.now place ≡ body.now) }
     {
         match place {

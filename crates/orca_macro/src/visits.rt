@@ -14,7 +14,7 @@ ghost use Rattle.orca_symbols.specs.View.{symbols_of, texts_of};
 
 use crate::effect::Effect;
 use crate::program::MacroProgram;
-use macro_meaning::{Declaration, Kind, MacroCause};
+use macro_meaning::{Declaration, MacroCause, SymbolKind};
 use orca_symbols::{
     CallCounts, CallScope, ExpansionState, Frames, SharedText, SharedTextTable, Symbol, SymbolText,
     Symbols, first_text,
@@ -44,7 +44,7 @@ fn share(
     alloc: Global,
     texts: &mut SharedTextTable,
     name: &[u8],
-    kind: Kind,
+    kind: SymbolKind,
 ) -> Result<(), AllocError>
     ensures { OnOk result (texts_of texts.new ≡ shared_first name.now kind (texts_of texts.old)) }
 {
@@ -86,7 +86,7 @@ fn assign(
     symbols: &mut Symbols,
     texts: &mut SharedTextTable,
     name: &[u8],
-    kind: Kind,
+    kind: SymbolKind,
     text: SymbolText,
 ) -> Result<(), AllocError>
     ensures { OnOk result (IsAssigned name.now kind text (symbols_of symbols.old name.now) (symbols_of symbols.old) (symbols_of symbols.new) (texts_of texts.old) (texts_of texts.new)) }
@@ -240,7 +240,7 @@ fn assign_symbol(
     program: &MacroProgram,
     state: &mut ExpansionState,
     name: &[u8],
-    kind: Kind,
+    kind: SymbolKind,
     text: SymbolText,
     spare: &mut Symbols,
 ) -> Result<Flow, AllocError>

@@ -5,7 +5,7 @@ use Rattle.std.specs.Cmp.Lexicographic.{bytes_decides}
 use Rattle.std.proofs.Math.Nat.{eq-or-lt_of_le}
 use Rattle.std.proofs.lemmas.Bool.{ne_eqb}
 use Rattle.std.proofs.lemmas.List.Folds.{list_any_at}
-use Rattle.macro_meaning.specs.declared.statements.Kind.TheVariants.{Text}
+use Rattle.macro_meaning.specs.declared.statements.SymbolKind.TheVariants.{Text}
 use Rattle.macro_meaning.specs.Symbol.{Symbol, Own, Symbols, with_name}
 use Rattle.macro_meaning.specs.Call.{is_among, Binding, binding, keyword_from, by_place, or_place, bound_arguments, bound_once, bound_all, with_missing, complete, all_names, arguments, label_bound}
 use Rattle.std.specs.List.{prefix_len}

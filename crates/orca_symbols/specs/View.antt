@@ -1,7 +1,7 @@
 -- How pieces, symbols and their values are seen.
 use Rattle.std.specs.Prelude.{ℕ, List}
 use Rattle.std.specs.Option.{option_map}
-use Rattle.macro_meaning.specs.declared.statements.Kind.{Kind}
+use Rattle.macro_meaning.specs.declared.statements.SymbolKind.{SymbolKind}
 use Rattle.macro_meaning.specs.Symbol as meaning
 use Rattle.macro_meaning.specs.Substitution as place
 use Rattle.orca_symbols.specs.declared.substitution.Naming.{Naming}
@@ -18,7 +18,7 @@ abbrev pub symbol : Symbol → meaning.Symbol
 symbol (Own kind text) = meaning.Own kind text
 symbol (Common kind) = meaning.Common kind
 
-abbrev pub shared_text : SharedText → Kind × List ℕ
+abbrev pub shared_text : SharedText → SymbolKind × List ℕ
 shared_text shared = (shared.kind, shared.text)
 
 abbrev pub symbols_of : Symbols → meaning.Symbols

@@ -16,7 +16,7 @@ use crate::model_line::ModelLine;
 use crate::operands::first_piece;
 use crate::symbols::{Symbol, Symbols, is_count};
 use crate::text::SymbolText;
-use macro_meaning::Kind;
+use macro_meaning::SymbolKind;
 use omf_base::Name;
 use orca_text::{LinePart, after_byte, is_name_start, is_spelled, name_len};
 use std::alloc::{AllocError, Global};
@@ -112,7 +112,7 @@ fn bind_once(
     ensures { IfOk result (λ fresh. IsOnce fresh parameter.now text.entry.bytes.now (symbols_of symbols.old) (symbols_of symbols.new)) }
 {
     let text = SymbolText::of(alloc, text)?;
-    symbols.add_new(alloc, parameter, Symbol::Own(Kind::Text, text))
+    symbols.add_new(alloc, parameter, Symbol::Own(SymbolKind::Text, text))
 }
 
 /// Binds all pieces of an operand in order: the place of the first parameter that wasn't reached, if each can be bound.
@@ -173,7 +173,11 @@ fn bind_missing(alloc: Global, parameter: &Name, symbols: &mut Symbols) -> Resul
         return Ok(());
     }
     let text = SymbolText::of(alloc, LinePart { bytes: b"" })?;
-    symbols.add(alloc, parameter.bytes(), Symbol::Own(Kind::Text, text))
+    symbols.add(
+        alloc,
+        parameter.bytes(),
+        Symbol::Own(SymbolKind::Text, text),
+    )
 }
 
 /// Gives an empty text to each parameter from a place on that isn't bound.
@@ -225,7 +229,11 @@ fn label_bound(
         return Ok(symbols);
     }
     let text = SymbolText::of(alloc, label)?;
-    symbols.add(alloc, parameter.bytes(), Symbol::Own(Kind::Text, text))?;
+    symbols.add(
+        alloc,
+        parameter.bytes(),
+        Symbol::Own(SymbolKind::Text, text),
+    )?;
     Ok(symbols)
 }
 

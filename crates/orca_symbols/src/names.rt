@@ -11,7 +11,7 @@ ghost use Rattle.macro_meaning.specs.Definition.{operation_is};
 ghost use Rattle.macro_meaning.specs.Statements.{statement_of, is_operation, whole_match, after_dot, symbol_name, sequence_name, target_name};
 ghost use Rattle.orca_text.specs.View.{line};
 
-use macro_meaning::{Declaration, Kind, Statement};
+use macro_meaning::{Declaration, Statement, SymbolKind};
 use omf_base::Name;
 use orca_text::{
     LinePart, SourceLine, after_byte, is_name_start, is_spelled, name_at, name_len, symbol_at,
@@ -62,13 +62,13 @@ fn with_s(operation: &[u8]) -> Option<Statement>
     ensures { result ≡ value_of_spelling (folded operation.now) with_s }
 {
     if is_operation(operation, b"SETA") {
-        return Some(Statement::Set(Kind::Number));
+        return Some(Statement::Set(SymbolKind::Number));
     }
     if is_operation(operation, b"SETB") {
-        return Some(Statement::Set(Kind::Flag));
+        return Some(Statement::Set(SymbolKind::Flag));
     }
     if is_operation(operation, b"SETC") {
-        return Some(Statement::Set(Kind::Text));
+        return Some(Statement::Set(SymbolKind::Text));
     }
     None
 }
@@ -79,13 +79,13 @@ fn with_l(operation: &[u8]) -> Option<Statement>
     ensures { result ≡ value_of_spelling (folded operation.now) with_l }
 {
     if is_operation(operation, b"LCLA") {
-        return Some(Statement::Declare(Declaration::Local(Kind::Number)));
+        return Some(Statement::Declare(Declaration::Local(SymbolKind::Number)));
     }
     if is_operation(operation, b"LCLB") {
-        return Some(Statement::Declare(Declaration::Local(Kind::Flag)));
+        return Some(Statement::Declare(Declaration::Local(SymbolKind::Flag)));
     }
     if is_operation(operation, b"LCLC") {
-        return Some(Statement::Declare(Declaration::Local(Kind::Text)));
+        return Some(Statement::Declare(Declaration::Local(SymbolKind::Text)));
     }
     None
 }
@@ -116,13 +116,13 @@ fn with_g(operation: &[u8]) -> Option<Statement>
     ensures { result ≡ value_of_spelling (folded operation.now) with_g }
 {
     if is_operation(operation, b"GBLA") {
-        return Some(Statement::Declare(Declaration::Shared(Kind::Number)));
+        return Some(Statement::Declare(Declaration::Shared(SymbolKind::Number)));
     }
     if is_operation(operation, b"GBLB") {
-        return Some(Statement::Declare(Declaration::Shared(Kind::Flag)));
+        return Some(Statement::Declare(Declaration::Shared(SymbolKind::Flag)));
     }
     if is_operation(operation, b"GBLC") {
-        return Some(Statement::Declare(Declaration::Shared(Kind::Text)));
+        return Some(Statement::Declare(Declaration::Shared(SymbolKind::Text)));
     }
     None
 }

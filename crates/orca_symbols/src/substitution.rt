@@ -14,7 +14,7 @@ ghost use Rattle.orca_text.specs.View.{line};
 
 use crate::names::statement_of;
 use crate::symbols::{Values, text_of};
-use macro_meaning::{Kind, Statement};
+use macro_meaning::{Statement, SymbolKind};
 use orca_text::{
     LinePart, SourceLine, Span, is_name_start, name_len, part, quote_following, to_upper_case,
 };
@@ -83,9 +83,9 @@ fn may_ask(statement: Statement) -> bool
 {
     match statement {
         Statement::Set(kind) => match kind {
-            Kind::Number => true,
-            Kind::Flag => true,
-            Kind::Text => false,
+            SymbolKind::Number => true,
+            SymbolKind::Flag => true,
+            SymbolKind::Text => false,
         },
         Statement::Middle | Statement::BranchIf | Statement::Count | Statement::Note => true,
         Statement::Declare(_)

@@ -12,7 +12,7 @@ use crate::name_map::{get_by_name, insert_by_name, insert_new_name};
 use crate::text::SymbolText;
 use indexmap::IndexMap;
 use itoa::Buffer;
-use macro_meaning::{Declaration, Kind};
+use macro_meaning::{Declaration, SymbolKind};
 use orca_text::LinePart;
 use std::alloc::{AllocError, Global};
 use std::marker::Model;
@@ -21,15 +21,15 @@ use std::marker::Model;
 #[derive(Drop)]
 pub enum Symbol {
     /// Its own, with its text.
-    Own(Kind, SymbolText),
+    Own(SymbolKind, SymbolText),
     /// One that all expansions share.
-    Common(Kind),
+    Common(SymbolKind),
 }
 
 /// The text of a shared symbol.
 #[derive(Drop)]
 pub struct SharedText {
-    pub kind: Kind,
+    pub kind: SymbolKind,
     pub text: SymbolText,
 }
 
@@ -136,7 +136,7 @@ pub fn is_count(name: &[u8]) -> bool
 }
 
 /// Gives a symbol of its own another text. The text of a shared one is handed back.
-fn renew(slot: &mut Symbol, kind: Kind, text: SymbolText) -> Option<SymbolText>
+fn renew(slot: &mut Symbol, kind: SymbolKind, text: SymbolText) -> Option<SymbolText>
     ensures { IsRenewed kind text (symbol slot.old) (symbol slot.new) result }
 {
     match slot {
@@ -195,7 +195,7 @@ impl Symbols {
     }
 
     /// Gives a symbol of its own another text. The text of a shared one is handed back.
-    pub fn renew(&mut self, name: &[u8], kind: Kind, text: SymbolText) -> Option<SymbolText>
+    pub fn renew(&mut self, name: &[u8], kind: SymbolKind, text: SymbolText) -> Option<SymbolText>
         ensures { IsRenewedIn name.now kind text (symbols_of self.old name.now) (symbols_of self.old) (symbols_of self.new) result }
     {
         match self.map.get_mut(name) {
@@ -263,7 +263,7 @@ pub(crate) fn text_of<'a>(of: Values<'a>, name: &[u8]) -> Option<&'a [u8]>
 }
 
 /// What a symbol holds.
-pub fn kind_of(of: &Symbol) -> Kind
+pub fn kind_of(of: &Symbol) -> SymbolKind
     ensures { result ≡ kind_of (symbol of.now) }
 {
     match of {
@@ -283,13 +283,13 @@ pub fn declaration_of(of: &Symbol) -> Declaration
 }
 
 /// Whether two kinds are the same.
-pub fn is_kind(kind: Kind, other: Kind) -> bool
+pub fn is_kind(kind: SymbolKind, other: SymbolKind) -> bool
     ensures { result ≡ is_kind kind other }
 {
     match kind {
-        Kind::Number => matches!(other, Kind::Number),
-        Kind::Flag => matches!(other, Kind::Flag),
-        Kind::Text => matches!(other, Kind::Text),
+        SymbolKind::Number => matches!(other, SymbolKind::Number),
+        SymbolKind::Flag => matches!(other, SymbolKind::Flag),
+        SymbolKind::Text => matches!(other, SymbolKind::Text),
     }
 }
 
@@ -310,12 +310,12 @@ pub fn is_declaration(declaration: Declaration, other: Declaration) -> bool
 }
 
 /// What a symbol holds at first.
-pub fn first_text(alloc: Global, kind: Kind) -> Result<SymbolText, AllocError>
+pub fn first_text(alloc: Global, kind: SymbolKind) -> Result<SymbolText, AllocError>
     ensures { IfOk result (λ v. v ≡ first_text kind) }
 {
     match kind {
-        Kind::Number => SymbolText::of(alloc, LinePart { bytes: b"0" }),
-        Kind::Flag => SymbolText::of(alloc, LinePart { bytes: b"0" }),
-        Kind::Text => SymbolText::of(alloc, LinePart { bytes: b"" }),
+        SymbolKind::Number => SymbolText::of(alloc, LinePart { bytes: b"0" }),
+        SymbolKind::Flag => SymbolText::of(alloc, LinePart { bytes: b"0" }),
+        SymbolKind::Text => SymbolText::of(alloc, LinePart { bytes: b"" }),
     }
 }

@@ -8,8 +8,8 @@ use Rattle.omf_format.specs.Value.{signed}
 use Rattle.orca_meaning.specs.Line.{Line, LineFields, part, is_comment, three_fields}
 use Rattle.macro_meaning.specs.declared.faults.MacroCause.{MacroCause}
 use Rattle.macro_meaning.specs.declared.faults.MacroCause.TheVariants.{BadSetting, LineTooLong, NoSuchSymbol, Noted}
-use Rattle.macro_meaning.specs.declared.statements.Kind.{Kind}
-use Rattle.macro_meaning.specs.declared.statements.Kind.TheVariants.{Number, Flag, Text}
+use Rattle.macro_meaning.specs.declared.statements.SymbolKind.{SymbolKind}
+use Rattle.macro_meaning.specs.declared.statements.SymbolKind.TheVariants.{Number, Flag, Text}
 use Rattle.macro_meaning.specs.declared.statements.Declaration.{Declaration}
 use Rattle.macro_meaning.specs.declared.statements.Declaration.TheVariants.{Local, Shared}
 use Rattle.macro_meaning.specs.declared.statements.Statement.{Statement}
@@ -45,7 +45,7 @@ short_again : (name : List ℕ) (d : Declaration) (o : Option Symbol) (other : E
 short_again name d None other is = is
 short_again name d (Some symbol) other is = if_effect (is_declaration d (declaration_of symbol)) NoEffect (Fail BadSetting) tt tt
 
-short_first : (name : List ℕ) (d : Declaration) (o : Option (Kind × List ℕ)) → IsShortEffect (first_time name d o)
+short_first : (name : List ℕ) (d : Declaration) (o : Option (SymbolKind × List ℕ)) → IsShortEffect (first_time name d o)
 short_first name (Local kind) o = tt
 short_first name (Shared kind) None = tt
 short_first name (Shared kind) (Some (other, text)) = if_effect (is_kind kind other) (DeclareSymbol name (Shared kind)) (Fail BadSetting) tt tt
@@ -56,11 +56,11 @@ short_declaring values d None = tt
 short_declaring values d (Some name) =
     if_effect (is_count name) (Fail BadSetting) _ tt (short_again name d (values.symbols name) (first_time name d (values.texts name)) (short_first name d (values.texts name)))
 
-short_set : (kind : Kind) (r : Result (List ℕ × List ℕ) MacroCause) → IsShortEffect (set_to kind r)
+short_set : (kind : SymbolKind) (r : Result (List ℕ × List ℕ) MacroCause) → IsShortEffect (set_to kind r)
 short_set kind (Ok (name, text)) = tt
 short_set kind (Err cause) = tt
 
-short_setting : (values : Values) (kind : Kind) (label : List ℕ) (r : Result (List ℕ) MacroCause) → IsShortEffect (setting values kind label r)
+short_setting : (values : Values) (kind : SymbolKind) (label : List ℕ) (r : Result (List ℕ) MacroCause) → IsShortEffect (setting values kind label r)
 unfolding setting
 short_setting values kind label r = short_set kind (pair_or_earlier_fault (settable values kind (symbol_name label)) r)
 
@@ -106,7 +106,7 @@ short_note values (a ∷ []) d is = so d _ is tt
 short_note values (a ∷ b ∷ []) d is = so d _ is.2 (short_noting (pair_or_earlier_fault (or_bad (unquoted_text a)) is.0))
 short_note values (a ∷ b ∷ c ∷ ps) d is = so d _ is tt
 
-short_sets : (values : Values) (kind : Kind) (label operand : List ℕ) (d : Effect) → IsSetting values kind label operand d → IsShortEffect d
+short_sets : (values : Values) (kind : SymbolKind) (label operand : List ℕ) (d : Effect) → IsSetting values kind label operand d → IsShortEffect d
 short_sets values Number label operand d is = so d _ is.2 (short_setting values Number label _)
 short_sets values Flag label operand d is = so d _ is.2 (short_setting values Flag label _)
 short_sets values Text label operand d is = so d _ is (short_setting values Text label _)

@@ -9,8 +9,8 @@ use Rattle.omf_format.specs.Value.{truth}
 use Rattle.orca_meaning.specs.Line.{Line, LineFields, part, is_comment, three_fields}
 use Rattle.macro_meaning.specs.declared.faults.MacroCause.TheVariants.{LineTooLong, TooManyLines, NoSuchSymbol, BadSetting}
 use Rattle.macro_meaning.specs.declared.faults.MacroFault.{MacroFault}
-use Rattle.macro_meaning.specs.declared.statements.Kind.{Kind}
-use Rattle.macro_meaning.specs.declared.statements.Kind.TheVariants.{Number, Flag, Text}
+use Rattle.macro_meaning.specs.declared.statements.SymbolKind.{SymbolKind}
+use Rattle.macro_meaning.specs.declared.statements.SymbolKind.TheVariants.{Number, Flag, Text}
 use Rattle.macro_meaning.specs.declared.statements.Statement.{Statement}
 use Rattle.macro_meaning.specs.declared.statements.Statement.TheVariants.{Declare, Set, Middle, BranchIf, Branch, Count, Nothing, Leave, Note, Define}
 use Rattle.macro_meaning.specs.Condition.{Answer, IsNumber, Formula, NoFormula, answer_of, comparison, IsConditionBy, IsCondition}
@@ -36,7 +36,7 @@ a_condition values text go = by_comparison (comparison text) go
 
 -- ---- statements
 
-a_setting : (values : Values) (kind : Kind) (label operand : List ℕ) → ((effect_done : Effect) → IsSetting values kind label operand effect_done → ⊥) → ⊥
+a_setting : (values : Values) (kind : SymbolKind) (label operand : List ℕ) → ((effect_done : Effect) → IsSetting values kind label operand effect_done → ⊥) → ⊥
 a_setting values Number label operand go = a_condition values operand (λ answer is. go (setting values Number label (printed_answer Number answer)) (answer, is, refl))
 a_setting values Flag label operand go = a_condition values operand (λ answer is. go (setting values Flag label (printed_answer Flag answer)) (answer, is, refl))
 a_setting values Text label operand go = go (setting values Text label (or_bad (joined_texts (pieces ascii.plus operand)))) refl

@@ -3,8 +3,8 @@ use Rattle.std.proofs.Common.{◌≡◌, ℕ, Bool, true, false, eqb, ltb, List,
 use Rattle.orca_meaning.specs.declared.operators.Operands.TheVariants as operands
 use Rattle.orca_meaning.specs.laws.FormulaLaws.{one_tree}
 use Rattle.orca_meaning.specs.Line.{Line, LineFields, is_comment, three_fields, part}
-use Rattle.macro_meaning.specs.declared.statements.Kind.{Kind}
-use Rattle.macro_meaning.specs.declared.statements.Kind.TheVariants.{Number, Flag, Text}
+use Rattle.macro_meaning.specs.declared.statements.SymbolKind.{SymbolKind}
+use Rattle.macro_meaning.specs.declared.statements.SymbolKind.TheVariants.{Number, Flag, Text}
 use Rattle.macro_meaning.specs.declared.statements.Statement.{Statement}
 use Rattle.macro_meaning.specs.declared.statements.Statement.TheVariants.{Declare, Set, Middle, BranchIf, Branch, Count, Nothing, Leave, Note, Define}
 use Rattle.macro_meaning.specs.Condition.{Answer, answer_of, IsNumber, Formula, NoFormula, IsCondition, IsConditionBy, comparison}
@@ -54,7 +54,7 @@ note_once values (a ∷ []) d e p q = p ∙ sym q
 note_once values (a ∷ b ∷ []) d e p q = p.2 ∙ ap (λ (x : Answer). noting (pair_or_earlier_fault (or_bad (unquoted_text a)) x)) (number_once values b p.0 q.0 p.1 q.1) ∙ sym q.2
 note_once values (a ∷ b ∷ c ∷ ps) d e p q = p ∙ sym q
 
-setting_once : (values : Values) (kind : Kind) (label operand : List ℕ) (d e : Effect) → IsSetting values kind label operand d → IsSetting values kind label operand e → d ≡ e
+setting_once : (values : Values) (kind : SymbolKind) (label operand : List ℕ) (d e : Effect) → IsSetting values kind label operand d → IsSetting values kind label operand e → d ≡ e
 setting_once values Number label operand d e p q = p.2 ∙ ap (λ (x : Answer). setting values Number label (printed_answer Number x)) (condition_once values operand p.0 q.0 p.1 q.1) ∙ sym q.2
 setting_once values Flag label operand d e p q = p.2 ∙ ap (λ (x : Answer). setting values Flag label (printed_answer Flag x)) (condition_once values operand p.0 q.0 p.1 q.1) ∙ sym q.2
 setting_once values Text label operand d e p q = p ∙ sym q
