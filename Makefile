@@ -1,7 +1,7 @@
 # make         proves the programs and builds them to build/; it says how far it is
 # make demo    the same, and then runs the main job on real files
 # make lib     proves the library for C, and puts libomf.a and omf.h into build/
-# make try     runs the demo's commands on an unproved build, in a minute or two; tools/try WORDS.. runs any command so
+# make try     runs the demo's commands on an unproved build, in a minute or two; tools/try ARGUMENTS.. runs any command so
 # make check   runs every test, stored run and example on unproved builds, in some minutes; it proves nothing
 # make test    the gate: proves everything, tries each must-fail edit, and runs every test and example
 # make times   the gate from nothing, and what each crate costs it

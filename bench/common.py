@@ -35,12 +35,12 @@ def once_told(command, folder=None):
 
 
 def best_clock(command, runs, folder=None):
-    """The least time by the clock of so many runs."""
+    """The least time by the clock of a number of runs."""
     return min(once(command, folder).clock for _ in range(runs))
 
 
 def best_used(command, runs, folder=None):
-    """The least time of the processor of so many runs."""
+    """The least time of the processor of a number of runs."""
     return min(once(command, folder).used for _ in range(runs))
 
 
@@ -64,7 +64,7 @@ def instructions(command, folder=None):
 
 
 def memory(command, folder):
-    """The most bytes that the command held, and what it printed. Of a child of this script the system would tell no less than the
+    """The most bytes that the command held, and what it printed. Of a child of this script the system would report no less than the
     script held when the child began; /usr/bin/time holds little."""
     told = os.path.join(folder, "held")
     answer = subprocess.run(["/usr/bin/time", "-f", "%M", "-o", told] + command, check=True, capture_output=True, text=True).stdout

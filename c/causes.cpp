@@ -12,7 +12,7 @@
 
 namespace {
 
-// The word of the header for a name of the program: OMF_NOT_LOAD_FILE for NotLoadFile.
+// The header's identifier for a name of the program: OMF_NOT_LOAD_FILE for NotLoadFile.
 std::string word_of(const std::string &name) {
     std::string word = "OMF";
     for (char c : name) {

@@ -64,14 +64,14 @@ static void want(int holds, const char *what) {
     }
 }
 
-/* Room of so many bytes. */
+/* Room of `size` bytes. */
 static struct made room_of(size_t size) {
     struct made room = {malloc(size ? size : 1), size};
     want(room.bytes != NULL, "there is memory");
     return room;
 }
 
-/* Assembles: the first call has no room and tells the size, the second has all of it. */
+/* Assembles: the first call has no room and reports the size, the second has all of it. */
 static struct made assembled(const char *source, const struct omf_bytes *files, size_t count) {
     struct omf_fault fault;
     size_t size = 0;
@@ -108,7 +108,7 @@ static uint8_t *byte_at(uint32_t address) {
     return &banks[address >> 16][address & 0xFFFF];
 }
 
-/* Puts all segments of a load file behind one another into the banks. */
+/* Puts all segments of a load file one after another into the banks. */
 static void load(const struct made *file) {
     struct omf_fault fault;
     uint32_t count = 0;
@@ -159,7 +159,7 @@ int main(void) {
 
     struct omf_target targets[4];
     size_t entries = 0;
-    want(omf_entries(linked.bytes, linked.size, targets, 4, &entries, &fault) == OMF_DONE, "the entries are told");
+    want(omf_entries(linked.bytes, linked.size, targets, 4, &entries, &fault) == OMF_DONE, "the entries are returned");
     for (size_t k = 0; k < entries; k++)
         printf("entry %zu: file %u segment %u offset %08X\n", k + 1, targets[k].file, targets[k].segment, targets[k].offset);
 

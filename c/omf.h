@@ -1,10 +1,10 @@
-/* Apple IIGS: load files told and placed, and sources assembled, files linked, libraries made and files listed (Object Module Format 2.1).
+/* Apple IIGS: load files read and placed, and sources assembled, files linked, libraries made and files listed (Object Module Format 2.1).
  *
  * Each call writes into the caller's room, and keeps nothing: what it takes of memory it gives back at its end. It takes memory by malloc,
- * realloc and free. What it is promised to do stands in docs/C.md, and is proved of the library; that this header says the same as the
+ * realloc and free. What it is promised to do is in docs/C.md, and is proved of the library; that this header says the same as the
  * library is tested.
  *
- * For each pointer with a number behind it: so many items lie there. No pointer is null, not even where the number is 0. What a call reads
+ * For each pointer with a number after it: that many items lie there. No pointer is null, not even where the number is 0. What a call reads
  * and what it writes don't overlap.
  */
 #ifndef OMF_H
@@ -21,9 +21,9 @@ extern "C" {
 enum omf_status {
     /* What was asked for is there. */
     OMF_DONE = 0,
-    /* What is given has a first fault, which is told. */
+    /* What is given has a first fault, which is reported. */
     OMF_REFUSED = 1,
-    /* Memory ran out. */
+    /* Out of memory. */
     OMF_MEMORY = 2,
     /* The call was given what it can't take, as said of each. */
     OMF_MISUSED = 3,
@@ -91,7 +91,7 @@ struct omf_fault {
     uint32_t at;        /* the displacement in the file, in bytes */
     uint32_t line;      /* from 1, of a source or macro file */
     uint32_t name_size; /* the bytes of the name of OMF_UNRESOLVED, OMF_DUPLICATE and OMF_CIRCULAR */
-    uint8_t name[256];  /* that name, with zeros behind it */
+    uint8_t name[256];  /* that name, with zeros after it */
 };
 
 /* The bytes of a file. */
@@ -125,7 +125,7 @@ struct omf_header {
     uint8_t version;     /* VERSION: 1 or 2 */
     uint8_t load_name[10]; /* LOADNAME, padded with spaces */
     uint32_t name_size;  /* the bytes of SEGNAME */
-    uint8_t name[256];   /* SEGNAME, with zeros behind it */
+    uint8_t name[256];   /* SEGNAME, with zeros after it */
 };
 
 /* Where an entry of a jump table leads: the file and the segment from 1, and the offset in it. */
@@ -143,7 +143,7 @@ uint32_t omf_segments(const uint8_t *file, size_t file_size, uint32_t *count, st
 /* The header of the segment with a number, from 1. Misused: no segment has it. */
 uint32_t omf_header(const uint8_t *file, size_t file_size, uint32_t number, struct omf_header *header, struct omf_fault *fault);
 
-/* What stands in memory for the segment with a number, from 1, where the segments lie at these addresses, one for each segment of the file:
+/* The bytes in memory of the segment with a number, from 1, where the segments lie at these addresses, one for each segment of the file:
  * LENGTH bytes, all patches done. A segment to which no place leads may have any address. Misused: another number of addresses than of
  * segments, or no segment has the number. */
 uint32_t omf_place(const uint8_t *file, size_t file_size, uint32_t number, const uint32_t *addresses, size_t count, uint8_t *room,
@@ -179,9 +179,9 @@ uint32_t omf_link_with(const struct omf_bytes *inputs, size_t count, const struc
  * file of more than 4,294,967,295. */
 uint32_t omf_library(const struct omf_file *files, size_t count, uint8_t *room, size_t room_size, size_t *size, struct omf_fault *fault);
 
-/* ---- words */
+/* ---- names */
 
-/* The name of a cause by its number, without a zero behind it. Misused: no cause has the number. */
+/* The name of a cause by its number, without a zero after it. Misused: no cause has the number. */
 uint32_t omf_cause_name(uint32_t cause, uint8_t *room, size_t room_size, size_t *size);
 
 #ifdef __cplusplus

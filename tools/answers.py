@@ -18,7 +18,7 @@ TABLES = {
 
 
 class Answer:
-    """When a cause comes, and what is to be done."""
+    """When a cause is printed, and what is to be done."""
 
     def __init__(self, when, advice):
         self.when, self.advice = when, advice
@@ -42,7 +42,7 @@ def rows_of(text):
 
 
 def causes_of(row):
-    """The causes of which a row speaks: words that begin with a capital and go on with small letters."""
+    """The causes of which a row speaks: words that begin with a capital and continue with small letters."""
     return re.findall(r"\b[A-Z][a-z]\w+", row.get("Cause") or row.get("Reply") or "")
 
 

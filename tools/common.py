@@ -14,7 +14,7 @@ def say(text):
 
 
 def run_main(main):
-    """Ends with the status of main; one that is told to stop removes what it made first, and ends quietly."""
+    """Ends with the status of main; one that is asked to stop removes what it made first, and ends quietly."""
     for it in (signal.SIGTERM, signal.SIGHUP):
         signal.signal(it, lambda number, _: sys.exit(128 + number))
     try:
@@ -75,4 +75,4 @@ def sum_of(paths):
 def need_prover():
     """Ends where `rt` isn't on the path."""
     if not shutil.which("rt"):
-        sys.exit("rt is not on the path: it comes with the Rattle toolchain, and nothing here is built or proved without it.")
+        sys.exit("rt is not on the path: it is part of the Rattle toolchain, and nothing here is built or proved without it.")

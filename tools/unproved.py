@@ -1,14 +1,14 @@
 """The programs built unproved, and kept in build/unproved/ until a source changes.
 
 `rt try` builds a program, runs it and keeps nothing. So the program is run on a pipe that nobody writes: while it waits
-there, its executable is copied, with the words that started it. That takes Linux, as `rt try` does.
+there, its executable is copied, with the command line that started it. That takes Linux, as `rt try` does.
 """
 import os, pathlib, shlex, shutil, subprocess, sys, tempfile, time
 
 from common import BUILD, CRATES, PROGRAM, Clock, crates_of, need_prover, say, sources, sum_of
 
 KEPT = BUILD / "unproved"
-# The words before the pipe from which a program reads.
+# The arguments before the pipe from which a program reads.
 READING = {PROGRAM: ["dump"]}
 
 
@@ -20,7 +20,7 @@ def words_of(process):
 
 
 def started(room, words):
-    """What started the program with these words: the words before them, and which of these is the executable, below the room."""
+    """What started the program with these arguments: the words before them, and which of these is the executable, below the room."""
     for process in filter(str.isdigit, os.listdir("/proc")):
         found = words_of(process)
         start, rest = found[: -len(words)], found[-len(words) :]

@@ -1,4 +1,4 @@
-* Copies three numbers, the last one first, and calls what stands behind.
+* Copies three numbers, the last one first, and calls what follows.
          ALIGN 256
 COUNT    START MAIN
 FIRST    EQU   4

@@ -16,7 +16,7 @@ LOOP     JSR   STEP
          PLB
          RTL
          END
-* One bit of the quotient: it comes into the place of the dividend's highest one.
+* One bit of the quotient: it takes the place of the dividend's highest one.
 STEP     PRIVATE
          USING NUMBERS
          ASL   QUOTIENT
