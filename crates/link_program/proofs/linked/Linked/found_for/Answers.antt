@@ -10,7 +10,7 @@ use Rattle.link_program.proofs.linked.Linked.found_for.Goals as goal
 
 pub returns-in-Data : goal.returns-in-Data
 returns-in-Data c = λ list m holds far at.
-    let used = c.args.use_numbered.now in
+    let used = c.args.used.now in
     let items = c.args.self.now.members.items in
     let k = used.place - 1 in
     let less : k < length items = omega (arith, c.requires.positive, c.requires.within) in

@@ -11,7 +11,7 @@ use Rattle.link_program.proofs.linked.Linked.row_wanted.Goals as goal
 
 pub returns-in-Nothing : goal.returns-in-Nothing
 returns-in-Nothing c = λ list os m holds far are at.
-    let used = c.args.use_numbered.now in
+    let used = c.args.used.now in
     let items = c.args.self.now.members.items in
     let k = used.place - 1 in
     let less : k < length items = omega (arith, c.requires.positive, c.requires.within) in
@@ -24,10 +24,10 @@ returns-in-Nothing c = λ list os m holds far are at.
 
 pub returns-in-One : goal.returns-in-One
 returns-in-One c = λ list os m holds far are at.
-    let used = c.args.use_numbered.now in
+    let used = c.args.used.now in
     no_row (found_for list used.place m (use_of used).1) c.found_for.result (row_for os m (use_of used).1) (c.found_for.ensures list m holds far at) (λ e. one_some _ (sym c.in-One.is ∙ e))
 
 pub returns-in-Several : goal.returns-in-Several
 returns-in-Several c = λ list os m holds far are at.
-    let used = c.args.use_numbered.now in
+    let used = c.args.used.now in
     no_row (found_for list used.place m (use_of used).1) c.found_for.result (row_for os m (use_of used).1) (c.found_for.ensures list m holds far at) (λ e. several_some _ (sym c.in-Several.is ∙ e))

@@ -8,27 +8,27 @@ use Rattle.link_program.proofs.linked.Linked.wanted.Goals as goal
 pub row_wanted-requires-clause-positive : goal.row_wanted-requires-clause-positive
 row_wanted-requires-clause-positive c =
     let kept = c.args.self.now in
-    let there = c.get-use_numbered.ensures in
-    (place_within c.requires.held.0 kept c.uses.number c.get-use_numbered.result c.requires.held.1 (use_is c.requires.held.0 kept c.uses.number c.get-use_numbered.result c.requires.held.1 there)).0
+    let there = c.get-used.ensures in
+    (place_within c.requires.held.0 kept c.uses.number c.get-used.result c.requires.held.1 (use_is c.requires.held.0 kept c.uses.number c.get-used.result c.requires.held.1 there)).0
 
 pub row_wanted-requires-clause-within : goal.row_wanted-requires-clause-within
 row_wanted-requires-clause-within c =
     let kept = c.args.self.now in
-    let there = c.get-use_numbered.ensures in
-    (place_within c.requires.held.0 kept c.uses.number c.get-use_numbered.result c.requires.held.1 (use_is c.requires.held.0 kept c.uses.number c.get-use_numbered.result c.requires.held.1 there)).1
+    let there = c.get-used.ensures in
+    (place_within c.requires.held.0 kept c.uses.number c.get-used.result c.requires.held.1 (use_is c.requires.held.0 kept c.uses.number c.get-used.result c.requires.held.1 there)).1
 
 pub returns-in-Some : goal.returns-in-Some
 returns-in-Some c = λ list os holds far are none.
     let kept = c.args.self.now in
-    let u = c.get-use_numbered.result in
-    let is = use_is list kept c.uses.number u holds (c.get-use_numbered.ensures) in
+    let u = c.get-used.result in
+    let is = use_is list kept c.uses.number u holds (c.get-used.ensures) in
     wanted_here os list c.uses.number u c.in-Some.row is (wants_so os list c.uses.number u (Some c.in-Some.row) is (λ m at. c.in-Some.ensures list os m holds far are at)) (c.uses.invariant list os holds far are none)
 
 pub uses-preserved : goal.uses-preserved
 uses-preserved c = λ list os holds far are none.
     let kept = c.args.self.now in
-    let u = c.get-use_numbered.result in
-    let is = use_is list kept c.uses.number u holds (c.get-use_numbered.ensures) in
+    let u = c.get-used.result in
+    let is = use_is list kept c.uses.number u holds (c.get-used.ensures) in
     wants_next os list c.uses.number u is (wants_so os list c.uses.number u None is (λ m at. c.in-None.ensures list os m holds far are at)) (c.uses.invariant list os holds far are none)
 
 pub returns : goal.returns
