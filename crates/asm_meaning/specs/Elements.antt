@@ -3,6 +3,7 @@ use Rattle.std.specs.Prelude.{◌≡◌, ℕ, ◌+◌, ◌-◌, ◌/◌, ◌^◌
 use Rattle.std.specs.Char.{is_digit, to_ascii_uppercase}
 use Rattle.std.specs.List.{position_or_len, list_all, flat_map}
 use Rattle.std.specs.Str.Parse.{digits_value}
+use Rattle.omf_format.specs.declared.codes.TheConstants.{EXPR}
 use Rattle.omf_format.specs.Ascii as ascii
 use Rattle.byteorder.specs.Endian.{little_bytes}
 use Rattle.omf_format.specs.Field.{◌>>=◌}
@@ -171,7 +172,7 @@ count_of constants (Computed tree) = number_of constants tree >>= in_range
 -- a number of a given number of bytes: a constant is cut to them, and EXPR ($EB) represents any other
 abbrev pub number_piece : ℕ → Amount → Piece
 number_piece width (Known n) = Bytes (little_bytes width n)
-number_piece width (Written tree) = Whole (Formula 0xEB width 0 (expression_text tree))
+number_piece width (Written tree) = Whole (Formula EXPR width 0 (expression_text tree))
 
 abbrev pub piece_of_number : Constants → ℕ → Tree → Answer Piece
 piece_of_number constants width tree = checked_formula tree >>= λ t. amount constants t >>= λ a. Ok (number_piece width a)
@@ -182,7 +183,7 @@ text_byte msb byte = if msb then bit_or byte 0x80 else byte
 
 -- EXPR of two bytes with the weak name ($82)
 abbrev pub weak_piece : List ℕ → Piece
-weak_piece name = Whole (Formula 0xEB 2 0 (expression_text (Leaf (Named 0x82 name))))
+weak_piece name = Whole (Formula EXPR 2 0 (expression_text (Leaf (Named 0x82 name))))
 
 abbrev pub strong_piece : List ℕ → Piece
 strong_piece name = Whole (Strong name)

@@ -2,6 +2,7 @@
 -- modes; GS/OS Reference, appendix F, expression records; the choice of the narrowest mode is this project's own).
 use Rattle.std.specs.Prelude.{ℕ, ◌-◌, ◌/◌, ◌^◌, Bool, true, false, ◌||◌, ◌&&◌, ◌==◌, nat_lt, nat_le, List, [], ◌∷◌, filter, find, Option, Some, None, Ok, Err, if◌then◌else◌}
 use Rattle.byteorder.specs.Endian.{little_bytes}
+use Rattle.omf_format.specs.declared.codes.TheConstants.{EXPR, ZEXPR, BEXPR, RELEXPR, LEXPR}
 use Rattle.omf_format.specs.Field.{◌>>=◌}
 use Rattle.omf_format.specs.Expression.{Tree, Leaf, Binary, Constant}
 use Rattle.omf_format.specs.Record.{Record, Formula}
@@ -175,17 +176,17 @@ is_long_jump _ = false
 -- EXPR is $EB, ZEXPR $EC, BEXPR $ED and LEXPR $F3
 abbrev pub address_code : Mnemonic → ℕ → ℕ
 address_code mnemonic bytes =
-    if bytes == 1 then 0xEC else if bytes == 2 then 0xED else if is_long_jump mnemonic then 0xF3 else 0xEB
+    if bytes == 1 then ZEXPR else if bytes == 2 then BEXPR else if is_long_jump mnemonic then LEXPR else EXPR
 
 -- The record of an operand of a given number of bytes: ZEXPR of an address of one byte, BEXPR of two, LEXPR of three after JSL and
 -- JML; RELEXPR of a distance, which is counted from its own end; EXPR of all others.
 abbrev pub operand_record : Mnemonic → OperandKind → ℕ → Tree → Record
-operand_record mnemonic Missing width tree = Formula 0xEB width 0 (expression_text tree)
-operand_record mnemonic Value width tree = Formula 0xEB width 0 (expression_text tree)
+operand_record mnemonic Missing width tree = Formula EXPR width 0 (expression_text tree)
+operand_record mnemonic Value width tree = Formula EXPR width 0 (expression_text tree)
 operand_record mnemonic (Address bytes) width tree = Formula (address_code mnemonic bytes) width 0 (expression_text tree)
-operand_record mnemonic (Distance bytes) width tree = Formula 0xEE width width (expression_text tree)
-operand_record mnemonic Banks width tree = Formula 0xEB width 0 (expression_text tree)
-operand_record mnemonic Sign width tree = Formula 0xEB width 0 (expression_text tree)
+operand_record mnemonic (Distance bytes) width tree = Formula RELEXPR width width (expression_text tree)
+operand_record mnemonic Banks width tree = Formula EXPR width 0 (expression_text tree)
+operand_record mnemonic Sign width tree = Formula EXPR width 0 (expression_text tree)
 
 abbrev pub is_distance : OperandKind → Bool
 is_distance (Distance bytes) = true
@@ -237,7 +238,7 @@ bank (Written tree) = Ok (Written tree)
 
 -- a bank that lies a given number of bytes after the instruction's start
 abbrev pub bank_record : ℕ → Amount → Record
-bank_record back a = Formula 0xEB 1 0 (expression_text (with_location_less back (tree_of_amount a)))
+bank_record back a = Formula EXPR 1 0 (expression_text (with_location_less back (tree_of_amount a)))
 
 -- the bank of the destination is stored first, and is written second in the source
 abbrev pub banks_written : ℕ → Amount → Amount → List Piece

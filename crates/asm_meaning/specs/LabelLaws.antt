@@ -2,6 +2,7 @@
 use Rattle.std.proofs.Common.{◌≡◌, ◌≢◌, ℕ, ◌+◌, true, false, List, [], ◌∷◌, ◌++◌, length, map, Some, Ok}
 use Rattle.std.specs.Prelude.{slice_get, sum}
 use Rattle.std.specs.List.{AllByRecursion}
+use Rattle.omf_format.specs.declared.codes.TheConstants.{DIRECTIVE_LABEL}
 use Rattle.omf_format.specs.Expression.{Tree}
 use Rattle.omf_format.specs.File as format
 use Rattle.omf_format.specs.Record.{Record, Label}
@@ -37,7 +38,7 @@ LinkerSeesPlace = (s : format.Segment) (before following : List Record) (r : Rec
 -- their record, which gives no cells, and any other LOCAL with its length, where it has a label, and then its records, whose cells
 -- are that length.
 abbrev pub HasPut : Operation → List ℕ → StartedSegment → StartedSegment → ℕ → Type 0
-HasPut (Direct directives.Entry) label s t size = (t.body ≡ s.body ++ Label true label 0 0x4E 0 ∷ []) × (size ≡ 0)
+HasPut (Direct directives.Entry) label s t size = (t.body ≡ s.body ++ Label true label 0 DIRECTIVE_LABEL 0 ∷ []) × (size ≡ 0)
 HasPut (Direct directives.Equ) label s t size = (tree : Tree) × (t.body ≡ s.body ++ equate false label tree ∷ []) × (size ≡ 0)
 HasPut (Direct directives.Gequ) label s t size = (tree : Tree) × (t.body ≡ s.body ++ equate true label tree ∷ []) × (size ≡ 0)
 HasPut operation label s t size =

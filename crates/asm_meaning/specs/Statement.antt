@@ -3,6 +3,7 @@
 use Rattle.std.specs.Prelude.{is_some, ◌≡◌, ℕ, ◌-◌, ◌^◌, Bool, true, false, not, ◌||◌, ◌&&◌, ◌==◌, nat_lt, nat_le, List, [], ◌∷◌, ◌++◌, length, replicate, codes, bytes_eq, Option, Some, None, Ok, Err, if◌then◌else◌}
 use Rattle.std.specs.Int.{is_power_of_two}
 use Rattle.std.specs.Option.{option_or}
+use Rattle.omf_format.specs.declared.codes.TheConstants.{INSTRUCTION_LABEL, DIRECTIVE_LABEL}
 use Rattle.omf_format.specs.Ascii as ascii
 use Rattle.omf_format.specs.Field.{◌>>=◌}
 use Rattle.omf_format.specs.Expression.{Tree, Leaf, Constant}
@@ -160,11 +161,11 @@ listed_kind n = if not (is_listed (form_of n)) then Err BadOperand else if nat_l
 -- what ALIGN and ORG do: outside segments they wait for the next one
 abbrev pub state_after_align : State → Option StartedSegment → List ℕ → ℕ → State
 state_after_align state None label n = record state { align = n }
-state_after_align state (Some s) label n = in_segment (with_local_record label 0x4E (Align n ∷ [])) state
+state_after_align state (Some s) label n = in_segment (with_local_record label DIRECTIVE_LABEL (Align n ∷ [])) state
 
 abbrev pub state_after_org : State → Option StartedSegment → List ℕ → ℕ → State
 state_after_org state None label n = record state { org = n }
-state_after_org state (Some s) label n = in_segment (with_local_record label 0x4E (Org n ∷ [])) state
+state_after_org state (Some s) label n = in_segment (with_local_record label DIRECTIVE_LABEL (Org n ∷ [])) state
 
 abbrev pub with_kind : ℕ → StartedSegment → StartedSegment
 with_kind n s = record s { header = record s.header { kind = n } }
@@ -173,7 +174,7 @@ with_kind n s = record s { header = record s.header { kind = n } }
 
 -- the record: no length, type $4E, not private
 abbrev pub equate : Bool → List ℕ → Tree → Record
-equate global label tree = Equate global label 0 0x4E 0 (expression_text tree)
+equate global label tree = Equate global label 0 DIRECTIVE_LABEL 0 (expression_text tree)
 
 -- a constant is known from the next line on
 abbrev pub value_of : Amount → Option ℕ
@@ -202,7 +203,7 @@ equating_global state (Some s) label found = equating state true label found
 
 abbrev pub spacing : State → Answer (List ℕ) → Option Tree → Answer State
 spacing state label found =
-    pair_or_earlier_fault label (number_in state found) >>= λ (name, n). Ok (in_segment (with_local_record name 0x4E (Space n ∷ [])) state)
+    pair_or_earlier_fault label (number_in state found) >>= λ (name, n). Ok (in_segment (with_local_record name DIRECTIVE_LABEL (Space n ∷ [])) state)
 
 abbrev pub align_state : State → Answer (List ℕ) → Option Tree → Answer State
 align_state state label found =
@@ -215,7 +216,7 @@ moving state label found =
 abbrev pub kinding : State → Answer (List ℕ) → Option Tree → Answer State
 kinding state label found =
     pair_or_earlier_fault label (number_in state found >>= listed_kind)
-    >>= λ (name, n). Ok (in_segment (λ s. with_kind n (with_local_record name 0x4E [] s)) state)
+    >>= λ (name, n). Ok (in_segment (λ s. with_kind n (with_local_record name DIRECTIVE_LABEL [] s)) state)
 
 -- the formula of ORG: in a segment it is after `*+`
 abbrev pub IsMoveText : Option (List ℕ) → Option Tree → Type 0
@@ -237,34 +238,34 @@ beginning state line class label text =
 
 abbrev pub turning : State → Switch → Answer (List ℕ) → List ℕ → Answer State
 turning state switch label text =
-    pair_or_earlier_fault label (switch_of text) >>= λ (name, on). Ok (with_switch_set switch on (in_segment (with_local_record name 0x4E []) state))
+    pair_or_earlier_fault label (switch_of text) >>= λ (name, on). Ok (with_switch_set switch on (in_segment (with_local_record name DIRECTIVE_LABEL []) state))
 
 -- an ENTRY's label is a GLOBAL of length 0 that isn't private
 abbrev pub entering : State → Answer (List ℕ) → Answer State
-entering state label = label >>= λ name. Ok (in_segment (with_records name None (Label true name 0 0x4E 0 ∷ []) []) state)
+entering state label = label >>= λ name. Ok (in_segment (with_records name None (Label true name 0 DIRECTIVE_LABEL 0 ∷ []) []) state)
 
 -- What a statement leaves, or its first fault, by its operation, its label and the text of its operand.
 unfoldable pub IsDone : State → Line → Operation → Answer (List ℕ) → List ℕ → Answer State → Type 0
 IsDone state line (Instruct mnemonic) label text answer =
     (operand : Answer Meaning) × IsOperandOf mnemonic text operand
-    × (answer ≡ marking state 0x4D label (operand >>= instruction (constants_of state) state.widths mnemonic >>= λ pieces. Ok (records_of pieces)))
+    × (answer ≡ marking state INSTRUCTION_LABEL label (operand >>= instruction (constants_of state) state.widths mnemonic >>= λ pieces. Ok (records_of pieces)))
 IsDone state line (Direct (directives.Begin class)) label text answer = answer ≡ beginning state line class label text
-IsDone state line (Direct directives.End) label text answer = answer ≡ (marking state 0x4E label (Ok (End ∷ [])) >>= λ left. Ok (state_after_end left))
+IsDone state line (Direct directives.End) label text answer = answer ≡ (marking state DIRECTIVE_LABEL label (Ok (End ∷ [])) >>= λ left. Ok (state_after_end left))
 IsDone state line (Direct directives.Entry) label text answer = answer ≡ entering state label
-IsDone state line (Direct directives.Using) label text answer = answer ≡ marking state 0x4E label (name_of text >>= λ name. Ok (Using name ∷ []))
+IsDone state line (Direct directives.Using) label text answer = answer ≡ marking state DIRECTIVE_LABEL label (name_of text >>= λ name. Ok (Using name ∷ []))
 IsDone state line (Direct directives.Equ) label text answer = (found : Option Tree) × IsFormula text found × (answer ≡ equating state false label found)
 IsDone state line (Direct directives.Gequ) label text answer =
     (found : Option Tree) × IsFormula text found × (answer ≡ equating_global state state.segment label found)
 IsDone state line (Direct directives.Constants) label text answer =
     (found : Option (List Element)) × IsList text found
-    × (answer ≡ marking state 0x4E label (list_pieces (constants_of state) state.msb found >>= λ pieces. Ok (records_of pieces)))
+    × (answer ≡ marking state DIRECTIVE_LABEL label (list_pieces (constants_of state) state.msb found >>= λ pieces. Ok (records_of pieces)))
 IsDone state line (Direct directives.Space) label text answer = (found : Option Tree) × IsFormula text found × (answer ≡ spacing state label found)
 IsDone state line (Direct directives.Align) label text answer = (found : Option Tree) × IsFormula text found × (answer ≡ align_state state label found)
 IsDone state line (Direct directives.Org) label text answer = (found : Option Tree) × IsMove state.segment text found × (answer ≡ moving state label found)
 IsDone state line (Direct directives.Kind) label text answer = (found : Option Tree) × IsFormula text found × (answer ≡ kinding state label found)
 IsDone state line (Direct (directives.Turn switch)) label text answer = answer ≡ turning state switch label text
-IsDone state line (Direct directives.Nothing) label text answer = answer ≡ marking state 0x4E label (Ok [])
-IsDone state line (Direct directives.Ignored) label text answer = answer ≡ marking state 0x4E label (Ok [])
+IsDone state line (Direct directives.Nothing) label text answer = answer ≡ marking state DIRECTIVE_LABEL label (Ok [])
+IsDone state line (Direct directives.Ignored) label text answer = answer ≡ marking state DIRECTIVE_LABEL label (Ok [])
 
 -- ---- lines
 

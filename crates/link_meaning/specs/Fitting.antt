@@ -2,6 +2,7 @@
 use Rattle.std.specs.Prelude.{ℕ, ◌+◌, ◌-◌, ◌/◌, ◌%◌, ◌^◌, Bool, false, not, ◌&&◌, ◌||◌, ℤ, pos, List, [], ◌∷◌, length, map, Option, Some, None, Result, Ok, Err, nat_lt, nat_le, ◌==◌, if◌then◌else◌, slice_get, position, unwrap_or, option_and_then, true}
 use Rattle.std.specs.List.{list_any}
 use Rattle.byteorder.specs.Endian.{little_bytes}
+use Rattle.omf_format.specs.declared.codes.TheConstants.{EXPR, BEXPR, RELEXPR, LEXPR}
 use Rattle.omf_format.specs.declared.value.Value.{Value}
 use Rattle.omf_format.specs.declared.value.Value.TheVariants.{Fixed, At}
 use Rattle.omf_format.specs.declared.value.ValueFault.{ValueFault}
@@ -37,8 +38,8 @@ pub data Fit : Type 0 where
 -- EXPR is $EB, ZEXPR $EC, BEXPR $ED, RELEXPR $EE, LEXPR $F3
 abbrev pub number_fit : ℕ → ℕ → ℕ → Option Fit
 number_fit code count n =
-    if code == 0xEB then Some (Number n)
-    else if code == 0xEE then None
+    if code == EXPR then Some (Number n)
+    else if code == RELEXPR then None
     else if nat_lt n (256 ^ count) then Some (Number n)
     else None
 
@@ -52,9 +53,9 @@ distance_fit count to from =
 abbrev pub place_fit : PatchPlace → ℕ → ℕ → ℕ → ℕ → ℕ → ℤ → Option Fit
 place_fit f code count n segment offset shift =
     let near = segment == f.own && is_unshifted shift in
-    if code == 0xEB || code == 0xF3 then Some (Place segment offset shift)
-    else if code == 0xED then (if near && not (f.bank_size == 0) then Some (Place segment offset shift) else None)
-    else if code == 0xEE then (if near then distance_fit count offset (f.place + n) else None)
+    if code == EXPR || code == LEXPR then Some (Place segment offset shift)
+    else if code == BEXPR then (if near && not (f.bank_size == 0) then Some (Place segment offset shift) else None)
+    else if code == RELEXPR then (if near then distance_fit count offset (f.place + n) else None)
     else None
 
 -- ---- dynamic segments
@@ -80,7 +81,7 @@ ends_in_jsl (c ∷ d ∷ cells) = ends_in_jsl (d ∷ cells)
 
 -- LEXPR of three bytes, without a shift, after a byte $22
 abbrev pub is_call : ℕ → ℕ → ℤ → List Cell → Bool
-is_call code count shift before = code == 0xF3 && count == 3 && is_unshifted shift && ends_in_jsl before
+is_call code count shift before = code == LEXPR && count == 3 && is_unshifted shift && ends_in_jsl before
 
 -- the place to call
 abbrev pub target_of : ℕ → ℕ → ℕ → Target

@@ -1,6 +1,7 @@
 -- What a line of a listing represents: the records that it gives to its segment, the name that it defines, and what it leaves.
 use Rattle.std.specs.Prelude.{◌≡◌, ℕ, ◌-◌, Bool, true, false, List, [], ◌∷◌, ◌++◌, length, replicate, Some, None, if◌then◌else◌}
 use Rattle.byteorder.specs.Endian.{little_bytes}
+use Rattle.omf_format.specs.declared.codes.TheConstants.{DIRECTIVE_LABEL, EXPR}
 use Rattle.omf_format.specs.Ascii as ascii
 use Rattle.omf_format.specs.Expression as expression
 use Rattle.omf_format.specs.Expression.{Tree, Leaf, Binary}
@@ -53,12 +54,12 @@ records_said w (Aligns n) = Align n ∷ []
 records_said w (OrgIs n) = Org n ∷ []
 records_said w (UsingIs name) = Using name ∷ []
 records_said w (StrongIs name) = Strong name ∷ []
-records_said w (Labels global name) = records.Label global name 0 0x4E 0 ∷ []
-records_said w (Equates global name n) = Equate global name 0 0x4E 0 (expression_text (Leaf (expression.Constant n))) ∷ []
+records_said w (Labels global name) = records.Label global name 0 DIRECTIVE_LABEL 0 ∷ []
+records_said w (Equates global name n) = Equate global name 0 DIRECTIVE_LABEL 0 (expression_text (Leaf (expression.Constant n))) ∷ []
 records_said w (Instructs mnemonic mode operand) = instruction_records w mnemonic mode operand
 records_said w (Bytes bytes) = Const bytes ∷ []
-records_said w (WeakIs name) = Formula 0xEB 2 0 (expression_text (Leaf (expression.Named 0x82 name))) ∷ []
-records_said w (FormulaIs count tree) = Formula 0xEB count 0 (expression_text tree) ∷ []
+records_said w (WeakIs name) = Formula EXPR 2 0 (expression_text (Leaf (expression.Named 0x82 name))) ∷ []
+records_said w (FormulaIs count tree) = Formula EXPR count 0 (expression_text tree) ∷ []
 records_said w EndIs = End ∷ []
 records_said _ _ = []
 

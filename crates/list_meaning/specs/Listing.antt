@@ -3,6 +3,7 @@ use Rattle.std.specs.Prelude.{ℕ, zero, suc, ◌+◌, ◌==◌, Bool, true, fal
 use Rattle.std.specs.Int.{is_power_of_two}
 use Rattle.std.specs.List.{list_all, list_any, position_or_len, flat_map}
 use Rattle.byteorder.specs.Endian.{little_number}
+use Rattle.omf_format.specs.declared.codes.TheConstants.{EXPR, RELEXPR}
 use Rattle.omf_format.specs.Ascii as ascii
 use Rattle.omf_format.specs.Field.{◌>>=◌}
 use Rattle.omf_format.specs.Expression.{Tree, Leaf, Binary, Term, Operator, Location, Constant, Named, Offset, terms_of}
@@ -176,11 +177,11 @@ weak_of _ = None
 -- the code, the count and the n of the record of an operand that is no constant, where the instruction has one such record
 unfoldable pub record_by : Mnemonic → OperandKind → ℕ → Option (ℕ × ℕ × ℕ)
 record_by mnemonic Missing bytes = None
-record_by mnemonic Value bytes = Some (0xEB, bytes, 0)
+record_by mnemonic Value bytes = Some (EXPR, bytes, 0)
 record_by mnemonic (Address n) bytes = Some (address_code mnemonic n, bytes, 0)
-record_by mnemonic (Distance n) bytes = Some (0xEE, bytes, bytes)
+record_by mnemonic (Distance n) bytes = Some (RELEXPR, bytes, bytes)
 record_by mnemonic Banks bytes = None
-record_by mnemonic Sign bytes = Some (0xEB, bytes, 0)
+record_by mnemonic Sign bytes = Some (EXPR, bytes, 0)
 
 -- the record of an opcode's operand that is no constant
 abbrev pub record_of_opcode : Widths → ℕ → Option (ℕ × ℕ × ℕ)
@@ -306,7 +307,7 @@ follows_opcode code count n (Some found) = is_record code count n (record_of_opc
 unfoldable pub formula_listable : List (List ℕ) → PendingRun → ℕ → ℕ → ℕ → Tree → Bool
 formula_listable equates b code count n tree =
     list_all (term_listable equates) (terms_of tree)
-    && (if code == 0xEB then expr_listable count tree else is_some_wanted (simple_of tree) && follows_opcode code count n (split_last b.run))
+    && (if code == EXPR then expr_listable count tree else is_some_wanted (simple_of tree) && follows_opcode code count n (split_last b.run))
 
 -- the line fits in 255 bytes
 abbrev pub is_short : ListedStatement → Bool

@@ -1,5 +1,6 @@
 -- Listings that were worked out by hand: what the definitions make of three segments.
 use Rattle.std.specs.Prelude.{◌≡◌, ℕ, List, [], ◌∷◌, codes, replicate, Ok, Err, Result}
+use Rattle.omf_format.specs.declared.codes.TheConstants.{EXPR, LEXPR}
 use Rattle.omf_format.specs.File.{Segment}
 use Rattle.omf_format.specs.Header.{HeaderFields}
 use Rattle.omf_format.specs.Record.{Formula, End, Const, Space}
@@ -42,15 +43,15 @@ place_of (Err at) = at
 
 -- an EXPR of $87
 abbrev pub row_two : Segment
-row_two = record { start = 0; fields = fields 2; records = (0x38, Formula 0xEB 2 0 (0x87 ∷ 0x01 ∷ 0x00 ∷ 0x00 ∷ 0x00 ∷ 0x00 ∷ [])) ∷ (0x40, End) ∷ [] }
+row_two = record { start = 0; fields = fields 2; records = (0x38, Formula EXPR 2 0 (0x87 ∷ 0x01 ∷ 0x00 ∷ 0x00 ∷ 0x00 ∷ 0x00 ∷ [])) ∷ (0x40, End) ∷ [] }
 
 -- widths along a run, and two bytes that are held back
 abbrev pub row_three : Segment
 row_three = record {
   start = 0;
   fields = fields 11;
-  records = (0x38, Const (0xE2 ∷ 0x20 ∷ 0xA9 ∷ [])) ∷ (0x3C, Formula 0xEB 1 0 (0x83 ∷ 0x01 ∷ 0x42 ∷ 0x00 ∷ []))
-      ∷ (0x43, Const (0x54 ∷ 0x01 ∷ 0x02 ∷ 0x22 ∷ [])) ∷ (0x48, Formula 0xF3 3 0 (0x83 ∷ 0x01 ∷ 0x42 ∷ 0x81 ∷ 0x05 ∷ 0x00 ∷ 0x00 ∷ 0x00 ∷ 0x02 ∷ 0x00 ∷ [])) ∷ (0x55, End) ∷ [];
+  records = (0x38, Const (0xE2 ∷ 0x20 ∷ 0xA9 ∷ [])) ∷ (0x3C, Formula EXPR 1 0 (0x83 ∷ 0x01 ∷ 0x42 ∷ 0x00 ∷ []))
+      ∷ (0x43, Const (0x54 ∷ 0x01 ∷ 0x02 ∷ 0x22 ∷ [])) ∷ (0x48, Formula LEXPR 3 0 (0x83 ∷ 0x01 ∷ 0x42 ∷ 0x81 ∷ 0x05 ∷ 0x00 ∷ 0x00 ∷ 0x00 ∷ 0x02 ∷ 0x00 ∷ [])) ∷ (0x55, End) ∷ [];
 }
 
 -- the listings of the first and of the third, and the place at which the second can't be listed

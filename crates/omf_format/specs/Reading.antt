@@ -1,5 +1,6 @@
 -- Reading a body from left to right, record by record, with the first fault that is met.
 use Rattle.std.specs.Prelude.{◌≡◌, ℕ, zero, suc, ◌-◌, ◌^◌, ℤ, Bool, true, false, List, [], ◌∷◌, length, slice_index, Option, Some, None, Result, Ok, Err, nat_lt, ◌==◌, if◌then◌else◌}
+use Rattle.omf_format.specs.declared.codes.TheConstants.{ALIGN, ORG, RELOC, INTERSEG, USING, STRONG, GLOBAL, GEQU, EXPR, ZEXPR, BEXPR, RELEXPR, LOCAL, EQU, DS, LCONST, LEXPR, ENTRY, SHORT_RELOC, SHORT_INTERSEG, SUPER}
 use Rattle.omf_format.specs.declared.fault.Flaw.{Flaw}
 use Rattle.omf_format.specs.declared.fault.Flaw.TheVariants.{Cut, Unread, Broken}
 use Rattle.omf_format.specs.declared.fault.RecordFault.{RecordFault}
@@ -72,7 +73,7 @@ unfoldable pub formula_field : ℕ → ℕ → Reads Record
 formula_field lab_len code = taken_as (λ x. Formula code x.0 0 x.1) (count_field ⊗ expression_field lab_len)
 
 unfoldable pub distance_field : ℕ → Reads Record
-distance_field lab_len = taken_as (λ x. Formula 0xEE x.0 x.1.0 x.1.1) (count_field ⊗ number_field 4 ⊗ expression_field lab_len)
+distance_field lab_len = taken_as (λ x. Formula RELEXPR x.0 x.1.0 x.1.1) (count_field ⊗ number_field 4 ⊗ expression_field lab_len)
 
 unfoldable pub entry_field : ℕ → Reads Record
 entry_field lab_len = taken_as (λ x. Entry x.0 x.1.0 x.1.1) (number_field 2 ⊗ number_field 4 ⊗ name_field lab_len)
@@ -80,27 +81,27 @@ entry_field lab_len = taken_as (λ x. Entry x.0 x.1.0 x.1.1) (number_field 2 ⊗
 -- the codes from $E0 on, each with what follows it
 unfoldable pub rows : Layout → List (ℕ × Reads Record)
 rows l =
-    (0xE0, align_field)
-    ∷ (0xE1, org_field)
-    ∷ (0xE2, reloc_field)
-    ∷ (0xE3, interseg_field)
-    ∷ (0xE4, using_field l.lab_len)
-    ∷ (0xE5, strong_field l.lab_len)
-    ∷ (0xE6, label_field l true)
-    ∷ (0xE7, equate_field l true)
-    ∷ (0xEB, formula_field l.lab_len 0xEB)
-    ∷ (0xEC, formula_field l.lab_len 0xEC)
-    ∷ (0xED, formula_field l.lab_len 0xED)
-    ∷ (0xEE, distance_field l.lab_len)
-    ∷ (0xEF, label_field l false)
-    ∷ (0xF0, equate_field l false)
-    ∷ (0xF1, space_field)
-    ∷ (0xF2, long_constant_field)
-    ∷ (0xF3, formula_field l.lab_len 0xF3)
-    ∷ (0xF4, entry_field l.lab_len)
-    ∷ (0xF5, short_reloc_field)
-    ∷ (0xF6, short_interseg_field)
-    ∷ (0xF7, super_field)
+    (ALIGN, align_field)
+    ∷ (ORG, org_field)
+    ∷ (RELOC, reloc_field)
+    ∷ (INTERSEG, interseg_field)
+    ∷ (USING, using_field l.lab_len)
+    ∷ (STRONG, strong_field l.lab_len)
+    ∷ (GLOBAL, label_field l true)
+    ∷ (GEQU, equate_field l true)
+    ∷ (EXPR, formula_field l.lab_len EXPR)
+    ∷ (ZEXPR, formula_field l.lab_len ZEXPR)
+    ∷ (BEXPR, formula_field l.lab_len BEXPR)
+    ∷ (RELEXPR, distance_field l.lab_len)
+    ∷ (LOCAL, label_field l false)
+    ∷ (EQU, equate_field l false)
+    ∷ (DS, space_field)
+    ∷ (LCONST, long_constant_field)
+    ∷ (LEXPR, formula_field l.lab_len LEXPR)
+    ∷ (ENTRY, entry_field l.lab_len)
+    ∷ (SHORT_RELOC, short_reloc_field)
+    ∷ (SHORT_INTERSEG, short_interseg_field)
+    ∷ (SUPER, super_field)
     ∷ []
 
 -- what a row of these with the code reads; other codes aren't read

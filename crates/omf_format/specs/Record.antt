@@ -1,6 +1,7 @@
 -- The records of a body, and the one spelling of each (GS/OS Reference, appendix F, "Segment body").
 use Rattle.std.specs.Prelude.{◌≡◌, ℕ, ◌+◌, ◌^◌, ◌<◌, ◌≤◌, Bool, true, false, ◌||◌, ℤ, List, [], ◌∷◌, ◌++◌, length, replicate, ◌==◌, if◌then◌else◌, IsTrue}
 use Rattle.byteorder.specs.Endian.{little_bytes}
+use Rattle.omf_format.specs.declared.codes.TheConstants.{ALIGN, ORG, RELOC, INTERSEG, USING, STRONG, GLOBAL, GEQU, EXPR, ZEXPR, BEXPR, RELEXPR, LOCAL, EQU, DS, LCONST, LEXPR, ENTRY, SHORT_RELOC, SHORT_INTERSEG, SUPER}
 use Rattle.omf_format.specs.Field.{Layout, is_count, is_shift, shift_byte, name_text, IsName}
 use Rattle.omf_format.specs.Expression.{IsExpression}
 use Rattle.omf_format.specs.Super.{is_super, HavePages}
@@ -37,7 +38,7 @@ pub data Record : Type 0 where
 
 -- EXPR is $EB, ZEXPR $EC, BEXPR $ED, RELEXPR $EE and LEXPR $F3
 abbrev pub is_formula : ℕ → Bool
-is_formula code = code == 0xEB || code == 0xEC || code == 0xED || code == 0xEE || code == 0xF3
+is_formula code = code == EXPR || code == ZEXPR || code == BEXPR || code == RELEXPR || code == LEXPR
 
 -- the length, type and private flag of a label, whose length takes `width` bytes
 abbrev pub label_text : ℕ → ℕ → ℕ → ℕ → List ℕ
@@ -47,25 +48,25 @@ label_text width size form private = little_bytes width size ++ form ∷ private
 unfoldable pub spelling : Layout → Record → List ℕ
 spelling l End = 0x00 ∷ []
 spelling l (Const bytes) = length bytes ∷ bytes
-spelling l (LongConst bytes) = 0xF2 ∷ little_bytes 4 (length bytes) ++ bytes
-spelling l (Align n) = 0xE0 ∷ little_bytes 4 n
-spelling l (Org n) = 0xE1 ∷ little_bytes 4 n
-spelling l (Space n) = 0xF1 ∷ little_bytes 4 n
-spelling l (Reloc count shift location offset) = 0xE2 ∷ count ∷ shift_byte shift ∷ little_bytes 4 location ++ little_bytes 4 offset
+spelling l (LongConst bytes) = LCONST ∷ little_bytes 4 (length bytes) ++ bytes
+spelling l (Align n) = ALIGN ∷ little_bytes 4 n
+spelling l (Org n) = ORG ∷ little_bytes 4 n
+spelling l (Space n) = DS ∷ little_bytes 4 n
+spelling l (Reloc count shift location offset) = RELOC ∷ count ∷ shift_byte shift ∷ little_bytes 4 location ++ little_bytes 4 offset
 spelling l (InterSeg count shift location file segment offset) =
-    0xE3 ∷ count ∷ shift_byte shift ∷ little_bytes 4 location ++ (little_bytes 2 file ++ (little_bytes 2 segment ++ little_bytes 4 offset))
-spelling l (ShortReloc count shift location offset) = 0xF5 ∷ count ∷ shift_byte shift ∷ little_bytes 2 location ++ little_bytes 2 offset
+    INTERSEG ∷ count ∷ shift_byte shift ∷ little_bytes 4 location ++ (little_bytes 2 file ++ (little_bytes 2 segment ++ little_bytes 4 offset))
+spelling l (ShortReloc count shift location offset) = SHORT_RELOC ∷ count ∷ shift_byte shift ∷ little_bytes 2 location ++ little_bytes 2 offset
 spelling l (ShortInterSeg count shift location segment offset) =
-    0xF6 ∷ count ∷ shift_byte shift ∷ little_bytes 2 location ++ segment ∷ little_bytes 2 offset
-spelling l (Super form bytes) = 0xF7 ∷ little_bytes 4 (length bytes + 1) ++ form ∷ bytes
-spelling l (Using name) = 0xE4 ∷ name_text l.lab_len name
-spelling l (Strong name) = 0xE5 ∷ name_text l.lab_len name
+    SHORT_INTERSEG ∷ count ∷ shift_byte shift ∷ little_bytes 2 location ++ segment ∷ little_bytes 2 offset
+spelling l (Super form bytes) = SUPER ∷ little_bytes 4 (length bytes + 1) ++ form ∷ bytes
+spelling l (Using name) = USING ∷ name_text l.lab_len name
+spelling l (Strong name) = STRONG ∷ name_text l.lab_len name
 spelling l (Label global name size form private) =
-    (if global then 0xE6 else 0xEF) ∷ name_text l.lab_len name ++ label_text l.length_width size form private
+    (if global then GLOBAL else LOCAL) ∷ name_text l.lab_len name ++ label_text l.length_width size form private
 spelling l (Equate global name size form private expr) =
-    (if global then 0xE7 else 0xF0) ∷ name_text l.lab_len name ++ (label_text l.length_width size form private ++ expr)
-spelling l (Formula code count n expr) = code ∷ count ∷ (if code == 0xEE then little_bytes 4 n ++ expr else expr)
-spelling l (Entry segment offset name) = 0xF4 ∷ little_bytes 2 segment ++ (little_bytes 4 offset ++ name_text l.lab_len name)
+    (if global then GEQU else EQU) ∷ name_text l.lab_len name ++ (label_text l.length_width size form private ++ expr)
+spelling l (Formula code count n expr) = code ∷ count ∷ (if code == RELEXPR then little_bytes 4 n ++ expr else expr)
+spelling l (Entry segment offset name) = ENTRY ∷ little_bytes 2 segment ++ (little_bytes 4 offset ++ name_text l.lab_len name)
 
 -- ---- which records have a spelling
 
@@ -100,7 +101,7 @@ IsRecord l (Strong name) = IsName l.lab_len name
 IsRecord l (Label global name size form private) = IsName l.lab_len name × IsLabel l.length_width size form private
 IsRecord l (Equate global name size form private expr) = IsName l.lab_len name × IsLabel l.length_width size form private × IsExpression l.lab_len expr
 IsRecord l (Formula code count n expr) =
-    IsTrue (is_formula code) × IsTrue (is_count count) × IsDistance (code == 0xEE) n × IsExpression l.lab_len expr
+    IsTrue (is_formula code) × IsTrue (is_count count) × IsDistance (code == RELEXPR) n × IsExpression l.lab_len expr
 IsRecord l (Entry segment offset name) = (segment < 2 ^ 16) × (offset < 2 ^ 32) × IsName l.lab_len name
 
 -- ---- constants
