@@ -5,6 +5,7 @@ ghost use Rattle.omf_format.specs.Header.{alignment_of, stays_in_bank};
 
 use crate::kind::Kind;
 use omf_base::Name;
+use std::alloc::{AllocError, Global};
 
 /// A segment's header. Displacements are in the segment, counted from its start.
 #[derive(PartialEq, Eq, Drop)]
@@ -42,6 +43,69 @@ pub struct Header {
 }
 
 impl Header {
+    ghost use Rattle.std.specs.Prelude.{◌≡◌, IfOk};
+    ghost use Rattle.omf_header.specs.View.{fields};
+    ghost use Rattle.omf_header.specs.Written.{written, with_reserved_zeros};
+
+    /// A header of version 2 that has no zeros after the data, asks for no address and no alignment, and is entered at the start. What its
+    /// writing gives it is 0.
+    pub fn written(
+        load_name: [u8; 10],
+        name: Name,
+        kind: Kind,
+        length: u32,
+        bank_size: u32,
+        seg_num: u16,
+    ) -> Header
+        ensures { fields result ≡ written load_name name kind.bits length bank_size seg_num }
+    {
+        Header {
+            byte_count: 0,
+            res_spc: 0,
+            length,
+            lab_len: 0,
+            version: 2,
+            bank_size,
+            kind,
+            org: 0,
+            align: 0,
+            seg_num,
+            entry: 0,
+            disp_name: 0,
+            disp_data: 0,
+            load_name,
+            name,
+        }
+    }
+
+    /// A copy of version 2 with `zeros` zeros after the data. What its writing gives it is 0.
+    pub(crate) fn with_reserved_zeros(
+        &self,
+        alloc: Global,
+        zeros: u32,
+    ) -> Result<Header, AllocError>
+        ensures { IfOk result (λ header. fields header ≡ with_reserved_zeros (fields self.now) zeros) }
+    {
+        let name = Name::from_vec(Vec::from_slice(alloc, self.name.bytes())?);
+        Ok(Header {
+            byte_count: 0,
+            res_spc: zeros,
+            length: self.length,
+            lab_len: 0,
+            version: 2,
+            bank_size: self.bank_size,
+            kind: self.kind,
+            org: self.org,
+            align: self.align,
+            seg_num: self.seg_num,
+            entry: self.entry,
+            disp_name: 0,
+            disp_data: 0,
+            load_name: self.load_name,
+            name,
+        })
+    }
+
     /// Of what the segment's address is a multiple: 1 for ALIGN 0, $100 for an ALIGN up to $100, and $10000 for a greater
     /// one.
     pub fn alignment(&self) -> u32

@@ -5,6 +5,7 @@ mod displacement;
 mod header;
 mod kind;
 mod reading;
+mod segment_writer;
 mod writing;
 
 pub use displacement::displacement_of;
@@ -12,4 +13,7 @@ pub use header::Header;
 pub use kind::Kind;
 pub use omf_format::{Field, HeaderFault};
 pub use reading::{read_header, version_of};
-pub use writing::{WriteHeaderFault, write_header};
+pub use segment_writer::{
+    close_segment, header_before, header_size, put_front, put_room, recall_header_size,
+};
+pub use writing::{MAX_FILE, WriteHeaderFault, write_header};

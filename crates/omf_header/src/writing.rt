@@ -9,13 +9,13 @@ ghost use Rattle.omf_header.specs.Parts.{sizes, placement, order, displacements,
 
 use crate::header::Header;
 use byteorder::{ByteOrder, LittleEndian};
-use std::alloc::{AllocError, Global};
+use std::alloc::{AllocError, AllocFailed, Global};
 
 /// The most bytes that a file has.
-const MAX_FILE: u64 = 16_777_216;
+pub const MAX_FILE: usize = 16_777_216;
 
 /// The bytes of a written header before the segment's name.
-const BEFORE_NAME: u32 = 0x37;
+pub(crate) const BEFORE_NAME: u32 = 0x37;
 
 /// Why no header is written.
 #[derive(Clone, Copy, Debug, PartialEq, Eq)]
@@ -32,6 +32,17 @@ impl From<AllocError> for WriteHeaderFault {
     ghost from_gives = { λ _ fault. fault ≡ Memory };
 
     fn from(_: AllocError) -> WriteHeaderFault {
+        WriteHeaderFault::Memory
+    }
+}
+
+impl<T: Drop> From<AllocFailed<T>> for WriteHeaderFault {
+    ghost use Rattle.std.specs.Prelude.{◌≡◌};
+    ghost use Rattle.omf_header.specs.declared.writing.WriteHeaderFault.TheVariants.{Memory};
+
+    ghost from_gives = { λ _ fault. fault ≡ Memory };
+
+    fn from(_: AllocFailed<T>) -> WriteHeaderFault {
         WriteHeaderFault::Memory
     }
 }
@@ -172,7 +183,7 @@ pub fn write_header(
     ensures too_long { IsErrOf result WriteHeaderFault.TooLong
         ↔ (16777216 < 0x37 + length header.now.name + body_length) }
 {
-    let size = u64::from(BEFORE_NAME) + header.name.bytes().len() as u64 + u64::from(body_length);
+    let size = BEFORE_NAME as usize + header.name.bytes().len() + body_length as usize;
     if size > MAX_FILE {
         return Err(WriteHeaderFault::TooLong);
     }
