@@ -1,5 +1,5 @@
 -- Constants: formulas whose value the assembler knows (ORCA/M reference manual, "Expressions" and "EQU").
-use Rattle.std.specs.Prelude.{ℕ, ◌&&◌, ◌==◌, List, Option, Some, None, Ok, Err, if◌then◌else◌}
+use Rattle.std.specs.Prelude.{◌≡◌, ◌<◌, ◌^◌, ℕ, ◌&&◌, ◌==◌, List, Option, Some, None, Ok, Err, if◌then◌else◌}
 use Rattle.omf_format.specs.Expression.{Term, Operator, Location, Constant, Named, Offset, Tree, Leaf, Unary, Binary}
 use Rattle.omf_format.specs.Value.{number_of_one, number_of_two, divides}
 use Rattle.asm_meaning.specs.declared.faults.AsmCause.TheVariants.{UnknownConstant, DivideByZero}
@@ -8,6 +8,10 @@ use Rattle.asm_meaning.specs.Answer.{Answer}
 -- the names whose values are known, with their values
 abbrev pub Constants : Type 0
 Constants = List ℕ → Option ℕ
+
+-- each known value has 32 bits
+abbrev pub AreSmall : Constants → Type 0
+AreSmall constants = (name : List ℕ) (n : ℕ) → constants name ≡ Some n → n < 2 ^ 32
 
 -- ---- the number that a formula is
 

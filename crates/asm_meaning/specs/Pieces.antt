@@ -1,7 +1,10 @@
 -- What statements give: constant bytes and records, of which neighbouring bytes are one record (GS/OS Reference,
 -- appendix F, CONST and LCONST).
-use Rattle.std.specs.Prelude.{ℕ, zero, suc, ◌+◌, ◌-◌, nat_le, List, [], ◌∷◌, ◌++◌, length, if◌then◌else◌}
-use Rattle.omf_format.specs.Record.{Record, Const, LongConst}
+use Rattle.std.specs.Prelude.{◌≡◌, ◌<◌, ◌^◌, ℕ, zero, suc, ◌+◌, ◌-◌, nat_le, false, List, [], ◌∷◌, ◌++◌, length, if◌then◌else◌}
+use Rattle.std.specs.List.{AllByRecursion}
+use Rattle.omf_format.specs.Field.{written_layout}
+use Rattle.omf_format.specs.Reading.{is_end}
+use Rattle.omf_format.specs.Record.{Record, Const, LongConst, IsRecord}
 use Rattle.object_meaning.specs.Sizes.{size_at}
 
 -- constant bytes, or a record of another kind
@@ -39,3 +42,19 @@ place_after at (content ∷ contents) = place_after (at + size_at at content) co
 -- the length of a statement is the number of cells that its records give
 unfoldable pub length_at : ℕ → List Record → ℕ
 length_at at contents = place_after at contents - at
+
+-- ---- pieces that can be written
+
+-- a record of a body that has a spelling as long as it gives less than 2 ^ 32 cells
+pub record IsPlain (r : Record) : Type 0 where
+  pub spelled : (at : ℕ) → size_at at r < 2 ^ 32 → IsRecord written_layout r
+  pub inner : is_end r ≡ false
+
+-- constant bytes, or such a record
+abbrev pub IsPlainPiece : Piece → Type 0
+IsPlainPiece (Bytes bytes) = Unit {0}
+IsPlainPiece (Whole r) = IsPlain r
+
+-- such pieces alone
+abbrev pub ArePlainPieces : List Piece → Type 0
+ArePlainPieces pieces = AllByRecursion IsPlainPiece pieces

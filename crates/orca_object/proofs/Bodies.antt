@@ -8,8 +8,8 @@ use Rattle.asm_meaning.specs.Object.{records_text}
 use Rattle.asm_meaning.specs.Pieces.{place_after}
 use Rattle.asm_meaning.specs.laws.PieceLaws.{place_after-append}
 use Rattle.orca_object.specs.declared.state.SegmentBody.{SegmentBody}
-use Rattle.orca_object.specs.declared.record_bytes.RecordBytes.{RecordBytes}
-use Rattle.orca_object.specs.TextView.{text_within_limit, kept_text}
+use Rattle.orca_operands.specs.declared.record_bytes.RecordBytes.{RecordBytes}
+use Rattle.orca_operands.specs.TextView.{text_within_limit, kept_text}
 use Rattle.orca_object.specs.BodyView.{ShowsBody}
 
 pub records_text-append : (a b : List Record) → records_text (a ++ b) ≡ records_text a ++ records_text b

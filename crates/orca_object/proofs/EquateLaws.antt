@@ -5,8 +5,8 @@ use Rattle.asm_meaning.specs.laws.AmountLaws.{is_written}
 use Rattle.asm_meaning.specs.Constant as meaning
 use Rattle.asm_meaning.specs.Constant.{tree_of_amount}
 use Rattle.asm_meaning.specs.Formulas.{expression_text}
-use Rattle.orca_object.specs.AmountView as view
-use Rattle.orca_object.specs.AmountView.{AmountBytes, kept_of}
+use Rattle.orca_operands.specs.AmountView as view
+use Rattle.orca_operands.specs.AmountView.{AmountBytes, kept_of}
 
 abbrev number : ℕ → AmountBytes
 number n = view.Number n

@@ -11,10 +11,10 @@ use Rattle.orca_object.specs.BodyView.{ShowsBody}
 use Rattle.orca_object.specs.declared.state.SegmentBody.{SegmentBody}
 use Rattle.orca_object.specs.declared.state.OpenSegment.{OpenSegment}
 use Rattle.orca_object.specs.StateView.{ShowsSegment, with_local_label}
-use Rattle.orca_object.specs.TextView.{text_within_limit, kept_text}
+use Rattle.orca_operands.specs.TextView.{text_within_limit, kept_text}
 use Rattle.orca_object.proofs.Bodies.{records_text-append, one_text}
 use Rattle.orca_object.proofs.OpenLaws.{length_at-one}
-use Rattle.orca_object.proofs.Putting.{Grows}
+use Rattle.orca_operands.proofs.Putting.{Grows}
 
 -- a label with its LOCAL, and after it records that give `size` cells
 pub marked_grown : (label : List ℕ) (form size : ℕ) (contents : List Record) (s : StartedSegment) (o : OpenSegment) (b : SegmentBody) → ShowsSegment (with_local_label label form size s) o → o.body.cells ≡ cells_of s → size ≡ length_at (cells_of s) contents

@@ -6,9 +6,9 @@ use Rattle.asm_meaning.specs.declared.faults.AsmCause.TheVariants.{BadLabel, Dup
 use Rattle.asm_meaning.specs.Answer.{Answer}
 use Rattle.asm_meaning.specs.State.{State}
 use Rattle.asm_meaning.specs.Statement.{label_of, free_label, is_taken, needs_label}
-use Rattle.orca_object.specs.OperandView as view
+use Rattle.orca_operands.specs.OperandView as view
 use Rattle.orca_object.specs.DoneView.{IsSome}
-use Rattle.orca_object.proofs.ByFormulas.{empty_list}
+use Rattle.orca_operands.proofs.ByFormulas.{empty_list}
 
 abbrev fault : Answer (List ℕ)
 fault = Err BadLabel

@@ -15,13 +15,13 @@ use Rattle.asm_meaning.specs.State.{State, in_segment, state_after_start, within
 use Rattle.orca_meaning.specs.Characters.{is_name, folded}
 use Rattle.asm_meaning.specs.laws.InstructionLaws.{both_ok}
 use Rattle.asm_meaning.specs.Statement.{IsDone, constants_of, marking, entering, turning, beginning, with_equate, name_of, load_name_of}
-use Rattle.orca_object.specs.declared.amount.Amount.{Amount}
+use Rattle.orca_operands.specs.declared.amount.Amount.{Amount}
 use Rattle.orca_object.specs.declared.state.AsmState.{AsmState}
-use Rattle.orca_object.specs.AmountView.{AmountBytes as Amount_kept, kept_view, kept_of, kept_answer, amount_view}
+use Rattle.orca_operands.specs.AmountView.{AmountBytes as Amount_kept, kept_view, kept_of, kept_answer, amount_view}
 use Rattle.orca_object.specs.DoneView.{IsSome, using_by, spaced_by, aligned_by, moved_by, kinded_by}
 use Rattle.orca_object.specs.DoingView.{HasDistance, ending, IsEquated, IsConstant}
 use Rattle.orca_object.specs.EquateView.{with_constant}
-use Rattle.orca_object.specs.NumberView.{HasNumber, HasAmount, number_found, amount_found}
+use Rattle.orca_operands.specs.NumberView.{HasNumber, HasAmount, number_found, amount_found}
 use Rattle.orca_object.specs.StateView.{ShowsState, Leaves, IsLeft}
 
 pub nothing_left : {U : Type 0} (state : State) (line : Line) (label : Answer (List ℕ)) (text : List ℕ) (done : Result U AsmCause) (k : AsmState) → Leaves done k (marking state 0x4E label (Ok [])) → IsLeft state line (Direct directives.Nothing) label text done k

@@ -9,19 +9,17 @@ use Rattle.asm_meaning.specs.declared.directives.Operation.TheVariants.{Instruct
 use Rattle.asm_meaning.specs.declared.faults.AsmCause.{AsmCause}
 use Rattle.asm_meaning.specs.declared.faults.AsmCause.TheVariants.{BadOperand, BadNumber}
 use Rattle.asm_meaning.specs.Answer.{Answer}
-use Rattle.asm_meaning.specs.laws.AmountLaws.{AreSmall}
-use Rattle.asm_meaning.specs.Constant.{Constants}
+use Rattle.asm_meaning.specs.Constant.{Constants, AreSmall}
 use Rattle.asm_meaning.specs.Elements.{list_pieces}
 use Rattle.asm_meaning.specs.laws.GivenLaws.{instruction_plain, list_plain}
 use Rattle.asm_meaning.specs.Instruction.{Widths, instruction}
-use Rattle.asm_meaning.specs.laws.PieceLaws.{ArePlainPieces}
-use Rattle.asm_meaning.specs.Pieces.{Piece, records_of}
+use Rattle.asm_meaning.specs.Pieces.{Piece, records_of, ArePlainPieces}
 use Rattle.asm_meaning.specs.State.{State}
 use Rattle.asm_meaning.specs.Statement.{IsDone, IsOperandOf, Good, Bad, Large, constants_of, marking}
-use Rattle.orca_object.specs.declared.encoding.Encoding.{Encoding}
+use Rattle.orca_operands.specs.declared.encoding.Encoding.{Encoding}
 use Rattle.orca_object.specs.declared.state.AsmState.{AsmState}
 use Rattle.orca_object.specs.GivenBy.{IsByInstruction, IsByList}
-use Rattle.orca_object.specs.GivenView.{given_pieces, given_answer}
+use Rattle.orca_operands.specs.GivenView.{given_pieces, given_answer}
 use Rattle.orca_object.specs.MarkView.{giving, IsPlainAnswer}
 use Rattle.orca_object.specs.StateView.{Leaves, IsLeft}
 

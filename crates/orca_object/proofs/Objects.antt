@@ -8,9 +8,9 @@ use Rattle.omf_format.specs.Header.{HeaderFields, header_bytes}
 use Rattle.omf_format.specs.laws.WrittenHeaderLaws.{length-header}
 use Rattle.asm_meaning.specs.Object.{records_text, segment_text, object_text, most_bytes}
 use Rattle.asm_meaning.specs.State.{FinishedSegment}
-use Rattle.orca_object.specs.declared.record_bytes.RecordBytes.{RecordBytes}
-use Rattle.orca_object.specs.TextView.{text_within_limit, kept_text, kept_by}
-use Rattle.orca_object.proofs.Limited.{is_limited, is_too_long, long_text, same_text}
+use Rattle.orca_operands.specs.declared.record_bytes.RecordBytes.{RecordBytes}
+use Rattle.orca_operands.specs.TextView.{text_within_limit, kept_text, kept_by}
+use Rattle.orca_operands.proofs.Limited.{is_limited, is_too_long, long_text, same_text}
 
 pub object_more : (segments : List FinishedSegment) (e : FinishedSegment) → object_text (segments ++ e ∷ []) ≡ object_text segments ++ segment_text e
 unfolding object_text

@@ -13,14 +13,14 @@ use Rattle.asm_meaning.specs.State.{StartedSegment, FinishedSegment, State, star
 use Rattle.std.specs.Option.{option_map}
 use Rattle.std.proofs.lemmas.List.{length-append}
 use Rattle.asm_meaning.specs.Statement.{equate}
-use Rattle.orca_object.specs.declared.names.OutsideConstants.{OutsideConstants}
-use Rattle.orca_object.specs.declared.record_bytes.RecordBytes.{RecordBytes}
+use Rattle.orca_operands.specs.declared.names.OutsideConstants.{OutsideConstants}
+use Rattle.orca_operands.specs.declared.record_bytes.RecordBytes.{RecordBytes}
 use Rattle.orca_object.specs.EquateView.{with_constant}
-use Rattle.orca_object.specs.NamesView.{outside_of}
+use Rattle.orca_operands.specs.NamesView.{outside_of}
 use Rattle.orca_object.specs.StateView.{ShowsState, ShowsOption, ShowsSegment, header_view}
 use Rattle.orca_object.specs.EndView.{ended_header}
 use Rattle.orca_object.specs.declared.state.OpenSegment.{OpenSegment}
-use Rattle.orca_object.specs.TextView.{text_within_limit, kept_text}
+use Rattle.orca_operands.specs.TextView.{text_within_limit, kept_text}
 use Rattle.orca_object.proofs.Bodies.{records_text-one, cells-one}
 
 abbrev header_with : Class → List ℕ → List ℕ → ℕ → ℕ → ℕ → ℕ → HeaderFields

@@ -29,12 +29,12 @@ use Rattle.asm_meaning.specs.laws.InstructionLaws.{AreFineTrees}
 use Rattle.asm_meaning.specs.Pieces.{Piece}
 use Rattle.asm_meaning.specs.Statement.{Good, Bad, Large}
 use Rattle.asm_meaning.specs.laws.StatementLaws.{element_once}
-use Rattle.orca_object.specs.declared.encoding.RepeatedPieces.{RepeatedPieces}
-use Rattle.orca_object.specs.Chosen.{AreGoodTrees}
-use Rattle.orca_object.specs.DcView.{all_or}
+use Rattle.orca_operands.specs.declared.encoding.RepeatedPieces.{RepeatedPieces}
+use Rattle.orca_operands.specs.Chosen.{AreGoodTrees}
+use Rattle.orca_operands.specs.DcView.{all_or}
 use Rattle.orca_object.specs.GivenBy.{IsByInstruction, IsByList, HasElements}
-use Rattle.orca_object.specs.GivenView.{part_pieces, parts_answer}
-use Rattle.orca_object.proofs.Gathering.{AreItems, IsOnce, GathersAll}
+use Rattle.orca_operands.specs.GivenView.{part_pieces, parts_answer}
+use Rattle.orca_operands.proofs.Gathering.{AreItems, IsOnce, GathersAll}
 
 -- ---- instructions
 

@@ -9,7 +9,7 @@ use Rattle.asm_meaning.specs.Formulas.{IsFormula}
 use Rattle.asm_meaning.specs.State.{State, state_after_end}
 use Rattle.asm_meaning.specs.Statement.{IsMove, constants_of, marking, equating, equating_outside}
 use Rattle.orca_object.specs.declared.state.AsmState.{AsmState}
-use Rattle.orca_object.specs.NumberView.{number_found}
+use Rattle.orca_operands.specs.NumberView.{number_found}
 use Rattle.orca_object.specs.StateView.{Leaves}
 
 -- the number of ORG

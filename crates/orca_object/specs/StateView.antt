@@ -14,9 +14,9 @@ use Rattle.asm_meaning.specs.State.{StartedSegment, State, bank_size_of, cells_o
 use Rattle.asm_meaning.specs.Statement.{IsDone}
 use Rattle.orca_object.specs.declared.state.OpenSegment.{OpenSegment}
 use Rattle.orca_object.specs.declared.state.AsmState.{AsmState}
-use Rattle.orca_object.specs.ModeView.{widths}
-use Rattle.orca_object.specs.NamesView.{names_of, outside_of}
-use Rattle.orca_object.specs.TextView.{text_within_limit, kept_text}
+use Rattle.orca_operands.specs.ModeView.{widths}
+use Rattle.orca_operands.specs.NamesView.{names_of, outside_of}
+use Rattle.orca_operands.specs.TextView.{text_within_limit, kept_text}
 use Rattle.orca_object.specs.BodyView.{ShowsBody}
 
 -- the header that a segment has so far

@@ -13,21 +13,19 @@ ghost use Rattle.asm_meaning.specs.Statement.{marking};
 ghost use Rattle.orca_object.specs.DoneView.{spaced_by};
 ghost use Rattle.asm_meaning.specs.declared.directives.Directive.TheVariants as directives;
 
-use crate::amount::number_in;
-use crate::causes::pair_or_earlier_fault;
-use crate::encoding::{Encoding, label_and_encoding};
 use crate::state::{AsmState, OpenSegment};
 use crate::statement::{constants_given, instruction_given};
 use asm_meaning::AsmCause;
 use omf_base::Name;
 use omf_records::Rec;
+use orca_operands::{Encoding, label_and_encoding, number_in, pair_or_earlier_fault};
 use orca_text::{LinePart, Mnemonic, SourceLine};
 use std::alloc::{AllocError, Global};
 
 impl OpenSegment {
     ghost use Rattle.std.specs.Prelude.{◌≡◌, ℕ, min, IfOk};
-    ghost use Rattle.orca_object.specs.GivenView.{given_pieces, given_records};
-    ghost use Rattle.asm_meaning.specs.laws.PieceLaws.{ArePlainPieces};
+    ghost use Rattle.orca_operands.specs.GivenView.{given_pieces, given_records};
+    ghost use Rattle.asm_meaning.specs.Pieces.{ArePlainPieces};
     ghost use Rattle.asm_meaning.specs.State.{StartedSegment, with_local_record};
     ghost use Rattle.orca_object.specs.StateView.{ShowsSegment, ShowsGrown};
 
@@ -58,9 +56,9 @@ impl AsmState {
     ghost use Rattle.std.specs.Prelude.{◌≡◌, ◌∷◌, [], IfOk, Ok};
     ghost use Rattle.omf_format.specs.Record.{Space};
     ghost use Rattle.asm_meaning.specs.State.{State, in_segment, with_local_record};
-    ghost use Rattle.orca_object.specs.GivenView.{given_pieces, given_records};
+    ghost use Rattle.orca_operands.specs.GivenView.{given_pieces, given_records};
     ghost use Rattle.orca_object.specs.StateView.{ShowsState, Leaves};
-    ghost use Rattle.asm_meaning.specs.laws.PieceLaws.{ArePlainPieces};
+    ghost use Rattle.asm_meaning.specs.Pieces.{ArePlainPieces};
 
     /// A statement with its label.
     fn mark_given(

@@ -6,8 +6,8 @@ ghost use Rattle.asm_meaning.specs.Constant as meaning;
 ghost use Rattle.asm_meaning.specs.Constant.{tree_of_amount};
 ghost use Rattle.asm_meaning.specs.Formulas.{expression_text};
 ghost use Rattle.asm_meaning.specs.Statement.{value_of};
-ghost use Rattle.orca_object.specs.AmountView.{kept_view, kept_of};
-ghost use Rattle.orca_object.specs.FineView.{IsFineAmount};
+ghost use Rattle.orca_operands.specs.AmountView.{kept_view, kept_of};
+ghost use Rattle.orca_operands.specs.FineView.{IsFineAmount};
 ghost use Rattle.orca_meaning.specs.Line.{Line};
 ghost use Rattle.asm_meaning.specs.declared.directives.Operation.TheVariants.{Direct};
 ghost use Rattle.asm_meaning.specs.declared.directives.Directive.TheVariants as directives;
@@ -16,13 +16,13 @@ ghost use Rattle.orca_object.specs.StateView.{ShowsState, IsLeft};
 ghost use Rattle.orca_object.specs.DoneView.{IsSome};
 ghost use Rattle.orca_object.specs.DoingView.{IsEquated, IsConstant};
 
-use crate::amount::{Amount, amount_in, number_in};
-use crate::causes::pair_or_earlier_fault;
-use crate::piece::{number_text, shift_and_end};
 use crate::state::AsmState;
 use asm_meaning::AsmCause;
 use omf_base::Name;
 use omf_records::Rec;
+use orca_operands::{
+    Amount, amount_in, number_in, number_text, pair_or_earlier_fault, shift_and_end,
+};
 use orca_text::LinePart;
 use std::alloc::{AllocError, Global};
 
@@ -61,8 +61,8 @@ fn value_of(amount: &Amount) -> Option<u32>
 impl AsmState {
     ghost use Rattle.std.specs.Prelude.{◌≡◌, ◌≤◌, length, OnOk};
     ghost use Rattle.asm_meaning.specs.Constant as meaning;
-    ghost use Rattle.orca_object.specs.AmountView.{kept_view, kept_of};
-    ghost use Rattle.orca_object.specs.FineView.{IsFineAmount};
+    ghost use Rattle.orca_operands.specs.AmountView.{kept_view, kept_of};
+    ghost use Rattle.orca_operands.specs.FineView.{IsFineAmount};
     ghost use Rattle.asm_meaning.specs.State.{State, in_segment};
     ghost use Rattle.asm_meaning.specs.Statement.{with_equate};
     ghost use Rattle.orca_object.specs.StateView.{ShowsState};

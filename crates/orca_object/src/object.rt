@@ -5,11 +5,11 @@ ghost use Rattle.omf_format.specs.Header.{IsWritable};
 ghost use Rattle.omf_header.specs.View.{fields};
 ghost use Rattle.asm_meaning.specs.State.{FinishedSegment};
 ghost use Rattle.asm_meaning.specs.Object.{records_text, segment_text, object_text};
-ghost use Rattle.orca_object.specs.TextView.{text_within_limit, kept_text};
+ghost use Rattle.orca_operands.specs.TextView.{text_within_limit, kept_text};
 
-use crate::record_bytes::{MAX_FILE, RecordBytes};
 use omf_base::Name;
 use omf_header::{Header, WriteHeaderFault, write_header};
+use orca_operands::{MAX_FILE, RecordBytes};
 use std::alloc::{AllocError, Global};
 
 /// How many bytes a header with this name has.

@@ -7,15 +7,15 @@ ghost use Rattle.orca_meaning.specs.Operation.{value_of_spelling};
 ghost use Rattle.asm_meaning.specs.Operations.{directives, ignored_directives, as_ignored, operation_of};
 ghost use Rattle.orca_object.specs.Tables.{directives_after_gequ};
 ghost use Rattle.asm_meaning.specs.Statement.{following_here, is_some_text, is_labelled, needs_segment, begins_segment, needs_label, label_of};
-ghost use Rattle.orca_object.specs.OperandView.{name_answer, no_label};
+ghost use Rattle.orca_operands.specs.OperandView.{name_answer, no_label};
 ghost use Rattle.asm_meaning.specs.State.{State};
 ghost use Rattle.orca_object.specs.DoneView.{IsSome};
 ghost use Rattle.orca_object.specs.StateView.{ShowsState};
 
-use crate::operand::{following_here, is_name};
 use crate::state::AsmState;
 use asm_meaning::{AsmCause, Class, Directive, Operation, Switch};
 use omf_base::Name;
+use orca_operands::{following_here, is_name};
 use orca_text::{LinePart, is_spelled, mnemonic_of, to_upper_case};
 use std::alloc::{AllocError, Global};
 

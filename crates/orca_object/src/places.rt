@@ -10,13 +10,11 @@ ghost use Rattle.asm_meaning.specs.declared.directives.Operation.TheVariants.{Di
 ghost use Rattle.asm_meaning.specs.declared.directives.Directive.TheVariants as directives;
 ghost use Rattle.orca_object.specs.DoingView.{HasDistance};
 
-use crate::amount::number_in;
-use crate::causes::pair_or_earlier_fault;
-use crate::operand::following_here;
 use crate::state::AsmState;
 use asm_meaning::AsmCause;
 use omf_base::{Name, padding};
 use omf_records::Rec;
+use orca_operands::{following_here, number_in, pair_or_earlier_fault};
 use orca_text::LinePart;
 use std::alloc::{AllocError, Global};
 

@@ -15,17 +15,15 @@ ghost use Rattle.orca_object.specs.StateView.{ShowsState, IsLeft, Leaves};
 ghost use Rattle.orca_object.specs.DoneView.{IsSome, kinded_by, using_by};
 ghost use Rattle.orca_object.specs.DoingView.{ending};
 
-use crate::amount::number_in;
-use crate::causes::{earlier, pair_or_earlier_fault};
-use crate::names::DefinedNames;
 use crate::object::{header_size, put_segment};
-use crate::operand::{is_name, name_of};
-use crate::record_bytes::RecordBytes;
 use crate::state::{AsmState, OpenSegment, SegmentBody};
 use asm_meaning::{AsmCause, Class};
 use omf_base::Name;
 use omf_header::{Header, Kind};
 use omf_records::Rec;
+use orca_operands::{
+    DefinedNames, RecordBytes, earlier, is_name, name_of, number_in, pair_or_earlier_fault,
+};
 use orca_text::LinePart;
 use std::alloc::{AllocError, Global};
 use std::mem;

@@ -5,13 +5,12 @@ ghost use Rattle.std.specs.Prelude.{◌≡◌, ◌≤◌, true};
 ghost use Rattle.omf_format.specs.Header.{is_listed, form_of};
 ghost use Rattle.asm_meaning.specs.State.{greatest_length};
 
-use crate::mode::Widths;
-use crate::names::{DefinedNames, KnownConstants, OutsideConstants};
-use crate::record_bytes::RecordBytes;
-use crate::writer::RecordWriter;
 use asm_meaning::{AsmCause, Class};
 use omf_base::Name;
 use omf_records::Rec;
+use orca_operands::{
+    DefinedNames, KnownConstants, OutsideConstants, RecordBytes, RecordWriter, Widths,
+};
 use std::alloc::{AllocError, Global};
 
 /// The most cells that a segment may have, whatever its class.
@@ -83,7 +82,7 @@ impl SegmentBody {
     ghost use Rattle.asm_meaning.specs.Object.{records_text};
     ghost use Rattle.asm_meaning.specs.Pieces.{place_after};
     ghost use Rattle.orca_object.specs.BodyView.{ShowsBody};
-    ghost use Rattle.orca_object.specs.TextView.{text_within_limit, kept_text};
+    ghost use Rattle.orca_operands.specs.TextView.{text_within_limit, kept_text};
 
     /// Records that give no cells, after room for a header.
     #[tactic(auto, using(crate::proofs::Bodies::begins))]
@@ -252,7 +251,7 @@ impl AsmState {
     ghost use Rattle.asm_meaning.specs.State.{State, start, in_segment, with_local_record, is_too_long};
     ghost use Rattle.asm_meaning.specs.declared.directives.Operation.{Operation};
     ghost use Rattle.asm_meaning.specs.Statement.{constants_of, is_taken, begins_segment};
-    ghost use Rattle.orca_object.specs.NamesView.{constants};
+    ghost use Rattle.orca_operands.specs.NamesView.{constants};
     ghost use Rattle.orca_object.specs.StateView.{ShowsState};
 
     /// Before the first line.

@@ -6,18 +6,16 @@ ghost use Rattle.orca_meaning.specs.Line.{LiesIn};
 ghost use Rattle.orca_text.specs.OperandView.{line_mnemonic, line_operand};
 ghost use Rattle.asm_meaning.specs.Elements.{Element, AreElements};
 ghost use Rattle.orca_object.specs.GivenBy.{IsByInstruction, IsByList, HasElements};
-ghost use Rattle.orca_object.specs.GivenView.{given_answer, parts_answer};
+ghost use Rattle.orca_operands.specs.GivenView.{given_answer, parts_answer};
 ghost use Rattle.orca_object.specs.MarkView.{IsPlainAnswer};
-ghost use Rattle.orca_object.specs.ModeView.{widths};
-ghost use Rattle.orca_object.specs.NamesView.{constants};
+ghost use Rattle.orca_operands.specs.ModeView.{widths};
+ghost use Rattle.orca_operands.specs.NamesView.{constants};
 
-use crate::causes::{answer_or_fault, gather_answer};
-use crate::dc::element_at;
-use crate::encoding::{Encoding, RepeatedPieces};
-use crate::instruct::instruct;
-use crate::mode::Widths;
-use crate::names::KnownConstants;
 use asm_meaning::AsmCause;
+use orca_operands::{
+    Encoding, KnownConstants, RepeatedPieces, Widths, answer_or_fault, element_at, gather_answer,
+    instruct,
+};
 use orca_text::{LinePart, Mnemonic, SourceLine, TextCause, after_byte, read_operand};
 use std::alloc::{AllocError, Global};
 

@@ -5,10 +5,10 @@ ghost use Rattle.asm_meaning.specs.Statement.{switch_of, turning};
 ghost use Rattle.asm_meaning.specs.State.{State};
 ghost use Rattle.orca_object.specs.StateView.{ShowsState, Leaves};
 
-use crate::causes::pair_or_earlier_fault;
 use crate::state::AsmState;
 use asm_meaning::{AsmCause, Switch};
 use omf_base::Name;
+use orca_operands::pair_or_earlier_fault;
 use orca_text::is_spelled;
 use std::alloc::{AllocError, Global};
 

@@ -3,18 +3,11 @@ use Rattle.std.proofs.Common.{◌≡◌, ℕ, zero, suc, ◌+◌, ◌^◌, ◌<�
 use Rattle.std.specs.List.{AllByRecursion}
 use Rattle.std.proofs.lemmas.Bool.{leb-true}
 use Rattle.std.proofs.lemmas.List.Concat.{flat_map-cons}
-use Rattle.omf_format.specs.Field.{written_layout}
-use Rattle.omf_format.specs.Record.{Record, Const, LongConst, IsRecord}
-use Rattle.omf_format.specs.Reading.{is_end}
+use Rattle.omf_format.specs.Record.{Record, Const, LongConst}
 use Rattle.object_meaning.specs.laws.RunLaws.{IsBodyRecord}
 use Rattle.object_meaning.specs.Sizes.{size_at}
-use Rattle.asm_meaning.specs.Pieces.{Piece, Bytes, Whole, constant_records, records_after, copies, place_after, length_at}
+use Rattle.asm_meaning.specs.Pieces.{IsPlain, IsPlainPiece, ArePlainPieces, Piece, Bytes, Whole, constant_records, records_after, copies, place_after, length_at}
 use Rattle.asm_meaning.specs.Elements.{joined_pieces}
-
--- a record of a body that has a spelling as long as it gives less than 2 ^ 32 cells
-pub record IsPlain (r : Record) : Type 0 where
-  pub spelled : (at : ℕ) → size_at at r < 2 ^ 32 → IsRecord written_layout r
-  pub inner : is_end r ≡ false
 
 abbrev pub ArePlain : List Record → Type 0
 ArePlain rs = AllByRecursion IsPlain rs
@@ -49,13 +42,6 @@ plain_fit at (r ∷ rs) all less =
     ((all.0.spelled at size, all.0.inner), plain_fit (at + size_at at r) rs all.1 less)
 
 -- ---- pieces
-
-abbrev pub IsPlainPiece : Piece → Type 0
-IsPlainPiece (Bytes bytes) = Unit {0}
-IsPlainPiece (Whole r) = IsPlain r
-
-abbrev pub ArePlainPieces : List Piece → Type 0
-ArePlainPieces pieces = AllByRecursion IsPlainPiece pieces
 
 constant_plain : (bytes : List ℕ) → ArePlain (constant_records bytes)
 constant_plain [] = tt

@@ -25,17 +25,17 @@ use Rattle.asm_meaning.specs.declared.directives.Operation.{Operation}
 use Rattle.asm_meaning.specs.declared.directives.Operation.TheVariants.{Instruct, Direct}
 use Rattle.asm_meaning.specs.declared.faults.AsmCause.TheVariants.{BadLabel, BadOperand, BadNumber, DoesNotFit, SegmentTooLong}
 use Rattle.asm_meaning.specs.Answer.{Answer, pair_or_earlier_fault}
-use Rattle.asm_meaning.specs.Constant.{KnownValue, Number, Open, Divided, known_value, required_number, Amount, Known, Written, amount, tree_of_amount}
+use Rattle.asm_meaning.specs.Constant.{KnownValue, Number, Open, Divided, known_value, required_number, Amount, Known, Written, amount, tree_of_amount, AreSmall}
 use Rattle.asm_meaning.specs.Elements.{list_pieces}
 use Rattle.asm_meaning.specs.Formulas.{IsFormula, formula_of}
 use Rattle.asm_meaning.specs.Instruction.{instruction}
 use Rattle.asm_meaning.specs.Operations.{operation_of}
-use Rattle.asm_meaning.specs.Pieces.{Piece, records_of}
+use Rattle.asm_meaning.specs.Pieces.{Piece, records_of, IsPlain, ArePlainPieces}
 use Rattle.asm_meaning.specs.State.{StartedSegment, State, cells_of, greatest_length, state_after_start, state_after_end, with_records, with_local_record, in_segment, is_too_long, within_length}
 use Rattle.asm_meaning.specs.Statement.{needs_label, is_taken, free_label, label_of, IsOperandOf, Good, Bad, Large, load_name_of, name_of, switch_of, value_in, constants_in, constants_of, number_in, alignment_in, distance_in, listed_kind, state_after_align, state_after_org, with_kind, equate, value_of, with_equate, equating, equating_outside, equating_global, spacing, align_state, moving, kinding, IsMoveText, IsMove, marking, IsDone, IsPlaced, IsKnown, IsStep, is_misplaced}
-use Rattle.asm_meaning.specs.laws.AmountLaws.{AreSmall, IsFineAmount, fine_amount, small_worth, is_written}
+use Rattle.asm_meaning.specs.laws.AmountLaws.{IsFineAmount, fine_amount, small_worth, is_written}
 use Rattle.asm_meaning.specs.laws.InstructionLaws.{both_ok}
-use Rattle.asm_meaning.specs.laws.PieceLaws.{IsPlain, ArePlain, ArePlainPieces, all-append, records_plain}
+use Rattle.asm_meaning.specs.laws.PieceLaws.{ArePlain, all-append, records_plain}
 use Rattle.asm_meaning.specs.laws.GivenLaws.{IsNameLength, instruction_plain, judged_fine, list_plain}
 use Rattle.asm_meaning.specs.laws.Sound.{IsSoundSegment, IsSound, IsShort, InSegment, IsLabelText, change_sound, grown_sound, marked_sound, mark_sound, turned_sound, begun_sound, ends_sound}
 

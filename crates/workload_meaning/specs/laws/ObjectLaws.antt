@@ -8,8 +8,8 @@ use Rattle.omf_format.specs.Record.{Record, End, Const, LongConst, Align, Org, S
 use Rattle.omf_format.specs.File.{Segment}
 use Rattle.object_meaning.specs.Sizes.{body_size}
 use Rattle.asm_meaning.specs.State.{FinishedSegment}
-use Rattle.asm_meaning.specs.Pieces.{place_after}
-use Rattle.asm_meaning.specs.laws.PieceLaws.{IsPlain, ArePlain}
+use Rattle.asm_meaning.specs.Pieces.{place_after, IsPlain}
+use Rattle.asm_meaning.specs.laws.PieceLaws.{ArePlain}
 use Rattle.asm_meaning.specs.laws.Sound.{IsSoundHeader, IsSoundEnded}
 use Rattle.asm_meaning.specs.ObjectFile.{IsReadAs, AreReadAs}
 use Rattle.workload_meaning.specs.Draws.{next, draws}

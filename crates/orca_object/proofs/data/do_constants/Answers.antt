@@ -1,6 +1,6 @@
-use Rattle.orca_object.specs.NamesView.{constants}
+use Rattle.orca_operands.specs.NamesView.{constants}
 use Rattle.orca_object.proofs.MarkLaws.{constants_plain, constants_left}
-use Rattle.orca_object.proofs.After.{then_if}
+use Rattle.orca_operands.proofs.After.{then_if}
 use Rattle.orca_object.proofs.data.do_constants.Goals as goal
 
 pub give_statement-requires : goal.give_statement-requires

@@ -1,8 +1,8 @@
 use Rattle.orca_text.specs.OperandView.{line_operand}
-use Rattle.orca_object.specs.ModeView.{widths}
-use Rattle.orca_object.specs.NamesView.{constants}
+use Rattle.orca_operands.specs.ModeView.{widths}
+use Rattle.orca_operands.specs.NamesView.{constants}
 use Rattle.orca_object.proofs.MarkLaws.{instruct_left}
-use Rattle.orca_object.proofs.After.{then_if}
+use Rattle.orca_operands.proofs.After.{then_if}
 use Rattle.orca_object.proofs.data.do_instruct.Goals as goal
 
 pub returns : goal.returns

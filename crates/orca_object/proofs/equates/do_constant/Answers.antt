@@ -1,5 +1,5 @@
 use Rattle.std.proofs.Common.{sym, ◌∙◌}
-use Rattle.orca_object.specs.NamesView.{constants}
+use Rattle.orca_operands.specs.NamesView.{constants}
 use Rattle.orca_object.proofs.Lefts.{constant_fault}
 use Rattle.orca_object.proofs.equates.do_constant.Goals as goal
 

@@ -1,4 +1,4 @@
-use Rattle.orca_object.proofs.After.{then_if}
+use Rattle.orca_operands.proofs.After.{then_if}
 use Rattle.orca_object.proofs.StepLaws.{equ_left}
 use Rattle.orca_object.proofs.equates.do_equ.Goals as goal
 

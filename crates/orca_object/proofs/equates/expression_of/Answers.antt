@@ -1,5 +1,5 @@
 use Rattle.orca_object.proofs.EquateLaws.{tree_fine}
-use Rattle.orca_object.proofs.After.{then_if}
+use Rattle.orca_operands.proofs.After.{then_if}
 use Rattle.orca_object.proofs.equates.expression_of.Goals as goal
 
 pub returns-in-Written-clause-fine : goal.returns-in-Written-clause-fine

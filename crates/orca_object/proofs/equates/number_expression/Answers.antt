@@ -1,6 +1,6 @@
 use Rattle.omf_format.specs.Expression.{Leaf, Constant}
 use Rattle.orca_object.proofs.EquateLaws.{number_fine}
-use Rattle.orca_object.proofs.After.{then_if}
+use Rattle.orca_operands.proofs.After.{then_if}
 use Rattle.orca_object.proofs.equates.number_expression.Goals as goal
 
 pub returns-clause-fine : goal.returns-clause-fine

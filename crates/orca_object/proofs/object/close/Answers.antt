@@ -2,7 +2,7 @@ use Rattle.std.proofs.Common.{ℕ, List, ◌++◌, length, drop, ap, ◌∙◌, 
 use Rattle.std.proofs.lemmas.List.{with_items_is}
 use Rattle.omf_format.specs.laws.WrittenHeaderLaws.{length-header}
 use Rattle.omf_header.specs.View.{fields}
-use Rattle.orca_object.specs.TextView.{kept_by}
+use Rattle.orca_operands.specs.TextView.{kept_by}
 use Rattle.orca_object.proofs.Objects.{long_closed, many_closed, put_closed}
 use Rattle.orca_object.proofs.object.close.Goals as goal
 

@@ -1,7 +1,7 @@
 use Rattle.std.proofs.Common.{◌∙◌}
 use Rattle.asm_meaning.specs.Object.{object_text, segment_text}
 use Rattle.orca_object.proofs.Objects.{one_after}
-use Rattle.orca_object.proofs.After.{then_ok}
+use Rattle.orca_operands.proofs.After.{then_ok}
 use Rattle.orca_object.proofs.object.put_segment.Goals as goal
 
 pub returns : goal.returns

@@ -1,5 +1,5 @@
 use Rattle.orca_object.proofs.Lefts.{org_left}
-use Rattle.orca_object.proofs.After.{then_if}
+use Rattle.orca_operands.proofs.After.{then_if}
 use Rattle.orca_object.proofs.places.do_org.Goals as goal
 
 pub returns : goal.returns

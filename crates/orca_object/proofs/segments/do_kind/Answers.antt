@@ -1,6 +1,6 @@
-use Rattle.orca_object.specs.NamesView.{constants}
+use Rattle.orca_operands.specs.NamesView.{constants}
 use Rattle.orca_object.proofs.Lefts.{kind_left}
-use Rattle.orca_object.proofs.After.{then_if}
+use Rattle.orca_operands.proofs.After.{then_if}
 use Rattle.orca_object.proofs.segments.do_kind.Goals as goal
 
 pub returns : goal.returns

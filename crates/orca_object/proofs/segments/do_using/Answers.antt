@@ -1,7 +1,7 @@
 use Rattle.std.proofs.Common.{sym, subst}
 use Rattle.orca_object.specs.DoneView.{IsSome}
 use Rattle.orca_object.proofs.Lefts.{using_left, some_named}
-use Rattle.orca_object.proofs.After.{then_if}
+use Rattle.orca_operands.proofs.After.{then_if}
 use Rattle.orca_object.proofs.segments.do_using.Goals as goal
 
 pub using-requires : goal.using-requires

@@ -1,4 +1,4 @@
-use Rattle.orca_object.specs.NamesView.{constants}
+use Rattle.orca_operands.specs.NamesView.{constants}
 use Rattle.orca_object.proofs.Stating.{by_parts, by_fault, by_nothing, with_answer}
 use Rattle.orca_object.proofs.statement.constants_given.Goals as goal
 

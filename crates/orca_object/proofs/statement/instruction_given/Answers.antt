@@ -1,7 +1,7 @@
 use Rattle.orca_text.specs.OperandView.{line_operand}
-use Rattle.orca_object.specs.GivenView.{given_answer}
-use Rattle.orca_object.specs.ModeView.{widths}
-use Rattle.orca_object.specs.NamesView.{constants}
+use Rattle.orca_operands.specs.GivenView.{given_answer}
+use Rattle.orca_operands.specs.ModeView.{widths}
+use Rattle.orca_operands.specs.NamesView.{constants}
 use Rattle.orca_object.proofs.MarkLaws.{instruct_plain}
 use Rattle.orca_object.proofs.Stating.{first_is_fine, second_is_fine, by_instruction, bad_operand, bad_number}
 use Rattle.orca_object.proofs.statement.instruction_given.Goals as goal

@@ -1,12 +1,12 @@
 use Rattle.std.proofs.Common.{◌≡◌, ◌∷◌, map, length, sym, ap, subst, ◌∙◌, arith}
 use Rattle.asm_meaning.specs.Elements.{IsElementAt, element_pieces}
 use Rattle.asm_meaning.specs.laws.GivenLaws.{element-le}
-use Rattle.orca_object.specs.GivenView.{part_pieces}
-use Rattle.orca_object.specs.NamesView.{constants}
-use Rattle.orca_object.proofs.ByFormulas.{empty_list}
-use Rattle.orca_object.proofs.Gathering.{gathers_more, gathers_last, gathers_none, gathers_wrong, GathersAll}
-use Rattle.orca_object.proofs.Judging.{nothing_yet}
-use Rattle.orca_object.proofs.Listed.{some_list}
+use Rattle.orca_operands.specs.GivenView.{part_pieces}
+use Rattle.orca_operands.specs.NamesView.{constants}
+use Rattle.orca_operands.proofs.ByFormulas.{empty_list}
+use Rattle.orca_operands.proofs.Gathering.{gathers_more, gathers_last, gathers_none, gathers_wrong, GathersAll}
+use Rattle.orca_operands.proofs.Judging.{nothing_yet}
+use Rattle.orca_operands.proofs.Listed.{some_list}
 use Rattle.orca_object.proofs.Stating.{stands_once, has_elements, no_elements, all_parts}
 use Rattle.orca_object.proofs.statement.parts_in.Goals as goal
 

@@ -1,8 +1,8 @@
 use Rattle.std.proofs.Common.{map, length}
 use Rattle.asm_meaning.specs.Elements.{IsElementAt, element_pieces}
-use Rattle.orca_object.specs.GivenView.{part_pieces}
-use Rattle.orca_object.specs.NamesView.{constants}
-use Rattle.orca_object.proofs.Gathering.{Gathers}
+use Rattle.orca_operands.specs.GivenView.{part_pieces}
+use Rattle.orca_operands.specs.NamesView.{constants}
+use Rattle.orca_operands.proofs.Gathering.{Gathers}
 use Rattle.orca_object.proofs.statement.parts_in.Given as goal
 
 abbrev pub invariant-elements : goal.invariant-elements

@@ -1,5 +1,5 @@
 use Rattle.orca_object.proofs.Lefts.{end_left, turn_left, nothing_left, ignored_left}
-use Rattle.orca_object.proofs.After.{then_if}
+use Rattle.orca_operands.proofs.After.{then_if}
 use Rattle.orca_object.proofs.step.do_unlabelled.Goals as goal
 
 pub returns-in-End : goal.returns-in-End

@@ -3,7 +3,7 @@ use Rattle.orca_meaning.specs.Line.{part}
 use Rattle.orca_text.specs.View.{line}
 use Rattle.asm_meaning.specs.Operations.{operation_of}
 use Rattle.asm_meaning.specs.Statement.{label_of, is_misplaced}
-use Rattle.orca_object.proofs.After.{then_if}
+use Rattle.orca_operands.proofs.After.{then_if}
 use Rattle.orca_object.proofs.StepLaws.{placed_step}
 use Rattle.orca_object.proofs.step.step.Goals as goal
 

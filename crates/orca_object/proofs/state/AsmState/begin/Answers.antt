@@ -2,7 +2,7 @@ use Rattle.std.proofs.Common.{ℕ, ◌+◌, List, None, length, replicate, refl,
 use Rattle.macro_meaning.specs.Symbol.{with_name}
 use Rattle.asm_meaning.specs.Object.{records_text}
 use Rattle.asm_meaning.specs.State.{Names, no_names}
-use Rattle.orca_object.specs.TextView.{text_within_limit, kept_text}
+use Rattle.orca_operands.specs.TextView.{text_within_limit, kept_text}
 use Rattle.orca_object.proofs.States.{no_records, no_cells, header_begun}
 use Rattle.orca_object.proofs.state.AsmState.begin.Goals as goal
 

@@ -1,7 +1,7 @@
 use Rattle.std.proofs.Common.{◌∷◌, [], ap, arith, ◌∙◌}
 use Rattle.omf_records.specs.View.{view}
-use Rattle.orca_object.specs.declared.writer.RecordWriter.{RecordWriter}
-use Rattle.orca_object.specs.TextView.{kept_text}
+use Rattle.orca_operands.specs.declared.writer.RecordWriter.{RecordWriter}
+use Rattle.orca_operands.specs.TextView.{kept_text}
 use Rattle.orca_object.proofs.Growing.{marked_grown, marked_long, one_size, grown_one}
 use Rattle.orca_object.proofs.state.OpenSegment.give_record.Goals as goal
 

@@ -1,5 +1,5 @@
 use Rattle.orca_object.specs.StateView.{with_defined_name}
-use Rattle.orca_object.proofs.After.{then_ok}
+use Rattle.orca_operands.proofs.After.{then_ok}
 use Rattle.orca_object.proofs.state.OpenSegment.mark.Goals as goal
 
 pub returns-clause-segment : goal.returns-clause-segment

@@ -1,4 +1,4 @@
-use Rattle.orca_object.proofs.After.{then_ok}
+use Rattle.orca_operands.proofs.After.{then_ok}
 use Rattle.orca_object.proofs.OpenLaws.{marked_none}
 use Rattle.orca_object.proofs.state.OpenSegment.mark_alone.Goals as goal
 

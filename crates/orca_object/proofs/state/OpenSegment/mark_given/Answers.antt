@@ -2,9 +2,9 @@ use Rattle.std.proofs.Common.{◌≡◌, ◌≤◌, ap, arith, ◌∙◌}
 use Rattle.asm_meaning.specs.Object.{records_text}
 use Rattle.asm_meaning.specs.Pieces.{length_at}
 use Rattle.asm_meaning.specs.State.{cells_of}
-use Rattle.orca_object.specs.GivenView.{given_records}
-use Rattle.orca_object.specs.declared.writer.RecordWriter.{RecordWriter}
-use Rattle.orca_object.specs.TextView.{kept_text}
+use Rattle.orca_operands.specs.GivenView.{given_records}
+use Rattle.orca_operands.specs.declared.writer.RecordWriter.{RecordWriter}
+use Rattle.orca_operands.specs.TextView.{kept_text}
 use Rattle.orca_object.proofs.Growing.{marked_grown, marked_long, grown_same}
 use Rattle.orca_object.proofs.state.OpenSegment.mark_given.Goals as goal
 

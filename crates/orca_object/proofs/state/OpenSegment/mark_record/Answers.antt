@@ -1,7 +1,7 @@
 use Rattle.std.proofs.Common.{sym}
 use Rattle.omf_records.specs.View.{view}
 use Rattle.orca_object.specs.StateView.{with_local_label}
-use Rattle.orca_object.proofs.After.{then_ok}
+use Rattle.orca_operands.proofs.After.{then_ok}
 use Rattle.orca_object.proofs.OpenLaws.{marked_one}
 use Rattle.orca_object.proofs.state.OpenSegment.mark_record.Goals as goal
 

@@ -1,6 +1,6 @@
 use Rattle.std.proofs.Common.{refl}
 use Rattle.omf_records.specs.View.{view}
-use Rattle.orca_object.proofs.After.{then_ok}
+use Rattle.orca_operands.proofs.After.{then_ok}
 use Rattle.orca_object.proofs.Bodies.{one_more}
 use Rattle.orca_object.proofs.state.SegmentBody.put.Goals as goal
 

@@ -1,6 +1,0 @@
-use Rattle.std.proofs.Common.{◌≡◌, ◌++◌, map, drop}
-use Rattle.asm_meaning.specs.Elements.{text_byte}
-use Rattle.orca_object.proofs.dc.marked_bytes.Given as goal
-
-abbrev pub invariant-bytes : goal.invariant-bytes
-invariant-bytes l = l.out.items ++ map (text_byte l.msb) (drop l.byte-index l.bytes) ≡ map (text_byte l.msb) l.bytes

@@ -1,6 +1,0 @@
-use Rattle.std.proofs.Common.{drop}
-use Rattle.orca_object.proofs.Packed.{FoundLeft}
-use Rattle.orca_object.proofs.digits.digits_in.Given as goal
-
-abbrev pub invariant-bytes : goal.invariant-bytes
-invariant-bytes l = FoundLeft l.base l.text l.out.items (drop l.byte-index l.text)

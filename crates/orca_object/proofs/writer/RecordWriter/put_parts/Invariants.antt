@@ -1,8 +1,0 @@
-use Rattle.std.proofs.Common.{drop}
-use Rattle.orca_object.specs.GivenView.{all_pieces}
-use Rattle.orca_object.specs.TextView.{kept_text}
-use Rattle.orca_object.proofs.Putting.{PutLeft}
-use Rattle.orca_object.proofs.writer.RecordWriter.put_parts.Given as goal
-
-abbrev pub invariant-parts : goal.invariant-parts
-invariant-parts l = PutLeft (kept_text l.initial.self.text) l.initial.self.waiting.items (all_pieces l.parts) (kept_text l.self.text) l.self.waiting.items (all_pieces (drop l.part-index l.parts))

@@ -1,0 +1,13 @@
+use Rattle.std.proofs.Common.{arith}
+use Rattle.omf_format.specs.Record.{Formula}
+use Rattle.orca_operands.specs.TextView.{kept_text}
+use Rattle.orca_operands.proofs.Putting.{wrote_record}
+use Rattle.orca_operands.proofs.writer.RecordWriter.put_formula.Goals as goal
+
+pub put-requires : goal.put-requires
+put-requires c = c.requires.spelled 0 (omega (arith, c.ranges.count.fits))
+
+pub returns : goal.returns
+returns c = λ whole rest w.
+    wrote_record whole (kept_text c.args.self.now.text) (kept_text c.flush.new.self.text) (kept_text c.put.new.self) c.args.self.now.waiting.items c.flush.new.self.waiting.items (Formula c.args.code c.args.count c.args.n c.args.expr.now) rest
+    c.in_ok-flush.ensures.text c.in_ok-put.ensures c.in_ok-flush.ensures.none w

@@ -1,0 +1,17 @@
+pub mod Held
+pub mod ModeView
+pub mod NamesView
+pub mod AmountView
+pub mod PieceView
+pub mod FewView
+pub mod Chosen
+pub mod OperandView
+pub mod TextView
+pub mod ElementView
+pub mod NumberView
+pub mod FineView
+pub mod GivenView
+pub mod DigitsView
+pub mod DcView
+pub mod JudgedView
+pub mod PutView
