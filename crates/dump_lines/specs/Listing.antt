@@ -2,6 +2,7 @@
 use Rattle.std.specs.Prelude.{◌≡◌, ℕ, suc, ◌+◌, ◌*◌, ◌&&◌, not, ℤ, List, [], ◌∷◌, ◌++◌, length, take, map, codes, nat_le, nat_lt, ◌==◌, if◌then◌else◌}
 use Rattle.std.specs.List.{flat_map}
 use Rattle.omf_base.specs.Digits.{decimal, hexadecimal}
+use Rattle.omf_format.specs.declared.codes.TheConstants.{EXPR, ZEXPR, BEXPR, RELEXPR}
 use Rattle.omf_format.specs.Header.{HeaderFields}
 use Rattle.omf_format.specs.Field.{Layout, length_width_of, shift_byte}
 use Rattle.omf_format.specs.Record.{Record, End, Const, LongConst, Align, Org, Space, Reloc, InterSeg, ShortReloc, ShortInterSeg, Super, Using, Strong, Label, Equate, Formula, Entry, IsRecord}
@@ -75,15 +76,15 @@ label_text width name size form private = name_text name ++ hex_field (2 * width
 -- which formula the code means
 abbrev pub formula_name : ℕ → List ℕ
 formula_name code =
-    if code == 0xEB then codes " EXPR"
-    else if code == 0xEC then codes " ZEXPR"
-    else if code == 0xED then codes " BEXPR"
-    else if code == 0xEE then codes " RELEXPR"
+    if code == EXPR then codes " EXPR"
+    else if code == ZEXPR then codes " ZEXPR"
+    else if code == BEXPR then codes " BEXPR"
+    else if code == RELEXPR then codes " RELEXPR"
     else codes " LEXPR"
 
 -- only RELEXPR has an n
 unfoldable pub formula_text : ℕ → ℕ → ℕ → List ℕ → List ℕ
-formula_text code count n expr = formula_name code ++ hex_field 2 count ++ (if code == 0xEE then hex_field 8 n else []) ++ expression_text expr
+formula_text code count n expr = formula_name code ++ hex_field 2 count ++ (if code == RELEXPR then hex_field 8 n else []) ++ expression_text expr
 
 -- a record's name and its fields, where the length of a label takes `width` bytes; of a SUPER the length, which counts its type and its
 -- subrecords, and the type

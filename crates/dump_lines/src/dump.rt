@@ -11,6 +11,7 @@ ghost use Rattle.omf_records.specs.Segments.{segment_of_view as shown_segment};
 ghost use Rattle.dump_lines.specs.Listing.{quoted_byte, quoted_name, hex_bytes, first_bytes, labelled_number, numbers_text, names_text, segment_line, hex_field, printable_byte, name_text, expression_text, constant_text, patch_text, label_text, formula_name, formula_text, record_text, record_line, segment_text, listing_from, IsListing, HasSpelling};
 
 use omf_base::{Line, LineFault};
+use omf_format::{BEXPR, EXPR, RELEXPR, ZEXPR};
 use omf_header::Header;
 use omf_records::{FileCause, FileFault, Rec, Records, SegmentList, SegmentView, segments};
 use std::alloc::Global;
@@ -215,10 +216,10 @@ fn formula_name(code: u8) -> &'static str
     ensures { result.now ≡ formula_name code }
 {
     match code {
-        0xEB => " EXPR",
-        0xEC => " ZEXPR",
-        0xED => " BEXPR",
-        0xEE => " RELEXPR",
+        EXPR => " EXPR",
+        ZEXPR => " ZEXPR",
+        BEXPR => " BEXPR",
+        RELEXPR => " RELEXPR",
         _ => " LEXPR",
     }
 }
@@ -230,7 +231,7 @@ fn put_formula(line: &mut Line, code: u8, count: u8, n: u32, expr: &[u8]) -> Res
 {
     line.text(formula_name(code))?;
     put_field(line, 2, u32::from(count))?;
-    if code == 0xEE {
+    if code == RELEXPR {
         put_field(line, 8, n)?;
     }
     put_expression(line, expr)

@@ -13,16 +13,7 @@ ghost use Rattle.link_content.specs.Fits.{to_fit_meaning, shown_frame, to_fit, t
 use jump_table::Target;
 use link_meaning::{LinkCause, LinkForm};
 use link_program::Program;
-use omf_format::Value;
-
-/// The code of EXPR.
-const EXPR: u8 = 0xEB;
-/// The code of BEXPR.
-const BEXPR: u8 = 0xED;
-/// The code of RELEXPR.
-const RELEXPR: u8 = 0xEE;
-/// The code of LEXPR.
-const LEXPR: u8 = 0xF3;
+use omf_format::{BEXPR, EXPR, LEXPR, RELEXPR, Value};
 
 /// What a value becomes in its record.
 #[derive(Clone, Copy)]

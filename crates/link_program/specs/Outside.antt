@@ -10,6 +10,7 @@ use Rattle.link_program.specs.declared.outside.Far.{Far}
 use Rattle.link_program.specs.declared.outside.OutsideNames.{OutsideNames}
 use Rattle.link_tables.specs.Names.{Indexes}
 use Rattle.link_tables.specs.Definitions.{numbered_rows}
+use Rattle.omf_format.specs.declared.codes.TheConstants.{DIRECTIVE_LABEL}
 
 -- all that a name can find: what the members of a list define, and then what the run-time library files export
 abbrev pub all_found : List Member → List FoundDefinition
@@ -25,7 +26,7 @@ pub record IsFar (f : FoundDefinition) : Type 0 where
   pub scope : f.definition.scope ≡ ForAll
   pub expr : f.definition.expr ≡ None
   pub size : f.definition.size ≡ 0
-  pub form : f.definition.form ≡ 0x4E
+  pub form : f.definition.form ≡ DIRECTIVE_LABEL
 
 -- these are the names of a table
 pub record AreOutside (fs : List FoundDefinition) (table : OutsideNames) : Type 0 where

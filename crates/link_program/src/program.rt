@@ -14,6 +14,7 @@ ghost use Rattle.link_meaning.specs.First.{IsIn};
 ghost use Rattle.link_meaning.specs.Uses.{Use, uses_of};
 ghost use Rattle.link_meaning.specs.LinkFaults.{LinkInput, IsResolved};
 ghost use Rattle.link_program.specs.Programs.{IsKept, linked_at, header_at, symbol_of, symbol_view, FindsOnly, StandsInInput};
+ghost use Rattle.omf_format.specs.declared.codes.TheConstants.{DIRECTIVE_LABEL};
 
 use crate::files::segment_in;
 use crate::linked::Linked;
@@ -23,6 +24,7 @@ use link_meaning::LinkForm;
 use link_tables::{Defined, LoadOffset};
 use omf_base::Name;
 use omf_cells::LoadFile;
+use omf_format::DIRECTIVE_LABEL;
 use omf_header::Header;
 use omf_records::{SegmentList, SegmentView};
 use std::marker::Model;
@@ -120,7 +122,7 @@ fn definition_at<'a>(far: Far) -> Definition<'a>
       at = far.offset;
       expr = None;
       length = 0;
-      form = 0x4E;
+      form = DIRECTIVE_LABEL;
     } }
 {
     Definition {
@@ -130,7 +132,7 @@ fn definition_at<'a>(far: Far) -> Definition<'a>
         at: far.offset,
         expr: None,
         length: 0,
-        form: 0x4E,
+        form: DIRECTIVE_LABEL,
     }
 }
 

@@ -14,6 +14,7 @@ use crate::listed::Listed;
 use crate::names::{Key, Matches, NameTable};
 use crate::segname::title;
 use link_meaning::SearchStep;
+use omf_format::DIRECTIVE_LABEL;
 use omf_records::{Rec, SegmentView};
 use std::alloc::{AllocError, Global};
 
@@ -125,7 +126,7 @@ impl<'a> Definitions<'a> {
             at: 0,
             expr: None,
             length: 0,
-            form: 0x4E,
+            form: DIRECTIVE_LABEL,
         };
         self.push(Key { step, name }, definition)
     }

@@ -3,6 +3,7 @@
 ghost use Rattle.std.specs.Prelude.{◌≡◌, ◌+◌, ◌≤◌, ◌++◌, ◌∷◌, [], ℕ, List, length, take, drop, IfOk, OnOk, OnErr};
 ghost use Rattle.std.specs.List.{flat_map};
 ghost use Rattle.byteorder.specs.Endian.{little_bytes};
+ghost use Rattle.omf_format.specs.declared.codes.TheConstants.{LCONST};
 ghost use Rattle.omf_format.specs.Field.{written_layout};
 ghost use Rattle.omf_format.specs.Record.{spelling};
 ghost use Rattle.load_meaning.specs.WrittenBody.{data_records, written_cells, zeros_after, body_text};
@@ -11,6 +12,7 @@ ghost use Rattle.load_writer.specs.WrittenParts.{IsKept, IsFront};
 
 use crate::written::BodyFault;
 use crate::written_data::{put_over, stored_length};
+use omf_format::LCONST;
 
 /// How many bytes are before the data of an LCONST: its code and its count.
 const FRONT: usize = 5;
@@ -30,10 +32,10 @@ fn put_pieces(out: &mut Vec<u8>, pieces: &[&[u8]]) -> Result<(), BodyFault>
 /// Appends an LCONST of pieces, whose count isn't written yet.
 #[tactic(auto, using(crate::proofs::Fronts::front_whole, crate::proofs::Fronts::front_after))]
 fn put_open(out: &mut Vec<u8>, pieces: &[&[u8]]) -> Result<(), BodyFault>
-    ensures ok { OnOk result (out.new.items ≡ out.old.items ++ (0xF2 ∷ little_bytes 4 0) ++ joined pieces.now) }
+    ensures ok { OnOk result (out.new.items ≡ out.old.items ++ (LCONST ∷ little_bytes 4 0) ++ joined pieces.now) }
     ensures err { OnErr result (IsFront out.old.items out.new.items) }
 {
-    out.extend_from_slice(&[0xF2, 0, 0, 0, 0])?;
+    out.extend_from_slice(&[LCONST, 0, 0, 0, 0])?;
     put_pieces(out, pieces)
 }
 
@@ -59,7 +61,7 @@ fn close(out: &mut Vec<u8>, start: usize) -> usize
     requires room { start + 5 ≤ length out.old.items }
     requires small { length out.old.items ≤ start + 5 + 0xFFFFFF }
     ensures kept { IsKept (drop (start + 5) out.old.items) 0 result }
-    ensures text { (front content : List ℕ) → out.old.items ≡ front ++ (0xF2 ∷ little_bytes 4 0) ++ content → length front ≡ start
+    ensures text { (front content : List ℕ) → out.old.items ≡ front ++ (LCONST ∷ little_bytes 4 0) ++ content → length front ≡ start
         → out.new.items ≡ front ++ flat_map (spelling written_layout) (data_records (take result content)) }
 {
     let size = kept_from(out.as_slice(), start + FRONT);

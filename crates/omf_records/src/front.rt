@@ -11,7 +11,10 @@ use crate::layout::Layout;
 use crate::patches::{interseg, reloc, short_interseg, short_reloc, super_record};
 use crate::record::Rec;
 use omf_base::{bytes_field, u32_field};
-use omf_format::Flaw;
+use omf_format::{
+    ALIGN, BEXPR, DS, ENTRY, EQU, EXPR, Flaw, GEQU, GLOBAL, INTERSEG, LCONST, LEXPR, LOCAL, ORG,
+    RELEXPR, RELOC, SHORT_INTERSEG, SHORT_RELOC, STRONG, SUPER, USING, ZEXPR,
+};
 
 #[inline]
 #[tactic(auto, unfolding(omf_format::specs::Reading::constant_field))]
@@ -76,27 +79,27 @@ fn by_code(code: u8, rest: &[u8], layout: Layout) -> Result<(Rec<'_>, &[u8]), Fl
     ensures no_longer { IfOk result (λ x. length x.1.now ≤ length rest.now) }
 {
     match code {
-        0xE0 => align(rest),
-        0xE1 => org(rest),
-        0xE2 => reloc(rest),
-        0xE3 => interseg(rest),
-        0xE4 => using(rest, layout.lab_len),
-        0xE5 => strong(rest, layout.lab_len),
-        0xE6 => label(rest, layout, true),
-        0xE7 => equate(rest, layout, true),
-        0xEB => formula(rest, layout.lab_len, 0xEB),
-        0xEC => formula(rest, layout.lab_len, 0xEC),
-        0xED => formula(rest, layout.lab_len, 0xED),
-        0xEE => distance(rest, layout.lab_len),
-        0xEF => label(rest, layout, false),
-        0xF0 => equate(rest, layout, false),
-        0xF1 => space(rest),
-        0xF2 => long_constant(rest),
-        0xF3 => formula(rest, layout.lab_len, 0xF3),
-        0xF4 => entry(rest, layout.lab_len),
-        0xF5 => short_reloc(rest),
-        0xF6 => short_interseg(rest),
-        0xF7 => super_record(rest),
+        ALIGN => align(rest),
+        ORG => org(rest),
+        RELOC => reloc(rest),
+        INTERSEG => interseg(rest),
+        USING => using(rest, layout.lab_len),
+        STRONG => strong(rest, layout.lab_len),
+        GLOBAL => label(rest, layout, true),
+        GEQU => equate(rest, layout, true),
+        EXPR => formula(rest, layout.lab_len, EXPR),
+        ZEXPR => formula(rest, layout.lab_len, ZEXPR),
+        BEXPR => formula(rest, layout.lab_len, BEXPR),
+        RELEXPR => distance(rest, layout.lab_len),
+        LOCAL => label(rest, layout, false),
+        EQU => equate(rest, layout, false),
+        DS => space(rest),
+        LCONST => long_constant(rest),
+        LEXPR => formula(rest, layout.lab_len, LEXPR),
+        ENTRY => entry(rest, layout.lab_len),
+        SHORT_RELOC => short_reloc(rest),
+        SHORT_INTERSEG => short_interseg(rest),
+        SUPER => super_record(rest),
         _ => Err(Flaw::Unread),
     }
 }
@@ -124,8 +127,8 @@ fn read_front(bytes: &[u8], layout: Layout) -> Result<(Rec<'_>, &[u8]), Flaw>
         [] => Err(Flaw::Cut),
         [0x00, rest @ ..] => Ok((Rec::End, rest)),
         [n @ 0x01..=0xDF, rest @ ..] => constant(rest, *n),
-        [0xF1, rest @ ..] => space(rest),
-        [0xF2, rest @ ..] => long_constant(rest),
+        [DS, rest @ ..] => space(rest),
+        [LCONST, rest @ ..] => long_constant(rest),
         [code, rest @ ..] => rarer(*code, rest, layout),
     }
 }

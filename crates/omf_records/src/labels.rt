@@ -10,7 +10,7 @@ use crate::layout::Layout;
 use crate::record::Rec;
 use omf_base::{count_field, name_field, u8_field, u16_field, u32_field};
 use omf_expr::Expr;
-use omf_format::{ExprFault, Flaw};
+use omf_format::{ExprFault, Flaw, RELEXPR};
 
 #[inline]
 #[tactic(auto, unfolding(omf_format::specs::Reading::using_field))]
@@ -145,7 +145,7 @@ pub fn distance(rest: &[u8], lab_len: u8) -> Result<(Rec<'_>, &[u8]), Flaw>
     let (n, rest) = u32_field(rest)?;
     let (expr, rest) = expression(rest, lab_len)?;
     let rec = Rec::Formula {
-        code: 0xEE,
+        code: RELEXPR,
         count,
         n,
         expr,

@@ -7,6 +7,10 @@ ghost use Rattle.omf_format.specs.Record.{Formula, Entry, label_text, spelling, 
 ghost use Rattle.omf_records.specs.View.{view};
 
 use crate::record::Rec;
+use omf_format::{
+    ALIGN, DS, ENTRY, EQU, GEQU, GLOBAL, INTERSEG, LCONST, LOCAL, ORG, RELEXPR, RELOC,
+    SHORT_INTERSEG, SHORT_RELOC, STRONG, SUPER, USING,
+};
 use std::alloc::AllocError;
 
 /// Why no record was written.
@@ -162,7 +166,7 @@ fn put_entry(out: &mut Vec<u8>, segment: u16, offset: u32, name: &[u8]) -> Resul
     let [low, high] = word(segment);
     put_all(
         out,
-        &[0xF4, low, high],
+        &[ENTRY, low, high],
         &four_bytes(offset),
         &[name.len() as u8],
         name,
@@ -175,7 +179,7 @@ fn put_formula(out: &mut Vec<u8>, code: u8, count: u8, n: u32, expr: &[u8]) -> R
     ensures ok { OnOk result (out.new.items ≡ out.old.items ++ spelling written_layout (Formula code count n expr.now)) }
     ensures err { OnErr result (out.new.items ≡ out.old.items) }
 {
-    if code == 0xEE {
+    if code == RELEXPR {
         return put_all(out, &[code, count], &four_bytes(n), &[], expr);
     }
     put_both(out, &[code, count], expr)
@@ -192,13 +196,13 @@ pub fn put_record(out: &mut Vec<u8>, rec: &Rec) -> Result<(), PutFault>
         Rec::End => put_both(out, &[0x00], &[]),
         Rec::Const { bytes } => put_both(out, &[bytes.len() as u8], bytes),
         Rec::LongConst { bytes } => {
-            put_all(out, &[0xF2], &four_bytes(bytes.len() as u32), &[], bytes)
+            put_all(out, &[LCONST], &four_bytes(bytes.len() as u32), &[], bytes)
         }
-        Rec::Align { n } => put_number(out, 0xE0, *n),
-        Rec::Org { n } => put_number(out, 0xE1, *n),
-        Rec::Space { n } => put_number(out, 0xF1, *n),
-        Rec::Using { name } => put_name(out, 0xE4, name, &[], &[]),
-        Rec::Strong { name } => put_name(out, 0xE5, name, &[], &[]),
+        Rec::Align { n } => put_number(out, ALIGN, *n),
+        Rec::Org { n } => put_number(out, ORG, *n),
+        Rec::Space { n } => put_number(out, DS, *n),
+        Rec::Using { name } => put_name(out, USING, name, &[], &[]),
+        Rec::Strong { name } => put_name(out, STRONG, name, &[], &[]),
         Rec::Label {
             global,
             name,
@@ -206,7 +210,7 @@ pub fn put_record(out: &mut Vec<u8>, rec: &Rec) -> Result<(), PutFault>
             form,
             private,
         } => {
-            let code = if *global { 0xE6 } else { 0xEF };
+            let code = if *global { GLOBAL } else { LOCAL };
             put_name(out, code, name, &attributes(*length, *form, *private), &[])
         }
         Rec::Equate {
@@ -217,7 +221,7 @@ pub fn put_record(out: &mut Vec<u8>, rec: &Rec) -> Result<(), PutFault>
             private,
             expr,
         } => {
-            let code = if *global { 0xE7 } else { 0xF0 };
+            let code = if *global { GEQU } else { EQU };
             put_name(out, code, name, &attributes(*length, *form, *private), expr)
         }
         Rec::Formula {
@@ -236,7 +240,7 @@ pub fn put_record(out: &mut Vec<u8>, rec: &Rec) -> Result<(), PutFault>
             shift,
             location,
             offset,
-        } => put_reloc(out, &patch(0xE2, *count, *shift), *location, *offset),
+        } => put_reloc(out, &patch(RELOC, *count, *shift), *location, *offset),
         Rec::InterSeg {
             count,
             shift,
@@ -245,7 +249,7 @@ pub fn put_record(out: &mut Vec<u8>, rec: &Rec) -> Result<(), PutFault>
             segment,
             offset,
         } => {
-            let front = patch(0xE3, *count, *shift);
+            let front = patch(INTERSEG, *count, *shift);
             put_interseg(out, &front, *location, *file, *segment, *offset)
         }
         Rec::ShortReloc {
@@ -254,7 +258,7 @@ pub fn put_record(out: &mut Vec<u8>, rec: &Rec) -> Result<(), PutFault>
             location,
             offset,
         } => {
-            let front = patch(0xF5, *count, *shift);
+            let front = patch(SHORT_RELOC, *count, *shift);
             put_both(out, &front, &words(*location, *offset))
         }
         Rec::ShortInterSeg {
@@ -264,12 +268,12 @@ pub fn put_record(out: &mut Vec<u8>, rec: &Rec) -> Result<(), PutFault>
             segment,
             offset,
         } => {
-            let front = patch(0xF6, *count, *shift);
+            let front = patch(SHORT_INTERSEG, *count, *shift);
             put_all(out, &front, &word(*location), &[*segment], &word(*offset))
         }
         Rec::Super { form, bytes } => {
             let size = four_bytes(bytes.len() as u32 + 1);
-            put_all(out, &[0xF7], &size, &[*form], bytes)
+            put_all(out, &[SUPER], &size, &[*form], bytes)
         }
     }
 }

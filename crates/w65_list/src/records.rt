@@ -3,6 +3,7 @@
 ghost use Rattle.std.specs.Prelude.{◌≡◌, ◌∷◌, ◌≤◌, ◌==◌, if◌then◌else◌, ◌&&◌, ◌||◌, [], ℕ, List, true, ◌++◌, None, Some, not, false, nat_le, option_map, IfSome, IfOk, OnOk, IsErrOf};
 ghost use Rattle.std.specs.Int.{is_power_of_two};
 ghost use Rattle.std.specs.List.{list_all};
+ghost use Rattle.omf_format.specs.declared.codes.TheConstants.{EXPR};
 ghost use Rattle.omf_format.specs.Expression.{Tree, Spells, IsExpression};
 ghost use Rattle.omf_format.specs.Header.{alignment_of};
 ghost use Rattle.omf_format.specs.Record as format;
@@ -29,6 +30,7 @@ use list_lines::{
     put_equate, put_instruction, put_label, put_org, put_using, text_of,
 };
 use omf_expr::Expr;
+use omf_format::{BEXPR, EXPR, LEXPR, RELEXPR, ZEXPR};
 use omf_header::Header;
 use omf_records::Rec;
 use orca_meaning::{Mnemonic, Mode};
@@ -61,8 +63,8 @@ fn address_code(mnemonic: Mnemonic) -> u8
     ensures { result ≡ address_code mnemonic 3 }
 {
     match mnemonic {
-        Mnemonic::Jsl | Mnemonic::Jml => 0xF3,
-        _ => 0xEB,
+        Mnemonic::Jsl | Mnemonic::Jml => LEXPR,
+        _ => EXPR,
     }
 }
 
@@ -73,14 +75,14 @@ fn record_by(mnemonic: Mnemonic, mode: Mode, bytes: u8) -> Option<ListedFormula>
 {
     let (code, n) = match mode {
         Mode::Implied | Mode::Accumulator | Mode::Move => return None,
-        Mode::Immediate | Mode::Signature => (0xEB, 0),
-        Mode::Relative8 | Mode::Relative16 => (0xEE, u32::from(bytes)),
+        Mode::Immediate | Mode::Signature => (EXPR, 0),
+        Mode::Relative8 | Mode::Relative16 => (RELEXPR, u32::from(bytes)),
         Mode::Absolute
         | Mode::AbsoluteX
         | Mode::AbsoluteY
         | Mode::AbsoluteIndirect
         | Mode::AbsoluteXIndirect
-        | Mode::AbsoluteLongIndirect => (0xED, 0),
+        | Mode::AbsoluteLongIndirect => (BEXPR, 0),
         Mode::Long | Mode::LongX => (address_code(mnemonic), 0),
         Mode::Direct
         | Mode::DirectX
@@ -91,7 +93,7 @@ fn record_by(mnemonic: Mnemonic, mode: Mode, bytes: u8) -> Option<ListedFormula>
         | Mode::DirectLong
         | Mode::DirectLongY
         | Mode::Stack
-        | Mode::StackIndirectY => (0xEC, 0),
+        | Mode::StackIndirectY => (ZEXPR, 0),
     };
     Some(ListedFormula {
         code,
@@ -201,12 +203,12 @@ fn is_listable_by_kind(
     formula: ListedFormula,
     front: Front,
 ) -> bool
-    ensures { result ≡ (if formula.code == 0xEB
+    ensures { result ≡ (if formula.code == EXPR
         then (if is_some_name (weak_two (option_map seen front.entry.first) (option_map seen front.entry.second)) then formula.count == 2 else (known.written && known.varies))
         else (is_some_wanted (simple_four (option_map seen front.entry.first) (option_map seen front.entry.second) (option_map seen front.entry.third) (option_map seen front.entry.fourth))
         && follows_opcode formula.code formula.count formula.n (split_last run.now))) }
 {
-    if formula.code == 0xEB {
+    if formula.code == EXPR {
         is_listable_expr(known, formula.count, front)
     } else {
         is_listable_operand(run, formula, front)

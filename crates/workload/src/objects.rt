@@ -1,6 +1,7 @@
 //! The object of the workload.
 
 ghost use Rattle.std.specs.Prelude.{◌≡◌, ◌≤◌, ◌<◌, ◌+◌, ◌*◌, ◌%◌, ◌^◌, ◌++◌, ◌∷◌, [], length, replicate, OnOk, IfOk, true, false, ◌==◌};
+ghost use Rattle.omf_format.specs.declared.codes.TheConstants.{EXPR, RELEXPR, LEXPR};
 ghost use Rattle.omf_format.specs.Field.{written_layout, IsName};
 ghost use Rattle.omf_format.specs.Header.{header_bytes, is_listed, form_of};
 ghost use Rattle.omf_format.specs.Expression.{IsExpression};
@@ -13,6 +14,7 @@ ghost use Rattle.workload_meaning.specs.Object.{name_of, padded, value_of, heade
 use crate::draws::Draws;
 use omf_base::{Line, Name, NameFault};
 use omf_expr::{Term, put_term};
+use omf_format::{EXPR, LEXPR};
 use omf_header::{Header, Kind, WriteHeaderFault, write_header};
 use omf_records::{Rec, put_record};
 use std::alloc::{AllocError, Global};
@@ -65,7 +67,7 @@ fn append_record(body: &mut Vec<u8>, rec: &Rec) -> Result<(), AllocError>
 /// Appends a formula of three bytes: a name alone.
 fn put_value(alloc: Global, body: &mut Vec<u8>, code: u8, name: &[u8]) -> Result<(), AllocError>
     requires code { is_formula code ≡ true }
-    requires near { (code == 0xEE) ≡ false }
+    requires near { (code == RELEXPR) ≡ false }
     requires name { IsName 0 name.now }
     ensures { OnOk result (body.new.items ≡ body.old.items ++ spelling written_layout (Formula code 3 0 (value_of name.now))) }
 {
@@ -93,11 +95,11 @@ fn put_bytes(alloc: Global, body: &mut Vec<u8>, byte: u8, size: u32) -> Result<(
 fn put_call(alloc: Global, body: &mut Vec<u8>, i: u32) -> Result<(), AllocError>
     requires { i ≤ 64 }
     ensures { OnOk result (body.new.items ≡ body.old.items ++ (spelling written_layout (Const (0x22 ∷ []))
-        ++ spelling written_layout (Formula 0xF3 3 0 (value_of (name_of i))))) }
+        ++ spelling written_layout (Formula LEXPR 3 0 (value_of (name_of i))))) }
 {
     let name = name_of(alloc, i)?;
     append_record(body, &Rec::Const { bytes: &[0x22] })?;
-    put_value(alloc, body, 0xF3, name.bytes())
+    put_value(alloc, body, LEXPR, name.bytes())
 }
 
 /// The records of the segment MAIN.
@@ -121,11 +123,11 @@ fn content(alloc: Global, i: u32, name: &[u8], size: u32) -> Result<Vec<u8>, All
     requires short { length name.now ≤ 10 }
     requires number { i ≤ 64 }
     requires small { size < 4112 }
-    ensures records { IfOk result (λ body. body.items ≡ records_text (Formula 0xEB 3 0 (value_of name.now) ∷ LongConst (replicate size i) ∷ End ∷ [])) }
+    ensures records { IfOk result (λ body. body.items ≡ records_text (Formula EXPR 3 0 (value_of name.now) ∷ LongConst (replicate size i) ∷ End ∷ [])) }
     ensures short { IfOk result (λ body. length body.items ≤ 65536) }
 {
     let mut body = Vec::new(alloc);
-    put_value(alloc, &mut body, 0xEB, name)?;
+    put_value(alloc, &mut body, EXPR, name)?;
     put_bytes(alloc, &mut body, i as u8, size)?;
     append_record(&mut body, &Rec::End)?;
     Ok(body)

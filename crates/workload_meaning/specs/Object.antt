@@ -1,5 +1,6 @@
 -- The object of the workload: a segment that calls dynamic segments, and these (GS/OS Reference, appendix F).
 use Rattle.std.specs.Prelude.{ℕ, zero, suc, ◌+◌, ◌-◌, ◌*◌, ◌%◌, List, [], ◌∷◌, ◌++◌, codes, length, replicate}
+use Rattle.omf_format.specs.declared.codes.TheConstants.{EXPR, LEXPR}
 use Rattle.omf_format.specs.Ascii as ascii
 use Rattle.omf_base.specs.Digits.{decimal}
 use Rattle.omf_format.specs.Header.{HeaderFields}
@@ -45,7 +46,7 @@ header_for kind size number name = record {
 -- JSLs to a given number of dynamic segments, from one with a number on, and then END: each JSL is the byte $22 and LEXPR of three bytes
 abbrev pub calls : ℕ → ℕ → List Record
 calls zero i = End ∷ []
-calls (suc more) i = Const (0x22 ∷ []) ∷ Formula 0xF3 3 0 (value_of (name_of i)) ∷ calls more (i + 1)
+calls (suc more) i = Const (0x22 ∷ []) ∷ Formula LEXPR 3 0 (value_of (name_of i)) ∷ calls more (i + 1)
 
 -- the segment MAIN, of code, calls each dynamic segment once
 abbrev pub main_segment : ℕ → FinishedSegment
@@ -55,7 +56,7 @@ main_segment n = record { header = header_for 0x0000 (4 * n) 1 (codes "MAIN"); b
 abbrev pub dynamic_segment : ℕ → ℕ → FinishedSegment
 dynamic_segment i size = record {
   header = header_for 0x8000 (3 + size) (i + 1) (name_of i);
-  body = Formula 0xEB 3 0 (value_of (name_of i)) ∷ LongConst (replicate size i) ∷ End ∷ [];
+  body = Formula EXPR 3 0 (value_of (name_of i)) ∷ LongConst (replicate size i) ∷ End ∷ [];
 }
 
 -- a dynamic segment for each draw, from the one with a number on

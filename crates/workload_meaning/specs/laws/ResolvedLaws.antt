@@ -211,7 +211,7 @@ no_use_fault n list few is fault first = never_in (HasUseFault list) (asked_from
         let one : finds list a.place a.member a.use'.name ≡ title_at (1 + length at.front) at.member ∷ [] =
         ap (finds list a.place a.member) own.1.1.3 ∙ finds_one n i a.place list a.member few is.all own.0 at in
         let none : use_cause a.use'.want (found_for list a.place a.member a.use') ≡ None =
-        ap (λ (w : Rattle.link_meaning.specs.declared.search.SearchKind.Want). use_cause w (found_for list a.place a.member (record { want = w; name = a.use'.name; at = a.use'.at }))) own.1.0 ∙ ap (use_cause One) one in
+        ap (λ (w : Rattle.link_meaning.specs.declared.search.SearchKind.SearchKind). use_cause w (found_for list a.place a.member (record { want = w; name = a.use'.name; at = a.use'.at }))) own.1.0 ∙ ap (use_cause One) one in
         let clash : no_link_cause ≡ some_cause fault.cause = sym none ∙ has.cause in
         cc
 

@@ -163,7 +163,7 @@ no_data : (n : ℕ) (us : List Use) → AllByRecursion (IsOwnUse n) us → flat_
 no_data n [] own = refl
 no_data n (u ∷ us) own =
     flat_map-cons data_name u us
-    ∙ ap (λ (l : List (List ℕ)). l ++ flat_map data_name us) (ap (λ (w : Rattle.link_meaning.specs.declared.search.SearchKind.Want). data_name (record { want = w; name = u.name; at = u.at })) own.0.0)
+    ∙ ap (λ (l : List (List ℕ)). l ++ flat_map data_name us) (ap (λ (w : Rattle.link_meaning.specs.declared.search.SearchKind.SearchKind). data_name (record { want = w; name = u.name; at = u.at })) own.0.0)
     ∙ no_data n us own.1
 
 used_none : (n : ℕ) (list : List Member) (m : Member) → n ≤ 64 → IsOwn n m.segment → used_data list m ≡ []
