@@ -47,25 +47,10 @@ fn dictionary_header(alloc: Global, length: u32) -> Result<Header, AllocError>
     ensures { IfOk result (λ header. fields header ≡ dictionary_fields length) }
 {
     let name = Vec::from_slice(alloc, b"DICTIONARY")?;
-    Ok(Header {
-        byte_count: 0,
-        res_spc: 0,
-        length,
-        lab_len: 0,
-        version: 2,
-        bank_size: 0,
-        kind: Kind {
-            bits: DICTIONARY as u16,
-        },
-        org: 0,
-        align: 0,
-        seg_num: 1,
-        entry: 0,
-        disp_name: 0,
-        disp_data: 0,
-        load_name: [32; 10],
-        name: Name::from_vec(name),
-    })
+    let kind = Kind {
+        bits: DICTIONARY as u16,
+    };
+    Ok(Header::written([32; 10], Name::from_vec(name), kind, length, 0, 1))
 }
 
 /// Appends an LCONST.

@@ -16,6 +16,7 @@ use Rattle.link_meaning.specs.LinkWritten.{byte_under, patches_of_cells, table_i
 use Rattle.load_writer.specs.WrittenParts.{seen}
 use Rattle.link_content.specs.Holding.{Holding}
 use Rattle.link_content.specs.Contents.{HoldsCells}
+use Rattle.omf_header.specs.Written.{written}
 use Rattle.link_file.specs.Images.{with_space, image_in, images_after, IsReady}
 use Rattle.link_content.proofs.ContentLaws.{bytes_under, bytes_patches}
 use Rattle.link_file.proofs.ImageLaws.{image}
@@ -58,23 +59,7 @@ table_small targets few = omega (arith, length-table_bytes (map file_entry targe
 -- ---- the table's segment
 
 abbrev named_fields : ℕ → ℕ → List ℕ → HeaderFields
-named_fields number size name = record {
-  byte_count = 0;
-  res_spc = 0;
-  length = size;
-  lab_len = 0;
-  version = 2;
-  bank_size = 0x10000;
-  kind = 0x0002;
-  org = 0;
-  align = 0;
-  seg_num = number;
-  entry = 0;
-  disp_name = 0;
-  disp_data = 0;
-  load_name = 32 ∷ 32 ∷ 32 ∷ 32 ∷ 32 ∷ 32 ∷ 32 ∷ 32 ∷ 32 ∷ 32 ∷ [];
-  name = name;
-}
+named_fields number size name = written (replicate 10 32) name 0x0002 size 0x10000 number
 
 pub table_named : (number size : ℕ) (name : List ℕ) → name ≡ codes "~JumpTable" → named_fields number size name ≡ table_fields number size
 unfolding table_fields

@@ -1,5 +1,5 @@
 -- A header, a body and END are the text of a load segment.
-use Rattle.std.proofs.Common.{◌≡◌, ℕ, zero, suc, ◌+◌, ◌<◌, ◌≤◌, false, List, [], ◌∷◌, ◌++◌, length, take, drop, replicate, Some, Result, Ok, Err, refl, sym, ap, subst, ◌∙◌, append_assoc, arith}
+use Rattle.std.proofs.Common.{◌≡◌, ◌↔◌, ℕ, zero, suc, ◌+◌, ◌<◌, ◌≤◌, false, List, [], ◌∷◌, ◌++◌, length, take, drop, replicate, Some, Result, Ok, Err, refl, sym, ap, subst, ◌∙◌, append_assoc, arith}
 use Rattle.std.specs.Prelude.{OnOk, slice_get}
 use Rattle.std.specs.List.{flat_map}
 use Rattle.std.proofs.Math.Seq.{take-append_seam, drop-append_seam}
@@ -16,6 +16,7 @@ use Rattle.load_meaning.specs.laws.StoredLaws.{zeros-le, cells_size}
 use Rattle.load_meaning.specs.WrittenFile.{Image, image_records, image_body, image_text, file_text}
 use Rattle.omf_header.specs.View.{fields}
 use Rattle.omf_header.specs.declared.header.Header.{Header}
+use Rattle.omf_header.specs.Written.{with_reserved_zeros}
 use Rattle.link_content.specs.Holding.{Holding}
 use Rattle.link_file.specs.Images.{with_space, spelled_records, image_in, images_in, left_from, IsReady, AreReady}
 
@@ -59,6 +60,14 @@ text_size f content patches exports body ten b =
 pub space_writable : (f : HeaderFields) (zeros : ℕ) → IsWritable (with_space f 0) → zeros ≤ f.length → IsWritable (with_space f zeros)
 space_writable f zeros is le = record { version = is.version; banks = is.banks; listed = is.listed; spaced = le }
 
+pub spaced_writable : (f : HeaderFields) (zeros : ℕ) → IsWritable (with_space f zeros) → IsWritable (with_reserved_zeros f zeros)
+spaced_writable f zeros is = record { version = refl; banks = is.banks; listed = is.listed; spaced = is.spaced }
+
+-- what the writing of a header gives isn't taken from its fields
+pub spaced_bytes : (f : HeaderFields) (zeros size : ℕ) → header_bytes (with_reserved_zeros f zeros) size ≡ header_bytes (with_space f zeros) size
+unfolding header_bytes
+spaced_bytes f zeros size = refl
+
 -- ---- answers
 
 abbrev failed : {A E : Type 0} → E → Result A E
@@ -66,6 +75,10 @@ failed e = Err e
 
 pub err_moved : {A B E : Type 0} → (a b : E) → failed {A = A} a ≡ failed b → failed {A = B} a ≡ failed b
 err_moved a b e = let same : a ≡ b = cc in ap failed same
+
+-- it is too long as the header is
+pub made_long : {A B D E : Type 0} → (given own : D) (made long : E) → ((made ≡ long) ↔ (given ≡ own)) → failed {A = A} made ≡ failed long → failed {A = B} given ≡ failed own
+made_long given own made long is e = let same : made ≡ long = cc in ap failed (is.0 same)
 
 pub ok_moved : {A E : Type 0} → (r : Result A E) (new out x y : List ℕ) → x ≡ y → OnOk r (new ≡ out ++ x) → OnOk r (new ≡ out ++ y)
 ok_moved (Ok v) new out x y same more = more ∙ ap (λ (l : List ℕ). out ++ l) same

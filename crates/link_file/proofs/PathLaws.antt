@@ -16,6 +16,7 @@ use Rattle.link_meaning.specs.Member.{RuntimeFile, Member, setting_in}
 use Rattle.link_meaning.specs.LinkWritten.{path_images}
 use Rattle.link_meaning.specs.laws.SettingLaws.{HasPaths, has_paths}
 use Rattle.link_program.specs.OfFiles.{IsOfFiles}
+use Rattle.omf_header.specs.Written.{written}
 use Rattle.link_file.specs.Images.{with_space, whole_image}
 use Rattle.link_file.specs.Paths.{paths_of}
 use Rattle.link_file.proofs.FileLaws.{text_one}
@@ -57,23 +58,7 @@ no_paths rs = length-map rs (λ (r : RuntimeFile). r.path)
 -- ---- the segment
 
 abbrev named_fields : ℕ → ℕ → List ℕ → HeaderFields
-named_fields number size name = record {
-  byte_count = 0;
-  res_spc = 0;
-  length = size;
-  lab_len = 0;
-  version = 2;
-  bank_size = 0x10000;
-  kind = 0x0004;
-  org = 0;
-  align = 0;
-  seg_num = number;
-  entry = 0;
-  disp_name = 0;
-  disp_data = 0;
-  load_name = 32 ∷ 32 ∷ 32 ∷ 32 ∷ 32 ∷ 32 ∷ 32 ∷ 32 ∷ 32 ∷ 32 ∷ [];
-  name = name;
-}
+named_fields number size name = written (replicate 10 32) name 0x0004 size 0x10000 number
 
 pub pathnames_named : (number size : ℕ) (name : List ℕ) → name ≡ codes "~Pathnames" → named_fields number size name ≡ pathnames_fields number size
 unfolding table_fields pathnames_fields

@@ -47,23 +47,14 @@ fn table_header(alloc: Global, number: u16, size: u32) -> Result<Header, ImageFa
         Err(NameFault::Memory) => return Err(ImageFault::Memory),
         Err(NameFault::TooLong) => unreachable!(),
     };
-    Ok(Header {
-        byte_count: 0,
-        res_spc: 0,
-        length: size,
-        lab_len: 0,
-        version: 2,
-        bank_size: 0x10000,
-        kind: Kind { bits: 0x0002 },
-        org: 0,
-        align: 0,
-        seg_num: number,
-        entry: 0,
-        disp_name: 0,
-        disp_data: 0,
-        load_name: [0x20; 10],
+    Ok(Header::written(
+        [0x20; 10],
         name,
-    })
+        Kind { bits: 0x0002 },
+        size,
+        0x10000,
+        number,
+    ))
 }
 
 /// Appends the jump table, where it has an entry.

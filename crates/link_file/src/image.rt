@@ -1,22 +1,20 @@
 //! Load segments, as they are written one after another.
 
-ghost use Rattle.std.specs.Prelude.{◌≡◌, ◌≤◌, ◌+◌, ◌<◌, ◌^◌, ◌++◌, ◌∷◌, [], IfOk, IfErr, OnOk, IsErrOf, MatchOption, Some, length, map, slice_get, take, drop, replicate, List};
-ghost use Rattle.omf_format.specs.Header.{IsWritable, header_bytes};
+ghost use Rattle.std.specs.Prelude.{◌≡◌, ◌≤◌, ◌+◌, ◌<◌, ◌^◌, ◌++◌, IfOk, IfErr, OnOk, IsErrOf, MatchOption, Some, length, map, slice_get, replicate, List};
 ghost use Rattle.omf_header.specs.View.{fields};
 ghost use Rattle.load_meaning.specs.WrittenBody.{AreWritten, body_text, written_cells, zeros_after};
 ghost use Rattle.load_meaning.specs.WrittenFile.{image_text, file_text};
 ghost use Rattle.load_writer.specs.WrittenParts.{seen};
 ghost use Rattle.omf_format.specs.Record.{Record};
-ghost use Rattle.link_file.specs.Images.{with_space, spelled_records, image_in, images_in, IsReady, AreReady};
+ghost use Rattle.link_file.specs.Images.{spelled_records, image_in, images_in, IsReady, AreReady};
 
 use link_content::{ByteStorage, LoadContent};
 use load_writer::{BodyFault, put_body, put_plain_body};
-use omf_base::{Name, NameFault};
-use omf_header::{Header, WriteHeaderFault, write_header};
+use omf_header::{
+    Header, MAX_FILE, WriteHeaderFault, close_segment, header_before, header_size, put_room,
+    recall_header_size,
+};
 use std::alloc::{AllocError, AllocFailed, Global};
-
-/// The most bytes that a load file has.
-pub const MOST_BYTES: usize = 0x100_0000;
 
 /// Why no load segment is written.
 #[derive(Clone, Copy, Debug, PartialEq, Eq)]
@@ -59,75 +57,19 @@ impl From<BodyFault> for ImageFault {
     }
 }
 
-/// The header with a given number of zeros after the body.
-fn with_reserved_zeros(alloc: Global, header: &Header, zeros: u32) -> Result<Header, ImageFault>
-    ensures ok { IfOk result (λ written. fields written ≡ with_space (fields header.now) zeros) }
-    ensures memory_alone { IfErr result (λ fault. fault ≡ ImageFault.Memory) }
-{
-    let name = match Name::of(alloc, header.name.bytes()) {
-        Ok(name) => name,
-        Err(NameFault::Memory) => return Err(ImageFault::Memory),
-        Err(NameFault::TooLong) => unreachable!(),
-    };
-    Ok(Header {
-        byte_count: header.byte_count,
-        res_spc: zeros,
-        length: header.length,
-        lab_len: header.lab_len,
-        version: header.version,
-        bank_size: header.bank_size,
-        kind: header.kind,
-        org: header.org,
-        align: header.align,
-        seg_num: header.seg_num,
-        entry: header.entry,
-        disp_name: header.disp_name,
-        disp_data: header.disp_data,
-        load_name: header.load_name,
-        name,
-    })
-}
+impl From<WriteHeaderFault> for ImageFault {
+    ghost use Rattle.std.specs.Prelude.{◌≡◌, ◌↔◌};
+    ghost use Rattle.omf_header.specs.declared.writing.WriteHeaderFault.TheVariants as header;
+    ghost use Rattle.link_file.specs.declared.image.ImageFault.TheVariants.{TooLong};
 
-/// The bytes of a header before a body of a given number of bytes with END after it; RESSPC is as the body has it.
-pub fn front_of(
-    alloc: Global,
-    header: &Header,
-    zeros: u32,
-    size: usize,
-) -> Result<Vec<u8>, ImageFault>
-    requires { IsWritable (with_space (fields header.now) zeros) }
-    ensures ok { IfOk result (λ front. front.items ≡ header_bytes (with_space (fields header.now) zeros) (size + 1)) }
-    ensures too_long { IsErrOf result ImageFault.TooLong → 0x1000000 < 0x37 + length header.now.name + (size + 1) }
-    ensures long { 0x1000000 ≤ size → IsErrOf result ImageFault.TooLong }
-{
-    if size >= MOST_BYTES {
-        return Err(ImageFault::TooLong);
+    ghost from_gives = { λ given fault. (fault ≡ TooLong) ↔ (given ≡ header.TooLong) };
+
+    fn from(given: WriteHeaderFault) -> ImageFault {
+        match given {
+            WriteHeaderFault::TooLong => ImageFault::TooLong,
+            WriteHeaderFault::Memory => ImageFault::Memory,
+        }
     }
-    let written = with_reserved_zeros(alloc, header, zeros)?;
-    match write_header(alloc, &written, size as u32 + 1) {
-        Ok(front) => Ok(front),
-        Err(WriteHeaderFault::TooLong) => Err(ImageFault::TooLong),
-        Err(WriteHeaderFault::Memory) => Err(ImageFault::Memory),
-    }
-}
-
-/// How many bytes a header has.
-pub fn header_size(header: &Header) -> usize
-    ensures value { result ≡ 0x37 + length header.now.name }
-    ensures few { result < 2 ^ 9 }
-{
-    0x37 + header.name.bytes().len()
-}
-
-/// Appends `room` zeros.
-fn put_room(out: &mut Vec<u8>, room: usize) -> Result<(), ImageFault>
-    requires { length out.old.items + room < 2 ^ 33 }
-    ensures ok { OnOk result (out.new.items ≡ out.old.items ++ replicate room 0) }
-    ensures memory_alone { IfErr result (λ fault. fault ≡ ImageFault.Memory) }
-{
-    let end = out.as_slice().len() + room;
-    out.resize(end, 0)?;
-    Ok(())
 }
 
 /// Appends a body. The answer is how many zero bytes are after the body's data in memory.
@@ -178,36 +120,6 @@ fn put_after(
     Ok(zeros)
 }
 
-/// Writes a header over the bytes from a place on.
-fn put_front(out: &mut [u8], start: usize, front: &[u8])
-    requires { start + length front.now ≤ length out.old }
-    ensures { out.new ≡ take start out.old ++ front.now ++ drop (start + length front.now) out.old }
-{
-    out[start..start + front.len()].copy_from_slice(front);
-}
-
-/// Writes a header into the room before a body, and END after the body. The file is too long where it would have more than 16,777,216
-/// bytes.
-fn close(out: &mut Vec<u8>, start: usize, front: &[u8]) -> Result<(), ImageFault>
-    requires { start + length front.now ≤ length out.old.items }
-    ensures ok { OnOk result (out.new.items ≡ take start out.old.items ++ front.now ++ drop (start + length front.now) out.old.items ++ 0 ∷ []) }
-    ensures short { OnOk result (length out.new.items ≤ 0x1000000) }
-    ensures too_long { IsErrOf result ImageFault.TooLong → 0x1000000 < length out.old.items + 1 }
-    ensures long { 0x1000000 < length out.old.items + 1 → IsErrOf result ImageFault.TooLong }
-{
-    if out.as_slice().len() >= MOST_BYTES {
-        return Err(ImageFault::TooLong);
-    }
-    put_front(out.as_mut_slice(), start, front);
-    out.push(0)?;
-    Ok(())
-}
-
-/// LOADNAME has ten bytes.
-pub fn recall_header_size(load_name: [u8; 10])
-    ensures { length load_name ≡ 10 }
-{}
-
 /// Appends a load segment: its header, with RESSPC as the body has it, its body, and the ENTRY records that it exports. It is too
 /// long where the file would exceed 16,777,216 bytes.
 pub fn put_image(
@@ -225,14 +137,15 @@ pub fn put_image(
 {
     recall_header_size(header.load_name);
     let start = out.as_slice().len();
-    if start > MOST_BYTES {
+    if start > MAX_FILE {
         return Err(ImageFault::TooLong);
     }
-    let room = header_size(header);
+    let room = header_size(&header.name);
     let zeros = put_after(alloc, out, room, header.seg_num, content, exports)?;
     let size = out.as_slice().len() - start - room;
-    let front = front_of(alloc, header, zeros, size)?;
-    close(out, start, front.as_slice())
+    let front = header_before(alloc, header, zeros, size)?;
+    close_segment(out, start, front.as_slice())?;
+    Ok(())
 }
 
 /// The header at a place.

@@ -15,10 +15,10 @@ ghost use Rattle.link_program.specs.OfFiles.{IsOfFiles};
 ghost use Rattle.link_file.specs.Images.{with_space, whole_image};
 ghost use Rattle.link_file.specs.Paths.{paths_of};
 
-use crate::image::{ImageFault, MOST_BYTES, front_of, header_size, recall_header_size};
+use crate::image::ImageFault;
 use link_program::Program;
 use omf_base::{Name, NameFault};
-use omf_header::{Header, Kind};
+use omf_header::{Header, Kind, MAX_FILE, header_before, header_size, recall_header_size};
 use omf_records::{PutFault, Rec, put_record};
 use std::alloc::{AllocError, Global};
 
@@ -69,23 +69,14 @@ fn pathnames_header(alloc: Global, number: u16, size: u32) -> Result<Header, Ima
         Err(NameFault::Memory) => return Err(ImageFault::Memory),
         Err(NameFault::TooLong) => unreachable!(),
     };
-    Ok(Header {
-        byte_count: 0,
-        res_spc: 0,
-        length: size,
-        lab_len: 0,
-        version: 2,
-        bank_size: 0x10000,
-        kind: Kind { bits: 0x0004 },
-        org: 0,
-        align: 0,
-        seg_num: number,
-        entry: 0,
-        disp_name: 0,
-        disp_data: 0,
-        load_name: [0x20; 10],
+    Ok(Header::written(
+        [0x20; 10],
         name,
-    })
+        Kind { bits: 0x0004 },
+        size,
+        0x10000,
+        number,
+    ))
 }
 
 /// Appends an LCONST.
@@ -131,14 +122,14 @@ fn put_whole(
 {
     recall_header_size(header.load_name);
     let start = out.as_slice().len();
-    if start > MOST_BYTES {
+    if start > MAX_FILE {
         return Err(ImageFault::TooLong);
     }
     let size = 5 + bytes.len();
-    if start + header_size(header) + size >= MOST_BYTES {
+    if start + header_size(&header.name) + size >= MAX_FILE {
         return Err(ImageFault::TooLong);
     }
-    let front = front_of(alloc, header, 0, size)?;
+    let front = header_before(alloc, header, 0, size)?;
     put_parts(out, front.as_slice(), bytes)
 }
 

@@ -1,5 +1,5 @@
 -- Segments written one after another.
-use Rattle.std.proofs.Common.{◌≡◌, ℕ, zero, suc, ◌+◌, ◌-◌, ◌<◌, ◌≤◌, List, [], ◌∷◌, ◌++◌, length, take, drop, replicate, Some, Result, Err, refl, sym, ap, subst, ◌∙◌, append_assoc, arith}
+use Rattle.std.proofs.Common.{◌≡◌, ◌↔◌, ℕ, zero, suc, ◌+◌, ◌-◌, ◌<◌, ◌≤◌, List, [], ◌∷◌, ◌++◌, length, take, drop, replicate, Some, Result, Err, refl, sym, ap, subst, ◌∙◌, append_assoc, arith}
 use Rattle.std.specs.Prelude.{slice_get}
 use Rattle.std.proofs.Math.Seq.{take-append_seam, drop-append_seam}
 use Rattle.std.proofs.lemmas.List.{length-append, length-replicate, append-nil}
@@ -12,8 +12,9 @@ use Rattle.omf_format.specs.File.{Segment, segment_at}
 use Rattle.load_meaning.specs.Exports.{exports_of, exports_from}
 use Rattle.object_meaning.specs.laws.RunLaws.{text}
 use Rattle.omf_compact.specs.Canonical.{plain_of, plain, canon_records, canon_fields, canon_segment, canon_from, canon}
-use Rattle.omf_compact.specs.laws.Writing.{first_records, first_text, entries_text, fields_with, AtExports}
+use Rattle.omf_compact.specs.laws.Writing.{first_records, first_text, entries_text, AtExports}
 use Rattle.omf_cells.specs.Load.{HasFields}
+use Rattle.omf_header.specs.Written.{with_reserved_zeros}
 use Rattle.omf_compact.specs.laws.AnswerLaws.{segment-length}
 use Rattle.omf_compact.specs.laws.Writing.{IsKnown, HasSegment}
 use Rattle.omf_compact.proofs.KnownLaws.{at_some, known_sound}
@@ -38,9 +39,9 @@ unfolding canon_records first_text first_records entries_text plain_of spelling
 body_of number s = ap (λ (l : List ℕ). l ++ 0 ∷ []) (flat_map-append (spelling written_layout) (first_records number (plain_of s)) (plain_of s).entries)
 
 -- its header's fields
-pub fields_are : (number zeros : ℕ) (s : Segment) (f : HeaderFields) → s.fields ≡ f → f.seg_num ≡ number → zeros ≡ (canon_fields number (plain_of s)).res_spc → fields_with f zeros ≡ canon_fields number (plain_of s)
+pub fields_are : (number zeros : ℕ) (s : Segment) (f : HeaderFields) → s.fields ≡ f → f.seg_num ≡ number → zeros ≡ (canon_fields number (plain_of s)).res_spc → with_reserved_zeros f zeros ≡ canon_fields number (plain_of s)
 unfolding canon_fields plain_of
-fields_are number zeros s f is own space = subst (λ (g : HeaderFields). fields_with g zeros ≡ canon_fields number (plain_of s)) is (ap (λ (n : ℕ). made n zeros) (ap (λ (g : HeaderFields). g.seg_num) is ∙ own) ∙ ap (λ (z : ℕ). made number z) space)
+fields_are number zeros s f is own space = subst (λ (g : HeaderFields). with_reserved_zeros g zeros ≡ canon_fields number (plain_of s)) is (ap (λ (n : ℕ). made n zeros) (ap (λ (g : HeaderFields). g.seg_num) is ∙ own) ∙ ap (λ (z : ℕ). made number z) space)
   where
     made : ℕ → ℕ → HeaderFields
     made n z = record s.fields { byte_count = 0; res_spc = z; lab_len = 0; version = 2; seg_num = n; disp_name = 0; disp_data = 0 }
@@ -92,6 +93,10 @@ failed e = Err e
 pub err_moved : {A B E : Type 0} → (a b : E) → failed {A = A} a ≡ failed b → failed {A = B} a ≡ failed b
 err_moved a b e = let same : a ≡ b = cc in ap failed same
 
+-- it is too long as the header is
+pub made_long : {A B D E : Type 0} → (given own : D) (made long : E) → ((made ≡ long) ↔ (given ≡ own)) → failed {A = A} made ≡ failed long → failed {A = B} given ≡ failed own
+made_long given own made long is e = let same : made ≡ long = cc in ap failed (is.0 same)
+
 -- how long the segment is
 pub long_by : (number n out size : ℕ) (s : Segment) (f : HeaderFields) (body : List ℕ) → s.fields ≡ f → length f.load_name ≡ 10 → body ≡ first_text number (plain_of s) ++ entries_text s → size ≡ length body
     → n < 0x37 + length f.name + (size + 1) → n < out + length (canon_segment number (plain_of s))
@@ -108,14 +113,14 @@ long_all number n room out r3 body s f is ten body_is head size long =
 -- the whole segment
 pub segment_done : (number zeros size start room : ℕ) (s : Segment) (f : HeaderFields) (out r3 front new : List ℕ) → s.fields ≡ f → f.seg_num ≡ number → zeros ≡ (canon_fields number (plain_of s)).res_spc
     → length f.load_name ≡ 10 → room ≡ 0x37 + length f.name → start ≡ length out → r3 ≡ (out ++ replicate room 0) ++ (first_text number (plain_of s) ++ entries_text s) → size ≡ length r3 - start - room
-    → front ≡ header_bytes (fields_with f zeros) (size + 1) → new ≡ take start r3 ++ front ++ drop (start + length front) r3 ++ 0 ∷ [] → new ≡ out ++ canon_segment number (plain_of s)
+    → front ≡ header_bytes (with_reserved_zeros f zeros) (size + 1) → new ≡ take start r3 ++ front ++ drop (start + length front) r3 ++ 0 ∷ [] → new ≡ out ++ canon_segment number (plain_of s)
 segment_done number zeros size start room s f out r3 front new is own space ten head here mid left top done =
     let body = first_text number (plain_of s) ++ entries_text s in
     let sizes = after_size out body r3 room mid in
     let long : size ≡ length body = omega (arith, left, here, sizes) in
     let g = fields_are number zeros s f is own space in
     let top' : front ≡ header_bytes (canon_fields number (plain_of s)) (length body + 1) = top ∙ ap (λ (h : HeaderFields). header_bytes h (size + 1)) g ∙ ap (λ (n : ℕ). header_bytes (canon_fields number (plain_of s)) (n + 1)) long in
-    let front_size : length front ≡ room = omega (arith, ap length top, length-header (fields_with f zeros) (size + 1) ten, head) in
+    let front_size : length front ≡ room = omega (arith, ap length top, length-header (with_reserved_zeros f zeros) (size + 1) ten, head) in
     closed out front body r3 new start room here mid front_size done ∙ ap (λ (l : List ℕ). out ++ l) (segment_text number s front body refl top')
 
 -- ---- all of them

@@ -5,9 +5,9 @@ ghost use Rattle.omf_format.specs.Number.{IsBytes};
 ghost use Rattle.omf_compact.specs.Answer.{IsAnswer, IsRefused};
 
 use crate::fault::{CompactCause, CompactFault, of_load};
-use crate::head::CompactWriteFault;
 use crate::judge::patches_or_broken_part;
 use crate::segments::put_segments;
+use crate::write_fault::CompactWriteFault;
 use omf_cells::read_load;
 use std::alloc::Global;
 

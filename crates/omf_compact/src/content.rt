@@ -8,7 +8,7 @@ ghost use Rattle.omf_cells.specs.Whole.{front_at, data_at};
 ghost use Rattle.omf_compact.specs.Canonical.{plain_of, is_pathname, canon_fields, canon_segment};
 ghost use Rattle.omf_compact.specs.laws.Writing.{IsKnown, HasSegment, HasStretches, first_text};
 
-use crate::head::CompactWriteFault;
+use crate::write_fault::CompactWriteFault;
 use omf_base::first_items;
 use omf_cells::{LoadFile, Patch, put_body};
 use omf_header::Header;

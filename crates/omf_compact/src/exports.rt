@@ -4,7 +4,7 @@ ghost use Rattle.std.specs.Prelude.{◌≡◌, ◌+◌, ◌++◌, Some, IfOk, If
 ghost use Rattle.omf_format.specs.File.{Segment, segment_at};
 ghost use Rattle.omf_compact.specs.laws.Writing.{IsKnown, HasSegment, AtExports, entries_text};
 
-use crate::head::CompactWriteFault;
+use crate::write_fault::CompactWriteFault;
 use omf_cells::LoadFile;
 use omf_records::{Rec, put_record};
 

@@ -6,11 +6,11 @@ mod compacting;
 mod content;
 mod exports;
 mod fault;
-mod head;
 mod judge;
 mod laws;
 mod parting;
 mod segments;
+mod write_fault;
 
 pub use compacting::canonical;
 pub use fault::{CompactCause, CompactFault};

@@ -8,8 +8,9 @@ ghost use Rattle.omf_compact.specs.laws.Writing.{IsKnown, HasSegment, HasStretch
 
 use crate::content::put_content;
 use crate::exports::put_exports;
-use crate::head::{CompactWriteFault, close, front_of, header_size, put_room, recall_header_size};
+use crate::write_fault::CompactWriteFault;
 use omf_cells::{LoadFile, Patch};
+use omf_header::{close_segment, header_before, header_size, put_room, recall_header_size};
 use std::alloc::Global;
 
 /// Appends the segment with this number, whose cells have these patches; `place` is the number of ENTRY records before its own in the file.
@@ -39,13 +40,13 @@ fn put_segment(
     };
     recall_header_size(header.load_name);
     let start = out.as_slice().len();
-    let room = header_size(header);
+    let room = header_size(&header.name);
     put_room(out, room)?;
     let zeros = put_content(alloc, out, load, header, patches)?;
     let next = put_exports(out, load, header.seg_num, place)?;
     let size = out.as_slice().len() - start - room;
-    let front = front_of(alloc, header, zeros, size)?;
-    close(out, start, front.as_slice())?;
+    let front = header_before(alloc, header, zeros, size)?;
+    close_segment(out, start, front.as_slice())?;
     Ok(next)
 }
 

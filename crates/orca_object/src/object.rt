@@ -1,37 +1,17 @@
 //! The bytes of the segments that have ended (GS/OS Reference, appendix F).
 
-ghost use Rattle.std.specs.Prelude.{◌≡◌, ◌≤◌, ◌+◌, ◌++◌, ◌∷◌, [], List, length, drop, replicate, OnOk};
+ghost use Rattle.std.specs.Prelude.{◌≡◌, ◌+◌, ◌++◌, ◌∷◌, [], List, length, replicate, OnOk};
 ghost use Rattle.omf_format.specs.Header.{IsWritable};
 ghost use Rattle.omf_header.specs.View.{fields};
 ghost use Rattle.asm_meaning.specs.State.{FinishedSegment};
 ghost use Rattle.asm_meaning.specs.Object.{records_text, segment_text, object_text};
 ghost use Rattle.orca_operands.specs.TextView.{text_within_limit, kept_text};
 
-use omf_base::Name;
-use omf_header::{Header, WriteHeaderFault, write_header};
+use omf_header::{
+    Header, WriteHeaderFault, header_size, put_front, recall_header_size, write_header,
+};
 use orca_operands::{MAX_FILE, RecordBytes};
 use std::alloc::{AllocError, Global};
-
-/// How many bytes a header with this name has.
-pub(crate) fn header_size(name: &Name) -> usize
-    ensures value { result ≡ 0x37 + length name.now }
-    ensures few { result ≤ 0x136 }
-{
-    0x37 + name.bytes().len()
-}
-
-/// It has ten bytes.
-fn recall_header_size(load_name: &[u8; 10])
-    ensures { length load_name.now ≡ 10 }
-{}
-
-/// Writes bytes over those at the start.
-fn put_front(text: &mut [u8], front: &[u8])
-    requires { length front.now ≤ length text.old }
-    ensures { text.new ≡ front.now ++ drop (length front.now) text.old }
-{
-    text[..front.len()].copy_from_slice(front);
-}
 
 /// Writes its header into the room before the records of a segment.
 fn close(alloc: Global, header: &Header, segment: &mut RecordBytes) -> Result<(), AllocError>
@@ -39,7 +19,7 @@ fn close(alloc: Global, header: &Header, segment: &mut RecordBytes) -> Result<()
     ensures { OnOk result ((e : FinishedSegment) → e.header ≡ fields header.now → kept_text segment.old ≡ text_within_limit (replicate (0x37 + length e.header.name) 0 ++ records_text e.body)
         → kept_text segment.new ≡ text_within_limit (segment_text e)) }
 {
-    recall_header_size(&header.load_name);
+    recall_header_size(header.load_name);
     if segment.long {
         return Ok(());
     }
@@ -52,7 +32,7 @@ fn close(alloc: Global, header: &Header, segment: &mut RecordBytes) -> Result<()
     };
     match write_header(alloc, header, size as u32) {
         Ok(front) => {
-            put_front(segment.bytes.as_mut_slice(), front.as_slice());
+            put_front(segment.bytes.as_mut_slice(), 0, front.as_slice());
             Ok(())
         }
         Err(WriteHeaderFault::TooLong) => {

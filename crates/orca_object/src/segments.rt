@@ -15,7 +15,7 @@ ghost use Rattle.orca_object.specs.StateView.{ShowsState, IsLeft, Leaves};
 ghost use Rattle.orca_object.specs.DoneView.{IsSome, kinded_by, using_by};
 ghost use Rattle.orca_object.specs.DoingView.{ending};
 
-use crate::object::{header_size, put_segment};
+use crate::object::put_segment;
 use crate::state::{AsmState, OpenSegment, SegmentBody};
 use asm_meaning::{AsmCause, Class};
 use omf_base::Name;

@@ -5,7 +5,6 @@ use Rattle.std.specs.declared.alloc.Global.{Global}
 use Rattle.std.specs.List.{flat_map}
 use Rattle.omf_format.specs.Number.{IsBytes}
 use Rattle.omf_format.specs.Field.{written_layout}
-use Rattle.omf_format.specs.Header.{HeaderFields}
 use Rattle.omf_format.specs.Record.{Record, LongConst, Entry, spelling}
 use Rattle.omf_format.specs.File.{Segment, segment_at}
 use Rattle.load_meaning.specs.Cells.{Patch, cells}
@@ -72,7 +71,3 @@ entry_of e = Entry e.segment e.offset e.name
 -- `place` exports are before those of the segment with this number
 abbrev pub AtExports : List Segment → ℕ → ℕ → Type 0
 AtExports segments number place = drop place (exports_of segments) ≡ exports_from number (drop (number - 1) segments)
-
--- the fields that are written for a header with `zeros` zeros after the data
-abbrev pub fields_with : HeaderFields → ℕ → HeaderFields
-fields_with f zeros = record f { byte_count = 0; res_spc = zeros; lab_len = 0; version = 2; disp_name = 0; disp_data = 0 }
