@@ -19,7 +19,7 @@ use crate::object::put_segment;
 use crate::state::{AsmState, OpenSegment, SegmentBody};
 use asm_meaning::{AsmCause, Class};
 use omf_base::Name;
-use omf_header::{Header, Kind};
+use omf_header::{Header, Kind, header_size};
 use omf_records::Rec;
 use orca_operands::{
     DefinedNames, RecordBytes, earlier, is_name, name_of, number_in, pair_or_earlier_fault,
