@@ -8,8 +8,8 @@ PAGE = TOP / "docs" / "ANSWERS.md"
 REPLIES = "replies"
 # The tables by their headings, and the commands that print their causes; none where each row names its own.
 TABLES = {
-    "asm": ["asm"],
-    "link, rtl and linkrt": ["link", "rtl", "linkrt"],
+    "asm and omf_expand": ["asm"],
+    "link, rtl, linkrt and omf_map": ["link", "rtl", "linkrt"],
     "dump, lib and list": [],
     "compact": ["compact"],
     "run: the script": ["run"],

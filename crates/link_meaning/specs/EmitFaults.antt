@@ -116,7 +116,8 @@ LinkAnswersAsEmit = (given : LinkInput) (list : List Member) (a : Result (List �
 abbrev pub MadeWhereSound : Type 0
 MadeWhereSound = (list : List Member) (table : List EquateAnswer) → HasNone (HasValueFault list table) (items list) ↔ AreMade list table start (items list)
 
--- The load file of files without a fault is a file of the load segments and the table, and each of them represents its linked cells.
+-- The load file of files without a fault is a file of the load segments, the table and the pathname segment, where there are these two, and
+-- each of them represents its linked cells.
 abbrev pub LinkableStandsFor : Type 0
 LinkableStandsFor = (given : LinkInput) (list : List Member) (table : List EquateAnswer) → HasBytes given → IsLinkable given list table
     → (segments : List Segment) × IsFile segments (written_file list table) × AreReadAs (images list table) segments

@@ -44,8 +44,8 @@ linked_headers list table =
     let tables = table_headers (table_number list) (targets list table) in
     load_headers list ++ (tables ++ path_headers (table_number list + length tables) (setting_in list).runtimes)
 
--- the segments are the load segments in order of number, and the table after them: each has the header of the layout, and represents its
--- linked cells
+-- the segments are the load segments in order of number, after them the table and then the pathname segment, where there are these two:
+-- each has the header of the layout, and represents its linked cells
 pub record StandFor (list : List Member) (table : List EquateAnswer) (segments : List Segment) : Type 0 where
   pub headers : map (λ s. plain_fields s.fields) segments ≡ linked_headers list table
   pub cells' : map cells segments ≡ linked_cells list table
@@ -107,8 +107,8 @@ abbrev pub StandsForLinkedCells : Type 0
 StandsForLinkedCells = (given : LinkInput) (output : List ℕ) → HasBytes given → (is : IsLinkedTo given output)
     → (segments : List Segment) × IsFile segments output × StandFor is.list is.table segments
 
--- Only calls reach another dynamic load segment: what the cells of a load segment name is the load segment itself, a static
--- one, or the table, and the table's entries lead into dynamic ones.
+-- Only calls reach another dynamic load segment or a run-time library file: what the cells of a load segment name is the load segment
+-- itself, a static one, or the table, and the table's entries lead into dynamic ones and into segments of run-time library files.
 abbrev pub OnlyCallsReachDynamic : Type 0
 OnlyCallsReachDynamic = (given : LinkInput) (list : List Member) (table : List EquateAnswer) → HasBytes given → IsLinkable given list table
     → ((k : ℕ) (load_name : List ℕ) → slice_get (load_names list) k ≡ Some load_name

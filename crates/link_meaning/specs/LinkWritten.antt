@@ -146,7 +146,8 @@ AreMade list table state (i ∷ is) =
 abbrev pub start : LinkState
 start = record { targets = []; place = 0; cells = [] }
 
--- The file that the linker writes is a file of the load segments and the table, and each of them represents its cells.
+-- The file that the linker writes is a file of the load segments, the table and the pathname segment, where there are these two, and each
+-- of them represents its cells.
 abbrev pub LinkedStandsFor : Type 0
 LinkedStandsFor = (given : LinkInput) (list : List Member) (table : List EquateAnswer) → HasBytes given → IsResolved given list
     → IsTable list table → AreMade list table start (items list) → length (written_file list table) ≤ 0x1000000

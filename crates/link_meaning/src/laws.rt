@@ -13,7 +13,8 @@ pub fn offsets_are_least()
     ensures one { OneOffset }
 {}
 
-/// The file that the linker writes is a file of the load segments and the table, and each of them represents its linked cells.
+/// The file that the linker writes is a file of the load segments, the table and the pathname segment, where there are these two, and each
+/// of them represents its linked cells.
 pub fn linked_files_stand_for_their_cells()
     ensures { LinkedStandsFor }
 {}
@@ -31,7 +32,8 @@ pub fn records_without_a_fault_give_cells()
     ensures { MadeWhereSound }
 {}
 
-/// The load file of files without a fault is a file of the load segments and the table, and each of them represents its linked cells.
+/// The load file of files without a fault is a file of the load segments, the table and the pathname segment, where there are these two,
+/// and each of them represents its linked cells.
 pub fn linkable_files_stand_for_their_cells()
     ensures { LinkableStandsFor }
 {}

@@ -85,8 +85,8 @@ NeedsAfter held state (Load path) rows reads = ((load_refusal (length state.user
     ⊎ (((load_refusal (length state.users) ≡ None) → ⊥) × (rows ≡ []) × (reads ≡ 0))
 NeedsAfter held state _ rows reads = (rows ≡ []) × (reads ≡ 0)
 
--- `reads` files are read for the command in the state: where no read fails, all whose turn is reached; else one at least, where it needs
--- one
+-- `reads` files are read for the command in the state: where no read fails, all whose turn is reached; else one at least and 17 at most,
+-- where it needs one
 abbrev pub IsReadFor : FileMap → Machine → Command → ℕ → ℕ → Type 0
 IsReadFor held state command others reads = (first : List (List ℕ)) × Needs held state command first
     × (((others ≡ 0) × (rows : List (List ℕ)) × (following : ℕ) × NeedsAfter held state command rows following × (reads ≡ length first + following))

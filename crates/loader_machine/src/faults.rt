@@ -6,7 +6,7 @@ use load_meaning::LoadFault;
 /// Why the loader refuses a call.
 #[derive(Clone, Copy, PartialEq, Eq, Debug)]
 pub enum LoaderFault {
-    /// No user with this ID was made, or it is gone.
+    /// No user with this ID was made, or it is gone; or, of a shutdown and a restart, it is attached to another user.
     NoUser,
     /// The user is dormant.
     NotRunning,
@@ -28,11 +28,12 @@ pub enum LoaderFault {
     NoTarget,
     /// The JSL's address is in a jump table, but isn't the code of an entry.
     NotEntry,
-    /// 255 users were made.
+    /// 255 users were made; or, of a load, there would be more with the program and one for each row of its file.
     TooManyUsers,
-    /// The file isn't held, is too long or couldn't be read.
+    /// The file, or of a load that of a row, isn't held, is too long or couldn't be read.
     CannotRead,
-    /// The file isn't a load file: its first fault; or it has a pathname segment, which is unsupported.
+    /// The file isn't a load file, or that of an attached user isn't a run-time library file: its first fault. Or, of a load and a restart,
+    /// an entry of the jump table for another file leads to no segment of the attached user below its LENGTH: NoSuchTarget, at that entry.
     BadFile(LoadFault),
     /// The file isn't the one that was loaded: the first segment that differs.
     Changed { kept: Facts, found: Facts },

@@ -24,7 +24,7 @@ HasPrinted (Err CannotPrint) text before now = FailsToPrint text before now
 HasPrinted (Err Memory) text before now = now ≡ before
 
 -- the loader answers a command: over revealed files as the machine does, or by `cannot read` where the count is one more; and it reads what
--- the command needs, up to a read that fails
+-- the command needs, or 1 to 17 files where it is answered so
 pub record IsAnswer (command : Command) (old : Loaded) (reply : Reply) (new : Loaded) (before now : StoreSeen) : Type 0 where
   pub reported : IfRevealedOr before.held
       ((reads : ℕ) × MayRead command reply reads × (now.faults ≡ saturating_sum (unread (reply ∷ [])) before.faults) × (now.asked ≡ saturating_sum reads before.asked))

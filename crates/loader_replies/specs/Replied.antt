@@ -59,9 +59,9 @@ MayReadAll (command ∷ commands) (reply ∷ replies) reads =
 
 -- These are replies to the commands, from the empty state on. Over revealed files they are the machine's, but that a command which reads
 -- may be answered by `cannot read` in the place of its reply; the count of faults is one more for each of these, that of reads one more for
--- each file that a command needs, up to a read that fails, and `P` holds of the state to which the replies lead. Over files that aren't
--- revealed the count of faults is one more for each `cannot read`, and that of reads rises by a number that `MayReadAll` allows. All else
--- of the store is as before.
+-- each file that a command needs, or 1 to 17 more where it is answered so, and `P` holds of the state to which the replies lead. Over files
+-- that aren't revealed the count of faults is one more for each `cannot read`, and that of reads rises by a number that `MayReadAll` allows.
+-- All else of the store is as before.
 pub record AreReplies (P : FileMap → Machine → Type 0) (commands : List Command) (replies : List Reply) (before now : StoreSeen) : Type 0 where
   pub one_each : length replies ≡ length commands
   pub reported : IfRevealedOr before.held

@@ -27,8 +27,8 @@ pub fn linked_files_begin()
     ensures { LinkedFilesBegin }
 {}
 
-/// The headline: a source has one object, which is a file; files have one load file, or one first fault; the load file represents the
-/// linked cells, and its load begins a program; a command has one reply; a file has one listing.
+/// The headline: a source has one object at most, which is a file; files have one load file or one first fault at most; the load file
+/// represents the linked cells, and its load begins a program; a command has one reply at most; a file has one listing at most.
 pub fn headline()
     ensures { Headline }
 {

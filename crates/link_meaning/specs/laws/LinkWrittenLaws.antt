@@ -1,4 +1,4 @@
--- The load file that the linker writes is a file of the load segments and the table, and each represents its cells.
+-- The load file that the linker writes is a file of the load segments, the table and the pathname segment, and each represents its cells.
 use Rattle.std.proofs.Common.{suc, ◌≡◌, ℕ, ◌+◌, ◌^◌, ◌<◌, ◌≤◌, Bool, true, false, not, eqb, ltb, List, [], ◌∷◌, ◌++◌, length, map, filter, get_or, refl, sym, ap, subst, ◌∙◌, append_assoc, arith, inl, inr}
 use Rattle.std.specs.Prelude.{◌||◌, ◌&&◌, cond}
 use Rattle.std.specs.List.{flat_map, AllByRecursion}
