@@ -30,6 +30,10 @@ class Item:
     def text(self):
         return "\n".join(self.lines)
 
+    def covers(self, at):
+        """Whether the line at a place from 0 is one of the item's."""
+        return 0 <= at + 1 - self.number < len(self.lines)
+
     def inside(self):
         """The items in the braces of a trait or of an `impl`."""
         lines = [line[4:] if line.startswith("    ") else line for line in self.lines]
@@ -49,7 +53,10 @@ class Clause:
 
 @dataclass
 class Call:
-    """A public call, or the `ghost` member of a public trait or of an `impl`; `trait` is the one that an `impl` is of."""
+    """A public call, or the `ghost` member of a public trait or of an `impl`.
+
+    `trait` is the one that an `impl` is of, and `beside` has the names of the `ghost` members of that `impl`.
+    """
 
     crate: str
     name: str
@@ -57,6 +64,7 @@ class Call:
     clauses: list
     uses: list
     trait: str = ""
+    beside: list = field(default_factory=list)
     is_ghost: bool = False
 
     @property
@@ -154,21 +162,31 @@ def clauses_of(item):
             comment, lines = [], []
 
 
+def ghost_name(item):
+    """The name of a `ghost` member; nothing of another item, and of a type's invariant, which nobody outside sees."""
+    ghost = GHOST_START.match(item.head)
+    return ghost.group(1) if ghost and ghost.group(1) != "invariant" else ""
+
+
 def ghost_clause(item):
     """What a `ghost` member says."""
     text = "\n".join(without_comment(line) for line in item.lines)
-    return Clause("ghost", GHOST_START.match(text).group(1), "", text[text.index("{") + 1 : text.rindex("}")])
+    return Clause("ghost", ghost_name(item), "", text[text.index("{") + 1 : text.rindex("}")])
+
+
+def after_generics(text):
+    """The text after the `<..>` at its start, if there is one."""
+    depth = 0
+    for at, character in enumerate(text):
+        depth += (character == "<") - (character == ">")
+        if not depth:
+            return text[at + (character == ">") :]
+    return text
 
 
 def without_generics(text):
-    """The text without what is between `<` and `>`."""
-    kept, depth = "", 0
-    for character in text:
-        depth += character == "<"
-        if not depth:
-            kept += character
-        depth -= character == ">"
-    return kept
+    """A type's name without its generics."""
+    return text.partition("<")[0]
 
 
 def crates():
@@ -197,10 +215,7 @@ def exports(crate):
 
 
 def calls(crate):
-    """The public calls of a crate, and the `ghost` members of its traits and of the `impl`s of its types, by file and place.
-
-    A type's invariant is none of these: nobody outside sees it.
-    """
+    """The public calls of a crate, and the `ghost` members of its traits and of the `impl`s of its types, by file and place."""
     public = exports(crate)
     types = public.all_own()
     for path in sorted(root(crate).parent.glob("*.rt")):
@@ -219,40 +234,44 @@ def calls_of_file(crate, path, names, types):
         elif (trait := re.match(r"pub trait (\w+)", head)) and trait.group(1) in names:
             yield from members(crate, item, trait.group(1), "", uses, is_open=True)
         elif head.startswith("impl"):
-            trait, _, of = without_generics(head.removeprefix("impl")).strip(" {").rpartition(" for ")
+            trait, of = trait_and_type(head)
             if of in types:
                 yield from members(crate, item, of, trait, uses, is_open=bool(trait))
+
+
+def trait_and_type(head):
+    """The trait of an `impl`, if it is of one, with its own generics; and the type without them."""
+    generics = len(head) - len(after_generics(head.removeprefix("impl")))
+    trait, _, of = head[generics:].strip(" {").rpartition(" for ")
+    return trait, without_generics(of)
 
 
 def members(crate, item, owner, trait, uses, is_open):
     """The public members of a trait or of an `impl`; those of a trait are public without saying so."""
     inner = list(item.inside())
     uses = uses + [it.text for it in inner if it.head.startswith("ghost use ")]
+    ghosts = [ghost_name(it) for it in inner if ghost_name(it)]
     for it in inner:
         function = FUNCTION.match(it.head)
         if function and (function.group(1) or is_open):
-            yield Call(crate, f"{owner}::{function.group(2)}", doc_of(it), list(clauses_of(it)), uses, trait)
-        elif (ghost := GHOST_START.match(it.head)) and ghost.group(1) != "invariant":
-            yield Call(crate, f"{owner}::{ghost.group(1)}", doc_of(it), [ghost_clause(it)], uses, trait, is_ghost=True)
+            yield Call(crate, f"{owner}::{function.group(2)}", doc_of(it), list(clauses_of(it)), uses, trait, ghosts)
+        elif name := ghost_name(it):
+            yield Call(crate, f"{owner}::{name}", doc_of(it), [ghost_clause(it)], uses, trait, is_ghost=True)
 
 
 def enclosing(lines, at):
-    """The name of the function, with its type, or of the item that has the line at a place from 0."""
+    """The name of the function, with its type, or of another item, that has the line at a place from 0."""
     for item in items(lines):
-        if item.number - 1 <= at < item.number - 1 + len(item.lines):
-            if function := FUNCTION.match(item.head.removeprefix("pub(crate) ")):
-                return function.group(2)
-            if item.head.startswith("impl"):
-                owner = without_generics(item.head.removeprefix("impl")).strip(" {").rpartition(" for ")[2]
-                return owner_member(item, owner, at)
-            return item.head.strip(" {")
+        if item.covers(at):
+            if not item.head.startswith("impl"):
+                return function_name(item) or item.head
+            owner = trait_and_type(item.head)[1]
+            names = [function_name(it) for it in item.inside() if it.covers(at)]
+            return "::".join([owner, *filter(None, names)])
     return ""
 
 
-def owner_member(item, owner, at):
-    """The name of the member of an `impl` that has the line at a place from 0."""
-    for it in item.inside():
-        if it.number - 1 <= at < it.number - 1 + len(it.lines):
-            function = FUNCTION.match(it.head.removeprefix("pub(crate) "))
-            return f"{owner}::{function.group(2)}" if function else owner
-    return owner
+def function_name(item):
+    """The name of the function that an item is, or nothing."""
+    function = FUNCTION.match(item.head.removeprefix("pub(crate) "))
+    return function.group(2) if function else ""
