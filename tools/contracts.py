@@ -264,11 +264,17 @@ def enclosing(lines, at):
     for item in items(lines):
         if item.covers(at):
             if not item.head.startswith("impl"):
-                return function_name(item) or item.head
+                return function_name(item) or declared_name(item)
             owner = trait_and_type(item.head)[1]
             names = [function_name(it) for it in item.inside() if it.covers(at)]
             return "::".join([owner, *filter(None, names)])
     return ""
+
+
+def declared_name(item):
+    """The name of a type, a constant or a table."""
+    found = re.match(r"(?:pub(?:\(crate\))? )?(?:struct|enum|trait|const|static) (\w+)", item.head)
+    return found.group(1) if found else item.head
 
 
 def function_name(item):

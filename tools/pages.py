@@ -13,6 +13,13 @@ def blocks_in(text, names):
     return [name for name in names if start_of(name) in lines]
 
 
+def block(text, name):
+    """The lines of a page's block, without its marks."""
+    lines = text.splitlines()
+    start = lines.index(start_of(name)) + 1
+    return lines[start : lines.index(END, start)]
+
+
 def with_blocks(text, blocks):
     """The page with these lines in its blocks, by name; a block that isn't among them stays as it is."""
     starts = {start_of(name): made for name, made in blocks.items()}
