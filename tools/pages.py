@@ -13,6 +13,12 @@ def blocks_in(text, names):
     return [name for name in names if start_of(name) in lines]
 
 
+def unknown_blocks(text, prefix, names):
+    """The names of blocks that begin so and aren't among the names."""
+    found = [line[5:-4] for line in text.splitlines() if line.startswith("<!-- " + prefix)]
+    return [name for name in found if name not in names]
+
+
 def block(text, name):
     """The lines of a page's block, without its marks."""
     lines = text.splitlines()
