@@ -168,6 +168,7 @@ impl<'a> LoadContent<'a> {
         }
     }
 
+    /// A content without cells.
     pub fn new(alloc: Global) -> LoadContent<'a>
         ensures { HoldsCells [] result }
     {
@@ -224,6 +225,7 @@ impl<'a> LoadContent<'a> {
         last_of(self.own.as_slice())
     }
 
+    /// The patches, in the order in which they were put.
     pub fn patches(&self) -> &[Patch]
         ensures { result.now ≡ (self.now).patches }
     {
@@ -271,14 +273,14 @@ impl<'a> LoadContent<'a> {
         append_patch(&mut self.patches, patch)
     }
 
-    /// More bytes.
+    /// Appends bytes.
     pub fn put_bytes(&mut self, bytes: &[u8]) -> Result<(), AllocError>
         ensures { OnOk result ((cells : List Cell) → HoldsCells cells self.old → HoldsCells (cells ++ map Byte bytes.now) self.new) }
     {
         self.append(bytes)
     }
 
-    /// More bytes, which are a constant of an input.
+    /// Appends bytes that are a constant of an input.
     pub fn lend_bytes(&mut self, bytes: &'a [u8]) -> Result<(), AllocError>
         requires { length (self.old).bytes + length bytes.now < 2 ^ 32 }
         ensures { OnOk result ((cells : List Cell) → HoldsCells cells self.old → HoldsCells (cells ++ map Byte bytes.now) self.new) }

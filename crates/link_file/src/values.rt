@@ -50,7 +50,7 @@ impl<'e, 'a> EquateValues<'e, 'a> {
         Ok(EquateValues { program, slots })
     }
 
-    /// The program.
+    /// The program whose equates have these values.
     pub fn program(&self) -> &'e Program<'a>
         ensures { result.now ≡ self.now.list }
     {

@@ -137,7 +137,7 @@ fn definition_at<'a>(far: Far) -> Definition<'a>
 }
 
 impl<'a> Program<'a> {
-    /// Of what is kept of a list of resolved files.
+    /// The program of what is kept of a list of resolved files.
     pub fn of(kept: ResolvedProgram<'a>) -> Program<'a>
         requires { (list : List meaning.Member) × IsKept list kept }
         ensures { (list : List meaning.Member) → IsKept list kept.entry → result ≡ list }

@@ -151,6 +151,7 @@ fn is_other(load: &LoadLayout) -> bool
 }
 
 impl<'a> LinkLayout<'a> {
+    /// A layout without members.
     pub fn new(alloc: Global) -> LinkLayout<'a>
         ensures { Laid [] result }
     {

@@ -63,7 +63,7 @@ fn number(out: &mut ListingText, n: u32, digits: u32) -> Result<(), LineFault>
     out.digits(n, digits)
 }
 
-/// ALIGN before START.
+/// Writes ALIGN before START.
 #[tactic(auto, using(crate::proofs::Written::wrote_of, crate::proofs::Written::long_of), unfolding(list_meaning::specs::Listed::said_text))]
 pub fn put_next_align(out: &mut ListingText, n: u32) -> Result<(), LineStop>
     requires { open_line out.old ≡ [] }
@@ -75,7 +75,7 @@ pub fn put_next_align(out: &mut ListingText, n: u32) -> Result<(), LineStop>
     out.finish()
 }
 
-/// ORG before START.
+/// Writes ORG before START.
 #[tactic(auto, using(crate::proofs::Written::wrote_of, crate::proofs::Written::long_of), unfolding(list_meaning::specs::Listed::said_text))]
 pub fn put_next_org(out: &mut ListingText, n: u32) -> Result<(), LineStop>
     requires { open_line out.old ≡ [] }
@@ -87,7 +87,7 @@ pub fn put_next_org(out: &mut ListingText, n: u32) -> Result<(), LineStop>
     out.finish()
 }
 
-/// START, or DATA where the segment may cross banks.
+/// Writes START, or DATA where the segment may cross banks.
 #[tactic(auto, using(crate::proofs::Written::wrote_of, crate::proofs::Written::long_of), unfolding(list_meaning::specs::Listed::said_text))]
 pub fn put_start(
     out: &mut ListingText,
@@ -104,7 +104,7 @@ pub fn put_start(
     out.finish()
 }
 
-/// KIND.
+/// Writes KIND.
 #[tactic(auto, using(crate::proofs::Written::wrote_of, crate::proofs::Written::long_of), unfolding(list_meaning::specs::Listed::said_text))]
 pub fn put_kind(out: &mut ListingText, n: u16) -> Result<(), LineStop>
     requires { open_line out.old ≡ [] }
@@ -127,7 +127,7 @@ fn switch_word(switch: Switch) -> &'static str
     }
 }
 
-/// LONGA or LONGI.
+/// Writes LONGA or LONGI.
 #[tactic(auto, using(crate::proofs::Written::wrote_of, crate::proofs::Written::long_of), unfolding(list_meaning::specs::Listed::said_text))]
 pub fn put_switch(out: &mut ListingText, switch: Switch, on: bool) -> Result<(), LineStop>
     requires { open_line out.old ≡ [] }
@@ -139,7 +139,7 @@ pub fn put_switch(out: &mut ListingText, switch: Switch, on: bool) -> Result<(),
     out.finish()
 }
 
-/// DS.
+/// Writes DS.
 #[tactic(auto, using(crate::proofs::Written::wrote_of, crate::proofs::Written::long_of), unfolding(list_meaning::specs::Listed::said_text))]
 pub fn put_ds(out: &mut ListingText, n: u32) -> Result<(), LineStop>
     requires { open_line out.old ≡ [] }
@@ -151,7 +151,7 @@ pub fn put_ds(out: &mut ListingText, n: u32) -> Result<(), LineStop>
     out.finish()
 }
 
-/// ALIGN in a segment.
+/// Writes ALIGN in a segment.
 #[tactic(auto, using(crate::proofs::Written::wrote_of, crate::proofs::Written::long_of), unfolding(list_meaning::specs::Listed::said_text))]
 pub fn put_align(out: &mut ListingText, n: u32) -> Result<(), LineStop>
     requires { open_line out.old ≡ [] }
@@ -163,7 +163,7 @@ pub fn put_align(out: &mut ListingText, n: u32) -> Result<(), LineStop>
     out.finish()
 }
 
-/// ORG in a segment.
+/// Writes ORG in a segment.
 #[tactic(auto, using(crate::proofs::Written::wrote_of, crate::proofs::Written::long_of), unfolding(list_meaning::specs::Listed::said_text))]
 pub fn put_org(out: &mut ListingText, n: u32) -> Result<(), LineStop>
     requires { open_line out.old ≡ [] }
@@ -175,7 +175,7 @@ pub fn put_org(out: &mut ListingText, n: u32) -> Result<(), LineStop>
     out.finish()
 }
 
-/// USING.
+/// Writes USING.
 #[tactic(auto, using(crate::proofs::Written::wrote_of, crate::proofs::Written::long_of), unfolding(list_meaning::specs::Listed::said_text))]
 pub fn put_using(out: &mut ListingText, name: &[u8]) -> Result<(), LineStop>
     requires { open_line out.old ≡ [] }
@@ -187,7 +187,7 @@ pub fn put_using(out: &mut ListingText, name: &[u8]) -> Result<(), LineStop>
     out.finish()
 }
 
-/// DC R.
+/// Writes DC R.
 #[tactic(auto, using(crate::proofs::Written::wrote_of, crate::proofs::Written::long_of), unfolding(list_meaning::specs::Listed::said_text))]
 pub fn put_dc_strong(out: &mut ListingText, name: &[u8]) -> Result<(), LineStop>
     requires { open_line out.old ≡ [] }
@@ -200,7 +200,7 @@ pub fn put_dc_strong(out: &mut ListingText, name: &[u8]) -> Result<(), LineStop>
     out.finish()
 }
 
-/// ENTRY or ANOP.
+/// Writes a label with ENTRY or ANOP.
 #[tactic(auto, using(crate::proofs::Written::wrote_of, crate::proofs::Written::long_of), unfolding(list_meaning::specs::Listed::said_text))]
 pub fn put_label(out: &mut ListingText, global: bool, name: &[u8]) -> Result<(), LineStop>
     requires { open_line out.old ≡ [] }
@@ -211,7 +211,7 @@ pub fn put_label(out: &mut ListingText, global: bool, name: &[u8]) -> Result<(),
     out.finish()
 }
 
-/// GEQU or EQU.
+/// Writes GEQU or EQU.
 #[tactic(auto, using(crate::proofs::Written::wrote_of, crate::proofs::Written::long_of), unfolding(list_meaning::specs::Listed::said_text))]
 pub fn put_equate(out: &mut ListingText, global: bool, name: &[u8], n: u32) -> Result<(), LineStop>
     requires { open_line out.old ≡ [] }
@@ -292,7 +292,7 @@ fn spaced_operand(
     whole_operand(out, front, wanted, back)
 }
 
-/// An instruction.
+/// Writes an instruction.
 #[tactic(auto, using(crate::proofs::Written::wrote_of, crate::proofs::Written::long_of), unfolding(list_meaning::specs::Listed::said_text))]
 pub fn put_instruction(
     out: &mut ListingText,
@@ -311,7 +311,7 @@ pub fn put_instruction(
     out.finish()
 }
 
-/// DC H.
+/// Writes DC H.
 #[tactic(auto, using(crate::proofs::Written::wrote_of, crate::proofs::Written::long_of), unfolding(list_meaning::specs::Listed::said_text))]
 pub fn put_dc_bytes(out: &mut ListingText, bytes: &[u8]) -> Result<(), LineStop>
     requires { open_line out.old ≡ [] }
@@ -326,7 +326,7 @@ pub fn put_dc_bytes(out: &mut ListingText, bytes: &[u8]) -> Result<(), LineStop>
     out.finish()
 }
 
-/// DC A with a formula, of which the first 256 bytes are enough.
+/// Writes DC A with a formula, of which the first 256 bytes are enough.
 #[tactic(auto, using(crate::proofs::Formulas::sum_wrote, crate::proofs::Formulas::sum_long))]
 pub fn put_dc_formula(out: &mut ListingText, count: u32, formula: &[u8]) -> Result<(), LineStop>
     requires { open_line out.old ≡ [] }
@@ -341,7 +341,7 @@ pub fn put_dc_formula(out: &mut ListingText, count: u32, formula: &[u8]) -> Resu
     out.finish()
 }
 
-/// DC S.
+/// Writes DC S.
 #[tactic(auto, using(crate::proofs::Written::wrote_of, crate::proofs::Written::long_of), unfolding(list_meaning::specs::Listed::said_text))]
 pub fn put_dc_weak(out: &mut ListingText, name: &[u8]) -> Result<(), LineStop>
     requires { open_line out.old ≡ [] }
@@ -354,7 +354,7 @@ pub fn put_dc_weak(out: &mut ListingText, name: &[u8]) -> Result<(), LineStop>
     out.finish()
 }
 
-/// END.
+/// Writes END.
 #[tactic(auto, using(crate::proofs::Written::wrote_of, crate::proofs::Written::long_of), unfolding(list_meaning::specs::Listed::said_text))]
 pub fn put_end(out: &mut ListingText) -> Result<(), LineStop>
     requires { open_line out.old ≡ [] }

@@ -15,7 +15,7 @@ pub struct Names<'a> {
 }
 
 impl<'a> Names<'a> {
-    /// None.
+    /// No names.
     pub fn new(alloc: Global) -> Names<'a>
         ensures { AreNames result [] }
     {
@@ -31,7 +31,7 @@ impl<'a> Names<'a> {
         self.map.get(name).is_some()
     }
 
-    /// One more name.
+    /// Adds a name.
     pub fn add(&mut self, name: &'a [u8]) -> Result<(), AllocError>
         ensures { OnOk result ((all : List (List ℕ)) → AreNames self.old all → AreNames self.new (name.now ∷ all)) }
     {

@@ -35,7 +35,7 @@ impl ListingText {
     ghost use Rattle.list_lines.specs.Kept.{with_line};
     ghost use Rattle.list_lines.specs.OutputView.{has_room, finished_lines, open_line};
 
-    /// Nothing.
+    /// A text without lines.
     pub fn new(alloc: Global) -> ListingText
         ensures kept { finished_lines result ≡ Some ([], 0) }
         ensures line { open_line result ≡ [] }

@@ -31,21 +31,21 @@ fn kind(head: &SegmentHead) -> Kind
     Kind { bits: head.kind }
 }
 
-/// The segment is never loaded.
+/// Whether the segment is never loaded.
 pub fn is_skipped(head: &SegmentHead) -> bool
     ensures { result ≡ format.is_skipped head.now.kind }
 {
     kind(head).is_skip()
 }
 
-/// The segment is loaded when it is called.
+/// Whether the segment is loaded when it is called.
 pub fn is_dynamic(head: &SegmentHead) -> bool
     ensures { result ≡ format.is_dynamic head.now.kind }
 {
     kind(head).is_dynamic()
 }
 
-/// The segment is loaded with its file.
+/// Whether the segment is loaded with its file.
 pub fn is_static(head: &SegmentHead) -> bool
     ensures { result ≡ heads.is_static head.now }
 {
@@ -53,21 +53,21 @@ pub fn is_static(head: &SegmentHead) -> bool
     !kind.is_dynamic() && !kind.is_skip()
 }
 
-/// The segment is static, and read again at each restart.
+/// Whether the segment is static, and read again at each restart.
 pub fn is_read_again(head: &SegmentHead) -> bool
     ensures { result ≡ steps.is_read_again head.now }
 {
     is_static(head) && kind(head).is_reload()
 }
 
-/// The segment is a jump table.
+/// Whether the segment is a jump table.
 pub fn is_table(head: &SegmentHead) -> bool
     ensures { result ≡ heads.is_table head.now }
 {
     kind(head).form() == TABLE
 }
 
-/// The segment is code.
+/// Whether the segment is code.
 pub fn is_code(head: &SegmentHead) -> bool
     ensures { result ≡ (format.form_of head.now.kind == 0x00) }
 {

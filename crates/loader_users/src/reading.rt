@@ -52,7 +52,7 @@ fn plain_load<'a>(alloc: Global, file: &'a [u8]) -> Result<LoadFile<'a>, LoaderF
     }
 }
 
-/// The run-time library file.
+/// The run-time library file that these bytes are, or why they are none.
 pub fn runtime_load<'a>(alloc: Global, file: &'a [u8]) -> Result<LoadFile<'a>, LoaderFault>
     requires { length file.now < 2 ^ 32 }
     ensures loaded { IfOk result (λ load. IsReadAs true file.now load) }

@@ -68,7 +68,7 @@ pub fn holder_of(users: &Vec<Option<User>>, id: u16) -> Option<(u16, u16)>
     None
 }
 
-/// The user of an ID, which has one, is gone.
+/// Removes the user of an ID, which has one.
 pub fn remove(users: &mut Vec<Option<User>>, id: u16)
     requires { IsSome (user_of (map (option_map kept) users.old.items) id) }
     ensures gone { map (option_map kept) users.new.items ≡ with_user (map (option_map kept) users.old.items) id None }
@@ -118,7 +118,7 @@ pub fn attached_count(users: &Vec<Option<User>>, id: u16) -> usize
     user_in(users, id).attached.len()
 }
 
-/// The ID of one of them.
+/// The ID of the user at a place, from 0, among those that are attached to the user of an ID, which has one.
 pub fn attached_in(users: &Vec<Option<User>>, id: u16, place: usize) -> u16
     requires made { IsSome (user_of (map (option_map kept) users.now.items) id) }
     requires inside { (k : LoadedUser) → user_of (map (option_map kept) users.now.items) id ≡ Some k → place < length k.attached }

@@ -68,7 +68,7 @@ fn check_later<'a>(
     }
 }
 
-/// The load file. It is refused exactly where it has a first fault, or when out of memory.
+/// The load file that these bytes are. It is refused exactly where it has a first fault, or when out of memory.
 pub fn read_load<'a>(alloc: Global, file: &'a [u8]) -> Result<LoadFile<'a>, LoadFault>
     requires { length file.now < 2 ^ 32 }
     ensures ok { IfOk result (λ load. IsLoadable file.now load) }

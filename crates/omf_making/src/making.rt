@@ -29,6 +29,7 @@ pub trait Maker {
     // What may be made of files with these bytes.
     ghost makes: { Self → List (List ℕ) → Made → Type 0 };
 
+    /// What the command makes of the bytes of its inputs, unless out of memory.
     fn make(&self, alloc: Global, files: Vec<Vec<u8>>) -> Result<Making, AllocError>
         requires short { AreShort (all_bytes files.items) }
         requires few { length files.items ≤ 255 }

@@ -29,7 +29,7 @@ pub struct Frames {
 }
 
 impl Frames {
-    /// None. It takes no memory yet.
+    /// No expansions. It takes no memory yet.
     pub fn new(alloc: Global) -> Frames
         ensures { stack_of result ≡ [] }
     {
@@ -38,6 +38,7 @@ impl Frames {
         }
     }
 
+    /// Adds the expansion that calls the next one.
     #[tactic(auto, using(crate::specs::Frame::pushed))]
     pub fn push(&mut self, scope: CallScope) -> Result<(), AllocError>
         ensures ok { OnOk result (stack_of self.new ≡ frame scope ∷ stack_of self.old) }
@@ -46,6 +47,7 @@ impl Frames {
         Ok(())
     }
 
+    /// Takes out the expansion that called last, if there is one.
     #[tactic(auto, using(crate::specs::Frame::popped))]
     pub fn pop(&mut self) -> Option<CallScope>
         ensures { MatchOption result ((stack_of self.old ≡ []) × (stack_of self.new ≡ [])) (λ scope. stack_of self.old ≡ frame scope ∷ stack_of self.new) }
@@ -53,7 +55,7 @@ impl Frames {
         self.items.pop()
     }
 
-    /// How many there are.
+    /// How many expansions there are.
     #[tactic(auto, using(crate::specs::Frame::as_long))]
     pub fn count(&self) -> usize
         ensures { result ≡ length (stack_of self.now) }
@@ -86,7 +88,7 @@ fn source(alloc: Global) -> CallScope
 }
 
 impl ExpansionState {
-    /// At the first line of the source.
+    /// The state at the first line of the source.
     pub fn new(alloc: Global) -> Result<ExpansionState, AllocError>
         ensures scope { IfOk result (λ s. frame s.scope ≡ record { macro = None; line = 0; root = 0; counter = 255; symbols = no_symbols }) }
         ensures frames { IfOk result (λ s. stack_of s.frames ≡ []) }

@@ -87,7 +87,7 @@ pub fn signed_decimal(alloc: Global, z: i32) -> Result<SymbolText, AllocError>
 }
 
 impl CallCounts {
-    /// None.
+    /// The count of no calls.
     pub fn none(alloc: Global) -> Result<CallCounts, AllocError>
         ensures { IfOk result (λ calls. calls ≡ 0) }
     {
@@ -101,7 +101,7 @@ impl CallCounts {
         Ok(CallCounts { count, digits })
     }
 
-    /// One more.
+    /// Adds one to the count.
     pub fn rise(&mut self, alloc: Global) -> Result<(), AllocError>
         requires { self.old + 1 < 2 ^ 32 }
         ensures { OnOk result (self.new ≡ self.old + 1) }
@@ -110,7 +110,7 @@ impl CallCounts {
         Ok(())
     }
 
-    /// Its digits.
+    /// The decimal digits of the count.
     pub fn digits(&self) -> &[u8]
         ensures value { result.now ≡ decimal self.now }
         ensures short { length result.now ≤ 255 }
@@ -149,7 +149,7 @@ fn renew(slot: &mut Symbol, kind: SymbolKind, text: SymbolText) -> Option<Symbol
 }
 
 impl Symbols {
-    /// None.
+    /// No symbols.
     pub fn new(alloc: Global) -> Symbols
         ensures { symbols_of result ≡ no_symbols }
     {
@@ -158,7 +158,7 @@ impl Symbols {
         }
     }
 
-    /// None, in the memory of these.
+    /// No symbols, in the memory of these.
     pub fn into_empty(self) -> Symbols
         ensures { symbols_of result ≡ no_symbols }
     {
@@ -206,7 +206,7 @@ impl Symbols {
 }
 
 impl SharedTextTable {
-    /// None.
+    /// No texts.
     pub fn new(alloc: Global) -> SharedTextTable
         ensures { texts_of result ≡ no_texts }
     {

@@ -50,7 +50,7 @@ impl<'a> Word<'a> {
         }
     }
 
-    /// Its bytes.
+    /// The bytes of the word.
     pub fn bytes(&self) -> &[u8]
         ensures value { result.now ≡ self.now }
         ensures short { length result.now ≤ 255 }

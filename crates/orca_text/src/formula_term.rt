@@ -45,7 +45,7 @@ impl Formula {
         Formula { terms }
     }
 
-    /// Its terms in order.
+    /// The terms of the formula, in order.
     pub fn terms(&self) -> &[FormulaTerm]
         ensures { map term result.now ≡ self.now }
     {
