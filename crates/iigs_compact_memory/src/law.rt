@@ -4,8 +4,8 @@ ghost use Rattle.iigs_meaning.specs.Puts.{IsOnce};
 ghost use Rattle.iigs_meaning.specs.Slide.{PurgesOrSlides};
 ghost use Rattle.iigs_compact_memory.specs.Laws.{NoneRises, SlidesOnce, StaySound, StaySoundPurged, LacksWhereNoneFits};
 
-/// Each movable block's present address fits when its turn in a slide occurs, so no address rises. A slide has one outcome, and after it
-/// blocks lie apart and where their wants fit, as before; so they do after purges.
+/// Each movable block's present address fits when its turn in a slide occurs, so no address rises. A slide has one outcome at most,
+/// and after it blocks lie apart and where their wants fit, as before; so they do after purges.
 pub fn no_address_rises()
     ensures none_rises { NoneRises }
     ensures once { SlidesOnce }

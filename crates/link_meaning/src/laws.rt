@@ -48,9 +48,10 @@ pub fn equates_have_one_value()
     ensures one_number { OneNumber }
 {}
 
-/// The load file that the linker writes represents the linked cells: its segments are the load segments in order of number and the table
-/// after them, each with the header of the layout and its linked cells. Their cells name only the segment itself, static ones and the
-/// table, and the table's entries lead into dynamic ones.
+/// The load file that the linker writes represents the linked cells: its segments are the load segments in order of number, after them the
+/// table and then the pathname segment, where there are these two, each with the header of the layout and its linked cells. The cells of a
+/// load segment name only the segment itself, static ones and the table, and the table's entries lead into dynamic ones and into segments of
+/// run-time library files.
 pub fn linked_files_have_their_headers_and_cells()
     ensures stand_for { StandsForLinkedCells }
     ensures reach { OnlyCallsReachDynamic }

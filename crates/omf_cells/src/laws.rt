@@ -2,7 +2,7 @@
 
 ghost use Rattle.omf_cells.specs.Laws.{OneLoadFile, LoadableHasNoFault, OneFirstFault, HeaderFaultKeeps, RecordFaultKeeps, HasLengthCells, CellsAreBytes, SegmentsAreSound};
 
-/// A file is one list of load segments, or has one first fault, and not both.
+/// A file is one list of load segments at most, has one first fault at most, and not both.
 pub fn load_files_are_read_in_one_way()
     ensures one_list { OneLoadFile }
     ensures no_fault { LoadableHasNoFault }

@@ -15,7 +15,7 @@ pub fn bodies_are_handed_out()
     ensures { HandedOutIsBody }
 {}
 
-/// A file is one list of segments, or has one first fault, and not both.
+/// A file is one list of segments at most, has one first fault at most, and not both.
 pub fn files_are_read_in_one_way()
     ensures one_list { OneListOfSegments }
     ensures fault_is_no_file { FaultIsNoFile }
