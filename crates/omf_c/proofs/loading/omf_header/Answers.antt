@@ -5,7 +5,7 @@ use Rattle.omf_c.proofs.loading.omf_header.Goals as goal
 
 pub returns-in-Some : goal.returns-in-Some
 returns-in-Some c =
-    (Made c.reported.result, (_, c.in-Ok.ensures.ok.0, reports_at _ c.args.number c.reported.result _ c.in-Some.ensures c.reported.ensures), (refl, refl, c.in-Ok.ensures.ok.1))
+    (Made c.to_omf_header.result, (_, c.in-Ok.ensures.ok.0, reports_at _ c.args.number c.to_omf_header.result _ c.in-Some.ensures c.to_omf_header.ensures), (refl, refl, c.in-Ok.ensures.ok.1))
 
 pub returns : goal.returns
 returns c = unread_reported c.args.file.now c.in-Err.status c.args.fault.now c.read_load_file.new.fault _ _ c.args.reported.now c.in-Err.ensures.refused

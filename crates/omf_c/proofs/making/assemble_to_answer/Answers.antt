@@ -9,6 +9,6 @@ pub returns : goal.returns
 returns c =
     let source = c.args.source.now in
     let macros = contents c.args.macros.now in
-    let refused : IsAsmFault source macros c.in-Err.fault = subst (λ (m : List (List ℕ)). IsAsmFault source m c.in-Err.fault) c.in-Ok.ensures c.in-Err.ensures.answer_of_fault in
+    let refused : IsAsmFault source macros c.in-Err.fault = subst (λ (m : List (List ℕ)). IsAsmFault source m c.in-Err.fault) c.in-Ok.ensures c.in-Err.ensures.refused in
     subst (Assembles source macros) (sym c.answer_of_fault.ensures)
     (reported_makes _ _ _ _ c.in-Err.fault c.asm_fault.result _ _ tt (λ other. asm_first source macros c.in-Err.fault other refused) c.asm_fault.ensures)

@@ -8,4 +8,4 @@ pub returns-in-Err : goal.returns-in-Err
 returns-in-Err c =
     let file = c.args.file.now in
     subst (Dumps file) (sym c.answer_of_fault.ensures)
-    (reported_makes _ _ _ _ c.in-Err.fault c.file_fault.result _ _ (omega arith) (λ other. file_first c.in-Err.fault file other c.in-Err.ensures.answer_of_fault) c.file_fault.ensures)
+    (reported_makes _ _ _ _ c.in-Err.fault c.file_fault.result _ _ (omega arith) (λ other. file_first c.in-Err.fault file other c.in-Err.ensures.refused) c.file_fault.ensures)

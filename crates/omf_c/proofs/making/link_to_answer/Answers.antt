@@ -23,14 +23,14 @@ pub returns-in-Ok-link_with : goal.returns-in-Ok-link_with
 returns-in-Ok-link_with c =
     let same = given_same c.args.form c.in-Ok.inputs.items c.in-Ok-members.runtimes.items (contents c.args.inputs.now) c.args.runtimes.now c.in-Ok.ensures c.in-Ok-members.ensures in (
       (subst FewGiven same c.if-not-may_resolve.ensures.few, subst HavePaths same c.if-not-may_resolve.ensures.paths),
-      subst (λ (g : LinkInput). IsLinkedTo g c.in-Ok-link_with.output.items) same c.in-Ok-link_with.ensures.link_to_answer,
+      subst (λ (g : LinkInput). IsLinkedTo g c.in-Ok-link_with.output.items) same c.in-Ok-link_with.ensures.linked,
     )
 
 pub returns : goal.returns
 returns c =
     let given = link_given c.args.form (contents c.args.inputs.now) c.args.runtimes.now in
     let same = given_same c.args.form c.in-Ok.inputs.items c.in-Ok-members.runtimes.items (contents c.args.inputs.now) c.args.runtimes.now c.in-Ok.ensures c.in-Ok-members.ensures in
-    let refused : IsLinkRefused given c.in-Err.fault = subst (λ (g : LinkInput). IsLinkRefused g c.in-Err.fault) same c.in-Err.ensures.answer_of_fault in
+    let refused : IsLinkRefused given c.in-Err.fault = subst (λ (g : LinkInput). IsLinkRefused g c.in-Err.fault) same c.in-Err.ensures.refused in
     subst (Links given) (sym c.answer_of_fault.ensures)
     (reported_makes _ _ _ _ c.in-Err.fault c.link_fault.result _ _ (subst FewGiven same c.if-not-may_resolve.ensures.few, subst HavePaths same c.if-not-may_resolve.ensures.paths)
     (λ other. link_first given c.in-Err.fault other refused) c.link_fault.ensures)
