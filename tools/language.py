@@ -1,5 +1,5 @@
 """The words of the assembler's language, read from the definitions: mnemonics, directives, and the statements of macros."""
-import collections, re
+import collections, functools, re
 
 from common import CRATES
 
@@ -22,20 +22,24 @@ def spelled(path, *names):
     return found
 
 
+@functools.cache
 def mnemonics():
     return spelled(OPERATIONS, "mnemonics")
 
 
+@functools.cache
 def directives():
     """The directives that do something; ANOP is one."""
     return spelled(DIRECTIVES, "directives")
 
 
+@functools.cache
 def ignored():
     """The directives that are accepted without effect."""
     return spelled(DIRECTIVES, "ignored_directives")
 
 
+@functools.cache
 def statements():
     """The statements of macros and conditional assembly; ANOP, which is a directive too, isn't among them."""
     return [word for word in spelled(STATEMENTS, "statements", "other_statements") if word not in directives()]
@@ -55,6 +59,7 @@ def shown_mode(name):
     raise ValueError(f"{MATRIX}: {name} is no mode that is known")
 
 
+@functools.cache
 def modes():
     """The modes of each mnemonic, in the order of MODES."""
     found = collections.defaultdict(set)
@@ -65,11 +70,13 @@ def modes():
     return {mnemonic: sorted(found[mnemonic], key=MODES.index) for mnemonic in mnemonics()}
 
 
+@functools.cache
 def without_operand():
     """The operations that take no operand: what follows them is a comment."""
     return [it for it, its in modes().items() if its == ["i"]] + spelled(OPERATIONS, "without_operand")
 
 
+@functools.cache
 def with_optional_operand():
     """The mnemonics that may lack their operand."""
     return [it for it, its in modes().items() if "A" in its or "sig" in its]

@@ -2,6 +2,8 @@
 function! s:Detect() abort
   for line in getline(1, 200)
     if line =~? '^[^ \t*;!]*[ \t]\+\%(START\|PRIVATE\|DATA\|PRIVDATA\|MACRO\|MCOPY\|KEEP\)\%([ \t]\|$\)'
+      " Those for assemblers of C's kind, which came before, leave their mark and don't undo it.
+      unlet! b:did_ftplugin
       set filetype=omf
       return
     endif

@@ -45,7 +45,7 @@ syntax keyword omfTodo TODO FIXME XXX contained
 syntax match omfOperator "[-+*/|<>=#^!]" contained
 syntax match omfOperator "\.\%(NOT\|AND\|OR\|EOR\)\." contained
 syntax match omfName "[a-z_~][a-z0-9_~]*" contained
-syntax match omfSequenceUse "\.[a-z_~][a-z0-9_~]*\%(\.\)\@!" contained
+syntax match omfSequenceUse "[a-z0-9_~]\@1<!\.[a-z_~][a-z0-9_~]*\.\@!" contained
 syntax match omfNumber "\<\d\+\>" contained
 syntax match omfNumber "\$\x\+" contained
 syntax match omfNumber "%[01]\+" contained
