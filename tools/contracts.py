@@ -43,7 +43,7 @@ class Item:
 
 @dataclass
 class Clause:
-    """A `requires`, an `ensures`, or a `ghost` member of a trait or an `impl`: its name, if it has one, the comment before it, and its text."""
+    """A `requires`, an `ensures` or a `ghost` member: its name, if it has one, the comment before it, and its text."""
 
     kind: str
     name: str

@@ -387,7 +387,7 @@ module _ (list : List Member) (rows : List (List ℕ)) (are : AreRows list (all_
                 let k = entry_at s.0 other (in_filter is_equate s.0 other inside') in
                 let own : slice_get (entries list) k.0 ≡ Some other = ap (λ (l : List FoundDefinition). slice_get l k.0) s.2 ∙ get_front s.0 (e ∷ s.1) k.0 other k.1 in
                 none k.0 (omega (arith, get_within s.0 k.0 other k.1, s.3)) (cycle_of once k.0 other has.cycle (outer_at list k.0 other own));
-            here = record { cycle = path; value_of_definition = reported' };
+            here = record { cycle = path; reported = reported' };
           })
 
 -- ---- where an equate is

@@ -60,17 +60,17 @@ judged_bad following m e model lines begins mend fault is more none fault_is =
 
 pub judged_good : (following : ℕ) (m e model : Line) (lines : List Line) (begins mend : ℕ) (found : Model) (d : MacroDefinition) → slice_get lines (begins + 1) ≡ Some model → slice_get lines mend ≡ Some e
     → begins + 1 < mend → mend < length lines → model_of model.text ≡ Some found
-    → definition d ≡ record { model = found; following = following; body = record { lines = take (mend + 1 - (begins + 2)) (drop (begins + 2) lines); reach = mend - (begins + 2) } }
+    → definition d ≡ record { model = found; visible_after = following; body = record { lines = take (mend + 1 - (begins + 2)) (drop (begins + 2) lines); reach = mend - (begins + 2) } }
     → Judged following m (take (mend - begins - 1) (drop (begins + 1) lines)) e (Ok d)
 judged_good following m e model lines begins mend found d is end more within some d_is =
     let front = front_line lines begins mend model is more in
     let rest : List Line = take (mend - (begins + 2)) (drop (begins + 2) lines) in
     let whole : rest ++ e ∷ [] ≡ take (mend + 1 - (begins + 2)) (drop (begins + 2) lines) = copy_more lines (begins + 2) mend e rest (rest ++ e ∷ []) (omega (arith, more)) end refl refl in
     let size : length rest ≡ mend - (begins + 2) = omega (arith, within, more, length-take (mend - (begins + 2)) (drop (begins + 2) lines), length-drop (begins + 2) lines) in
-    let made : definition_from following (model ∷ rest) e ≡ Some (record { model = found; following = following; body = record { lines = rest ++ e ∷ []; reach = length rest } }) = ap (definition_by following rest e) some in
-    let same : Some (record { model = found; following = following; body = record { lines = rest ++ e ∷ []; reach = length rest } }) ≡ Some (definition d) =
-    ap (λ (l : List Line). Some (record { model = found; following = following; body = record { lines = l; reach = length rest } })) whole
-    ∙ ap (λ (k : ℕ). Some (record { model = found; following = following; body = record { lines = take (mend + 1 - (begins + 2)) (drop (begins + 2) lines); reach = k } })) size
+    let made : definition_from following (model ∷ rest) e ≡ Some (record { model = found; visible_after = following; body = record { lines = rest ++ e ∷ []; reach = length rest } }) = ap (definition_by following rest e) some in
+    let same : Some (record { model = found; visible_after = following; body = record { lines = rest ++ e ∷ []; reach = length rest } }) ≡ Some (definition d) =
+    ap (λ (l : List Line). Some (record { model = found; visible_after = following; body = record { lines = l; reach = length rest } })) whole
+    ∙ ap (λ (k : ℕ). Some (record { model = found; visible_after = following; body = record { lines = take (mend + 1 - (begins + 2)) (drop (begins + 2) lines); reach = k } })) size
     ∙ ap (λ (x : meaning.MacroDefinition). Some x) (sym d_is) in (
       ap (λ (inner : List Line). definition_from following inner e) front ∙ made ∙ same,
       ap (λ (inner : List Line). part_fault (Closed m inner e)) front ∙ ap (model_fault model) some,

@@ -1,17 +1,23 @@
 //! The bytes of the segments that have ended (GS/OS Reference, appendix F).
 
-ghost use Rattle.std.specs.Prelude.{◌≡◌, ◌+◌, ◌++◌, ◌∷◌, [], List, length, replicate, OnOk};
+ghost use Rattle.std.specs.Prelude.{◌≡◌, ◌≤◌, ◌+◌, ◌++◌, ◌∷◌, [], List, length, drop, replicate, OnOk};
 ghost use Rattle.omf_format.specs.Header.{IsWritable};
 ghost use Rattle.omf_header.specs.View.{fields};
 ghost use Rattle.asm_meaning.specs.State.{FinishedSegment};
 ghost use Rattle.asm_meaning.specs.Object.{records_text, segment_text, object_text};
 ghost use Rattle.orca_operands.specs.TextView.{text_within_limit, kept_text};
 
-use omf_header::{
-    Header, WriteHeaderFault, header_size, put_front, recall_header_size, write_header,
-};
+use omf_header::{Header, WriteHeaderFault, header_size, recall_header_size, write_header};
 use orca_operands::{MAX_FILE, RecordBytes};
 use std::alloc::{AllocError, Global};
+
+/// Writes bytes over those at the start.
+fn put_front(text: &mut [u8], front: &[u8])
+    requires { length front.now ≤ length text.old }
+    ensures { text.new ≡ front.now ++ drop (length front.now) text.old }
+{
+    text[..front.len()].copy_from_slice(front);
+}
 
 /// Writes its header into the room before the records of a segment.
 fn close(alloc: Global, header: &Header, segment: &mut RecordBytes) -> Result<(), AllocError>
@@ -32,7 +38,7 @@ fn close(alloc: Global, header: &Header, segment: &mut RecordBytes) -> Result<()
     };
     match write_header(alloc, header, size as u32) {
         Ok(front) => {
-            put_front(segment.bytes.as_mut_slice(), 0, front.as_slice());
+            put_front(segment.bytes.as_mut_slice(), front.as_slice());
             Ok(())
         }
         Err(WriteHeaderFault::TooLong) => {

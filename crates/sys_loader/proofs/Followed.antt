@@ -334,8 +334,8 @@ module _ (held : FileMap) (old new : Loaded) (state : Machine) (sound : IsSound 
       inl (
         (
           state,
-          does_jsl held old state sound agrees id number at call.bytes call.borrow_bytes (Refused why) state
-              (steps_to held old state sound agrees id number at call.bytes call.borrow_bytes Nowhere (Refused why) state call.jsl
+          does_jsl held old state sound agrees id number at call.bytes call.borrowed (Refused why) state
+              (steps_to held old state sound agrees id number at call.bytes call.borrowed Nowhere (Refused why) state call.jsl
               (subst (λ (n : ℕ). IsLocated held state n Nowhere) call.address_is (nowhere held old state sound agrees address none))
               (ap (λ (f : LoaderFault). Refused f) is, refl)),
           agrees,
@@ -347,8 +347,8 @@ module _ (held : FileMap) (old new : Loaded) (state : Machine) (sound : IsSound 
       inl (
         (
           state,
-          does_jsl held old state sound agrees id number at call.bytes call.borrow_bytes (Refused why) state
-              (steps_to held old state sound agrees id number at call.bytes call.borrow_bytes (In place.user place.segment place.offset) (Refused why) state call.jsl
+          does_jsl held old state sound agrees id number at call.bytes call.borrowed (Refused why) state
+              (steps_to held old state sound agrees id number at call.bytes call.borrowed (In place.user place.segment place.offset) (Refused why) state call.jsl
               (subst (λ (n : ℕ). IsLocated held state n (In place.user place.segment place.offset)) call.address_is (is_at held old state sound agrees place.address place.user place.segment place.offset leads.lies))
               (subst (λ (n : ℕ). Enters RoomRule held state n (In place.user place.segment place.offset) (Refused why) state) call.address_is
               (steps_entry held old state sound agrees place.address place.user place.segment place.offset leads.lies None (Refused why) state table
@@ -365,8 +365,8 @@ module _ (held : FileMap) (old new : Loaded) (state : Machine) (sound : IsSound 
       inl (
         (
           state,
-          does_jsl held old state sound agrees id number at call.bytes call.borrow_bytes (Entered place.user place.segment place.offset place.address) state
-              (steps_to held old state sound agrees id number at call.bytes call.borrow_bytes (In place.user place.segment place.offset) (Entered place.user place.segment place.offset place.address) state call.jsl
+          does_jsl held old state sound agrees id number at call.bytes call.borrowed (Entered place.user place.segment place.offset place.address) state
+              (steps_to held old state sound agrees id number at call.bytes call.borrowed (In place.user place.segment place.offset) (Entered place.user place.segment place.offset place.address) state call.jsl
               (subst (λ (n : ℕ). IsLocated held state n (In place.user place.segment place.offset)) call.address_is (is_at held old state sound agrees place.address place.user place.segment place.offset lies))
               (subst (λ (n : ℕ). Enters RoomRule held state n (In place.user place.segment place.offset) (Entered place.user place.segment place.offset place.address) state) call.address_is
               (steps_place held old state sound agrees place.address place.user place.segment place.offset lies (Entered place.user place.segment place.offset place.address) state enters.plain refl refl))),
@@ -405,8 +405,8 @@ module _ (held : FileMap) (old new : Loaded) (state : Machine) (sound : IsSound 
     steps_call : (reply : Reply) (next : Machine) → MakesActive RoomRule held state lead.other t.0.segment of reply next
         → Rattle.loader_machine.specs.Steps.Does held state id (λ seen. bytes_refusal state.slots seen number at 4) reply next (λ user. StepsJsl RoomRule held state id number at reply next)
     steps_call reply next makes =
-        does_jsl held old state sound agrees id number at call.bytes call.borrow_bytes reply next
-        (steps_to held old state sound agrees id number at call.bytes call.borrow_bytes (In place.user place.segment place.offset) reply next call.jsl
+        does_jsl held old state sound agrees id number at call.bytes call.borrowed reply next
+        (steps_to held old state sound agrees id number at call.bytes call.borrowed (In place.user place.segment place.offset) reply next call.jsl
         (subst (λ (n : ℕ). IsLocated held state n (In place.user place.segment place.offset)) call.address_is (is_at held old state sound agrees place.address place.user place.segment place.offset is.lies))
         (subst (λ (n : ℕ). Enters RoomRule held state n (In place.user place.segment place.offset) reply next) call.address_is
         (steps_entry held old state sound agrees place.address place.user place.segment place.offset is.lies (Some t.0) reply next is.table
@@ -419,12 +419,12 @@ module _ (held : FileMap) (old new : Loaded) (state : Machine) (sound : IsSound 
     -- the call reaches the target
     pub reaches : Reaches held state id number at lead.other t.0
     reaches =
-        let f = four held old state sound agrees id number at call.bytes call.borrow_bytes in
+        let f = four held old state sound agrees id number at call.bytes call.borrowed in
         record {
           owner = place.user;
           seen = seen_by old id;
           is_seen = is_seen held old state agrees id;
-          passes = can_read held old state sound agrees id number at call.bytes call.borrow_bytes;
+          passes = can_read held old state sound agrees id number at call.bytes call.borrowed;
           bytes = f.0;
           stands = f.1;
           jsl = ap no_jsl (sym f.2) ∙ call.jsl;

@@ -177,14 +177,14 @@ module _ (held : FileMap) (old : Loaded) (state : Machine) (sound : IsSound old.
       stops why (NoJsl bytes borrowed is) = let clash : Some why ≡ None = sym is ∙ ap no_jsl (same_bytes bytes borrowed) ∙ r.jsl in cc
       stops why (NoPlace address call none is) =
           none r.owner r.table r.offset (lies_back held old state agrees RoomRule sound address r.owner r.table r.offset
-          (subst (λ (n : ℕ). IsAt held state n r.owner r.table r.offset) (same_address address call.bytes call.borrow_bytes call.address_is) r.is_at))
+          (subst (λ (n : ℕ). IsAt held state n r.owner r.table r.offset) (same_address address call.bytes call.borrowed call.address_is) r.is_at))
       stops why (NoEntry place leads table apart' is) =
           anywhere (λ address id' n offset at'. target_at_code (targets_of at'.s) 0 offset ≡ Some t → ⊥) place leads.lies
           (λ at' found.
           let none : target_at_code (targets_of (followed.s held old state sound agrees place.address place.user place.segment place.offset leads.lies)) 0 place.offset ≡ None =
           followed.none held old state sound agrees place.address place.user place.segment place.offset leads.lies table apart' in
           let clash : Some t ≡ None = sym found ∙ ap (λ (x : Segment). target_at_code (targets_of x) 0 place.offset) (same_segment place leads.lies at') ∙ none in cc)
-          (address_of (take 4 (drop at r.bytes))) r.owner r.table r.offset (same_address place.address leads.call.bytes leads.call.borrow_bytes leads.call.address_is) r.is_at r.target
+          (address_of (take 4 (drop at r.bytes))) r.owner r.table r.offset (same_address place.address leads.call.bytes leads.call.borrowed leads.call.address_is) r.is_at r.target
 
       leads : (place : answers.Entered) → EntersPlace old id number at place → ⊥
       leads place enters =
@@ -193,7 +193,7 @@ module _ (held : FileMap) (old : Loaded) (state : Machine) (sound : IsSound old.
           (λ at' table.
           let clash : true ≡ false = sym table ∙ ap (λ (x : Segment). is_table (head_of x)) (same_segment place lies at')
           ∙ followed.same_table held old state sound agrees place.address place.user place.segment place.offset lies ∙ enters.plain in cc)
-          (address_of (take 4 (drop at r.bytes))) r.owner r.table r.offset (same_address place.address enters.leads.call.bytes enters.leads.call.borrow_bytes enters.leads.call.address_is) r.is_at r.is_table
+          (address_of (take 4 (drop at r.bytes))) r.owner r.table r.offset (same_address place.address enters.leads.call.bytes enters.leads.call.borrowed enters.leads.call.address_is) r.is_at r.is_table
 
     none_needed : ((other : ℕ) (t : Target) → ¬ Reaches held state id number at other t) → IsReadFor held state (Jsl id number at) 0 0
     none_needed none = ([], inr (none, refl), alone 0)

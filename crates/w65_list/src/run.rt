@@ -38,7 +38,7 @@ fn with_bits(widths: RegisterWidths, bits: u8, on: bool) -> RegisterWidths
 
 /// The first byte, or 0.
 fn first_byte(bytes: &[u8]) -> u8
-    ensures { result ≡ little_number 1 put_dc_bytes.now }
+    ensures { result ≡ little_number 1 bytes.now }
 {
     match bytes.first() {
         Some(first) => *first,
@@ -117,8 +117,8 @@ fn put_turns(
 
 /// The number that at most three bytes are, the lowest first.
 fn number_of(bytes: &[u8]) -> u32
-    requires { length put_dc_bytes.now ≤ 3 }
-    ensures { result ≡ little_number (length put_dc_bytes.now) put_dc_bytes.now }
+    requires { length bytes.now ≤ 3 }
+    ensures { result ≡ little_number (length bytes.now) bytes.now }
 {
     match bytes {
         [] => 0,
@@ -130,7 +130,7 @@ fn number_of(bytes: &[u8]) -> u32
 
 /// The two banks of a block move: the destination is first.
 fn banks(bytes: &[u8]) -> Wanted<'static>
-    ensures { operand_view result ≡ Banks (little_number 1 (drop 1 put_dc_bytes.now)) (little_number 1 put_dc_bytes.now) }
+    ensures { operand_view result ≡ Banks (little_number 1 (drop 1 bytes.now)) (little_number 1 bytes.now) }
 {
     match bytes {
         [] => Wanted::Banks(0, 0),
@@ -142,8 +142,8 @@ fn banks(bytes: &[u8]) -> Wanted<'static>
 /// The operand of an instruction by its bytes; None for a branch.
 #[tactic(auto, unfolding(asm_meaning::specs::Instruction::kind_of))]
 fn wanted_operand(mode: Mode, bytes: &[u8]) -> Option<Wanted<'static>>
-    requires { length put_dc_bytes.now ≤ 3 }
-    ensures value { option_map operand_view result ≡ operand_by (kind_of mode) put_dc_bytes.now }
+    requires { length bytes.now ≤ 3 }
+    ensures value { option_map operand_view result ≡ operand_by (kind_of mode) bytes.now }
     ensures size { IfSome result (λ w. HasSize (operand_view w)) }
 {
     match mode {

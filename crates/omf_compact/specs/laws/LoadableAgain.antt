@@ -599,7 +599,7 @@ record IsPathTwin (number : ℕ) (s t : Segment) : Type 0 where
   held : IsHeld number (plain_of s)
   of : IsSheetOf (sheet_of number (plain_of s)) t
   path : is_pathname (plain_of s) ≡ true
-  patches_stored_alone : IsLone s
+  lone : IsLone s
 
 module _ (number : ℕ) (s t : Segment) (twin' : IsPathTwin number s t) where
   abbrev held_bytes : List ℕ
@@ -712,7 +712,7 @@ module _ (file other : List ℕ) (segments others : List Segment) (loadable : Is
         w.1,
         w.2,
         elim (cases_Bool (is_pathname (plain_of s))) [
-          | inl is ↦ inr (record { same = w.2; held = held'; of = of'; path = is; patches_stored_alone = lone_of file segments k s loadable w.1 (sym (path-is s) ∙ is) })
+          | inl is ↦ inr (record { same = w.2; held = held'; of = of'; path = is; lone = lone_of file segments k s loadable w.1 (sym (path-is s) ∙ is) })
           | inr other ↦ inl (record { same = w.2; held = held'; of = of'; plain' = other })
         ],
       )

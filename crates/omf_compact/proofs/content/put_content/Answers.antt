@@ -23,7 +23,7 @@ pub returns-then-size-gt-MOST_DATA-clause-too_long : goal.returns-then-size-gt-M
 returns-then-size-gt-MOST_DATA-clause-too_long c = λ e s at.
     let f = fields c.args.header.now in
     let other : is_pathname (plain_of s) ≡ false = kind_is s f (c.requires.header s at) ∙ ne_eqb (form_of f.kind) 4 (λ same. c.if-form-eq-PATHNAMES.false (c.form.ensures ∙ same)) in
-    let size : c.first_items-size.result ≡ front_at c.args.load.now f.seg_num = c.first_items-size.ensures ∙ ap (front_at c.args.load.now) c.from.ensures in
+    let size : c.front-size.result ≡ front_at c.args.load.now f.seg_num = c.front-size.ensures ∙ ap (front_at c.args.load.now) c.from.ensures in
     front_long c.args.load.now f.seg_num s c.requires.known at (c.requires.whole s at).whole (omega (arith, size, c.if-size-gt-MOST_DATA.true)) other
 
 pub returns-clause-ok : goal.returns-clause-ok
@@ -36,7 +36,7 @@ pub returns-clause-zeros : goal.returns-clause-zeros
 returns-clause-zeros c = λ s at.
     let f = fields c.args.header.now in
     let other : is_pathname (plain_of s) ≡ false = kind_is s f (c.requires.header s at) ∙ ne_eqb (form_of f.kind) 4 (λ same. c.if-form-eq-PATHNAMES.false (c.form.ensures ∙ same)) in
-    let size : c.first_items-size.result ≡ front_at c.args.load.now f.seg_num = c.first_items-size.ensures ∙ ap (front_at c.args.load.now) c.from.ensures in
+    let size : c.front-size.result ≡ front_at c.args.load.now f.seg_num = c.front-size.ensures ∙ ap (front_at c.args.load.now) c.from.ensures in
     let long : f.length ≡ s.fields.length = sym (ap (λ (g : HeaderFields). g.length) (c.requires.header s at)) in
-    zeros_are c.args.load.now f.seg_num s c.requires.known at (c.requires.whole s at).whole c.first_items-size.result c.saturating_sub.result size
-    (c.saturating_sub.ensures ∙ ap (λ (n : ℕ). n - c.first_items-size.result) long) other
+    zeros_are c.args.load.now f.seg_num s c.requires.known at (c.requires.whole s at).whole c.front-size.result c.saturating_sub.result size
+    (c.saturating_sub.ensures ∙ ap (λ (n : ℕ). n - c.front-size.result) long) other

@@ -30,4 +30,4 @@ visits-preserved c =
     let u = c.visits.invariant in
     let visited = c.in_ok-visit.ensures.visited u.before u.v u.stands (here_line c.args.program.now c.visits.state c.visits.count c.visits.out u (line c.in-Some.line.now) (rw c.in-Some.is at c.effect_at.ensures.line))
     (not_full c.args.program.now c.visits.state c.visits.count c.visits.out u c.if-count-eq-MOST_VISITS.false) in
-    goes c.args.program.now c.visits.state c.visit.new.state c.visits.count c.visits.out c.visit.new.out (line c.in-Some.line.now) u c.if-count-eq-MOST_VISITS.false c.in_ok-visit.ensures.calls c.in_ok-visit.ensures.few (rw c.in-BranchTo.is at visited)
+    goes c.args.program.now c.visits.state c.visit.new.state c.visits.count c.visits.out c.visit.new.out (line c.in-Some.line.now) u c.if-count-eq-MOST_VISITS.false c.in_ok-visit.ensures.calls c.in_ok-visit.ensures.few (rw c.in-Goes.is at visited)

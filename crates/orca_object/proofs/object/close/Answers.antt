@@ -16,8 +16,8 @@ returns-then-len-gt-MAX_FILE c = λ e header shows.
 pub returns-in-Ok : goal.returns-in-Ok
 returns-in-Ok c = λ e header shows.
     let text = c.args.segment.now in
-    let new = c.put_front.new.out in
-    ap (kept_by text.long) (with_items_is text.bytes new (omega (arith, c.put_front.auto.out, c.as_mut_slice.ensures.len, text.bytes.ok.0)))
+    let new = c.put_front.new.text in
+    ap (kept_by text.long) (with_items_is text.bytes new (omega (arith, c.put_front.auto.text, c.as_mut_slice.ensures.len, text.bytes.ok.0)))
     ∙ put_closed text e (fields c.args.header.now) c.in-Some.size c.as_slice.result.now new header c.recall_header_size.ensures c.if-segment.false shows (omega (arith, c.if-len-gt-MAX_FILE.false, c.len.ensures)) (omega (arith, c.header_size.ensures.value, c.len-2.ensures, text.bytes.ok.0))
     (c.as_slice.ensures.value ∙ c.in-Ok.ensures.bytes) (c.put_front.ensures ∙ ap (λ (l : List ℕ). c.as_slice.result.now ++ drop (length c.as_slice.result.now) l) c.as_mut_slice.ensures.value)
 

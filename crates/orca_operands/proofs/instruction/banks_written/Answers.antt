@@ -6,9 +6,9 @@ use Rattle.orca_operands.proofs.instruction.banks_written.Goals as goal
 
 pub returns-in_ok-given-in-Written-destination : goal.returns-in_ok-given-in-Written-destination
 returns-in_ok-given-in-Written-destination c = λ s d p q.
-    let a = sym (ap kept_view c.in-KnownConstants.is) ∙ p in
+    let a = sym (ap kept_view c.in-Known.is) ∙ p in
     let b = sym (ap kept_view c.in-Written-destination.is) ∙ q in
-    to_written c.args.opcode c.in-KnownConstants.s c.in-Written-destination.d.items s d (given_pieces c.in_ok-given-in-Written-destination.given) a b (c.in_ok-given-in-Written-destination.ensures s d a b)
+    to_written c.args.opcode c.in-Known.s c.in-Written-destination.d.items s d (given_pieces c.in_ok-given-in-Written-destination.given) a b (c.in_ok-given-in-Written-destination.ensures s d a b)
 
 pub returns-in_ok-given-in-Written : goal.returns-in_ok-given-in-Written
 returns-in_ok-given-in-Written c = λ s d p q.

@@ -14,5 +14,5 @@ invariant-rows g l = ((g.F.Files.seen l.files).held ≡ (g.F.Files.seen l.fn.fil
     × ((g.F.Files.seen l.files).faults ≡ (g.F.Files.seen l.fn.files).faults)
     × ((g.F.Files.seen l.files).asked ≡ saturating_sum l.place (g.F.Files.seen l.fn.files).asked)
     × (l.place ≤ length (paths_of l.load))
-    × ((all : List (List omf.UserSegment)) × AreGood (g.F.Files.seen l.fn.files).held (take l.place (paths_of l.load)) all
+    × ((all : List (List omf.Segment)) × AreGood (g.F.Files.seen l.fn.files).held (take l.place (paths_of l.load)) all
     × (map (λ (k : LoadedUser). Some k) (map kept l.users.items) ≡ joined_kepts (take l.place (paths_of l.load)) all))

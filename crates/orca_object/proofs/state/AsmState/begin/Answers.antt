@@ -23,7 +23,7 @@ returns c = λ state l shows f n. record {
     names = c.in_ok-set.ensures ∙ ap (λ (m : Names). with_name c.bytes.result.now None m) c.new-names.ensures ∙ ap (λ (b : List ℕ). with_name b None no_names) c.bytes.ensures.value;
     body = c.new-2.ensures (0x37 + length c.args.name) state.front
         (c.in_ok-join.ensures (replicate (0x37 + length c.args.name) 0) (records_text state.front)
-        (c.in_ok-text.ensures ∙ ap (λ (n : ℕ). text_within_limit (replicate n 0)) c.head_size.ensures.value) (ap kept_text c.replace-front.ensures.value ∙ shows.front)) shows.waiting;
+        (c.in_ok-text.ensures ∙ ap (λ (n : ℕ). text_within_limit (replicate n 0)) c.header_size.ensures.value) (ap kept_text c.replace-front.ensures.value ∙ shows.front)) shows.waiting;
   };
   number = shows.number;
   object = shows.object;

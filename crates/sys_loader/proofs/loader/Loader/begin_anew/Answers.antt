@@ -23,8 +23,8 @@ use Rattle.sys_loader.proofs.Again.{begun_anew_sound}
 use Rattle.sys_loader.proofs.Anew.{begun_anew, placed_freed}
 use Rattle.sys_loader.proofs.loader.Loader.begin_anew.Goals as goal
 
-pub settle-requires-clause-placed : goal.settle-requires-clause-placed
-settle-requires-clause-placed c =
+pub write_all-requires-clause-placed : goal.write_all-requires-clause-placed
+write_all-requires-clause-placed c =
     let plan = c.requires.plan in
     let handles = same_handles c.self.inside.banks.banks c.args.user (without_user c.self.inside.banks.slots c.args.user) c.place_all_anew.new.banks.slots c.as_slice.result.now c.args.plan.wants.items c.as_slice-2.result.now c.place_all_anew.new.handles
     c.args.plan.handles.items c.args.plan.handles.len c.in_ok-place_all_anew.ensures.placed.puts c.as_slice.ensures.value plan.handles' c.args.plan.handles.ok.0 c.as_slice-2.ensures.value in (
@@ -40,7 +40,7 @@ set_lives-requires-clause-made c =
     let id = c.args.user in
     let can : CanRestart old id c.requires.can.0 = subst (λ (l : Loaded). CanRestart l id c.requires.can.0) (sym c.self.view_is) c.requires.can.1 in
     let found = c.requires.can.0 in
-    let items = c.settle.new.segments.items in
+    let items = c.write_all.new.segments.items in
     let begun : LoadedUser = record found { life = Running; handles = map (λ s. s.handle) items; heads = map (λ s. s.head) items } in
     let set = c.set_segments.ensures.set found can.made in
     let there : user_of (map (option_map kept) c.set_segments.new.users.items) id ≡ Some begun = ap (λ (us : List (Option LoadedUser)). user_of us id) set ∙ user_set old.users id found can.made (Some begun) in
@@ -52,7 +52,7 @@ set_lives-requires-clause-there c =
     let id = c.args.user in
     let can : CanRestart old id c.requires.can.0 = subst (λ (l : Loaded). CanRestart l id c.requires.can.0) (sym c.self.view_is) c.requires.can.1 in
     let found = c.requires.can.0 in
-    let items = c.settle.new.segments.items in
+    let items = c.write_all.new.segments.items in
     let begun : LoadedUser = record found { life = Running; handles = map (λ s. s.handle) items; heads = map (λ s. s.head) items } in
     let set = c.set_segments.ensures.set found can.made in
     subst (λ (us : List (Option LoadedUser)). HasItsUsers us id) (sym set) (its_there old.users c.self.invariant.0.attached id found begun can.made refl)
@@ -60,12 +60,12 @@ set_lives-requires-clause-there c =
 pub invariant_of-self-2 : goal.invariant_of-self-2
 invariant_of-self-2 c =
     let old = loaded c.self.inside.banks c.self.inside.users.items in
-    let last = loaded c.settle.new.banks c.set_lives.new.users.items in
+    let last = loaded c.write_all.new.banks c.set_lives.new.users.items in
     let id = c.args.user in
     let can : CanRestart old id c.requires.can.0 = subst (λ (l : Loaded). CanRestart l id c.requires.can.0) (sym c.self.view_is) c.requires.can.1 in
     let found = c.requires.can.0 in
     let plan = c.requires.plan in
-    let items = c.settle.new.segments.items in
+    let items = c.write_all.new.segments.items in
     let begun : LoadedUser = record found { life = Running; handles = map (λ s. s.handle) items; heads = map (λ s. s.head) items } in
     let set = c.set_segments.ensures.set found can.made in
     let there : user_of (map (option_map kept) c.set_segments.new.users.items) id ≡ Some begun = ap (λ (us : List (Option LoadedUser)). user_of us id) set ∙ user_set old.users id found can.made (Some begun) in
@@ -73,9 +73,9 @@ invariant_of-self-2 c =
     c.set_lives.ensures.set begun there ∙ ap (λ (us : List (Option LoadedUser)). with_all (with_life Running) us found.attached) set in
     let started : Started = record { user = id; entry = c.entry_of-entry.result } in
     let did : HasBegunAnew old id found c.args.load.now started last =
-    begun_anew old c.place_all_anew.new.banks c.settle.new.banks items c.args.load.now found c.as_slice.result.now c.as_slice-2.result.now c.place_all_anew.new.handles id c.entry_of-entry.result c.requires.short
+    begun_anew old c.place_all_anew.new.banks c.write_all.new.banks items c.args.load.now found c.as_slice.result.now c.as_slice-2.result.now c.place_all_anew.new.handles id c.entry_of-entry.result c.requires.short
     c.in_ok-place_all_anew.ensures.placed (c.as_slice.ensures.value ∙ plan.wants') (same_handles c.self.inside.banks.banks id (without_user c.self.inside.banks.slots id) c.place_all_anew.new.banks.slots c.as_slice.result.now c.args.plan.wants.items c.as_slice-2.result.now c.place_all_anew.new.handles
-    c.args.plan.handles.items c.args.plan.handles.len c.in_ok-place_all_anew.ensures.placed.puts c.as_slice.ensures.value plan.handles' c.args.plan.handles.ok.0 c.as_slice-2.ensures.value) c.settle.ensures.settled c.settle.ensures.heads c.settle.ensures.handles c.entry_of-entry.ensures
+    c.args.plan.handles.items c.args.plan.handles.len c.in_ok-place_all_anew.ensures.placed.puts c.as_slice.ensures.value plan.handles' c.args.plan.handles.ok.0 c.as_slice-2.ensures.value) c.write_all.ensures.settled c.write_all.ensures.heads c.write_all.ensures.handles c.entry_of-entry.ensures
     last.users users' in
     let other = c.requires.same found c.requires.can.1.made in
     let none : lost_refusal (kept_heads old.users found.attached) c.args.load.now ≡ None = ap (λ (l : Loaded). lost_refusal (kept_heads l.users found.attached) c.args.load.now) c.self.view_is ∙ other.0 in (
@@ -86,12 +86,12 @@ invariant_of-self-2 c =
 pub returns-clause-begun : goal.returns-clause-begun
 returns-clause-begun c k made =
     let old = loaded c.self.inside.banks c.self.inside.users.items in
-    let last = loaded c.settle.new.banks c.set_lives.new.users.items in
+    let last = loaded c.write_all.new.banks c.set_lives.new.users.items in
     let id = c.args.user in
     let can : CanRestart old id c.requires.can.0 = subst (λ (l : Loaded). CanRestart l id c.requires.can.0) (sym c.self.view_is) c.requires.can.1 in
     let found = c.requires.can.0 in
     let plan = c.requires.plan in
-    let items = c.settle.new.segments.items in
+    let items = c.write_all.new.segments.items in
     let begun : LoadedUser = record found { life = Running; handles = map (λ s. s.handle) items; heads = map (λ s. s.head) items } in
     let set = c.set_segments.ensures.set found can.made in
     let there : user_of (map (option_map kept) c.set_segments.new.users.items) id ≡ Some begun = ap (λ (us : List (Option LoadedUser)). user_of us id) set ∙ user_set old.users id found can.made (Some begun) in
@@ -99,9 +99,9 @@ returns-clause-begun c k made =
     c.set_lives.ensures.set begun there ∙ ap (λ (us : List (Option LoadedUser)). with_all (with_life Running) us found.attached) set in
     let started : Started = record { user = id; entry = c.entry_of-entry.result } in
     let did : HasBegunAnew old id found c.args.load.now started last =
-    begun_anew old c.place_all_anew.new.banks c.settle.new.banks items c.args.load.now found c.as_slice.result.now c.as_slice-2.result.now c.place_all_anew.new.handles id c.entry_of-entry.result c.requires.short
+    begun_anew old c.place_all_anew.new.banks c.write_all.new.banks items c.args.load.now found c.as_slice.result.now c.as_slice-2.result.now c.place_all_anew.new.handles id c.entry_of-entry.result c.requires.short
     c.in_ok-place_all_anew.ensures.placed (c.as_slice.ensures.value ∙ plan.wants') (same_handles c.self.inside.banks.banks id (without_user c.self.inside.banks.slots id) c.place_all_anew.new.banks.slots c.as_slice.result.now c.args.plan.wants.items c.as_slice-2.result.now c.place_all_anew.new.handles
-    c.args.plan.handles.items c.args.plan.handles.len c.in_ok-place_all_anew.ensures.placed.puts c.as_slice.ensures.value plan.handles' c.args.plan.handles.ok.0 c.as_slice-2.ensures.value) c.settle.ensures.settled c.settle.ensures.heads c.settle.ensures.handles c.entry_of-entry.ensures
+    c.args.plan.handles.items c.args.plan.handles.len c.in_ok-place_all_anew.ensures.placed.puts c.as_slice.ensures.value plan.handles' c.args.plan.handles.ok.0 c.as_slice-2.ensures.value) c.write_all.ensures.settled c.write_all.ensures.heads c.write_all.ensures.handles c.entry_of-entry.ensures
     last.users users' in
     let same : found ≡ k = same_Some found k (sym c.requires.can.1.made ∙ made) in
     subst (λ (l : Loaded). HasBegunAnew l id k c.args.load.now started last) c.self.view_is (subst (λ (x : LoadedUser). HasBegunAnew old id x c.args.load.now started last) same did)

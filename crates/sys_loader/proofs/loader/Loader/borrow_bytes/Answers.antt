@@ -8,5 +8,5 @@ use Rattle.sys_loader.proofs.loader.Loader.borrow_bytes.Goals as goal
 pub slice-requires : goal.slice-requires
 slice-requires c =
     let within = can_slice c.args.self.now c.args.user c.args.segment c.args.at c.args.count c.in_ok-h.h c.recall_invariant.ensures c.in_ok-h.ensures.can in
-    let same : c.in-Ok.bytes.now ≡ bytes_at c.args.self.now.memory c.in_ok-h.h.slot = c.in-Ok.ensures.borrow_bytes.is ∙ ap (λ (l : Loaded). bytes_at l.memory c.in_ok-h.h.slot) c.self.view_is in
+    let same : c.in-Ok.bytes.now ≡ bytes_at c.args.self.now.memory c.in_ok-h.h.slot = c.in-Ok.ensures.borrowed.is ∙ ap (λ (l : Loaded). bytes_at l.memory c.in_ok-h.h.slot) c.self.view_is in
     omega (arith, within, ap (λ (bs : List ℕ). length bs) same)

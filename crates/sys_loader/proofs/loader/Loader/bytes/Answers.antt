@@ -4,7 +4,7 @@ use Rattle.loader_agrees.specs.laws.Reads.{borrowed_met, borrowed_refused}
 use Rattle.sys_loader.proofs.loader.Loader.bytes.Goals as goal
 
 pub returns-clause-shows : goal.returns-clause-shows
-returns-clause-shows c = if_ok c.borrow_bytes.result _ _ c.borrow_bytes.ensures.borrow_bytes
+returns-clause-shows c = if_ok c.borrow_bytes.result _ _ c.borrow_bytes.ensures.borrowed
     (λ bytes borrowed held state agrees. borrowed_met held c.args.self.now state agrees RoomRule c.args.user c.args.segment c.args.at c.args.length bytes.now borrowed)
 
 pub returns-clause-refuses : goal.returns-clause-refuses

@@ -14,8 +14,8 @@ use Rattle.loader_users.proofs.Losing.{refusal_of}
 use Rattle.sys_loader.proofs.Reloading.{its_short}
 use Rattle.sys_loader.proofs.loader.Loader.is_same_file.Goals as goal
 
-pub lost_in-requires : goal.lost_in-requires
-lost_in-requires c = λ place n is.
+pub first_dangling_entry_of-requires : goal.first_dangling_entry_of-requires
+first_dangling_entry_of-requires c = λ place n is.
     let old = loaded c.self.inside.banks c.self.inside.users.items in
     let k = kept c.user_in-found.result.now in
     let one = c.self.invariant.0.attached.each (c.args.user - first_id) place n k (made_at old.users c.args.user k c.user_in-found.ensures).0 is in
@@ -26,7 +26,7 @@ returns-in-Some-clause-other c k made =
     let found = kept c.user_in-found.result.now in
     let same : found ≡ k = same_Some found k (sym c.user_in-found.ensures ∙ ap (λ (l : Loaded). user_of l.users c.args.user) c.self.view_is ∙ made) in
     let lost : lost_refusal (kept_heads (loaded c.self.inside.banks c.self.inside.users.items).users found.attached) c.args.load.now ≡ Some (fault.BadFile c.in-Some.fault) =
-    refusal_of (kept_heads (loaded c.self.inside.banks c.self.inside.users.items).users found.attached) c.args.load.now c.lost_in.result c.lost_in.ensures ∙ ap (option_map fault.BadFile) c.in-Some.is in
+    refusal_of (kept_heads (loaded c.self.inside.banks c.self.inside.users.items).users found.attached) c.args.load.now c.first_dangling_entry_of.result c.first_dangling_entry_of.ensures ∙ ap (option_map fault.BadFile) c.in-Some.is in
     inl (ap (λ (l : Loaded). lost_refusal (kept_heads l.users k.attached) c.args.load.now) (sym c.self.view_is)
     ∙ ap (λ (x : LoadedUser). lost_refusal (kept_heads (loaded c.self.inside.banks c.self.inside.users.items).users x.attached) c.args.load.now) (sym same) ∙ lost)
 
@@ -39,7 +39,7 @@ returns-clause-same c k made =
     let found = kept c.user_in-found.result.now in
     let same : found ≡ k = same_Some found k (sym c.user_in-found.ensures ∙ ap (λ (l : Loaded). user_of l.users c.args.user) c.self.view_is ∙ made) in
     let none : lost_refusal (kept_heads (loaded c.self.inside.banks c.self.inside.users.items).users found.attached) c.args.load.now ≡ None =
-    refusal_of (kept_heads (loaded c.self.inside.banks c.self.inside.users.items).users found.attached) c.args.load.now c.lost_in.result c.lost_in.ensures ∙ ap (option_map fault.BadFile) c.in-None.is in
+    refusal_of (kept_heads (loaded c.self.inside.banks c.self.inside.users.items).users found.attached) c.args.load.now c.first_dangling_entry_of.result c.first_dangling_entry_of.ensures ∙ ap (option_map fault.BadFile) c.in-None.is in
     IfOk-weaker c.compare.result _ _
     (λ _ heads. (
       ap (λ (l : Loaded). lost_refusal (kept_heads l.users k.attached) c.args.load.now) (sym c.self.view_is)
@@ -53,7 +53,7 @@ returns-clause-other c k made =
     let found = kept c.user_in-found.result.now in
     let same : found ≡ k = same_Some found k (sym c.user_in-found.ensures ∙ ap (λ (l : Loaded). user_of l.users c.args.user) c.self.view_is ∙ made) in
     let none : lost_refusal (kept_heads (loaded c.self.inside.banks c.self.inside.users.items).users found.attached) c.args.load.now ≡ None =
-    refusal_of (kept_heads (loaded c.self.inside.banks c.self.inside.users.items).users found.attached) c.args.load.now c.lost_in.result c.lost_in.ensures ∙ ap (option_map fault.BadFile) c.in-None.is in
+    refusal_of (kept_heads (loaded c.self.inside.banks c.self.inside.users.items).users found.attached) c.args.load.now c.first_dangling_entry_of.result c.first_dangling_entry_of.ensures ∙ ap (option_map fault.BadFile) c.in-None.is in
     IfErr-weaker c.compare.result _ _
     (λ why changed.
     subst (λ (l : Loaded). IsOtherFile l.users k c.args.load.now why) c.self.view_is

@@ -29,7 +29,7 @@ returns-in-Some-clause-loaded g c =
     omega (arith, c.if-len-paths-gt-MAX_USERS.false, c.len.ensures, c.paths.ensures, ap (λ (l : Loaded). length l.users) c.self.view_is, length-map c.self.inside.users.items (option_map kept)) in
     let joins = c.in_ok-joined.ensures.joins in
     rows_lost before.held c.args.self.now c.args.path.now c.args.load.now joins.0 before now (fault.BadFile c.in-Some.fault) fit joins.1
-    (lost_of (paths_of c.args.load.now) joins.0 c.in_ok-joined.joined.items c.args.load.now c.lost.result joins.2 c.lost.ensures ∙ ap (option_map fault.BadFile) c.in-Some.is) joins.3
+    (lost_of (paths_of c.args.load.now) joins.0 c.in_ok-joined.joined.items c.args.load.now c.first_dangling_entry.result joins.2 c.first_dangling_entry.ensures ∙ ap (option_map fault.BadFile) c.in-Some.is) joins.3
 
 pub plan_and_start-requires-clause-few : goal.plan_and_start-requires-clause-few
 plan_and_start-requires-clause-few g c =
@@ -50,7 +50,7 @@ plan_and_start-requires-clause-users g c =
     let joins = c.in_ok-joined.ensures.joins in (
       joins.0,
       joins.2,
-      lost_of (paths_of c.args.load.now) joins.0 c.in_ok-joined.joined.items c.args.load.now c.lost.result joins.2 c.lost.ensures ∙ ap (option_map fault.BadFile) c.in-None.is,
+      lost_of (paths_of c.args.load.now) joins.0 c.in_ok-joined.joined.items c.args.load.now c.first_dangling_entry.result joins.2 c.first_dangling_entry.ensures ∙ ap (option_map fault.BadFile) c.in-None.is,
     )
 
 pub returns-clause-loaded : goal.returns-clause-loaded
@@ -61,5 +61,5 @@ returns-clause-loaded g c =
     omega (arith, c.if-len-paths-gt-MAX_USERS.false, c.len.ensures, c.paths.ensures, ap (λ (l : Loaded). length l.users) c.self.view_is, length-map c.self.inside.users.items (option_map kept)) in
     let joins = c.in_ok-joined.ensures.joins in
     rows_started before.held c.args.self.now c.plan_and_start.new.self c.args.path.now c.args.load.now joins.0 (map kept c.in_ok-joined.joined.items) before now c.plan_and_start.result fit joins.1 joins.2
-    (lost_of (paths_of c.args.load.now) joins.0 c.in_ok-joined.joined.items c.args.load.now c.lost.result joins.2 c.lost.ensures ∙ ap (option_map fault.BadFile) c.in-None.is) joins.3
+    (lost_of (paths_of c.args.load.now) joins.0 c.in_ok-joined.joined.items c.args.load.now c.first_dangling_entry.result joins.2 c.first_dangling_entry.ensures ∙ ap (option_map fault.BadFile) c.in-None.is) joins.3
     (c.plan_and_start.ensures.begun joins.0 joins.2) c.plan_and_start.ensures.refused c.plan_and_start.ensures.err

@@ -15,8 +15,8 @@ use Rattle.sys_loader.proofs.Resting.{kept_sound, has_kept, found_runs}
 use Rattle.sys_loader.proofs.Stopping.{top_of}
 use Rattle.sys_loader.proofs.loader.Loader.keep_user.Goals as goal
 
-pub renew_tables-requires : goal.renew_tables-requires
-renew_tables-requires c =
+pub relink_tables-requires : goal.relink_tables-requires
+relink_tables-requires c =
     let old = loaded c.self.inside.banks c.self.inside.users.items in
     let k = kept c.user_in.result.now in
     record { ready = roomy old (c.args.user - first_id) k c.self.invariant.0 (made_at old.users c.args.user k c.user_in.ensures).0 }
@@ -47,7 +47,7 @@ invariant_of-self c =
     let there : user_of (map (option_map kept) c.set_lives.new.users.items) id ≡ Some now.0 = ap (λ (us : List (Option LoadedUser)). user_of us id) set ∙ now.1 in
     let users : last.users ≡ with_all (with_life Dormant) old.users (family id k.attached) =
     c.set_life.ensures.set now.0 there ∙ ap (λ (us : List (Option LoadedUser)). with_user us id (Some (with_life Dormant now.0))) set ∙ sym (all_last (with_life Dormant) old.users k.attached id now.0 now.1) in
-    let did = has_kept old last id k c.renew_tables.new.banks (length items) c.user_in.ensures runs (sym (length-map items (λ s. s.head))) c.renew_tables.ensures (c.idle_family.ensures k c.user_in.ensures) users in
+    let did = has_kept old last id k c.relink_tables.new.banks (length items) c.user_in.ensures runs (sym (length-map items (λ s. s.head))) c.relink_tables.ensures (c.idle_family.ensures k c.user_in.ensures) users in
     (kept_sound old last id c.self.invariant.0 did (top_of old id true k c.self.invariant.0 c.user_in.ensures passes), omega (arith, c.self.invariant.1, c.set_lives.ensures.room, c.set_life.ensures.room))
 
 pub returns : goal.returns
@@ -67,5 +67,5 @@ returns c =
     let there : user_of (map (option_map kept) c.set_lives.new.users.items) id ≡ Some now.0 = ap (λ (us : List (Option LoadedUser)). user_of us id) set ∙ now.1 in
     let users : last.users ≡ with_all (with_life Dormant) old.users (family id k.attached) =
     c.set_life.ensures.set now.0 there ∙ ap (λ (us : List (Option LoadedUser)). with_user us id (Some (with_life Dormant now.0))) set ∙ sym (all_last (with_life Dormant) old.users k.attached id now.0 now.1) in
-    let did = has_kept old last id k c.renew_tables.new.banks (length items) c.user_in.ensures runs (sym (length-map items (λ s. s.head))) c.renew_tables.ensures (c.idle_family.ensures k c.user_in.ensures) users in
+    let did = has_kept old last id k c.relink_tables.new.banks (length items) c.user_in.ensures runs (sym (length-map items (λ s. s.head))) c.relink_tables.ensures (c.idle_family.ensures k c.user_in.ensures) users in
     record { did = (subst (λ (l : Loaded). HasKept l id last) c.self.view_is did, ok.3) }

@@ -32,8 +32,8 @@ returns-in-Active-clause-did g c =
     was_active c.args.self.now c.args.user c.args.number s.head s.handle c.in_ok-segment.ensures.can (g.F.Files.seen c.args.files.now).held c.args.self.now count count
     c.in-Active.field-0 c.in-Active.address (one_presence (loaded c.self.inside.banks c.self.inside.users.items) c.args.self.now s.handle (Active c.in-Active.field-0 c.in-Active.address) c.self.view_is (sym c.presence.ensures ∙ c.in-Active.is)) refl refl
 
-pub wake-requires : goal.wake-requires
-wake-requires g c =
+pub reactivate-requires : goal.reactivate-requires
+reactivate-requires g c =
     let s = c.in_ok-segment.segment in
     let is = one_presence (loaded c.self.inside.banks c.self.inside.users.items) c.args.self.now s.handle (Idle c.in-Idle.h c.in-Idle.address) c.self.view_is (sym c.presence.ensures ∙ c.in-Idle.is) in
     record {
@@ -52,13 +52,13 @@ pub returns-in-Idle-clause-did : goal.returns-in-Idle-clause-did
 returns-in-Idle-clause-did g c =
     let s = c.in_ok-segment.segment in
     let count = (g.F.Files.seen c.args.files.now).faults in
-    was_idle c.args.self.now c.args.user c.args.number s.head s.handle c.in_ok-segment.ensures.can (g.F.Files.seen c.args.files.now).held c.wake.new.self count count
-    c.in-Idle.h c.in-Idle.address (one_presence (loaded c.self.inside.banks c.self.inside.users.items) c.args.self.now s.handle (Idle c.in-Idle.h c.in-Idle.address) c.self.view_is (sym c.presence.ensures ∙ c.in-Idle.is)) c.wake.ensures refl
+    was_idle c.args.self.now c.args.user c.args.number s.head s.handle c.in_ok-segment.ensures.can (g.F.Files.seen c.args.files.now).held c.reactivate.new.self count count
+    c.in-Idle.h c.in-Idle.address (one_presence (loaded c.self.inside.banks c.self.inside.users.items) c.args.self.now s.handle (Idle c.in-Idle.h c.in-Idle.address) c.self.view_is (sym c.presence.ensures ∙ c.in-Idle.is)) c.reactivate.ensures refl
 
 -- ---- it is read
 
-pub read_and_come-requires : goal.read_and_come-requires
-read_and_come-requires g c =
+pub read_and_load-requires : goal.read_and_load-requires
+read_and_load-requires g c =
     let s = c.in_ok-segment.segment in
     record {
       can = c.in_ok-segment.ensures.can;
@@ -81,12 +81,12 @@ pub returns-in-Purged-clause-did : goal.returns-in-Purged-clause-did
 returns-in-Purged-clause-did g c =
     let s = c.in_ok-segment.segment in
     let before = g.F.Files.seen c.args.files.now in
-    let now = g.F.Files.seen c.read_and_come.new.files in
-    was_purged c.args.self.now c.args.user c.args.number s.head s.handle c.in_ok-segment.ensures.can before.held c.read_and_come.new.self before.faults now.faults
-    c.in-Purged.field-0 c.read_and_come.result (one_presence (loaded c.self.inside.banks c.self.inside.users.items) c.args.self.now s.handle (Purged c.in-Purged.field-0) c.self.view_is (sym c.presence.ensures ∙ c.in-Purged.is)) c.read_and_come.ensures.came
+    let now = g.F.Files.seen c.read_and_load.new.files in
+    was_purged c.args.self.now c.args.user c.args.number s.head s.handle c.in_ok-segment.ensures.can before.held c.read_and_load.new.self before.faults now.faults
+    c.in-Purged.field-0 c.read_and_load.result (one_presence (loaded c.self.inside.banks c.self.inside.users.items) c.args.self.now s.handle (Purged c.in-Purged.field-0) c.self.view_is (sym c.presence.ensures ∙ c.in-Purged.is)) c.read_and_load.ensures.came
 
-pub read_and_come-requires-in-Absent : goal.read_and_come-requires-in-Absent
-read_and_come-requires-in-Absent g c =
+pub read_and_load-requires-in-Absent : goal.read_and_load-requires-in-Absent
+read_and_load-requires-in-Absent g c =
     let s = c.in_ok-segment.segment in
     record {
       can = c.in_ok-segment.ensures.can;
@@ -109,6 +109,6 @@ pub returns-in-Absent-clause-did : goal.returns-in-Absent-clause-did
 returns-in-Absent-clause-did g c =
     let s = c.in_ok-segment.segment in
     let before = g.F.Files.seen c.args.files.now in
-    let now = g.F.Files.seen c.read_and_come-in-Absent.new.files in
-    was_absent c.args.self.now c.args.user c.args.number s.head s.handle c.in_ok-segment.ensures.can before.held c.read_and_come-in-Absent.new.self before.faults now.faults
-    c.read_and_come-in-Absent.result (one_presence (loaded c.self.inside.banks c.self.inside.users.items) c.args.self.now s.handle Absent c.self.view_is (sym c.presence.ensures ∙ c.in-Absent.is)) c.read_and_come-in-Absent.ensures.came
+    let now = g.F.Files.seen c.read_and_load-in-Absent.new.files in
+    was_absent c.args.self.now c.args.user c.args.number s.head s.handle c.in_ok-segment.ensures.can before.held c.read_and_load-in-Absent.new.self before.faults now.faults
+    c.read_and_load-in-Absent.result (one_presence (loaded c.self.inside.banks c.self.inside.users.items) c.args.self.now s.handle Absent c.self.view_is (sym c.presence.ensures ∙ c.in-Absent.is)) c.read_and_load-in-Absent.ensures.came

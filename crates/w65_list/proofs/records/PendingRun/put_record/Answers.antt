@@ -28,10 +28,10 @@ returns-in-Equate-clause-refused c =
     let same = equate_is f all b a.global a.name.now a.length a.form a.private a.expr.now expression.tree c.number_in-number.result expression.spells (c.number_in-number.ensures expression.tree expression.spells) in
     subst (λ (r : Rec). given_by f all b (view r) ≡ None) (sym a.is) (same ∙ c.equate_record.ensures.refused stops b is)
 
-pub returns-in-ListedFormula-clause-given : goal.returns-in-ListedFormula-clause-given
-returns-in-ListedFormula-clause-given c =
+pub returns-in-Formula-clause-given : goal.returns-in-Formula-clause-given
+returns-in-Formula-clause-given c =
     let f = fields c.args.header.now in
-    let a = c.in-ListedFormula in
+    let a = c.in-Formula in
     let expression : IsExpression f.lab_len a.expr.now = subst (λ (r : Rec). HasExpression f.lab_len (view r)) a.is c.requires.spelled in
     let tree = expression.tree in
     let spelled = subst (λ (e : Expression). Spells e.lab_len e.text tree) (sym c.spelled-expr.ensures) expression.spells in
@@ -40,10 +40,10 @@ returns-in-ListedFormula-clause-given c =
     subst (λ (r : Rec). IsGiven (given_by f all b (view r)) c.args.out.now c.formula_record.new.out c.formula_record.new.self) (sym a.is)
     (subst (λ (o : Option Given). IsGiven o c.args.out.now c.formula_record.new.out c.formula_record.new.self) (sym same) (given b all tree names spelled is))) c.formula_record.ensures.given
 
-pub returns-in-ListedFormula-clause-refused : goal.returns-in-ListedFormula-clause-refused
-returns-in-ListedFormula-clause-refused c =
+pub returns-in-Formula-clause-refused : goal.returns-in-Formula-clause-refused
+returns-in-Formula-clause-refused c =
     let f = fields c.args.header.now in
-    let a = c.in-ListedFormula in
+    let a = c.in-Formula in
     let expression : IsExpression f.lab_len a.expr.now = subst (λ (r : Rec). HasExpression f.lab_len (view r)) a.is c.requires.spelled in
     let tree = expression.tree in
     let spelled = subst (λ (e : Expression). Spells e.lab_len e.text tree) (sym c.spelled-expr.ensures) expression.spells in

@@ -10,7 +10,7 @@ use Rattle.loader_users.specs.Changed.{IsChanged}
 use Rattle.sys_loader.proofs.Waking.{one_kept, come_from, brings_none, file_changed}
 use Rattle.loader_users.specs.Taken.{IsReadAs, IsBadFile}
 use Rattle.sys_loader.proofs.ReadAs.{as_loadable}
-use Rattle.sys_loader.proofs.loader.Loader.come.Goals as goal
+use Rattle.sys_loader.proofs.loader.Loader.load_from.Goals as goal
 
 pub returns-in_err-load-clause-refused : goal.returns-in_err-load-clause-refused
 returns-in_err-load-clause-refused c =
@@ -45,8 +45,8 @@ returns-in_err-compare-clause-refused c =
     file_changed c.args.file.now c.args.self.now c.args.user c.args.number k s.head s.handle c.in_ok-load.load (subst (λ (b : Bool). IsReadAs b c.args.file.now c.in_ok-load.load) c.is_attached.ensures c.in_ok-load.ensures.loaded) c.in_err-compare.field-0.0
     (subst (λ (x : LoadedUser). IsChanged x.heads (map head_of c.in_ok-load.load) c.in_err-compare.field-0.0) same c.in_err-compare.ensures.changed))
 
-pub bring-requires : goal.bring-requires
-bring-requires c = record {
+pub place_and_fill-requires : goal.place_and_fill-requires
+place_and_fill-requires c = record {
   taken = (c.args.file.now, as_loadable c.is_attached.result c.args.file.now c.in_ok-load.load c.in_ok-load.ensures.loaded);
   room = c.in_ok-places.ensures.ok;
   can = c.requires.can;
@@ -61,11 +61,11 @@ returns-clause-come c = λ k made.
     let same = c.in_ok-compare.ensures.same
     ∙ ap (λ (x : LoadedUser). x.heads) (one_kept (loaded c.self.inside.banks c.self.inside.users.items) c.args.self.now c.args.user (kept c.user_in-found.result.now) k c.self.view_is c.user_in-found.ensures made) in
     let s = c.args.segment.now in
-    come_from c.args.file.now c.args.self.now c.args.user c.args.number k s.head s.handle c.in_ok-load.load (subst (λ (b : Bool). IsReadAs b c.args.file.now c.in_ok-load.load) c.is_attached.ensures c.in_ok-load.ensures.loaded) c.bring.new.self c.bring.result same (c.bring.ensures.come k made)
+    come_from c.args.file.now c.args.self.now c.args.user c.args.number k s.head s.handle c.in_ok-load.load (subst (λ (b : Bool). IsReadAs b c.args.file.now c.in_ok-load.load) c.is_attached.ensures c.in_ok-load.ensures.loaded) c.place_and_fill.new.self c.place_and_fill.result same (c.place_and_fill.ensures.come k made)
 
 pub returns-clause-refused : goal.returns-clause-refused
 returns-clause-refused c = λ k made.
     let same = c.in_ok-compare.ensures.same
     ∙ ap (λ (x : LoadedUser). x.heads) (one_kept (loaded c.self.inside.banks c.self.inside.users.items) c.args.self.now c.args.user (kept c.user_in-found.result.now) k c.self.view_is c.user_in-found.ensures made) in
     let s = c.args.segment.now in
-    brings_none c.args.file.now c.args.self.now c.args.user c.args.number k s.head s.handle c.in_ok-load.load (subst (λ (b : Bool). IsReadAs b c.args.file.now c.in_ok-load.load) c.is_attached.ensures c.in_ok-load.ensures.loaded) c.bring.result same c.bring.ensures.refused
+    brings_none c.args.file.now c.args.self.now c.args.user c.args.number k s.head s.handle c.in_ok-load.load (subst (λ (b : Bool). IsReadAs b c.args.file.now c.in_ok-load.load) c.is_attached.ensures c.in_ok-load.ensures.loaded) c.place_and_fill.result same c.place_and_fill.ensures.refused

@@ -16,7 +16,7 @@ use Rattle.loader_users.proofs.Settling.{are_sound}
 use Rattle.sys_loader.proofs.Waking.{can_load, one_kept, gone_empty}
 use Rattle.sys_loader.proofs.Came.{dynamic_plain, came_sound}
 use Rattle.sys_loader.proofs.Brought.{block_there, block_fits, number_inside, has_head, roomy_filled, has_come}
-use Rattle.sys_loader.proofs.loader.Loader.bring.Goals as goal
+use Rattle.sys_loader.proofs.loader.Loader.place_and_fill.Goals as goal
 
 pub place_segment-requires : goal.place_segment-requires
 place_segment-requires c =
@@ -97,8 +97,8 @@ user_in-lead-requires c =
     let can = can_load old c.args.self.now c.args.user c.args.number s.head s.handle c.self.view_is c.requires.can in
     lead_some old c.args.user c.led_by-owner.result (led_pair old c.args.self.now c.args.user c.led_by-owner.result c.self.view_is c.led_by-owner.ensures) can.kept c.self.invariant.0 can.made
 
-pub renew_tables-requires : goal.renew_tables-requires
-renew_tables-requires c =
+pub relink_tables-requires : goal.relink_tables-requires
+relink_tables-requires c =
     let old = loaded c.self.inside.banks c.self.inside.users.items in
     let s = c.args.segment.now in
     let found = c.user_in-found.result.now in
@@ -125,7 +125,7 @@ set_handle-requires c =
 pub invariant_of-self-2 : goal.invariant_of-self-2
 invariant_of-self-2 c =
     let old = loaded c.self.inside.banks c.self.inside.users.items in
-    let last = loaded c.renew_tables.new.banks c.set_handle.new.users.items in
+    let last = loaded c.relink_tables.new.banks c.set_handle.new.users.items in
     let s = c.args.segment.now in
     let items = c.user_in-found.result.now.segments.items in
     let k = kept c.user_in-found.result.now in
@@ -136,9 +136,9 @@ invariant_of-self-2 c =
     let same : k ≡ can.kept = same_Some k can.kept (sym c.user_in-found.ensures ∙ can.made) in
     let made = subst (λ (l : Loaded). user_of l.users c.args.user ≡ Some k) c.self.view_is c.user_in-found.ensures in
     let did = has_come old c.args.user c.args.number c.self.invariant.0 s.head s.handle can c.in_ok-h.h c.place_segment.new.banks c.in_ok-h.ensures.brought c.place_of-address.result c.place_of-address.ensures
-    k c.user_in-found.ensures last items c.requires.taken.0 c.args.load.now c.set_places.new.places c.set.new.self c.from.result c.from-2.result c.fill_block.new.banks c.renew_tables.new.banks
+    k c.user_in-found.ensures last items c.requires.taken.0 c.args.load.now c.set_places.new.places c.set.new.self c.from.result c.from-2.result c.fill_block.new.banks c.relink_tables.new.banks
     (length lead_items) lead (lead_is old c.args.user c.led_by-owner.result pair lead c.user_in-lead.ensures) (sym (length-map lead_items (λ s. s.head))) refl
-    c.requires.taken.1 (c.requires.same k made) c.set_places.ensures c.from.ensures c.set.ensures c.from-2.ensures c.fill_block.ensures (renewed_by old c.args.user c.led_by-owner.result pair lead.heads lead.handles c.args.number (length lead_items) (Some c.place_of-address.result) c.fill_block.new.banks c.renew_tables.new.banks c.renew_tables.ensures) refl (c.set_handle.ensures.set k c.user_in-found.ensures) in (
+    c.requires.taken.1 (c.requires.same k made) c.set_places.ensures c.from.ensures c.set.ensures c.from-2.ensures c.fill_block.ensures (renewed_by old c.args.user c.led_by-owner.result pair lead.heads lead.handles c.args.number (length lead_items) (Some c.place_of-address.result) c.fill_block.new.banks c.relink_tables.new.banks c.relink_tables.ensures) refl (c.set_handle.ensures.set k c.user_in-found.ensures) in (
       came_sound old last c.args.user c.args.number s.head s.handle c.args.load.now c.place_of-address.result c.self.invariant.0 can
           (ap (λ (l : Loaded). is_read (presence l.memory.slots s.handle)) c.self.view_is ∙ c.requires.gone)
           (dynamic_plain c.requires.taken.0 c.args.load.now c.requires.taken.1 c.args.number s.head
@@ -150,7 +150,7 @@ invariant_of-self-2 c =
 pub returns-clause-come : goal.returns-clause-come
 returns-clause-come c = λ k made.
     let old = loaded c.self.inside.banks c.self.inside.users.items in
-    let last = loaded c.renew_tables.new.banks c.set_handle.new.users.items in
+    let last = loaded c.relink_tables.new.banks c.set_handle.new.users.items in
     let s = c.args.segment.now in
     let found = kept c.user_in-found.result.now in
     let items = c.user_in-found.result.now.segments.items in
@@ -161,8 +161,8 @@ returns-clause-come c = λ k made.
     let pair = led_pair old c.args.self.now c.args.user c.led_by-owner.result c.self.view_is c.led_by-owner.ensures in
     let made_found = subst (λ (l : Loaded). user_of l.users c.args.user ≡ Some found) c.self.view_is c.user_in-found.ensures in
     let did = has_come old c.args.user c.args.number c.self.invariant.0 s.head s.handle can c.in_ok-h.h c.place_segment.new.banks c.in_ok-h.ensures.brought c.place_of-address.result c.place_of-address.ensures
-    found c.user_in-found.ensures last items c.requires.taken.0 c.args.load.now c.set_places.new.places c.set.new.self c.from.result c.from-2.result c.fill_block.new.banks c.renew_tables.new.banks
+    found c.user_in-found.ensures last items c.requires.taken.0 c.args.load.now c.set_places.new.places c.set.new.self c.from.result c.from-2.result c.fill_block.new.banks c.relink_tables.new.banks
     (length lead_items) lead (lead_is old c.args.user c.led_by-owner.result pair lead c.user_in-lead.ensures) (sym (length-map lead_items (λ s. s.head))) refl
-    c.requires.taken.1 (c.requires.same found made_found) c.set_places.ensures c.from.ensures c.set.ensures c.from-2.ensures c.fill_block.ensures (renewed_by old c.args.user c.led_by-owner.result pair lead.heads lead.handles c.args.number (length lead_items) (Some c.place_of-address.result) c.fill_block.new.banks c.renew_tables.new.banks c.renew_tables.ensures) refl (c.set_handle.ensures.set found c.user_in-found.ensures) in
+    c.requires.taken.1 (c.requires.same found made_found) c.set_places.ensures c.from.ensures c.set.ensures c.from-2.ensures c.fill_block.ensures (renewed_by old c.args.user c.led_by-owner.result pair lead.heads lead.handles c.args.number (length lead_items) (Some c.place_of-address.result) c.fill_block.new.banks c.relink_tables.new.banks c.relink_tables.ensures) refl (c.set_handle.ensures.set found c.user_in-found.ensures) in
     subst (λ (l : Loaded). HasCome l c.args.user c.args.number k s.head s.handle c.args.load.now c.place_of-address.result last) c.self.view_is
     (subst (λ (x : LoadedUser). HasCome old c.args.user c.args.number x s.head s.handle c.args.load.now c.place_of-address.result last) same did)

@@ -6,7 +6,7 @@ use Rattle.loader_machine.specs.State.{user_of}
 use Rattle.loader_agrees.specs.Agrees.{Loaded}
 use Rattle.loader_users.specs.View.{kept}
 use Rattle.sys_loader.proofs.Reaching.{head_same, handle_same, entry_in, borrowed_here, enters_place, no_entry, names_one, calls_entry}
-use Rattle.sys_loader.proofs.loader.Loader.reached.Goals as goal
+use Rattle.sys_loader.proofs.loader.Loader.reach_segment.Goals as goal
 
 pub returns-then-not-is_table-clause-reached : goal.returns-then-not-is_table-clause-reached
 returns-then-not-is_table-clause-reached c user segment at leads =
