@@ -1,0 +1,75 @@
+# Completion of bash for omf, omf_map, omf_expand and omf-explain. Read it by `source`, or put it where bash-completion looks.
+
+# _omf_files WORD ENDING..: paths that begin so with one of these endings, or none, and folders.
+_omf_files() {
+    local word=$1 path ending
+    shift
+    COMPREPLY=()
+    while IFS= read -r path; do
+        if [ -d "$path" ]; then
+            COMPREPLY+=("$path")
+            continue
+        fi
+        for ending in "$@"; do
+            # shellcheck disable=SC2254
+            case ${path##*/} in $ending) COMPREPLY+=("$path") && break ;; esac
+        done
+    done < <(compgen -f -- "$word")
+    # Where nothing has such a name, any file will do.
+    [ "${#COMPREPLY[@]}" -gt 0 ] || while IFS= read -r path; do COMPREPLY+=("$path"); done < <(compgen -f -- "$word")
+    compopt -o filenames 2>/dev/null
+}
+
+# _omf_word COMMAND PLACE WORD: what may be an argument of a command, at a place from 1.
+_omf_word() {
+    case $1:$2 in
+    asm:1) _omf_files "$3" '*.s' '*.asm' ;;
+    asm:2) mapfile -t COMPREPLY < <(compgen -W "$(_omf_object)" -- "$3") ;;
+    asm:*) _omf_files "$3" '*macros*' '*.mac' ;;
+    dump:1 | compact:1) _omf_files "$3" '*' ;;
+    run:1) _omf_files "$3" '*script*' ;;
+    list:1) _omf_files "$3" '*.o' ;;
+    list:2) _omf_files "$3" '*.s' ;;
+    linkrt:2) mapfile -t COMPREPLY < <(compgen -W '1 2 3 4 5 6 7 8 9 10 11 12 13 14 15 16' -- "$3") ;;
+    lib:1 | link:1 | rtl:1 | linkrt:1 | compact:2) _omf_files "$3" '*' ;;
+    lib:* | link:* | rtl:*) _omf_files "$3" '*.o' '*.lib' '*lib*' ;;
+    linkrt:*) _omf_files "$3" '*' ;;
+    stress:* | dump:* | compact:* | run:* | list:*) COMPREPLY=() ;;
+    esac
+}
+
+# The name of the object of the source that was given: main.s makes main.o.
+_omf_object() {
+    local source=${COMP_WORDS[2]}
+    printf '%s.o\n' "${source%.*}"
+}
+
+_omf() {
+    # made: words of the shell
+    local commands="asm lib link rtl linkrt dump compact run list stress" explained="asm lib link rtl linkrt dump compact run list"
+    # end
+    local word=${COMP_WORDS[COMP_CWORD]}
+    [ "${COMP_WORDS[0]##*/}" = omf-explain ] && commands=$explained
+    if [ "$COMP_CWORD" -eq 1 ]; then
+        mapfile -t COMPREPLY < <(compgen -W "$commands" -- "$word")
+    else
+        _omf_word "${COMP_WORDS[1]}" $((COMP_CWORD - 1)) "$word"
+    fi
+}
+
+_omf_map() {
+    _omf_files "${COMP_WORDS[COMP_CWORD]}" '*.o' '*.lib' '*lib*'
+}
+
+_omf_expand() {
+    local word=${COMP_WORDS[COMP_CWORD]}
+    if [ "$COMP_CWORD" -eq 1 ]; then
+        _omf_files "$word" '*.s' '*.asm'
+    else
+        _omf_files "$word" '*macros*' '*.mac'
+    fi
+}
+
+complete -F _omf omf omf-explain
+complete -F _omf_map omf_map
+complete -F _omf_expand omf_expand
