@@ -9,39 +9,26 @@ use Rattle.omf_format.specs.Record.{Record, End, Const, LongConst, Align, Org, S
 use Rattle.omf_format.specs.File.{Segment, IsFile}
 use Rattle.omf_base.specs.Lines.{line}
 
--- a byte of a name in quotes: one outside $20 to $7E, and the quote itself, is shown as `?`
-abbrev pub quoted_byte : ℕ → ℕ
-quoted_byte byte = if nat_le 0x20 byte && nat_le byte 0x7E && not (byte == 0x22) then byte else 0x3F
-
--- a name in quotes
+-- a name in quotes: a byte outside $20 to $7E, and the quote itself, is shown as `?`
 unfoldable pub quoted_name : List ℕ → List ℕ
-quoted_name name = codes "\"" ++ map quoted_byte name ++ codes "\""
+quoted_name name =
+    codes "\"" ++ map (λ byte. if nat_le 0x20 byte && nat_le byte 0x7E && not (byte == 0x22) then byte else 0x3F) name ++ codes "\""
 
 -- bytes in hexadecimal, two digits each
 unfoldable pub hex_bytes : List ℕ → List ℕ
 hex_bytes bytes = flat_map (λ byte. hexadecimal 2 byte) bytes
 
--- the first 16 bytes, and `..` after them where there are more
-unfoldable pub first_bytes : List ℕ → List ℕ
-first_bytes bytes = hex_bytes (take 16 bytes) ++ (if nat_lt 16 (length bytes) then codes ".." else [])
-
 -- a label and a number in eight digits
 abbrev pub labelled_number : List ℕ → ℕ → List ℕ
 labelled_number label n = label ++ hexadecimal 8 n
 
--- the numbers of a header, KIND in four digits
-unfoldable pub numbers_text : HeaderFields → List ℕ
-numbers_text f = codes " kind " ++ hexadecimal 4 f.kind ++ labelled_number (codes " length ") f.length ++ labelled_number (codes " resspc ") f.res_spc
-    ++ labelled_number (codes " banksize ") f.bank_size ++ labelled_number (codes " align ") f.align ++ labelled_number (codes " org ") f.org
-    ++ labelled_number (codes " entry ") f.entry
-
--- the names of a header
-unfoldable pub names_text : HeaderFields → List ℕ
-names_text f = codes " loadname " ++ quoted_name f.load_name ++ codes " segname " ++ quoted_name f.name
-
 -- a segment: its number from 1, where it starts, and what its header says
 unfoldable pub segment_line : ℕ → ℕ → HeaderFields → List ℕ
-segment_line number start f = line (codes "segment " ++ decimal number ++ labelled_number (codes " at ") start ++ numbers_text f ++ names_text f)
+segment_line number start f = line (codes "segment " ++ decimal number ++ labelled_number (codes " at ") start
+    ++ (codes " kind " ++ hexadecimal 4 f.kind ++ labelled_number (codes " length ") f.length ++ labelled_number (codes " resspc ") f.res_spc
+    ++ labelled_number (codes " banksize ") f.bank_size ++ labelled_number (codes " align ") f.align ++ labelled_number (codes " org ") f.org
+    ++ labelled_number (codes " entry ") f.entry)
+    ++ (codes " loadname " ++ quoted_name f.load_name ++ codes " segname " ++ quoted_name f.name))
 
 -- ---- the fields of records, each with one space before it
 
@@ -49,21 +36,18 @@ segment_line number start f = line (codes "segment " ++ decimal number ++ labell
 abbrev pub hex_field : ℕ → ℕ → List ℕ
 hex_field digits n = codes " " ++ hexadecimal digits n
 
--- a byte of a name: one outside $21 to $7E is shown as `?`
-abbrev pub printable_byte : ℕ → ℕ
-printable_byte byte = if nat_le 0x21 byte && nat_le byte 0x7E then byte else 0x3F
-
--- a name, without quotes
+-- a name, without quotes: a byte outside $21 to $7E is shown as `?`
 unfoldable pub name_text : List ℕ → List ℕ
-name_text name = codes " " ++ map printable_byte name
+name_text name = codes " " ++ map (λ byte. if nat_le 0x21 byte && nat_le byte 0x7E then byte else 0x3F) name
 
 -- all bytes of an expression
 unfoldable pub expression_text : List ℕ → List ℕ
 expression_text expr = codes " " ++ hex_bytes expr
 
--- how many constant bytes there are, and the first of them
+-- how many constant bytes there are, and the first 16 of them, with `..` after them where there are more
 unfoldable pub constant_text : List ℕ → List ℕ
-constant_text bytes = hex_field 8 (length bytes) ++ codes " " ++ first_bytes bytes
+constant_text bytes =
+    hex_field 8 (length bytes) ++ codes " " ++ (hex_bytes (take 16 bytes) ++ (if nat_lt 16 (length bytes) then codes ".." else []))
 
 -- the count and the shift of a patch
 unfoldable pub patch_text : ℕ → ℤ → List ℕ
@@ -81,10 +65,6 @@ formula_name code =
     else if code == BEXPR then codes " BEXPR"
     else if code == RELEXPR then codes " RELEXPR"
     else codes " LEXPR"
-
--- only RELEXPR has an n
-unfoldable pub formula_text : ℕ → ℕ → ℕ → List ℕ → List ℕ
-formula_text code count n expr = formula_name code ++ hex_field 2 count ++ (if code == RELEXPR then hex_field 8 n else []) ++ expression_text expr
 
 -- a record's name and its fields, where the length of a label takes `width` bytes; of a SUPER the length, which counts its type and its
 -- subrecords, and the type
@@ -107,16 +87,14 @@ record_text width (Strong name) = codes " STRONG" ++ name_text name
 record_text width (Label global name size form private) = (if global then codes " GLOBAL" else codes " LOCAL") ++ label_text width name size form private
 record_text width (Equate global name size form private expr) =
     (if global then codes " GEQU" else codes " EQU") ++ label_text width name size form private ++ expression_text expr
-record_text width (Formula code count n expr) = formula_text code count n expr
+record_text width (Formula code count n expr) =
+    formula_name code ++ hex_field 2 count ++ (if code == RELEXPR then hex_field 8 n else []) ++ expression_text expr
 record_text width (Entry segment offset name) = codes " ENTRY" ++ hex_field 4 segment ++ hex_field 8 offset ++ name_text name
-
--- a record: its displacement in the file, its name and its fields
-unfoldable pub record_line : ℕ → ℕ × Record → List ℕ
-record_line width found = line (hexadecimal 8 found.0 ++ record_text width found.1)
 
 -- a segment and its records
 unfoldable pub segment_text : ℕ → Segment → List ℕ
-segment_text number s = segment_line number s.start s.fields ++ flat_map (record_line (length_width_of s.fields.version)) s.records
+segment_text number s = segment_line number s.start s.fields
+    ++ flat_map (λ found. line (hexadecimal 8 found.0 ++ record_text (length_width_of s.fields.version) found.1)) s.records
 
 -- segments one after another, of which the first has this number
 abbrev pub listing_from : ℕ → List Segment → List ℕ

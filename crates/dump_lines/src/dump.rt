@@ -1,6 +1,6 @@
 //! The listing of a file: a line for each segment, and a line for each of its records.
 
-ghost use Rattle.std.specs.Prelude.{◌≡◌, ◌++◌, ◌<◌, ◌≤◌, ◌+◌, ◌-◌, ◌*◌, ◌^◌, length, take, codes, OnOk, IfOk, IfErr};
+ghost use Rattle.std.specs.Prelude.{◌≡◌, ◌++◌, ◌<◌, ◌≤◌, ◌+◌, ◌-◌, ◌*◌, ◌^◌, length, take, codes, OnOk, IfOk, IfErr, if◌then◌else◌, nat_le, not, ◌&&◌, ◌==◌, [], nat_lt};
 ghost use Rattle.std.specs.List.{flat_map};
 ghost use Rattle.omf_format.specs.Field.{length_width_of};
 ghost use Rattle.omf_format.specs.Reading.{records_of, IsBody};
@@ -8,7 +8,8 @@ ghost use Rattle.omf_header.specs.View.{fields};
 ghost use Rattle.omf_records.specs.View.{view};
 ghost use Rattle.omf_records.specs.Segments.{IsSound, IsRefused};
 ghost use Rattle.omf_records.specs.Segments.{segment_of_view as shown_segment};
-ghost use Rattle.dump_lines.specs.Listing.{quoted_byte, quoted_name, hex_bytes, first_bytes, labelled_number, numbers_text, names_text, segment_line, hex_field, printable_byte, name_text, expression_text, constant_text, patch_text, label_text, formula_name, formula_text, record_text, record_line, segment_text, listing_from, IsListing, HasSpelling};
+ghost use Rattle.dump_lines.specs.Listing.{quoted_name, hex_bytes, labelled_number, segment_line, hex_field, name_text, expression_text, constant_text, patch_text, label_text, formula_name, record_text, segment_text, listing_from, IsListing, HasSpelling};
+ghost use Rattle.dump_lines.specs.Steps.{record_line, numbers_text, formula_text};
 
 use omf_base::{Line, LineFault};
 use omf_format::{BEXPR, EXPR, RELEXPR, ZEXPR};
@@ -18,7 +19,7 @@ use std::alloc::Global;
 
 /// A byte of a name in quotes.
 fn quoted_byte(byte: u8) -> u8
-    ensures { result ≡ quoted_byte byte }
+    ensures { result ≡ (if nat_le 0x20 byte && nat_le byte 0x7E && not (byte == 0x22) then byte else 0x3F) }
 {
     if byte >= 0x20 && byte <= 0x7E && byte != b'"' {
         byte
@@ -58,9 +59,8 @@ fn front(bytes: &[u8]) -> &[u8]
 }
 
 /// Appends the first 16 bytes, and `..` after them where there are more.
-#[tactic(auto, unfolding(crate::specs::Listing::first_bytes))]
 fn put_first(line: &mut Line, bytes: &[u8]) -> Result<(), LineFault>
-    ensures { OnOk result (line.new ≡ line.old ++ first_bytes bytes.now) }
+    ensures { OnOk result (line.new ≡ line.old ++ (hex_bytes (take 16 bytes.now) ++ (if nat_lt 16 (length bytes.now) then codes ".." else []))) }
 {
     put_hex(line, front(bytes))?;
     if bytes.len() > 16 {
@@ -78,7 +78,6 @@ pub fn put_labelled(line: &mut Line, label: &str, n: u32) -> Result<(), LineFaul
 }
 
 /// Appends the numbers of a header.
-#[tactic(auto, unfolding(crate::specs::Listing::numbers_text))]
 fn put_numbers(line: &mut Line, header: &Header) -> Result<(), LineFault>
     ensures { OnOk result (line.new ≡ line.old ++ numbers_text (fields header.now)) }
 {
@@ -93,9 +92,8 @@ fn put_numbers(line: &mut Line, header: &Header) -> Result<(), LineFault>
 }
 
 /// Appends the names of a header.
-#[tactic(auto, unfolding(crate::specs::Listing::names_text))]
 fn put_names(line: &mut Line, header: &Header) -> Result<(), LineFault>
-    ensures { OnOk result (line.new ≡ line.old ++ names_text (fields header.now)) }
+    ensures { OnOk result (line.new ≡ line.old ++ (codes " loadname " ++ quoted_name (fields header.now).load_name ++ codes " segname " ++ quoted_name (fields header.now).name)) }
 {
     line.text(" loadname ")?;
     put_quoted(line, &header.load_name)?;
@@ -133,7 +131,7 @@ pub fn put_field(line: &mut Line, digits: u32, n: u32) -> Result<(), LineFault>
 
 /// A byte of a name without quotes.
 fn printable_byte(byte: u8) -> u8
-    ensures { result ≡ printable_byte byte }
+    ensures { result ≡ (if nat_le 0x21 byte && nat_le byte 0x7E then byte else 0x3F) }
 {
     if byte >= 0x21 && byte <= 0x7E {
         byte
@@ -225,7 +223,6 @@ fn formula_name(code: u8) -> &'static str
 }
 
 /// Appends a formula.
-#[tactic(auto, unfolding(crate::specs::Listing::formula_text))]
 fn put_formula(line: &mut Line, code: u8, count: u8, n: u32, expr: &[u8]) -> Result<(), LineFault>
     ensures { OnOk result (line.new ≡ line.old ++ formula_text code count n expr.now) }
 {
@@ -426,7 +423,6 @@ fn put_record(line: &mut Line, version: u8, rec: &Rec) -> Result<(), LineFault>
 }
 
 /// Appends the line of a record.
-#[tactic(auto, unfolding(crate::specs::Listing::record_line))]
 fn put_record_line(line: &mut Line, version: u8, at: u32, rec: &Rec) -> Result<(), LineFault>
     requires { HasSpelling (view rec.now) }
     ensures { OnOk result (line.new ≡ line.old ++ record_line (length_width_of version) (at, view rec.now)) }

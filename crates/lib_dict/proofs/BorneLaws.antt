@@ -16,7 +16,8 @@ use Rattle.omf_format.specs.File.{Segment, segment_at}
 use Rattle.link_meaning.specs.First.{IsIn}
 use Rattle.link_meaning.specs.Member.{OfferedRow}
 use Rattle.object_meaning.specs.Defines.{Scope, ForSegment, ForUnit, ForAll, Definition, title_of, defined_in}
-use Rattle.lib_dict.specs.Library.{LibraryRow, row_view, name_in, outer_name, outer_names, segment_rows, LibraryFile, rows_from, files_text, names_text, row_text, rows_text, is_dictionary}
+use Rattle.lib_dict.specs.Library.{LibraryRow, row_view, segment_rows, LibraryFile, rows_from, files_text, names_text, rows_text, is_dictionary}
+use Rattle.lib_dict.specs.Steps.{outer_name, name_in, row_text, outer_names}
 use Rattle.lib_dict.specs.DictionaryLayout.{counted_name, AreFileNumbers, DefinesSo, IsRow, AreRows}
 use Rattle.lib_dict.specs.View.{outer_of}
 use Rattle.lib_dict.proofs.Outers.{names-parts}
@@ -60,7 +61,6 @@ defined_from s (d ∷ ds) all = by d.scope refl (defined_from s ds all.1)
     by ForAll is rest = (record { by = d; among = all.0; name' = refl; scope = is }, rest)
 
 defined_all : (s : Segment) → AllByRecursion (Defined s) (outer_names s)
-unfolding outer_names
 defined_all s = defined_from s (defined_in s) (all_in_rest [] (defined_in s))
 
 -- a segment that lies further on defines the same names
@@ -209,7 +209,6 @@ abbrev row_fields : ℕ → LibraryRow → List (ℕ × ℕ)
 row_fields name row = (4, name) ∷ (2, row.file) ∷ (2, flag_of row.private) ∷ (4, row.at) ∷ []
 
 row_laid_out : (name : ℕ) (row : LibraryRow) → row_text name row ≡ laid_out (row_fields name row) ++ []
-unfolding row_text
 row_laid_out name row =
     ap (λ (l : List ℕ). little_bytes 4 name ++ (little_bytes 2 row.file ++ (little_bytes 2 (flag_of row.private) ++ l))) (sym (append-nil (little_bytes 4 row.at)))
     ∙ sym (append-nil (laid_out (row_fields name row)))

@@ -13,7 +13,8 @@ use Rattle.omf_records.specs.SegmentLaws.{shown_at, none_past}
 use Rattle.lib_dict.specs.declared.listed.Outer.{Outer}
 use Rattle.lib_dict.specs.declared.members.MemberRead.{MemberRead}
 use Rattle.lib_dict.specs.View.{outer_row}
-use Rattle.lib_dict.specs.Library.{LibraryRow, LibraryFile, segment_rows, rows_from, files_text, names_text, row_text, rows_text}
+use Rattle.lib_dict.specs.Library.{LibraryRow, LibraryFile, segment_rows, rows_from, files_text, names_text, rows_text}
+use Rattle.lib_dict.specs.Steps.{row_text}
 use Rattle.lib_dict.specs.Made.{library_file}
 use Rattle.lib_dict.specs.Sizes.{IsReadFile, AreFiles, total_bytes, moved_row}
 
@@ -205,7 +206,6 @@ flag_is false = refl
 -- a row that was written number by number
 pub row_put : (name : ℕ) (row : LibraryRow) (flag : ℕ) (old o1 o2 o3 o4 : List ℕ) → o1 ≡ old ++ little_bytes 4 name → o2 ≡ o1 ++ little_bytes 2 row.file → o3 ≡ o2 ++ little_bytes 2 flag
     → o4 ≡ o3 ++ little_bytes 4 row.at → flag ≡ (if row.private then 1 else 0) → o4 ≡ old ++ row_text name row
-unfolding row_text
 row_put name row flag old o1 o2 o3 o4 e1 e2 e3 e4 is =
     let a = little_bytes 4 name in
     let b = little_bytes 2 row.file in

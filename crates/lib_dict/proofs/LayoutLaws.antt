@@ -17,7 +17,8 @@ use Rattle.link_meaning.specs.First.{IsIn}
 use Rattle.link_meaning.specs.Member.{OfferedRow, is_library}
 use Rattle.object_meaning.specs.Defines.{Scope, ForSegment, ForUnit, ForAll, Definition, outer_scope, defined_in}
 use Rattle.load_meaning.specs.Pathnames.{long_bytes}
-use Rattle.link_meaning.specs.Dictionary.{file_numbers, names_from, numbered_from, has_scope, first_pair, or_false, row_at, rows_from, rows_in, rows_of_records, rows_of}
+use Rattle.link_meaning.specs.Dictionary.{file_numbers, names_from, numbered_from, first_pair, or_false, row_at, rows_from, rows_in, rows_of_records, rows_of}
+use Rattle.link_meaning.specs.laws.Steps.{has_scope}
 use Rattle.lib_dict.specs.DictionaryLayout.{counted_name, AreFileNumbers, AreNames, IsRow, AreRows, IsDictionary}
 
 -- ---- the first record

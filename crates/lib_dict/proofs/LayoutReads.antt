@@ -14,7 +14,8 @@ use Rattle.omf_format.specs.laws.FileLaws.{header_lies}
 use Rattle.link_meaning.specs.First.{IsIn}
 use Rattle.link_meaning.specs.Member.{OfferedRow}
 use Rattle.object_meaning.specs.Defines.{Scope, Definition, outer_scope, defined_in}
-use Rattle.link_meaning.specs.Dictionary.{file_numbers, names_from, numbered_from, has_scope, first_pair, row_at, rows_from, rows_in, rows_of_records, rows_of}
+use Rattle.link_meaning.specs.Dictionary.{file_numbers, names_from, numbered_from, first_pair, row_at, rows_from, rows_in, rows_of_records, rows_of}
+use Rattle.link_meaning.specs.laws.Steps.{has_scope}
 use Rattle.lib_dict.specs.DictionaryLayout.{counted_name, AreFileNumbers, IsRow, AreRows, IsDictionary}
 use Rattle.lib_dict.proofs.Forms.{step_end, step_more, names_more, names_none}
 use Rattle.lib_dict.proofs.LayoutLaws.{placed_from, Placed, fits_row, two_digits, third_byte}

@@ -19,7 +19,9 @@ use Rattle.link_meaning.specs.Member.{OfferedRow, is_library}
 use Rattle.link_meaning.specs.Dictionary.{rows_of}
 use Rattle.lib_dict.specs.declared.fault.DictFault.{DictFault}
 use Rattle.lib_dict.specs.declared.fault.DictFault.TheVariants as dict
-use Rattle.lib_dict.specs.Library.{LibraryRow, row_view, HasRows, LibraryInput, LibraryFile, AreMembers, IsLibraryOf, files_text, names_text, rows_text, rows_from, dictionary_fields, dictionary_body, dictionary_text, dictionary_size, library_rows, library_bytes, most_bytes}
+use Rattle.lib_dict.specs.Library.{LibraryRow, row_view, HasRows, LibraryInput, LibraryFile, AreMembers, IsLibraryOf, files_text, names_text, rows_text, rows_from, dictionary_fields, dictionary_text, dictionary_size, library_rows, library_bytes}
+use Rattle.object_meaning.specs.Sizes.{most_bytes}
+use Rattle.lib_dict.specs.Steps.{dictionary_body}
 use Rattle.lib_dict.specs.Rows.{HasNoRows}
 use Rattle.lib_dict.specs.Sizes.{IsReadFile, total_bytes}
 use Rattle.lib_dict.specs.DictionaryLayout.{counted_name, AreFileNumbers, AreRows, IsDictionary}
@@ -35,7 +37,6 @@ abbrev records_in : List ℕ → List ℕ → List ℕ → List Record
 records_in first second third = LongConst first ∷ LongConst second ∷ LongConst third ∷ []
 
 body_is : (first second third : List ℕ) → dictionary_body first second third ≡ text (records_in first second third)
-unfolding dictionary_body
 body_is first second third =
     let w = spelling written_layout in
     let a = w (LongConst first) in

@@ -11,12 +11,13 @@ use Rattle.byteorder.specs.Numbers.{little_from-append}
 use Rattle.omf_format.specs.declared.fault.Flaw.{Flaw}
 use Rattle.omf_format.specs.Number.{number_at}
 use Rattle.omf_format.specs.Name.{without_trailing, name_at, name_size}
-use Rattle.omf_format.specs.Header.{HeaderFields, fields_of, version_of, byte_count_of, kind_of, names_end, checks_of, header_checks, first_of, header_fault}
+use Rattle.omf_format.specs.Header.{HeaderFields, fields_of, version_of, kind_of, names_end, checks_of, first_of, header_fault}
 use Rattle.omf_format.specs.Number.{IsBytes}
 use Rattle.omf_format.specs.laws.HeaderLaws.{sound_from_none, each_false, none_holds}
 use Rattle.omf_format.specs.Record.{Record, spelling}
 use Rattle.omf_format.specs.laws.RecordLaws.{front-takes}
-use Rattle.omf_format.specs.Reading.{Reader, first_record, answer_of_reader, reader_after, next_answer, after_next, HandsOut}
+use Rattle.omf_format.specs.Reading.{Reader, first_record, next_answer, after_next, HandsOut}
+use Rattle.omf_format.specs.laws.Steps.{answer_of_reader, reader_after}
 use Rattle.omf_format.specs.File.{Segment, body_reader, IsSegment, AreSegments, IsFile}
 use Rattle.omf_format.specs.laws.FileLaws.{Answer, gave, same_found, header_lies, AreSegments-append}
 use Rattle.omf_format.specs.laws.BodyLaws.{found_by, body_fits}
@@ -67,7 +68,7 @@ ends_in bytes none =
     record { long = sound.long; names = omega (arith, sound.names, sound.data', sound.whole) }
 
 fields_more : (xs ys : List ℕ) → Ends xs → fields_of (xs ++ ys) ≡ fields_of xs
-unfolding fields_of version_of byte_count_of kind_of
+unfolding fields_of version_of  kind_of
 fields_more xs ys e =
     let long = e.long in
     let d = number_at 2 0x28 xs in
@@ -126,7 +127,7 @@ checks_more xs ys e each =
 
 -- a sound header is sound whatever follows, with the same fields
 pub passes_more : (xs ys : List ℕ) → header_fault xs ≡ None → (header_fault (xs ++ ys) ≡ None) × (fields_of (xs ++ ys) ≡ fields_of xs)
-unfolding header_fault header_checks
+unfolding header_fault 
 passes_more xs ys none =
     let e = ends_in xs none in
     let same = fields_more xs ys e in

@@ -11,7 +11,8 @@ use Rattle.omf_format.specs.Record.{Record, End, Const, LongConst, Align, Org, S
 use Rattle.omf_format.specs.File.{Segment, body_reader}
 use Rattle.object_meaning.specs.Sizes.{size_at, located_from, records_with_offsets, Located}
 use Rattle.object_meaning.specs.Defines.{ForUnit, ForAll, Definition, scope_of, outer_scope, title_of, defined_by, defined_in}
-use Rattle.lib_dict.specs.Library.{name_in, outer_name, outer_names, segment_rows}
+use Rattle.lib_dict.specs.Library.{segment_rows}
+use Rattle.lib_dict.specs.Steps.{outer_name, name_in, outer_names}
 use Rattle.lib_dict.specs.View.{outer_of, row_of_name, record_rows}
 
 abbrev name_of : ℕ × Record → Option (List ℕ × Bool)
@@ -87,7 +88,7 @@ names-located place (found ∷ founds) =
 
 -- its SEGNAME, and then the names of its records
 pub names-parts : (s : Segment) → outer_names s ≡ names_in (title_of s) ++ filter_map name_of s.records
-unfolding outer_names defined_in records_with_offsets
+unfolding defined_in records_with_offsets
 names-parts s =
     filter_map-append outer_name (title_of s) (flat_map defines (located_from 0 s.records))
     ∙ ap (λ l. names_in (title_of s) ++ l) (names-located 0 s.records)

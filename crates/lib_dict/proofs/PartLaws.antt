@@ -8,7 +8,8 @@ use Rattle.omf_format.specs.Field.{Layout}
 use Rattle.omf_format.specs.Number.{IsBytes}
 use Rattle.omf_format.specs.Record.{Record, End, Const, LongConst, Align, Org, Space, Reloc, InterSeg, ShortReloc, ShortInterSeg, Super, Using, Strong, Label, Equate, Formula, Entry, spelling}
 use Rattle.omf_format.specs.laws.RecordLaws.{front-takes}
-use Rattle.omf_format.specs.Reading.{Reader, first_record, answer_of_reader, reader_after, place_of, next_answer, after_next, HandsOut}
+use Rattle.omf_format.specs.Reading.{Reader, first_record, next_answer, after_next, HandsOut}
+use Rattle.omf_format.specs.laws.Steps.{answer_of_reader, reader_after, place_of}
 use Rattle.omf_format.specs.laws.FileLaws.{Answer, gave, same_found}
 use Rattle.omf_format.specs.laws.BodyLaws.{found_by, none_at_end}
 use Rattle.load_meaning.specs.Pathnames.{long_bytes}

@@ -15,9 +15,11 @@ use Rattle.omf_format.specs.File.{Segment, AreSegments, IsFile, segment_at}
 use Rattle.omf_format.specs.laws.FileLaws.{header_lies}
 use Rattle.link_meaning.specs.Member.{OfferedRow}
 use Rattle.object_meaning.specs.Defines.{Scope, ForSegment, ForUnit, ForAll, Definition, defined_in}
-use Rattle.link_meaning.specs.Dictionary.{names_from, numbered_from, has_scope, first_pair, or_false, row_at}
+use Rattle.link_meaning.specs.Dictionary.{names_from, numbered_from, first_pair, or_false, row_at}
+use Rattle.link_meaning.specs.laws.Steps.{has_scope}
 use Rattle.lib_dict.specs.declared.rows.Tables.{Tables}
-use Rattle.lib_dict.specs.Library.{LibraryRow, name_in, outer_name, outer_names, segment_rows, is_dictionary}
+use Rattle.lib_dict.specs.Library.{LibraryRow, segment_rows, is_dictionary}
+use Rattle.lib_dict.specs.Steps.{outer_name, name_in, outer_names}
 use Rattle.lib_dict.specs.View.{outer_row}
 use Rattle.lib_dict.specs.Tables.{same_row, starts_of, other_rows, following_rows, numbers_in, names_in, FitsTables, IsNameAt, row_in, IsRowAnswer}
 use Rattle.lib_dict.proofs.Sets.{or_false as or_none, list_any-append, list_any-map}
@@ -103,7 +105,6 @@ abbrev pub may_be : ℕ → ℕ × Segment → Bool
 may_be at x = x.1.start == at && not (form_of x.1.fields.kind == 0x08)
 
 rows_define : (name : List ℕ) (private : Bool) (at : ℕ) (s : Segment) → list_any (same_row (wanted_row name private at)) (segment_rows 0 0 s) ≡ ((s.start == at) && defines name private s)
-unfolding outer_names
 rows_define name private at s = list_any-map (same_row (wanted_row name private at)) row_of (outer_names s) ∙ by (s.start == at) (eqb-sym at (0 + s.start) ∙ ap (λ (n : ℕ). eqb n at) plain)
   where
     row_of : List ℕ × Bool → LibraryRow

@@ -13,7 +13,9 @@ use Rattle.omf_format.specs.laws.WrittenHeaderLaws.{length-header}
 use Rattle.omf_format.specs.File.{Segment, AreSegments}
 use Rattle.lib_dict.specs.declared.member.Member.{Member}
 use Rattle.lib_dict.specs.Made.{given_file}
-use Rattle.lib_dict.specs.Library.{AreMembers, LibraryRow, LibraryFile, outer_names, segment_rows, rows_from, files_text, names_text, row_text, rows_text, dictionary_fields, dictionary_body, dictionary_text, dictionary_size, library_rows, library_bytes, most_bytes}
+use Rattle.lib_dict.specs.Library.{AreMembers, LibraryRow, LibraryFile, segment_rows, rows_from, files_text, names_text, rows_text, dictionary_fields, dictionary_text, dictionary_size, library_rows, library_bytes}
+use Rattle.object_meaning.specs.Sizes.{most_bytes}
+use Rattle.lib_dict.specs.Steps.{dictionary_body, row_text, outer_names}
 use Rattle.lib_dict.specs.Sizes.{IsReadFile, AreFiles, total_bytes, moved_row, StartBefore, first_place}
 
 -- ---- rows that are moved
@@ -75,7 +77,6 @@ abbrev flag_of : Bool → ℕ
 flag_of private = if private then 1 else 0
 
 pub length-row : (name : ℕ) (row : LibraryRow) → length (row_text name row) ≡ 12
-unfolding row_text
 length-row name row = by (little_bytes 4 name) (little_bytes 2 row.file) (little_bytes 2 (flag_of row.private)) (little_bytes 4 row.at) (length-bytes_low_first 0 4 name) (length-bytes_low_first 0 2 row.file) (length-bytes_low_first 0 2 (flag_of row.private)) (length-bytes_low_first 0 4 row.at)
   where
     by : (a b c d : List ℕ) → length a ≡ 4 → length b ≡ 2 → length c ≡ 2 → length d ≡ 4 → length (a ++ (b ++ (c ++ d))) ≡ 12
@@ -96,7 +97,6 @@ unfolding spelling
 length-end = refl
 
 pub length-body : (first second third : List ℕ) → length (dictionary_body first second third) ≡ 16 + (length first + length second + length third)
-unfolding dictionary_body
 length-body first second third =
     let a = spelling written_layout (LongConst first) in
     let b = spelling written_layout (LongConst second) in
@@ -206,7 +206,7 @@ members_count (m ∷ members) (f ∷ files) are = ap suc (members_count members 
 pub dictionary_whole : (first second third o0 o1 o2 o3 o4 : List ℕ) → o0 ≡ header_bytes (dictionary_fields (length first + length second + length third)) (16 + (length first + length second + length third))
     → o1 ≡ o0 ++ spelling written_layout (LongConst first) → o2 ≡ o1 ++ spelling written_layout (LongConst second) → o3 ≡ o2 ++ spelling written_layout (LongConst third)
     → o4 ≡ o3 ++ spelling written_layout End → o4 ≡ dictionary_text first second third
-unfolding dictionary_text dictionary_body
+unfolding dictionary_text
 dictionary_whole first second third o0 o1 o2 o3 o4 e0 e1 e2 e3 e4 =
     let a = spelling written_layout (LongConst first) in
     let b = spelling written_layout (LongConst second) in

@@ -1,3 +1,4 @@
+pub mod Steps
 pub mod Library
 pub mod View
 pub mod Rows

@@ -1,6 +1,6 @@
 -- Libraries: the rows of a dictionary that is read, and the library of files (GS/OS Reference, appendix F, "Library
 -- Dictionary Segment"; the dictionary's header and the order of its rows are this project's own choice).
-use Rattle.std.specs.Prelude.{◌≡◌, ◌<◌, ◌≤◌, ℕ, ◌+◌, ◌*◌, Bool, true, false, List, [], ◌∷◌, ◌++◌, length, map, replicate, Option, Some, None, Ok, Err, ◌==◌, if◌then◌else◌}
+use Rattle.std.specs.Prelude.{◌≡◌, ◌<◌, ◌≤◌, ℕ, ◌+◌, ◌*◌, Bool, true, false, List, [], ◌∷◌, ◌++◌, length, map, replicate, Some, None, Ok, Err, ◌==◌, if◌then◌else◌}
 use Rattle.std.specs.List.{flat_map, filter_map, list_any}
 use Rattle.std.specs.Option.{option_map_or}
 use Rattle.byteorder.specs.Endian.{little_bytes}
@@ -9,8 +9,9 @@ use Rattle.omf_format.specs.Header.{HeaderFields, form_of, header_bytes}
 use Rattle.omf_format.specs.Record.{End, LongConst, spelling}
 use Rattle.omf_format.specs.File.{Segment, IsFile, segment_at}
 use Rattle.link_meaning.specs.Member.{OfferedRow, is_library}
-use Rattle.object_meaning.specs.Defines.{Scope, ForSegment, ForUnit, ForAll, Definition, defined_in}
+use Rattle.object_meaning.specs.Defines.{ForSegment, ForUnit, ForAll, defined_in}
 use Rattle.link_meaning.specs.Dictionary.{rows_of}
+use Rattle.object_meaning.specs.Sizes.{most_bytes}
 
 -- a row of a dictionary: a name, the number of the file that has it, whether it is private, and where the segment starts that
 -- defines it
@@ -55,22 +56,11 @@ pub record IsFalseAt (file : List ℕ) (at : ℕ) : Type 0 where
 
 -- ---- the rows of a library that is made
 
--- a name that the segment has for others than itself, and whether it is private
-abbrev pub name_in : Scope → List ℕ → Option (List ℕ × Bool)
-name_in ForSegment name = None
-name_in ForUnit name = Some (name, true)
-name_in ForAll name = Some (name, false)
-
-abbrev pub outer_name : Definition → Option (List ℕ × Bool)
-outer_name d = name_in d.scope d.name
-
--- its SEGNAME, where it has one, and then its GLOBAL and GEQU names in record order
-unfoldable pub outer_names : Segment → List (List ℕ × Bool)
-outer_names s = filter_map outer_name (defined_in s)
-
--- the rows of a segment of the file with this number, which begins at this displacement
+-- the rows of a segment of the file with this number, which begins at this displacement: its SEGNAME, where it has one, and then its GLOBAL
+-- and GEQU names in record order
 abbrev pub segment_rows : ℕ → ℕ → Segment → List LibraryRow
-segment_rows file front s = map (λ n. record { name = n.0; file = file; private = n.1; at = front + s.start }) (outer_names s)
+segment_rows file front s = map (λ n. record { name = n.0; file = file; private = n.1; at = front + s.start })
+    (filter_map (λ d. elim d.scope [ ForSegment ↦ None | ForUnit ↦ Some (d.name, true) | ForAll ↦ Some (d.name, false) ]) (defined_in s))
 
 -- a file of a library: its name, its bytes, and the segments that they are
 pub record LibraryFile : Type 0 where
@@ -94,14 +84,13 @@ files_text number (file ∷ files) = little_bytes 2 number ++ length file.name �
 unfoldable pub names_text : List LibraryRow → List ℕ
 names_text rows = flat_map (λ row. length row.name ∷ row.name) rows
 
--- a row: where its name is in the third record, its file's number, 1 where it is private, and where its segment starts
-unfoldable pub row_text : ℕ → LibraryRow → List ℕ
-row_text name row = little_bytes 4 name ++ (little_bytes 2 row.file ++ (little_bytes 2 (if row.private then 1 else 0) ++ little_bytes 4 row.at))
-
--- the second record: the rows, where the first one's name is at this place in the third record
+-- the second record: the rows, where the first one's name is at this place in the third record; a row is the place of its name, its file's
+-- number, 1 where it is private, and where its segment starts
 abbrev pub rows_text : ℕ → List LibraryRow → List ℕ
 rows_text name [] = []
-rows_text name (row ∷ rows) = row_text name row ++ rows_text (name + 1 + length row.name) rows
+rows_text name (row ∷ rows) =
+    (little_bytes 4 name ++ (little_bytes 2 row.file ++ (little_bytes 2 (if row.private then 1 else 0) ++ little_bytes 4 row.at)))
+    ++ rows_text (name + 1 + length row.name) rows
 
 -- the header of a dictionary whose three records have n bytes together
 abbrev pub dictionary_fields : ℕ → HeaderFields
@@ -123,14 +112,11 @@ dictionary_fields n = record {
   name = 0x44 ∷ 0x49 ∷ 0x43 ∷ 0x54 ∷ 0x49 ∷ 0x4F ∷ 0x4E ∷ 0x41 ∷ 0x52 ∷ 0x59 ∷ [];
 }
 
--- its body: the three records, and END
-unfoldable pub dictionary_body : List ℕ → List ℕ → List ℕ → List ℕ
-dictionary_body first second third =
-    spelling written_layout (LongConst first) ++ (spelling written_layout (LongConst second) ++ (spelling written_layout (LongConst third) ++ spelling written_layout End))
-
+-- the dictionary of these three records: its header, and the body with END
 unfoldable pub dictionary_text : List ℕ → List ℕ → List ℕ → List ℕ
 dictionary_text first second third =
-    let body = dictionary_body first second third in
+    let body = spelling written_layout (LongConst first) ++ (spelling written_layout (LongConst second)
+      ++ (spelling written_layout (LongConst third) ++ spelling written_layout End)) in
     header_bytes (dictionary_fields (length first + length second + length third)) (length body) ++ body
 
 -- how many bytes the dictionary of these files has: its header of $37 bytes and its name of 10, the codes and the lengths of three records,
@@ -172,10 +158,6 @@ AreMembers [] [] = Unit {0}
 AreMembers [] (file ∷ files) = ⊥
 AreMembers (given ∷ all) [] = ⊥
 AreMembers (given ∷ all) (file ∷ files) = IsMember given file × AreMembers all files
-
--- the most bytes that a file has
-abbrev pub most_bytes : ℕ
-most_bytes = 16777216
 
 -- the bytes are the library of the given files
 pub record IsLibraryOf (given : List LibraryInput) (bytes : List ℕ) : Type 0 where

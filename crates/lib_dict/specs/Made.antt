@@ -12,7 +12,8 @@ use Rattle.lib_dict.specs.declared.fault.LibCause.TheVariants.{Truncated, BadHea
 use Rattle.lib_dict.specs.declared.fault.LibFault.{LibFault}
 use Rattle.lib_dict.specs.declared.member.Member.{Member}
 use Rattle.lib_dict.specs.declared.members.MemberRead.{MemberRead}
-use Rattle.lib_dict.specs.Library.{LibraryInput, LibraryFile, is_dictionary, AreMembers, IsLibraryOf, IsTooLong, HasDictionary, most_bytes, library_bytes}
+use Rattle.lib_dict.specs.Library.{LibraryInput, LibraryFile, is_dictionary, AreMembers, IsLibraryOf, IsTooLong, HasDictionary, library_bytes}
+use Rattle.object_meaning.specs.Sizes.{most_bytes}
 
 -- a file that is given, by its name and its bytes
 abbrev pub given_file : Member → LibraryInput

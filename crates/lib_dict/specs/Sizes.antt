@@ -2,7 +2,8 @@
 use Rattle.std.specs.Prelude.{◌≡◌, ◌<◌, ◌≤◌, ◌^◌, ℕ, ◌+◌, ◌*◌, List, [], ◌∷◌, length, Option, Some, None}
 use Rattle.std.specs.List.{AllByRecursion}
 use Rattle.omf_format.specs.File.{IsFile}
-use Rattle.lib_dict.specs.Library.{LibraryRow, LibraryFile, most_bytes}
+use Rattle.lib_dict.specs.Library.{LibraryRow, LibraryFile}
+use Rattle.object_meaning.specs.Sizes.{most_bytes}
 
 -- a file that was read, of fewer than 2 ^ 32 bytes
 pub record IsReadFile (file : LibraryFile) : Type 0 where

@@ -7,7 +7,8 @@ ghost use Rattle.omf_format.specs.Header.{header_bytes};
 ghost use Rattle.omf_format.specs.Record.{End, LongConst, spelling};
 ghost use Rattle.omf_header.specs.View.{fields};
 ghost use Rattle.lib_dict.specs.View.{outer_row};
-ghost use Rattle.lib_dict.specs.Library.{most_bytes, dictionary_fields, dictionary_text, library_bytes, IsLibraryOf};
+ghost use Rattle.lib_dict.specs.Library.{dictionary_fields, dictionary_text, library_bytes, IsLibraryOf};
+ghost use Rattle.object_meaning.specs.Sizes.{most_bytes};
 ghost use Rattle.lib_dict.specs.Made.{given_file, library_file, IsLibRefused, IsTooLongOrMemory};
 ghost use Rattle.lib_dict.specs.Sizes.{AreFiles, first_place, PlaceFits};
 

@@ -4,7 +4,8 @@ ghost use Rattle.std.specs.Prelude.{◌≡◌, ◌<◌, ◌≤◌, ◌+◌, ◌-
 ghost use Rattle.std.specs.List.{flat_map};
 ghost use Rattle.byteorder.specs.Endian.{little_bytes};
 ghost use Rattle.lib_dict.specs.View.{outer_row};
-ghost use Rattle.lib_dict.specs.Library.{files_text, names_text, row_text, rows_text};
+ghost use Rattle.lib_dict.specs.Library.{files_text, names_text, rows_text};
+ghost use Rattle.lib_dict.specs.Steps.{row_text};
 ghost use Rattle.lib_dict.specs.Made.{library_file};
 ghost use Rattle.lib_dict.specs.Sizes.{moved_row, StartBefore};
 

@@ -6,14 +6,14 @@ use Rattle.std.proofs.lemmas.Bool.{ne_eqb, eq-eqb, and_from}
 use Rattle.std.proofs.lemmas.Bool.Decides.{Decides-int_eq}
 use Rattle.std.proofs.lemmas.List.{append-nil, map-append, length-map}
 use Rattle.omf_format.specs.Field.{is_count}
-use Rattle.load_meaning.specs.Cells.{Cell, Byte, Part, Patch, parts_from}
+use Rattle.load_meaning.specs.Cells.{Cell, Byte, Part, Patch, parts_from, byte_under}
 use Rattle.link_meaning.specs.Fitting.{parts}
 use Rattle.link_meaning.specs.LinkedCells.{zeros}
 use Rattle.load_writer.specs.declared.written.Patch as kept
 use Rattle.load_writer.specs.WrittenParts.{seen}
 use Rattle.link_content.specs.Holding.{Holding}
 use Rattle.link_content.specs.Contents.{HoldsCells}
-use Rattle.link_meaning.specs.LinkWritten.{run_length, patch_at, patches_from, patches_of_cells, byte_under}
+use Rattle.link_meaning.specs.LinkWritten.{run_length, patch_at, patches_from, patches_of_cells}
 
 -- no run of a place goes on with these cells
 abbrev Stops : List Cell → Type 0

@@ -5,7 +5,8 @@ use Rattle.omf_format.specs.Value.{is_unshifted}
 use Rattle.load_meaning.specs.declared.table.Target.{Target}
 use Rattle.link_meaning.specs.declared.fault.LinkCause.{LinkCause}
 use Rattle.link_meaning.specs.Fitting as meaning
-use Rattle.link_meaning.specs.Fitting.{or_does_not_fit, place_fit}
+use Rattle.link_meaning.specs.Fitting.{place_fit}
+use Rattle.link_meaning.specs.laws.Steps.{or_does_not_fit}
 use Rattle.link_content.specs.declared.fit.FitOutcome.{FitOutcome}
 use Rattle.link_content.specs.declared.fit.FitOutcome.TheVariants.{Number, Place, Entry}
 use Rattle.link_content.specs.Fits.{to_fit, fit_with_room}

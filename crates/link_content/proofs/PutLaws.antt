@@ -1,5 +1,6 @@
 -- Entries of targets.
 use Rattle.std.proofs.Common.{◌≡◌, ℕ, zero, suc, ◌+◌, ◌≤◌, Bool, true, false, cond, leb, take, List, [], ◌∷◌, ◌++◌, length, Some, None, Ok, Err, refl, sym, ap, ◌∙◌, arith}
+use Rattle.link_meaning.specs.laws.Steps.{entry_of}
 use Rattle.std.specs.Prelude.{◌&&◌, ◌||◌, ◌==◌, not, unwrap_or, nat_lt}
 use Rattle.std.specs.List.{list_any, position_or_len}
 use Rattle.std.proofs.lemmas.Bool.{and_parts, eqb-true, eq-eqb, lt-ltb, ltb-false, leb-true}
@@ -11,7 +12,6 @@ use Rattle.load_meaning.specs.declared.table.Target.{Target}
 use Rattle.load_meaning.specs.Table.{is_same, with_target, IsAtPlace, AreDistinct, most_entries}
 use Rattle.link_meaning.specs.declared.fault.LinkCause.TheVariants.{TooManyEntries}
 use Rattle.link_meaning.specs.Fitting as meaning
-use Rattle.link_meaning.specs.Fitting.{entry_of}
 use Rattle.link_content.specs.Fits.{with_room}
 
 same_self : (t : Target) → is_same t t ≡ true

@@ -3,15 +3,15 @@ use Rattle.std.proofs.Common.{◌≡◌, ℕ, ◌+◌, ◌<◌, Bool, false, eqb
 use Rattle.std.proofs.lemmas.List.{length-append, length-map, map-append}
 use Rattle.omf_format.specs.declared.value.Value.{Value}
 use Rattle.omf_format.specs.Record.{Formula}
-use Rattle.load_meaning.specs.Cells.{Cell, Byte, Part}
+use Rattle.load_meaning.specs.Cells.{Cell, Byte, Part, byte_under}
 use Rattle.link_meaning.specs.declared.fault.LinkCause.{LinkCause}
 use Rattle.load_meaning.specs.declared.table.Target.{Target}
-use Rattle.link_meaning.specs.Fitting.{Fit, PatchPlace, is_jsl_byte, ends_in_jsl, fit_value, fit_cells, targets_after}
+use Rattle.link_meaning.specs.Fitting.{Fit, PatchPlace, ends_in_jsl, fit_value, fit_cells, targets_after}
+use Rattle.link_meaning.specs.laws.Steps.{is_jsl_byte, frame_of}
 use Rattle.link_meaning.specs.Member.{LinkSetting, Member, setting_in}
 use Rattle.link_meaning.specs.Layout.{load_headers, load_of, offset_of}
 use Rattle.link_meaning.specs.LinkValues.{EquateAnswer, value_in}
-use Rattle.link_meaning.specs.LinkedCells.{LinkState, Item, bank_of, table_number, frame_of, cells_before, made_by}
-use Rattle.link_meaning.specs.LinkWritten.{byte_under}
+use Rattle.link_meaning.specs.LinkedCells.{LinkState, Item, bank_of, table_number, cells_before, made_by}
 use Rattle.link_content.specs.Holding.{Holding, last_of}
 use Rattle.link_content.specs.declared.fit.FormulaRecord as kept
 use Rattle.link_content.specs.declared.fit.LoadLimits.{LoadLimits}

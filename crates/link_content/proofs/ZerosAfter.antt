@@ -7,7 +7,8 @@ use Rattle.std.proofs.lemmas.List.Folds.{list_all-append}
 use Rattle.omf_format.specs.Field.{written_layout}
 use Rattle.omf_format.specs.Record.{spelling}
 use Rattle.load_meaning.specs.Cells.{Cell, Byte, Patch, parts_from, patched_cells}
-use Rattle.load_meaning.specs.WrittenBody.{AreWritten, stored_bytes, with_stored, is_zero, data_records, lone_record, patches_stored_alone, supers_from, zeros_after, written_cells, written_data, body_records, body_text}
+use Rattle.load_meaning.specs.WrittenBody.{AreWritten, with_stored, data_records, lone_record, supers_from, zeros_after, written_cells, written_data, body_records, body_text}
+use Rattle.load_meaning.specs.laws.Steps.{is_zero, patches_stored_alone, stored_bytes}
 use Rattle.load_meaning.specs.laws.FormLaws.{length-stored}
 use Rattle.load_meaning.specs.laws.StoredLaws.{length-data, cells_size, zeros-le}
 use Rattle.load_writer.specs.declared.written.Patch as kept

@@ -1,7 +1,7 @@
 -- What the content of a load segment holds.
 use Rattle.std.specs.Prelude.{◌≡◌, ℕ, List, [], ◌++◌, length, map, replicate}
-use Rattle.load_meaning.specs.Cells.{Cell}
-use Rattle.link_meaning.specs.LinkWritten.{byte_under, patches_of_cells}
+use Rattle.load_meaning.specs.Cells.{Cell, byte_under}
+use Rattle.link_meaning.specs.LinkWritten.{patches_of_cells}
 use Rattle.load_writer.specs.Joined.{joined}
 use Rattle.load_writer.specs.WrittenParts.{seen}
 use Rattle.link_content.specs.declared.content.ByteStorage.{ByteStorage}

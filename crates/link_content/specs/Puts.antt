@@ -7,7 +7,8 @@ use Rattle.load_meaning.specs.declared.table.Target.{Target}
 use Rattle.load_meaning.specs.Table.{entry_place, with_target}
 use Rattle.link_meaning.specs.declared.fault.LinkCause.{LinkCause}
 use Rattle.link_meaning.specs.Fitting as meaning
-use Rattle.link_meaning.specs.Fitting.{entry_of, fit_value, fit_cells, targets_after}
+use Rattle.link_meaning.specs.Fitting.{fit_value, fit_cells, targets_after}
+use Rattle.link_meaning.specs.laws.Steps.{entry_of}
 use Rattle.link_content.specs.Holding.{Holding}
 use Rattle.link_content.specs.declared.fit.FormulaRecord.{FormulaRecord}
 use Rattle.link_content.specs.Contents.{HoldsCells}

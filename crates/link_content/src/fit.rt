@@ -7,7 +7,8 @@ ghost use Rattle.omf_format.specs.Value.{is_unshifted};
 ghost use Rattle.load_meaning.specs.Cells.{Cell};
 ghost use Rattle.load_meaning.specs.declared.table.Target.{Target};
 ghost use Rattle.link_meaning.specs.Member.{LinkSetting, setting_in};
-ghost use Rattle.link_meaning.specs.Fitting.{number_fit, distance_fit, place_fit, is_dynamic_load, length_of, length_outside, length_there, may_call, is_far, is_call, ends_in_jsl, or_does_not_fit, call_fit, fit_value};
+ghost use Rattle.link_meaning.specs.Fitting.{place_fit, is_dynamic_load, length_of, length_outside, ends_in_jsl, call_fit, fit_value};
+ghost use Rattle.link_meaning.specs.laws.Steps.{distance_fit, length_there, is_far, number_fit, may_call, or_does_not_fit, is_call};
 ghost use Rattle.link_content.specs.Fits.{to_fit_meaning, shown_frame, to_fit, to_load_limits, fit_with_room};
 
 use jump_table::Target;

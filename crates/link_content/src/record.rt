@@ -3,7 +3,8 @@
 ghost use Rattle.std.specs.Prelude.{◌≡◌, ◌⊎◌, ◌+◌, ◌<◌, ◌^◌, ◌++◌, Ok, Err, ℕ, List, IfErr, OnOk, length};
 ghost use Rattle.load_meaning.specs.Cells.{Cell};
 ghost use Rattle.link_meaning.specs.declared.fault.LinkCause.TheVariants as causes;
-ghost use Rattle.link_meaning.specs.Fitting.{ends_in_jsl, value_cause};
+ghost use Rattle.link_meaning.specs.Fitting.{ends_in_jsl};
+ghost use Rattle.link_meaning.specs.laws.Steps.{value_cause};
 ghost use Rattle.omf_format.specs.Record as format;
 ghost use Rattle.object_meaning.specs.Sizes.{size_at};
 ghost use Rattle.link_meaning.specs.Member.{Member, setting_in};

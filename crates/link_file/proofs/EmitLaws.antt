@@ -12,7 +12,8 @@ use Rattle.link_meaning.specs.laws.TableLaws.{one_table}
 use Rattle.link_meaning.specs.LinkedCells.{items}
 use Rattle.link_meaning.specs.LinkFaults.{no_spot}
 use Rattle.link_meaning.specs.LinkWritten.{AreMade, start, written_file}
-use Rattle.link_meaning.specs.EmitFaults.{HasCycleFault, HasValueFault, most_bytes, Cycles, Values, Size, HasEmitFault, IsEmitAnswer}
+use Rattle.link_meaning.specs.EmitFaults.{HasCycleFault, HasValueFault, Cycles, Values, Size, HasEmitFault, IsEmitAnswer}
+use Rattle.object_meaning.specs.Sizes.{most_bytes}
 use Rattle.link_meaning.specs.laws.EmitFaultLaws.{made_sound}
 use Rattle.link_file.specs.Answers.{IsEmitRefused}
 use Rattle.link_values.specs.Equates.{IsCycleRefused}

@@ -23,8 +23,9 @@ use Rattle.link_program.specs.Outside.{all_found}
 use Rattle.link_values.specs.declared.slots.ValueSlot.{ValueSlot}
 use Rattle.link_values.specs.Slots.{AreSlots}
 use Rattle.link_meaning.specs.Layout.{load_headers}
-use Rattle.link_meaning.specs.LinkValues.{EquateAnswer, found_value, if_ok}
-use Rattle.link_meaning.specs.LinkWritten.{export_at, export_of, exports, exports_for}
+use Rattle.link_meaning.specs.LinkValues.{EquateAnswer, found_value}
+use Rattle.link_meaning.specs.laws.Steps.{if_ok, export_of, exports_for}
+use Rattle.link_meaning.specs.LinkWritten.{export_at, exports}
 use Rattle.link_tables.specs.Coming.{Coming}
 use Rattle.link_program.specs.Linked.{member_at}
 use Rattle.link_file.specs.Images.{spelled_records}

@@ -6,13 +6,13 @@ use Rattle.std.proofs.lemmas.Grind.{flat_map-append}
 use Rattle.std.specs.Prelude.{codes}
 use Rattle.omf_format.specs.Header.{HeaderFields, IsWritable}
 use Rattle.load_meaning.specs.declared.table.Target.{Target}
-use Rattle.load_meaning.specs.Cells.{Byte, Patch}
+use Rattle.load_meaning.specs.Cells.{Byte, Patch, byte_under}
 use Rattle.load_meaning.specs.Table.{file_entry, table_bytes}
 use Rattle.load_meaning.specs.WrittenBody.{AreWritten}
 use Rattle.load_meaning.specs.WrittenFile.{Image, image_text, file_text, table_fields, table_image}
 use Rattle.load_meaning.specs.laws.WrittenTableLaws.{length-table_bytes}
 use Rattle.link_meaning.specs.Member.{RuntimeFile}
-use Rattle.link_meaning.specs.LinkWritten.{byte_under, patches_of_cells, table_images, path_images}
+use Rattle.link_meaning.specs.LinkWritten.{patches_of_cells, table_images, path_images}
 use Rattle.load_writer.specs.WrittenParts.{seen}
 use Rattle.link_content.specs.Holding.{Holding}
 use Rattle.link_content.specs.Contents.{HoldsCells}

@@ -13,7 +13,7 @@ use Rattle.omf_format.specs.Record.{Record, spelling}
 use Rattle.load_meaning.specs.Cells.{Patch}
 use Rattle.load_meaning.specs.WrittenBody.{AreWritten, zeros_after, written_cells, body_records, body_text}
 use Rattle.load_meaning.specs.laws.StoredLaws.{zeros-le, cells_size}
-use Rattle.load_meaning.specs.WrittenFile.{Image, image_records, image_body, image_text, file_text}
+use Rattle.load_meaning.specs.WrittenFile.{Image, image_body, image_text, file_text}
 use Rattle.omf_header.specs.View.{fields}
 use Rattle.omf_header.specs.declared.header.Header.{Header}
 use Rattle.omf_header.specs.Written.{with_reserved_zeros}
@@ -34,7 +34,7 @@ body_whole own content patches exports = sym (flat_map-append (spelling written_
 
 -- the body of a load segment is what its records spell, and END
 body_is : (f : HeaderFields) (content : List ℕ) (patches : List Patch) (exports : List Record) (body : List ℕ) → body ≡ body_text f.seg_num content patches ++ spelled_records exports → body ++ 0 ∷ [] ≡ image_body (image f content patches exports)
-unfolding image_body image_records spelling
+unfolding image_body  spelling
 body_is f content patches exports body b = ap (λ (l : List ℕ). l ++ 0 ∷ []) (b ∙ body_whole f.seg_num content patches exports)
 
 pub text_is : (f : HeaderFields) (content : List ℕ) (patches : List Patch) (exports : List Record) (front body : List ℕ) → body ≡ body_text f.seg_num content patches ++ spelled_records exports

@@ -8,7 +8,7 @@ use Rattle.omf_format.specs.Record.{Record}
 use Rattle.omf_header.specs.View.{fields}
 use Rattle.omf_header.specs.declared.header.Header.{Header}
 use Rattle.load_meaning.specs.declared.table.Target.{Target}
-use Rattle.load_meaning.specs.Cells.{Cell, Patch}
+use Rattle.load_meaning.specs.Cells.{Cell, Patch, byte_under}
 use Rattle.load_meaning.specs.WrittenBody.{AreWritten}
 use Rattle.load_meaning.specs.WrittenFile.{Image, file_text}
 use Rattle.link_meaning.specs.First.{IsIn}
@@ -18,8 +18,9 @@ use Rattle.link_meaning.specs.Member.{Member, setting_in, form_in}
 use Rattle.link_meaning.specs.Layout.{load_length, load_names, load_fields, headers_from, load_headers}
 use Rattle.link_meaning.specs.LinkValues.{EquateAnswer, IsTable}
 use Rattle.link_meaning.specs.LinkedCells.{items, table_number, targets, linked}
-use Rattle.link_meaning.specs.LinkWritten.{byte_under, image_of, exports, exports_for, load_images, images, written_file, AreMade, start}
-use Rattle.link_meaning.specs.LinkFaults.{LinkInput, HasBytes, is_too_long, IsResolved}
+use Rattle.link_meaning.specs.LinkWritten.{exports, load_images, images, written_file, AreMade, start}
+use Rattle.link_meaning.specs.LinkFaults.{LinkInput, HasBytes, IsResolved}
+use Rattle.link_meaning.specs.laws.Steps.{is_too_long, exports_for, image_of}
 use Rattle.link_meaning.specs.laws.RunCells.{AreRuns, runs_written}
 use Rattle.link_meaning.specs.laws.LinkedRuns.{HasCells, MembersHave, members_have, linked_has, AreSized}
 use Rattle.link_meaning.specs.laws.ReadMembers.{IsRead, members_read, HasHeader, read_header, read_size, read_some}
@@ -36,7 +37,6 @@ abbrev image : HeaderFields → List ℕ → List Patch → List Record → Imag
 image f content patches exports = record { fields = f; content = content; patches = patches; exports = exports; whole = false }
 
 image_same : (f : HeaderFields) (cells : List Cell) (content : Holding) (exports : List Record) → HoldsCells cells content → image_in f content exports ≡ image_of f cells exports
-unfolding image_of
 image_same f cells content exports holds =
     ap (λ (l : List ℕ). image f l (map seen content.patches) exports) holds.bytes' ∙ ap (λ (l : List Patch). image f (map byte_under cells) l exports) holds.patches'
 

@@ -10,7 +10,7 @@ use Rattle.omf_format.specs.Header.{HeaderFields, IsWritable, header_bytes}
 use Rattle.omf_format.specs.laws.WrittenHeaderLaws.{length-header}
 use Rattle.omf_format.specs.Record.{LongConst, spelling}
 use Rattle.load_meaning.specs.Pathnames.{rows_text, paths_text}
-use Rattle.load_meaning.specs.WrittenFile.{image_records, image_body, image_text, file_text, table_fields, pathnames_fields, pathnames_image}
+use Rattle.load_meaning.specs.WrittenFile.{image_body, image_text, file_text, table_fields, pathnames_fields, pathnames_image}
 use Rattle.load_meaning.specs.laws.WrittenPathLaws.{length-paths_text}
 use Rattle.link_meaning.specs.Member.{RuntimeFile, Member, setting_in}
 use Rattle.link_meaning.specs.LinkWritten.{path_images}
@@ -70,7 +70,7 @@ pathnames_writable number size = record { version = refl; banks = omega arith; l
 
 -- the body is one LCONST, and END
 whole_body : (f : HeaderFields) (bytes : List ℕ) → 1 ≤ length bytes → spelling written_layout (LongConst bytes) ++ 0 ∷ [] ≡ image_body (whole_image f bytes)
-unfolding image_body image_records spelling
+unfolding image_body  spelling
 whole_body f [] some = absurd (omega (arith, some))
 whole_body f (b ∷ bytes) some = ap (λ (l : List ℕ). l ++ 0 ∷ []) (sym (append-nil (spelling written_layout (LongConst (b ∷ bytes)))))
 

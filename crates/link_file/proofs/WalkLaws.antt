@@ -4,7 +4,7 @@ use Rattle.std.proofs.lemmas.Bool.{eq-eqb}
 use Rattle.std.proofs.lemmas.List.{length-append, length-map, map-append}
 use Rattle.omf_format.specs.Record.{Record, End}
 use Rattle.omf_format.specs.File.{Segment}
-use Rattle.load_meaning.specs.Cells.{Cell}
+use Rattle.load_meaning.specs.Cells.{Cell, byte_under}
 use Rattle.load_meaning.specs.declared.table.Target.{Target}
 use Rattle.link_meaning.specs.declared.fault.LinkCause.{LinkCause}
 use Rattle.object_meaning.specs.Sizes.{size_at, located_from, records_with_offsets, place_after, body_size}
@@ -12,7 +12,7 @@ use Rattle.link_meaning.specs.Member.{Member, setting_in}
 use Rattle.link_meaning.specs.Layout.{offset_of, load_headers}
 use Rattle.link_meaning.specs.LinkValues.{EquateAnswer}
 use Rattle.link_meaning.specs.LinkedCells.{LinkState, zeros, made, state_after_item, state_from, member_cells, bank_of, table_number}
-use Rattle.link_meaning.specs.LinkWritten.{AreMade, byte_under}
+use Rattle.link_meaning.specs.LinkWritten.{AreMade}
 use Rattle.link_meaning.specs.laws.MadeLaws.{length-made, length-zeros}
 use Rattle.link_meaning.specs.laws.PlaceFits.{following-le, in_parts}
 use Rattle.link_meaning.specs.laws.ReadMembers.{read_size, read_some}

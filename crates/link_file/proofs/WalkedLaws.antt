@@ -14,7 +14,8 @@ use Rattle.link_meaning.specs.declared.fault.LinkCause.{LinkCause}
 use Rattle.link_meaning.specs.declared.fault.LinkFault.{LinkFault}
 use Rattle.link_meaning.specs.First.{IsIn, IsFirst}
 use Rattle.link_meaning.specs.Member.{Member}
-use Rattle.link_meaning.specs.Layout.{in_load, aligned_from, end_from, offset_of, distinct, load_names, number_in, load_of}
+use Rattle.link_meaning.specs.Layout.{in_load, end_from, offset_of, distinct, load_names, number_in, load_of}
+use Rattle.link_meaning.specs.laws.Steps.{aligned_from}
 use Rattle.link_meaning.specs.laws.LayoutLaws.{aligned_from-least, alignment-some}
 use Rattle.link_meaning.specs.LinkValues.{EquateAnswer}
 use Rattle.link_meaning.specs.LinkedCells.{Item, LinkState, Made, zeros, items_from, items, made, state_after, member_cells}

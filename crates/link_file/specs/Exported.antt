@@ -1,5 +1,6 @@
 -- What a program exports, definition by definition.
 use Rattle.std.specs.Prelude.{◌≡◌, ℕ, ◌+◌, Bool, true, false, List, [], ◌∷◌, ◌++◌, length, take, Option, Some, None}
+use Rattle.link_meaning.specs.laws.Steps.{export_of}
 use Rattle.std.specs.List.{flat_map}
 use Rattle.omf_format.specs.Record.{Record, Entry}
 use Rattle.omf_format.specs.Reading.{Reader}
@@ -8,7 +9,6 @@ use Rattle.link_meaning.specs.Member.{Member}
 use Rattle.object_meaning.specs.Defines.{Scope, ForSegment, ForUnit, ForAll, Definition, defined_in}
 use Rattle.link_meaning.specs.Search.{entries_from, entries}
 use Rattle.link_meaning.specs.LinkValues.{EquateAnswer}
-use Rattle.link_meaning.specs.LinkWritten.{export_of}
 use Rattle.link_tables.specs.Coming.{Coming}
 use Rattle.link_file.specs.declared.exports.ExportsSeen as kept
 use Rattle.link_file.specs.Images.{spelled_records}

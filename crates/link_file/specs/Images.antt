@@ -13,7 +13,8 @@ use Rattle.link_meaning.specs.Member.{RuntimeFile, Member, form_in}
 use Rattle.link_meaning.specs.Layout.{load_names, load_headers}
 use Rattle.link_meaning.specs.LinkValues.{EquateAnswer}
 use Rattle.link_meaning.specs.LinkedCells.{linked}
-use Rattle.link_meaning.specs.LinkWritten.{exports, exports_for, table_images, path_images}
+use Rattle.link_meaning.specs.LinkWritten.{exports, table_images, path_images}
+use Rattle.link_meaning.specs.laws.Steps.{exports_for}
 use Rattle.load_writer.specs.WrittenParts.{seen}
 use Rattle.link_content.specs.Holding.{Holding}
 use Rattle.link_content.specs.Contents.{HoldsCells}

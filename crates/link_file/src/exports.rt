@@ -11,7 +11,8 @@ ghost use Rattle.object_meaning.specs.Defines.{scope_of, defined_by, title_of, d
 ghost use Rattle.link_meaning.specs.Search.{FoundDefinition, entries};
 ghost use Rattle.link_meaning.specs.Layout.{load_headers};
 ghost use Rattle.link_meaning.specs.LinkValues.{found_value};
-ghost use Rattle.link_meaning.specs.LinkWritten.{export_at, exports, exports_for};
+ghost use Rattle.link_meaning.specs.LinkWritten.{export_at, exports};
+ghost use Rattle.link_meaning.specs.laws.Steps.{exports_for};
 ghost use Rattle.link_program.specs.Outside.{all_found};
 ghost use Rattle.link_content.specs.Fits.{to_load_limits};
 ghost use Rattle.link_values.specs.Slots.{AreOnce, AreSlots, rows_of};

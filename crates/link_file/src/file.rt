@@ -1,6 +1,7 @@
 //! The load file: its load segments, the jump table after them, and the pathnames after all.
 
 ghost use Rattle.std.specs.Prelude.{◌≡◌, ◌≤◌, ◌+◌, ◌<◌, ◌^◌, ◌++◌, IfOk, IfErr, OnOk, IsErrOf, length, map, List};
+ghost use Rattle.object_meaning.specs.Sizes.{most_bytes};
 ghost use Rattle.omf_header.specs.View.{fields};
 ghost use Rattle.load_meaning.specs.Cells.{Byte};
 ghost use Rattle.load_meaning.specs.Table.{file_entry, table_bytes};
@@ -9,7 +10,6 @@ ghost use Rattle.link_meaning.specs.Member.{setting_in};
 ghost use Rattle.link_meaning.specs.LinkValues.{EquateAnswer};
 ghost use Rattle.link_meaning.specs.LinkedCells.{targets};
 ghost use Rattle.link_meaning.specs.LinkWritten.{table_images, written_file};
-ghost use Rattle.link_meaning.specs.EmitFaults.{most_bytes};
 ghost use Rattle.link_content.specs.Contents.{HoldsCells};
 ghost use Rattle.link_program.specs.OfFiles.{IsOfFiles};
 ghost use Rattle.link_file.specs.Images.{AreReady, AreLoads, images_after, linked_exports};

@@ -13,6 +13,7 @@ use Rattle.link_meaning.specs.LinkValues.{EquateAnswer, IsTable}
 use Rattle.link_meaning.specs.LinkedCells.{Item, items, state_after, made}
 use Rattle.link_meaning.specs.LinkWritten.{AreMade, start, images, written_file, linked_cells, HaveCells}
 use Rattle.link_meaning.specs.LinkFaults.{LinkInput, HasBytes, no_spot, spot_in, IsFirstResolveFault, IsResolved}
+use Rattle.object_meaning.specs.Sizes.{most_bytes}
 
 -- ---- cycles
 
@@ -31,10 +32,6 @@ pub record HasValueFault (list : List Member) (table : List EquateAnswer) (befor
 
 -- ---- the file
 
--- the most bytes that a load file has
-abbrev pub most_bytes : ℕ
-most_bytes = 0x1000000
-
 -- the load file would have more
 pub record HasSizeFault (list : List Member) (table : List EquateAnswer) (fault : LinkFault) : Type 0 where
   pub long : most_bytes < length (written_file list table)
@@ -48,9 +45,6 @@ pub data EmitPhase : Type 0 where
   Values : EmitPhase
   Size : EmitPhase
 
-abbrev pub emit_phases : List EmitPhase
-emit_phases = Cycles ∷ Values ∷ Size ∷ []
-
 -- what a phase finds in the linked list: the first equate, in list and record order, that leads back to itself; the first
 -- record, in that order, that gives no cells; a file that is too long
 abbrev pub HasEmitFault : List Member → List EmitPhase → EmitPhase → LinkFault → Type 0
@@ -60,12 +54,12 @@ HasEmitFault list before Size fault = (table : List EquateAnswer) × IsTable lis
 
 -- the first fault of these phases
 abbrev pub IsFirstEmitFault : List Member → LinkFault → Type 0
-IsFirstEmitFault list fault = IsFirst (HasEmitFault list) emit_phases fault
+IsFirstEmitFault list fault = IsFirst (HasEmitFault list) (Cycles ∷ Values ∷ Size ∷ []) fault
 
 -- the equates of the list have these values, and none of these phases finds a fault
 pub record IsEmitted (list : List Member) (table : List EquateAnswer) : Type 0 where
   pub valued : IsTable list table
-  pub sound : HasNone (HasEmitFault list) emit_phases
+  pub sound : HasNone (HasEmitFault list) (Cycles ∷ Values ∷ Size ∷ [])
 
 -- ---- all phases
 

@@ -66,22 +66,13 @@ record_fault align (Super form bytes) = Some BadRecord
 record_fault align (Entry segment offset name) = Some BadRecord
 record_fault _ _ = None
 
-abbrev pub with_place : ℕ → LinkCause → LinkCause × ℕ
-with_place at cause = (cause, at)
-
--- the first record's fault, with its place
-abbrev pub records_fault : ℕ → List (ℕ × Record) → Option (LinkCause × ℕ)
-records_fault align founds = first_some (λ found. option_map (with_place found.0) (record_fault align found.1)) founds
-
--- LENGTH counts the cells of the records and RESSPC
-abbrev pub length_fault : Segment → Option (LinkCause × ℕ)
-length_fault s = if s.fields.length == body_size s + s.fields.res_spc then None else Some (BadLength, s.start)
-
--- a segment's first fault: its type, then its records in order, then its LENGTH
+-- a segment's first fault with its place: its type, then its records in order, then its LENGTH, which counts the cells of the records and
+-- RESSPC
 unfoldable pub segment_fault : Bool → Segment → Option (LinkCause × ℕ)
 segment_fault first s =
-    option_or (option_map (with_place s.start) (type_fault first s.fields))
-    (option_or (records_fault (alignment_of s.fields.align) s.records) (length_fault s))
+    option_or (option_map (λ cause. (cause, s.start)) (type_fault first s.fields))
+    (option_or (first_some (λ found. option_map (λ cause. (cause, found.0)) (record_fault (alignment_of s.fields.align) found.1)) s.records)
+    (if s.fields.length == body_size s + s.fields.res_spc then None else Some (BadLength, s.start)))
 
 -- the segments' first fault, with the segment's number
 abbrev pub segments_fault : ℕ → List Segment → Option (ℕ × (LinkCause × ℕ))
@@ -167,10 +158,6 @@ pub data InputPart : Type 0 where
   OfInput : (bytes : List ℕ) → InputPart
   OfRuntime : (bytes : List ℕ) → InputPart
 
--- first the inputs, and then the run-time library files
-abbrev pub parts_of : LinkInput → List InputPart
-parts_of given = map OfInput given.inputs ++ map (λ file. OfRuntime file.1) given.runtimes
-
 -- the first fault of a file, which is numbered by those before it
 abbrev pub HasPartFault : List InputPart → InputPart → LinkFault → Type 0
 HasPartFault before (OfInput bytes) fault = HasFileFault (length before + 1) bytes fault
@@ -223,20 +210,14 @@ pub record HasCountFault (list : List Member) (fault : LinkFault) : Type 0 where
   pub there : slice_get (load_names list) 254 ≡ Some load_name
   pub reported : fault ≡ record { cause = TooManySegments; name = None; spot = first_spot (load_members load_name list) }
 
-abbrev pub is_too_long : HeaderFields → Bool
-is_too_long f = nat_lt 0xFFFFFF f.length || (not (f.bank_size == 0) && nat_lt f.bank_size f.length)
-
+-- a load segment is longer than three bytes can say, or than the bank size that it asks for
 pub record HasLengthFault (list : List Member) (before : List HeaderFields) (f : HeaderFields) (fault : LinkFault) : Type 0 where
-  pub long : is_too_long f ≡ true
+  pub long : (nat_lt 0xFFFFFF f.length || (not (f.bank_size == 0) && nat_lt f.bank_size f.length)) ≡ true
   pub reported : fault ≡ record { cause = SegmentTooLong; name = None; spot = first_spot (load_members f.load_name list) }
 
 -- a run-time library file has only dynamic load segments, and none is skipped
-abbrev pub may_not_stand : LinkForm → HeaderFields → Bool
-may_not_stand Program f = false
-may_not_stand LibraryForm f = not (is_dynamic f.kind && not (is_skipped f.kind))
-
 pub record HasKindFault (list : List Member) (before : List HeaderFields) (f : HeaderFields) (fault : LinkFault) : Type 0 where
-  pub other : may_not_stand (form_in list) f ≡ true
+  pub other : (elim (form_in list) [ Program ↦ false | LibraryForm ↦ not (is_dynamic f.kind && not (is_skipped f.kind)) ]) ≡ true
   pub reported : fault ≡ record { cause = NotDynamic; name = None; spot = first_spot (load_members f.load_name list) }
 
 pub data LayoutCheck : Type 0 where
@@ -260,13 +241,11 @@ pub data Phase : Type 0 where
   Names : Phase
   Layout : Phase
 
-abbrev pub phases : List Phase
-phases = Reading ∷ Objects ∷ Names ∷ Layout ∷ []
-
 -- what a phase finds in what is given: the first file at fault; no object segment; the first use, in list and record order, that
 -- doesn't resolve; the first check of the load segments that fails
 abbrev pub HasPhaseFault : LinkInput → List Phase → Phase → LinkFault → Type 0
-HasPhaseFault given before Reading fault = IsFirst HasPartFault (parts_of given) fault
+HasPhaseFault given before Reading fault =
+    IsFirst HasPartFault (map OfInput given.inputs ++ map (λ file. OfRuntime file.1) given.runtimes) fault
 HasPhaseFault given before Objects fault =
     (setting : LinkSetting) × (inputs : List Input) × IsSetting given setting × AreInputs given.inputs inputs × (objects setting inputs ≡ [])
     × (fault ≡ record { cause = Empty; name = None; spot = no_spot })
@@ -276,9 +255,9 @@ HasPhaseFault given before Layout fault =
 
 -- the first fault of these phases
 abbrev pub IsFirstResolveFault : LinkInput → LinkFault → Type 0
-IsFirstResolveFault given fault = IsFirst (HasPhaseFault given) phases fault
+IsFirstResolveFault given fault = IsFirst (HasPhaseFault given) (Reading ∷ Objects ∷ Names ∷ Layout ∷ []) fault
 
 -- the files have this linked list, and none of these phases finds a fault
 pub record IsResolved (given : LinkInput) (list : List Member) : Type 0 where
   pub program : IsProgram given list
-  pub sound : HasNone (HasPhaseFault given) phases
+  pub sound : HasNone (HasPhaseFault given) (Reading ∷ Objects ∷ Names ∷ Layout ∷ [])

@@ -20,7 +20,8 @@ use Rattle.link_meaning.specs.LinkValues.{EquateAnswer}
 use Rattle.link_meaning.specs.Fitting.{load_header, is_dynamic_load, length_of, length_outside}
 use Rattle.link_meaning.specs.LinkedCells.{table_number, targets, linked}
 use Rattle.link_meaning.specs.LinkWritten.{linked_cells}
-use Rattle.link_meaning.specs.EmitFaults.{most_bytes, IsLinkable, IsLinkedTo}
+use Rattle.link_meaning.specs.EmitFaults.{IsLinkable, IsLinkedTo}
+use Rattle.object_meaning.specs.Sizes.{most_bytes}
 
 -- ---- headers and cells
 

@@ -38,37 +38,32 @@ found_value list table f = elim f.definition.expr [
   | Some text ↦ value_of_definition table f.place f.definition.at
 ]
 
-abbrev pub if_ok : Result Value ValueFault → Option Value
-if_ok (Ok v) = Some v
-if_ok (Err fault) = None
-
 -- the value of a name that found this; a faulty equate has none
 abbrev pub label_value : List Member → List EquateAnswer → Bool → List FoundDefinition → Option Value
 label_value list table weak [] = if weak then Some (Fixed 0) else None
-label_value list table weak (f ∷ found) = if_ok (found_value list table f)
+label_value list table weak (f ∷ found) = elim (found_value list table f) [ Ok v ↦ Some v | Err fault ↦ None ]
 
--- the length, type and count of a name that found this
-abbrev pub attribute_value : ℕ → List FoundDefinition → Option ℕ
-attribute_value code [] = if code == 0x86 then Some 0 else None
-attribute_value code (f ∷ found) =
-    if code == 0x84 then Some f.definition.size else if code == 0x85 then Some f.definition.form else Some 1
-
--- what an expression meets in the member at this place of the list, where `location` of its cells are before the record
+-- what an expression meets in the member at this place of the list, where `location` of its cells are before the record: the value, and the
+-- length, type and count, of what a name finds
 unfoldable pub member_environment : List Member → List EquateAnswer → ℕ → Member → ℕ → Environment
 member_environment list table place m location = record {
   label = λ name weak. label_value list table weak (finds list place m name);
-  attribute = λ code name. attribute_value code (finds list place m name);
+  attribute = λ code name. elim (finds list place m name) [
+    | [] ↦ if code == 0x86 then Some 0 else None
+    | f ∷ found ↦ if code == 0x84 then Some f.definition.size else if code == 0x85 then Some f.definition.form else Some 1
+  ];
   location = place_value list place m location;
   start = place_value list place m 0;
 }
 
 -- the fault of the equate that a name found
-abbrev pub fault_found : List Member → List EquateAnswer → ValueFault → List FoundDefinition → ValueFault
-fault_found list table fault [] = fault
-fault_found list table fault (f ∷ found) = elim (found_value list table f) [ Ok v ↦ fault | Err of ↦ of ]
-
 abbrev pub fault_named : List Member → List EquateAnswer → ℕ → Member → ValueFault → Option Term → ValueFault
-fault_named list table place m fault (Some (Named code name)) = if nat_le code 0x83 then fault_found list table fault (finds list place m name) else fault
+fault_named list table place m fault (Some (Named code name)) =
+    if nat_le code 0x83 then (elim (finds list place m name) [
+      | [] ↦ fault
+      | f ∷ found ↦ elim (found_value list table f) [ Ok v ↦ fault | Err of ↦ of ]
+    ])
+    else fault
 fault_named _ _ _ _ fault _ = fault
 
 -- a name whose equate has a fault has that fault: `Unknown` says at which term of the expression the name is
@@ -79,14 +74,12 @@ value_or_equate_fault list table place m tree (Err NotRelocatable) = Err NotRelo
 value_or_equate_fault list table place m tree (Err (Unknown at)) =
     Err (fault_named list table place m (Unknown at) (term_at m.segment.fields.lab_len at 0 tree))
 
--- the value of an expression's tree in that member
-abbrev pub tree_value : List Member → List EquateAnswer → ℕ → Member → ℕ → Option Tree → Result Value ValueFault
-tree_value list table place m location None = Err NotRelocatable
-tree_value list table place m location (Some tree) =
-    value_or_equate_fault list table place m tree (value (member_environment list table place m location) m.segment.fields.lab_len 0 tree)
-
+-- the value in that member of the expression that the bytes spell
 unfoldable pub value_in : List Member → List EquateAnswer → ℕ → Member → ℕ → List ℕ → Result Value ValueFault
-value_in list table place m location text = tree_value list table place m location (tree_in m.segment.fields.lab_len text)
+value_in list table place m location text = elim (tree_in m.segment.fields.lab_len text) [
+  | None ↦ Err NotRelocatable
+  | Some tree ↦ value_or_equate_fault list table place m tree (value (member_environment list table place m location) m.segment.fields.lab_len 0 tree)
+]
 
 abbrev pub equate_value : List Member → List EquateAnswer → FoundDefinition → Result Value ValueFault
 equate_value list table e = elim e.definition.expr [

@@ -5,7 +5,7 @@ use Rattle.std.specs.List.{flat_map}
 use Rattle.std.specs.Ordering.{int_eq}
 use Rattle.omf_format.specs.Header.{HeaderFields}
 use Rattle.omf_format.specs.File.{Segment, IsFile}
-use Rattle.load_meaning.specs.Cells.{Cell, Byte, Part, Patch, cells}
+use Rattle.load_meaning.specs.Cells.{Cell, Byte, Part, Patch, cells, byte_under}
 use Rattle.load_meaning.specs.declared.table.Target.{Target}
 use Rattle.load_meaning.specs.Table.{file_entry, table_bytes}
 use Rattle.load_meaning.specs.WrittenFile.{Image, table_image, file_text, AreReadAs, pathnames_image}
@@ -16,10 +16,9 @@ use Rattle.omf_format.specs.declared.value.Value.TheVariants.{Fixed, At}
 use Rattle.omf_format.specs.declared.value.ValueFault.{ValueFault}
 use Rattle.load_meaning.specs.Pathnames.{paths_text}
 use Rattle.link_meaning.specs.Fitting.{length_of}
-use Rattle.link_meaning.specs.Search.{FoundDefinition, entries}
+use Rattle.link_meaning.specs.Search.{entries}
 use Rattle.object_meaning.specs.Defines.{ForSegment, ForUnit, ForAll}
 use Rattle.link_meaning.specs.declared.form.LinkForm.TheVariants.{Program, Runtime as LibraryForm}
-use Rattle.link_meaning.specs.declared.form.LinkForm.{LinkForm}
 use Rattle.link_meaning.specs.Member.{Member, RuntimeFile, setting_in, form_in}
 use Rattle.link_meaning.specs.Layout.{load_names, load_fields, load_headers}
 use Rattle.link_meaning.specs.LinkValues.{EquateAnswer, IsTable, found_value}
@@ -48,19 +47,11 @@ abbrev pub patches_from : ℕ → List Cell → List Patch
 patches_from at [] = []
 patches_from at (c ∷ cells) = patch_at at c cells ++ patches_from (at + 1) cells
 
+-- the patches of a load segment's cells
 unfoldable pub patches_of_cells : List Cell → List Patch
 patches_of_cells cells = patches_from 0 cells
 
--- the bytes under the patches; where a patch is they don't count
-abbrev pub byte_under : Cell → ℕ
-byte_under (Byte b) = b
-byte_under (Part file segment offset shift index) = 0
-
 -- ---- the file
-
--- the load segment with these fields and cells
-unfoldable pub image_of : HeaderFields → List Cell → List Record → Image
-image_of fields cells exports = record { fields = fields; content = map byte_under cells; patches = patches_of_cells cells; exports = exports; whole = false }
 
 -- ---- the names that a run-time library file exports
 
@@ -71,28 +62,25 @@ export_at headers name (Ok (At file segment offset shift)) =
     if is_unshifted shift && nat_lt offset (length_of headers segment) then Entry segment offset name ∷ [] else []
 export_at headers name (Err fault) = []
 
--- only what all see is exported
-abbrev pub export_of : List Member → List EquateAnswer → FoundDefinition → List Record
-export_of list table f = elim f.definition.scope [
+-- in list and record order, a SEGNAME before its segment's records; only what all see is exported
+unfoldable pub exports : List Member → List EquateAnswer → List Record
+exports list table = flat_map (λ f. elim f.definition.scope [
   | ForSegment ↦ []
   | ForUnit ↦ []
   | ForAll ↦ export_at (load_headers list) f.definition.name (found_value list table f)
-]
+]) (entries list)
 
--- in list and record order, a SEGNAME before its segment's records
-unfoldable pub exports : List Member → List EquateAnswer → List Record
-exports list table = flat_map (export_of list table) (entries list)
-
--- those of a load segment: of a run-time library file the first one has them all
-abbrev pub exports_for : LinkForm → ℕ → List Record → List Record
-exports_for Program number all = []
-exports_for LibraryForm number all = if number == 1 then all else []
-
--- the load segments with these load names, in order, the first with this number
+-- the load segments with these load names, in order, the first with this number; of a run-time library file the first has all exports
 abbrev pub load_images : List Member → List EquateAnswer → ℕ → List (List ℕ) → List Image
 load_images list table number [] = []
 load_images list table number (x ∷ xs) =
-    image_of (load_fields list number x) (linked list table x) (exports_for (form_in list) number (exports list table)) ∷ load_images list table (number + 1) xs
+    record {
+      fields = load_fields list number x;
+      content = map byte_under (linked list table x);
+      patches = patches_of_cells (linked list table x);
+      exports = elim (form_in list) [ Program ↦ [] | LibraryForm ↦ if number == 1 then exports list table else [] ];
+      whole = false;
+    } ∷ load_images list table (number + 1) xs
 
 -- the table, where there is an entry
 abbrev pub table_images : ℕ → List Target → List Image

@@ -2,7 +2,6 @@
 use Rattle.std.specs.Prelude.{ℕ, ◌+◌, ◌-◌, List, [], ◌∷◌, ◌++◌, length, map, replicate, filter, Some, None, Result, Ok, Err, ◌==◌, if◌then◌else◌, nat_le}
 use Rattle.omf_format.specs.Field.{◌>>=◌}
 use Rattle.omf_format.specs.Record.{Record, Const, LongConst, Align, Org, Space, Equate, Formula}
-use Rattle.omf_format.specs.Header.{HeaderFields}
 use Rattle.load_meaning.specs.Cells.{Cell, Byte}
 use Rattle.link_meaning.specs.declared.fault.LinkCause.{LinkCause}
 use Rattle.object_meaning.specs.Sizes.{Located, records_with_offsets}
@@ -12,6 +11,7 @@ use Rattle.link_meaning.specs.Layout.{in_load, load_names, load_headers, load_of
 use Rattle.link_meaning.specs.LinkValues.{EquateAnswer, value_in}
 use Rattle.load_meaning.specs.declared.table.Target.{Target}
 use Rattle.link_meaning.specs.Fitting.{PatchPlace, load_header, fit_value, fit_cells, targets_after, value_or_cause}
+use Rattle.omf_format.specs.Header.{HeaderFields}
 
 -- ---- records in list order
 
@@ -34,13 +34,9 @@ items list = items_from 1 list
 abbrev pub table_number : List Member → ℕ
 table_number list = length (load_names list) + 1
 
+-- BANKSIZE of the load segment with this number
 abbrev pub bank_of : List HeaderFields → ℕ → ℕ
 bank_of headers number = elim (load_header headers number) [ None ↦ 0 | Some f ↦ f.bank_size ]
-
-abbrev pub frame_of : List Member → Item → PatchPlace
-frame_of list i =
-    let own = load_of list i.member in
-    record { own = own; bank_size = bank_of (load_headers list) own; place = offset_of list i.place i.member + i.here.location; setting = setting_in list }
 
 -- what was made so far: the targets in order of first reference, and the cells of the member at this place
 pub record LinkState : Type 0 where
@@ -59,6 +55,7 @@ Made = List Cell × List Target
 abbrev pub zeros : ℕ → List Cell
 zeros n = replicate n (Byte 0)
 
+-- what a record gives after this state, by its kind: constant bytes, zeros, or what its value becomes; all other records give nothing
 abbrev pub made_by : List Member → List EquateAnswer → LinkState → Item → Record → Result Made LinkCause
 made_by list table state i (Const bytes) = Ok (map Byte bytes, state.targets)
 made_by list table state i (LongConst bytes) = Ok (map Byte bytes, state.targets)
@@ -69,7 +66,14 @@ made_by list table state i (Equate global name size form private expr) =
     value_or_cause (value_in list table i.place i.member i.here.location expr) >>= λ v. Ok ([], state.targets)
 made_by list table state i (Formula code count n expr) =
     value_or_cause (value_in list table i.place i.member i.here.location expr) >>= λ v.
-    fit_value (load_headers list) (frame_of list i) state.targets (cells_before state i) code count n v >>= λ fit.
+    let own = load_of list i.member in
+    let here : PatchPlace = record {
+      own = own;
+      bank_size = bank_of (load_headers list) own;
+      place = offset_of list i.place i.member + i.here.location;
+      setting = setting_in list;
+    } in
+    fit_value (load_headers list) here state.targets (cells_before state i) code count n v >>= λ fit.
     let targets = targets_after state.targets fit in
     Ok (fit_cells (table_number list) count targets fit, targets)
 made_by _ _ state _ _ = Ok ([], state.targets)

@@ -24,19 +24,15 @@ counts_for u o = bytes_eq u.name o.name && (elim u.want [
   | Any ↦ false
 ])
 
--- a private row of the member's own library, with the member's file number
-abbrev pub is_of_member : Member → Offer → Bool
-is_of_member m o = o.private && m.file == o.member.file && m.from == o.member.from
-
 -- the first row of these for which a test holds
 abbrev pub first_offer : (Offer → Bool) → List Offer → Option Member
 first_offer test [] = None
 first_offer test (o ∷ library_offers) = if test o then Some o.member else first_offer test library_offers
 
--- the row for a use of the member: its own library's private one first, else one that isn't private
+-- the row for a use of the member: a private one of its own library, with the member's file number, first, else one that isn't private
 unfoldable pub row_for : List Offer → Member → Use → Option Member
 row_for library_offers m u = option_or
-    (first_offer (λ o. counts_for u o && is_of_member m o) library_offers)
+    (first_offer (λ o. counts_for u o && (o.private && m.file == o.member.file && m.from == o.member.from)) library_offers)
     (first_offer (λ o. counts_for u o && not o.private) library_offers)
 
 -- what a use finds; content without a definition, a weak name asks for none
@@ -48,12 +44,8 @@ found_for list place m u = elim u.want [
 ]
 
 -- the row's segment, where the use finds nothing
-abbrev pub unless_found : List FoundDefinition → Option Member → Option Member
-unless_found [] row = row
-unless_found (f ∷ found) row = None
-
 abbrev pub wanted_by : List Offer → List Member → ℕ → Member → Use → Option Member
-wanted_by library_offers list place m u = unless_found (found_for list place m u) (row_for library_offers m u)
+wanted_by library_offers list place m u = elim (found_for list place m u) [ [] ↦ row_for library_offers m u | f ∷ found ↦ None ]
 
 -- a use of the member at a place of the list
 pub record PlacedUse : Type 0 where

@@ -1,3 +1,4 @@
+pub mod Steps
 pub mod FirstLaws
 pub mod MemberLists
 pub mod LinkedListLaws

@@ -8,7 +8,8 @@ use Rattle.omf_format.specs.Header.{alignment_of}
 use Rattle.link_meaning.specs.declared.fault.LinkCause.{LinkCause}
 use Rattle.link_meaning.specs.declared.fault.LinkCause.TheVariants.{BadLength}
 use Rattle.object_meaning.specs.Sizes.{body_size}
-use Rattle.link_meaning.specs.LinkFaults.{segment_fault, segments_fault, length_fault, records_fault, type_fault, with_place}
+use Rattle.link_meaning.specs.LinkFaults.{segment_fault, segments_fault, type_fault}
+use Rattle.link_meaning.specs.laws.Steps.{with_place, records_fault, length_fault}
 
 or_none : {A : Type 0} → (a b : Option A) → option_or a b ≡ None → (a ≡ None) × (b ≡ None)
 or_none None b e = (refl, e)

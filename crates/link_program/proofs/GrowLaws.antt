@@ -10,7 +10,8 @@ use Rattle.link_meaning.specs.Member.{Member, Offer, Input, LinkSetting, setting
 use Rattle.link_meaning.specs.declared.search.SearchKind.{SearchKind}
 use Rattle.link_meaning.specs.declared.search.SearchKind.TheVariants.{Data, One, Any}
 use Rattle.link_meaning.specs.Search.{FoundDefinition, finds, finds_data}
-use Rattle.link_meaning.specs.LinkedList.{all_uses, row_for, found_for, unless_found, wanted, Follow}
+use Rattle.link_meaning.specs.LinkedList.{all_uses, row_for, found_for, wanted, Follow}
+use Rattle.link_meaning.specs.laws.Steps.{unless_found}
 use Rattle.object_meaning.specs.Sizes.{body_size}
 use Rattle.link_meaning.specs.LinkFaults.{segments_fault}
 use Rattle.link_program.proofs.BodyLengths.{body_short}

@@ -12,7 +12,8 @@ use Rattle.std.proofs.lemmas.List.Concat.{flat_map-cons}
 use Rattle.omf_format.specs.File.{Segment}
 use Rattle.link_meaning.specs.Member.{Member}
 use Rattle.object_meaning.specs.Defines.{Definition, defined_in, data_title_of}
-use Rattle.link_meaning.specs.Uses.{Use, data_name, uses_of, usings_of}
+use Rattle.link_meaning.specs.Uses.{Use, uses_of, usings_of}
+use Rattle.link_meaning.specs.laws.Steps.{data_name}
 use Rattle.link_meaning.specs.Search.{FoundDefinition, entries_from, entries, data_titles}
 use Rattle.link_meaning.specs.LinkedList.{PlacedUse, asked_from, all_uses}
 use Rattle.link_tables.specs.declared.definitions.Origin.{Origin}

@@ -16,8 +16,9 @@ use Rattle.link_meaning.specs.declared.search.SearchStep.TheVariants.{Within, Of
 use Rattle.link_meaning.specs.declared.search.SearchKind.{SearchKind}
 use Rattle.link_meaning.specs.declared.search.SearchKind.TheVariants as wants
 use Rattle.link_meaning.specs.Uses.{Use, uses_of, usings_of}
-use Rattle.link_meaning.specs.Search.{FoundDefinition, step_for, is_step, is_seen_by_step, or_else, first_step_found, outer_steps, steps_of, used_data, entries, data_titles, with_this_name, outside, finds_inside, finds, finds_data, only_place}
-use Rattle.link_meaning.specs.LinkedList.{PlacedUse, asked_from, all_uses, row_for, found_for, unless_found}
+use Rattle.link_meaning.specs.Search.{FoundDefinition, step_for, is_step, or_else, first_step_found, outer_steps, used_data, entries, data_titles, with_this_name, outside, finds, finds_data, only_place}
+use Rattle.link_meaning.specs.LinkedList.{PlacedUse, asked_from, all_uses, row_for, found_for}
+use Rattle.link_meaning.specs.laws.Steps.{unless_found, steps_of, is_seen_by_step, finds_inside}
 use Rattle.link_meaning.specs.laws.ProgressLaws.{AllNone, none_decided}
 use Rattle.link_tables.specs.declared.names.Matches.{Matches}
 use Rattle.link_tables.specs.declared.names.Matches.TheVariants.{One}
@@ -229,7 +230,6 @@ steps_stay list m u place s opens (inr is) = inr (settle (in_both (map Within (u
     settle (inr b) = in_back (map Within (used_data (list ++ m ∷ []) u)) (outer_steps u) s b
 
 inside_before : (list : List Member) (m u : Member) (place : ℕ) (name : List ℕ) → OpensNothing list m → finds_inside (list ++ m ∷ []) place u name ≡ [] → finds_inside list place u name ≡ []
-unfolding finds_inside
 inside_before list m u place name opens e =
     let more = founds_in (1 + length list) m (defined_in m.segment) in
     none_before (steps_of list place u) (steps_of (list ++ m ∷ []) place u) (with_this_name name (entries list)) (with_this_name name more) (λ s is. steps_stay list m u place s opens is)

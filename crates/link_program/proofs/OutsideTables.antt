@@ -11,7 +11,8 @@ use Rattle.omf_format.specs.File.{Segment, segment_at}
 use Rattle.load_meaning.specs.Exports.{Export, exports_of}
 use Rattle.link_meaning.specs.Member.{RuntimeFile, Member, without_runtimes, setting_in}
 use Rattle.object_meaning.specs.Defines.{Scope, ForAll}
-use Rattle.link_meaning.specs.Search.{FoundDefinition, step_for, is_step, with_this_name, or_else, entries, outside_of, outside, finds_inside, finds}
+use Rattle.link_meaning.specs.Search.{FoundDefinition, step_for, is_step, with_this_name, or_else, entries, outside_of, outside, finds}
+use Rattle.link_meaning.specs.laws.Steps.{finds_inside}
 use Rattle.link_tables.specs.declared.names.Matches.{Matches}
 use Rattle.link_tables.specs.declared.names.Matches.TheVariants.{Nothing, One, Several}
 use Rattle.link_program.specs.declared.outside.Far.{Far}

@@ -13,7 +13,8 @@ use Rattle.lib_dict.specs.declared.member.Member as held
 use Rattle.link_meaning.specs.Member.{RuntimeFile, LinkSetting, Member, setting_in}
 use Rattle.link_meaning.specs.laws.SettingLaws.{one_setting}
 use Rattle.link_program.specs.Outside.{IsOutsideOf}
-use Rattle.link_meaning.specs.Layout.{in_load, aligned_from, end_from, load_length, load_names, load_of, offset_of, headers_from, load_headers}
+use Rattle.link_meaning.specs.Layout.{in_load, end_from, load_length, load_names, load_of, offset_of, headers_from, load_headers}
+use Rattle.link_meaning.specs.laws.Steps.{aligned_from}
 use Rattle.link_meaning.specs.laws.LayoutLaws.{aligned_from-least, alignment-some}
 use Rattle.link_tables.specs.declared.layout.LoadOffset.{LoadOffset}
 use Rattle.link_tables.specs.declared.layout.LinkLayout as laid

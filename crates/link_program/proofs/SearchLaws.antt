@@ -9,7 +9,8 @@ use Rattle.link_meaning.specs.declared.search.SearchStep.TheVariants.{Within, Of
 use Rattle.link_meaning.specs.Member.{Member}
 use Rattle.std.specs.Borrow.{Bor}
 use Rattle.link_meaning.specs.Uses.{usings_of}
-use Rattle.link_meaning.specs.Search.{FoundDefinition, is_seen_by_step, or_else, first_step_found, with_this_name, outer_steps, only_place, entries, used_data, finds_inside, finds_data}
+use Rattle.link_meaning.specs.Search.{FoundDefinition, or_else, first_step_found, with_this_name, outer_steps, only_place, entries, used_data, finds_data}
+use Rattle.link_meaning.specs.laws.Steps.{is_seen_by_step, finds_inside}
 use Rattle.link_tables.specs.declared.names.Matches.{Matches}
 use Rattle.link_tables.specs.declared.names.Matches.TheVariants.{Nothing, One, Several}
 use Rattle.link_tables.specs.declared.names.NameTable.{NameTable}
@@ -231,12 +232,11 @@ several_one k n e = cc
 -- ---- all steps of a name
 
 pub finds_own : (T : FoundDefinition → ℕ → Type 0) (list : List Member) (place : ℕ) (m : Member) (name : List ℕ) (o : Matches) → Seen T (filter (is_seen_by_step (Within place)) (with_this_name name (entries list))) o → (o ≡ Nothing → ⊥) → Seen T (finds_inside list place m name) o
-unfolding finds_inside
 finds_own T list place m name o seen some = step_some T (Within place) (map Within (used_data list m) ++ outer_steps m) (with_this_name name (entries list)) o seen some
 
 pub finds_used : (T : FoundDefinition → ℕ → Type 0) (list : List Member) (place : ℕ) (m : Member) (name : List ℕ) (names : List (List ℕ)) (o : Matches) → names ≡ usings_of m.segment → Seen T (filter (is_seen_by_step (Within place)) (with_this_name name (entries list))) Nothing
     → Seen T (first_step_found (map Within (used_places list m names)) (with_this_name name (entries list))) o → (o ≡ Nothing → ⊥) → Seen T (finds_inside list place m name) o
-unfolding finds_inside used_data
+unfolding used_data
 finds_used T list place m name names o are none seen some =
     let xs = with_this_name name (entries list) in
     let own = step_none T (Within place) (map Within (used_data list m) ++ outer_steps m) xs none in
@@ -245,7 +245,7 @@ finds_used T list place m name names o are none seen some =
 
 pub finds_outer : (T : FoundDefinition → ℕ → Type 0) (list : List Member) (place : ℕ) (m : Member) (name : List ℕ) (names : List (List ℕ)) (o : Matches) → names ≡ usings_of m.segment → Seen T (filter (is_seen_by_step (Within place)) (with_this_name name (entries list))) Nothing
     → Seen T (first_step_found (map Within (used_places list m names)) (with_this_name name (entries list))) Nothing → Seen T (first_step_found (outer_steps m) (with_this_name name (entries list))) o → Seen T (finds_inside list place m name) o
-unfolding finds_inside used_data
+unfolding used_data
 finds_outer T list place m name names o are none used seen =
     let xs = with_this_name name (entries list) in
     let own = step_none T (Within place) (map Within (used_data list m) ++ outer_steps m) xs none in

@@ -9,7 +9,8 @@ use Rattle.link_meaning.specs.declared.search.SearchStep.{SearchStep}
 use Rattle.object_meaning.specs.Defines.{Definition, outer_scope, title_of, data_title_of}
 use Rattle.link_meaning.specs.Member.{Member}
 use Rattle.link_meaning.specs.declared.search.SearchStep.TheVariants.{Everyone}
-use Rattle.link_meaning.specs.Search.{FoundDefinition, step_for, is_seen_by_step, with_this_name, data_titles, finds_data}
+use Rattle.link_meaning.specs.Search.{FoundDefinition, step_for, with_this_name, data_titles, finds_data}
+use Rattle.link_meaning.specs.laws.Steps.{is_seen_by_step}
 use Rattle.link_tables.specs.declared.names.Matches.{Matches}
 use Rattle.link_tables.specs.declared.names.Matches.TheVariants.{One}
 use Rattle.link_program.specs.Opening.{OpensNothing}

@@ -16,7 +16,8 @@ use Rattle.link_meaning.specs.laws.EquatePlaces.{passes_filter}
 use Rattle.link_meaning.specs.laws.PlaceFits.{in-append, own_entry}
 use Rattle.link_meaning.specs.declared.search.SearchStep.{SearchStep}
 use Rattle.link_meaning.specs.declared.search.SearchStep.TheVariants.{Within}
-use Rattle.link_meaning.specs.Search.{FoundDefinition, is_seen_by_step, or_else, first_step_found, outer_steps, only_place, entries_from, data_titles, with_this_name, finds_data}
+use Rattle.link_meaning.specs.Search.{FoundDefinition, or_else, first_step_found, outer_steps, only_place, entries_from, data_titles, with_this_name, finds_data}
+use Rattle.link_meaning.specs.laws.Steps.{is_seen_by_step}
 use Rattle.link_meaning.specs.Uses.{usings_of}
 use Rattle.link_tables.specs.declared.names.Matches.{Matches}
 use Rattle.link_tables.specs.declared.names.Matches.TheVariants.{One}

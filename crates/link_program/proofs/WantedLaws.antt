@@ -8,7 +8,8 @@ use Rattle.link_meaning.specs.First.{first_some}
 use Rattle.link_meaning.specs.Member.{Member, Offer}
 use Rattle.link_meaning.specs.Uses.{Use}
 use Rattle.link_meaning.specs.Search.{FoundDefinition}
-use Rattle.link_meaning.specs.LinkedList.{PlacedUse, all_uses, row_for, found_for, unless_found, wanted_by, wanted}
+use Rattle.link_meaning.specs.LinkedList.{PlacedUse, all_uses, row_for, found_for, wanted_by, wanted}
+use Rattle.link_meaning.specs.laws.Steps.{unless_found}
 use Rattle.link_tables.specs.declared.names.Matches.{Matches}
 use Rattle.link_tables.specs.declared.names.Matches.TheVariants.{Nothing, One, Several}
 use Rattle.link_tables.specs.declared.uses.Use as kept

@@ -9,7 +9,8 @@ use Rattle.load_meaning.specs.laws.LoadableLaws.{loadable_sound, loadable_same}
 use Rattle.link_meaning.specs.declared.fault.LinkFault.{LinkFault}
 use Rattle.link_meaning.specs.First.{HasNone, IsFirst}
 use Rattle.link_meaning.specs.Member.{Input, RuntimeFile}
-use Rattle.link_meaning.specs.LinkFaults.{LinkInput, InputPart, OfInput, OfRuntime, parts_of, HasFileFault, HasRuntimeFault, HasPartFault, IsInput, AreInputs, AreRuntimes}
+use Rattle.link_meaning.specs.LinkFaults.{LinkInput, InputPart, OfInput, OfRuntime, HasFileFault, HasRuntimeFault, HasPartFault, IsInput, AreInputs, AreRuntimes}
+use Rattle.link_meaning.specs.laws.Steps.{parts_of}
 use Rattle.link_resolve.specs.Resolved.{IsFirstInput}
 use Rattle.link_resolve.specs.Runtimes.{IsFirstFile}
 use Rattle.link_resolve.proofs.InputLaws.{input_sound}

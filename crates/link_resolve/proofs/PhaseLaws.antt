@@ -9,7 +9,8 @@ use Rattle.link_meaning.specs.First.{HasNone, IsFirst}
 use Rattle.link_meaning.specs.laws.FirstLaws.{none_more, none_yet}
 use Rattle.link_meaning.specs.Member.{Input, LinkSetting, Member, objects}
 use Rattle.link_meaning.specs.LinkedList.{PlacedUse, all_uses}
-use Rattle.link_meaning.specs.LinkFaults.{LinkInput, no_spot, parts_of, HasPartFault, IsSetting, AreInputs, IsProgram, HasUseFault, HasLayoutFault, Phase, Reading, Objects, Names, Layout, HasPhaseFault, IsFirstResolveFault, IsResolved}
+use Rattle.link_meaning.specs.LinkFaults.{LinkInput, no_spot, HasPartFault, IsSetting, AreInputs, IsProgram, HasUseFault, HasLayoutFault, Phase, Reading, Objects, Names, Layout, HasPhaseFault, IsFirstResolveFault, IsResolved}
+use Rattle.link_meaning.specs.laws.Steps.{parts_of}
 use Rattle.link_meaning.specs.laws.LinkFaultLaws.{inputs_same, setting_same, one_program}
 use Rattle.link_resolve.proofs.PartLaws.{none_parts}
 use Rattle.link_tables.specs.declared.definitions.Origin.{Origin}

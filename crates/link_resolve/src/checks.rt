@@ -6,7 +6,8 @@ ghost use Rattle.omf_header.specs.View.{fields};
 ghost use Rattle.omf_records.specs.Segments.{IsSound, segment_of_view};
 ghost use Rattle.omf_records.specs.View.{view};
 ghost use Rattle.object_meaning.specs.Sizes.{body_size};
-ghost use Rattle.link_meaning.specs.LinkFaults.{type_fault, record_fault, records_fault, length_fault, segment_fault, segments_fault};
+ghost use Rattle.link_meaning.specs.LinkFaults.{type_fault, record_fault, segment_fault, segments_fault};
+ghost use Rattle.link_meaning.specs.laws.Steps.{records_fault, length_fault};
 ghost use Rattle.link_tables.specs.Sizes.{in_32_bits};
 
 use link_meaning::LinkCause;

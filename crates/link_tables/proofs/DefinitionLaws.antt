@@ -16,7 +16,8 @@ use Rattle.object_meaning.specs.Sizes.{Located, size_at, located_from, place_aft
 use Rattle.link_meaning.specs.Member.{Member}
 use Rattle.object_meaning.specs.Defines.{Definition, outer_scope, defined_by, title_of}
 use Rattle.omf_format.specs.Header.{is_private}
-use Rattle.link_meaning.specs.Search.{FoundDefinition, step_for, step_of, is_step, is_seen_by_step, with_this_name}
+use Rattle.link_meaning.specs.Search.{FoundDefinition, step_for, step_of, is_step, with_this_name}
+use Rattle.link_meaning.specs.laws.Steps.{is_seen_by_step}
 use Rattle.link_meaning.specs.declared.search.SearchStep.{SearchStep}
 use Rattle.link_meaning.specs.declared.search.SearchStep.TheVariants.{Within, OfUnit, Everyone}
 use Rattle.link_tables.specs.declared.names.Matches.{Matches}

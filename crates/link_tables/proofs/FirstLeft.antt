@@ -5,7 +5,8 @@ use Rattle.std.specs.Option.{option_or}
 use Rattle.omf_format.specs.Record.{Record}
 use Rattle.omf_format.specs.Reading.{Reader}
 use Rattle.link_meaning.specs.declared.fault.LinkCause.{LinkCause}
-use Rattle.link_meaning.specs.LinkFaults.{with_place, record_fault, records_fault}
+use Rattle.link_meaning.specs.LinkFaults.{record_fault}
+use Rattle.link_meaning.specs.laws.Steps.{with_place, records_fault}
 use Rattle.link_tables.specs.Coming.{Coming, Walks}
 
 -- those so far have none, so the first is that of those that remain

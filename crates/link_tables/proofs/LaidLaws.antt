@@ -15,7 +15,8 @@ use Rattle.omf_format.specs.File.{Segment}
 use Rattle.link_meaning.specs.First.{IsFirst}
 use Rattle.link_meaning.specs.laws.FirstLaws.{none_more, none_yet}
 use Rattle.link_meaning.specs.Member.{Member}
-use Rattle.link_meaning.specs.Layout.{in_load, aligned_from, end_from, load_length, load_names, load_members, lesser_bank, load_segment_kind, least_bank, greatest_align, of_first, number_in, load_of, offset_of}
+use Rattle.link_meaning.specs.Layout.{in_load, end_from, load_length, load_names, load_members, load_segment_kind, least_bank, greatest_align, of_first, number_in, load_of, offset_of}
+use Rattle.link_meaning.specs.laws.Steps.{aligned_from, lesser_bank}
 use Rattle.link_meaning.specs.laws.LayoutLaws.{aligned_from-least, alignment-some}
 use Rattle.link_meaning.specs.LinkFaults.{HasOrgFault, spot_in, first_spot}
 use Rattle.link_tables.specs.declared.layout.LoadLayout.{LoadLayout}

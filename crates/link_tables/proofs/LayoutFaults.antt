@@ -16,7 +16,8 @@ use Rattle.link_meaning.specs.Member.{Member, form_in}
 use Rattle.link_meaning.specs.declared.form.LinkForm.{LinkForm}
 use Rattle.link_meaning.specs.declared.form.LinkForm.TheVariants.{Program, Runtime as LibraryForm}
 use Rattle.link_meaning.specs.Layout.{load_names, load_length, load_members, least_bank, greatest_align, of_first, load_fields, headers_from, load_headers, load_segment_kind}
-use Rattle.link_meaning.specs.LinkFaults.{HasOrgFault, HasLengthFault, HasKindFault, HasLayoutFault, is_too_long, may_not_stand, LayoutCheck, Orgs, Count, Lengths, Kinds}
+use Rattle.link_meaning.specs.LinkFaults.{HasOrgFault, HasLengthFault, HasKindFault, HasLayoutFault, LayoutCheck, Orgs, Count, Lengths, Kinds}
+use Rattle.link_meaning.specs.laws.Steps.{is_too_long, may_not_stand}
 use Rattle.link_tables.specs.declared.layout.LoadLayout.{LoadLayout}
 use Rattle.link_tables.specs.declared.layout.LinkLayout as kept
 use Rattle.link_tables.specs.Laid.{IsLoad, IsConflict, org_fault, Laid, layout_checks, is_long, AllShort, IsFirstLong, is_other, AllDynamic, IsFirstOther, ShowsLoad, AreHeaders}

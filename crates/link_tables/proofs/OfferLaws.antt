@@ -11,7 +11,8 @@ use Rattle.link_meaning.specs.Member.{Member, Offer}
 use Rattle.link_meaning.specs.Uses.{Use}
 use Rattle.object_meaning.specs.Defines.{outer_scope}
 use Rattle.link_meaning.specs.Search.{is_step, step_for}
-use Rattle.link_meaning.specs.LinkedList.{has_title, counts_for, is_of_member, first_offer, row_for}
+use Rattle.link_meaning.specs.LinkedList.{has_title, counts_for, first_offer, row_for}
+use Rattle.link_meaning.specs.laws.Steps.{is_of_member}
 use Rattle.link_tables.specs.declared.definitions.Origin.{Origin}
 use Rattle.link_tables.specs.declared.offers.Offers.{Offers}
 use Rattle.link_tables.specs.Names.{Named, Row, Indexes, is_key, is_row, seen_of, outcome}

@@ -9,7 +9,8 @@ use Rattle.std.proofs.lemmas.Option.{slice_get-map}
 use Rattle.std.proofs.lemmas.Slice.Zip.{length-zip}
 use Rattle.indexmap.proofs.ReorderLemmas.{slice_get-zip_some}
 use Rattle.link_meaning.specs.declared.search.SearchKind.{SearchKind}
-use Rattle.link_meaning.specs.Uses.{Use, data_name}
+use Rattle.link_meaning.specs.Uses.{Use}
+use Rattle.link_meaning.specs.laws.Steps.{data_name}
 use Rattle.link_tables.specs.declared.uses.UseSite.{UseSite}
 use Rattle.link_tables.specs.Uses.{use_of_site, uses_of_sites}
 use Rattle.link_tables.specs.Usings.{usings_from}

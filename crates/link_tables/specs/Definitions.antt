@@ -6,7 +6,7 @@ use Rattle.link_meaning.specs.declared.search.SearchStep.{SearchStep}
 use Rattle.link_meaning.specs.declared.search.SearchStep.TheVariants.{Within, OfUnit, Everyone}
 use Rattle.link_meaning.specs.Member.{Member}
 use Rattle.object_meaning.specs.Defines.{Definition}
-use Rattle.link_meaning.specs.Search.{FoundDefinition, step_of, with_this_name, is_seen_by_step}
+use Rattle.link_meaning.specs.Search.{FoundDefinition, step_of, is_step, with_this_name}
 use Rattle.link_tables.specs.declared.names.Matches.{Matches}
 use Rattle.link_tables.specs.declared.names.Matches.TheVariants.{Nothing, One, Several}
 use Rattle.link_tables.specs.declared.definitions.Definitions.{Definitions}
@@ -62,7 +62,7 @@ IsElsewhere place (Several first) = ⊥
 
 -- a member that this doesn't report has nothing of that name for itself
 abbrev pub AreHolders : List FoundDefinition → List ℕ → Matches → Type 0
-AreHolders fs name answer = (place : ℕ) → IsElsewhere place answer → filter (is_seen_by_step (Within place)) (with_this_name name fs) ≡ []
+AreHolders fs name answer = (place : ℕ) → IsElsewhere place answer → filter (λ f. is_step (Within place) (step_of f)) (with_this_name name fs) ≡ []
 
 -- the member has this origin
 abbrev pub IsOf : Member → Origin → Type 0

@@ -11,7 +11,8 @@ use Rattle.link_meaning.specs.declared.fault.LinkCause.TheVariants.{OrgConflict}
 use Rattle.link_meaning.specs.declared.fault.LinkFault.{LinkFault}
 use Rattle.link_meaning.specs.First.{HasNone, IsFirst}
 use Rattle.link_meaning.specs.Member.{Member}
-use Rattle.link_meaning.specs.Layout.{load_names, load_length, load_members, least_bank, greatest_align, of_first, load_of, offset_of, end_from, lesser_bank, load_segment_kind}
+use Rattle.link_meaning.specs.Layout.{load_names, load_length, load_members, least_bank, greatest_align, of_first, load_of, offset_of, end_from, load_segment_kind}
+use Rattle.link_meaning.specs.laws.Steps.{lesser_bank}
 use Rattle.link_meaning.specs.LinkFaults.{HasOrgFault, first_spot, spot_in, LayoutCheck, Orgs, Count, Lengths, Kinds}
 use Rattle.link_tables.specs.declared.layout.LoadLayout.{LoadLayout}
 use Rattle.link_tables.specs.declared.layout.LoadOffset.{LoadOffset}

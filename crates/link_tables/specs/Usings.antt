@@ -6,7 +6,8 @@ use Rattle.std.specs.Str.{bytes_eq}
 use Rattle.std.specs.Borrow.{Bor}
 use Rattle.indexmap.specs.IndexMap.{get}
 use Rattle.indexmap.specs.IndexSet.{IndexSet}
-use Rattle.link_meaning.specs.Uses.{Use, data_name}
+use Rattle.link_meaning.specs.Uses.{Use}
+use Rattle.link_meaning.specs.laws.Steps.{data_name}
 use Rattle.link_tables.specs.declared.usings.Used.{Used}
 use Rattle.link_tables.specs.declared.usings.Usings.{Usings}
 

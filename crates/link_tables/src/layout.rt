@@ -5,7 +5,8 @@ ghost use Rattle.omf_records.specs.Segments.{IsSound, IsPlaced, placed_view, seg
 ghost use Rattle.omf_header.specs.View.{fields};
 ghost use Rattle.link_meaning.specs.First.{HasNone, IsFirst};
 ghost use Rattle.link_meaning.specs.Member.{Member, form_in};
-ghost use Rattle.link_meaning.specs.Layout.{aligned_from, lesser_bank, load_segment_kind, load_headers, load_names};
+ghost use Rattle.link_meaning.specs.Layout.{load_segment_kind, load_headers, load_names};
+ghost use Rattle.link_meaning.specs.laws.Steps.{aligned_from, lesser_bank};
 ghost use Rattle.link_meaning.specs.LinkFaults.{HasLayoutFault};
 ghost use Rattle.link_tables.specs.Definitions.{IsOf};
 ghost use Rattle.link_tables.specs.Laid.{Laid, IsFresh, IsJoined, IsAt, IsSpotOf, conflict_with, contains_text, is_long, is_other, AllShort, IsFirstLong, AllDynamic, IsFirstOther, layout_checks, ShowsLoad, AreHeaders};

@@ -4,7 +4,8 @@ ghost use Rattle.std.specs.Prelude.{◌≡◌, ◌<◌, ◌++◌, ◌∷◌, [],
 ghost use Rattle.omf_format.specs.Expression.{IsExpression, terms_in};
 ghost use Rattle.omf_expr.specs.View as terms;
 ghost use Rattle.omf_records.specs.View.{view};
-ghost use Rattle.link_meaning.specs.Uses.{used_by_term, used_in_text, used_by};
+ghost use Rattle.link_meaning.specs.Uses.{used_by_term, used_by};
+ghost use Rattle.link_meaning.specs.laws.Steps.{used_in_text};
 ghost use Rattle.link_tables.specs.Uses.{use_of, at_place, HasSpelling, HaveShortNames, IsShortTerm};
 
 use link_meaning::SearchKind;

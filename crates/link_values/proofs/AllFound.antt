@@ -9,7 +9,8 @@ use Rattle.link_meaning.specs.First.{IsIn}
 use Rattle.link_meaning.specs.Member.{RuntimeFile, LinkSetting, without_runtimes, Member, setting_in}
 use Rattle.object_meaning.specs.Defines.{ForAll}
 use Rattle.link_meaning.specs.Search.{FoundDefinition, entries, outside_of, outside_from, outside}
-use Rattle.link_meaning.specs.Cycles.{has_expr, is_equate}
+use Rattle.link_meaning.specs.Cycles.{is_equate}
+use Rattle.link_meaning.specs.laws.Steps.{has_expr}
 use Rattle.link_meaning.specs.LinkValues.{place_value, outside_value}
 use Rattle.link_program.specs.Outside.{all_found}
 use Rattle.link_values.specs.Slots.{label_place}

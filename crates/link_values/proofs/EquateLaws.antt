@@ -18,7 +18,8 @@ use Rattle.link_meaning.specs.laws.MemberLists.{in_filter, filter_in}
 use Rattle.link_meaning.specs.Member.{Member}
 use Rattle.link_meaning.specs.Search.{FoundDefinition, entries}
 use Rattle.link_program.specs.Outside.{all_found}
-use Rattle.link_meaning.specs.Cycles.{has_expr, is_equate, equates, LeadsTo, Path, Last, Through, IsCircular}
+use Rattle.link_meaning.specs.Cycles.{is_equate, equates, LeadsTo, Path, Last, Through, IsCircular}
+use Rattle.link_meaning.specs.laws.Steps.{has_expr}
 use Rattle.link_meaning.specs.LinkValues.{EquateAnswer, value_of_definition, outside_value, value_in, equate_value}
 use Rattle.link_meaning.specs.laws.TableLaws.{by_cycles}
 use Rattle.link_meaning.specs.EquateValues.{HasValue, ByOthers, GiveValues}

@@ -1,5 +1,6 @@
 -- What is known of the linked list of resolved files.
 use Rattle.std.proofs.Common.{◌≡◌, ◌⊎◌, inl, inr, ℕ, zero, suc, ◌+◌, ◌^◌, ◌<◌, ◌≤◌, Bool, true, false, eqb, List, [], ◌∷◌, ◌++◌, length, Some, None, refl, sym, ap, subst, ◌∙◌, arith}
+use Rattle.link_meaning.specs.laws.Steps.{has_expr}
 use Rattle.std.specs.Prelude.{slice_get, cond, nat_le}
 use Rattle.std.specs.List.{flat_map, AllByRecursion}
 use Rattle.std.proofs.lemmas.Bool.{ne_eqb, leb-true}
@@ -19,7 +20,6 @@ use Rattle.link_meaning.specs.Uses.{Use, used_by_term, used_by, uses_of}
 use Rattle.link_meaning.specs.Search.{FoundDefinition, entries, finds}
 use Rattle.link_meaning.specs.LinkedList.{asked_from, all_uses, found_for}
 use Rattle.link_meaning.specs.Layout.{load_names, offset_of}
-use Rattle.link_meaning.specs.Cycles.{has_expr}
 use Rattle.link_meaning.specs.LinkValues.{place_value}
 use Rattle.link_meaning.specs.LinkFaults.{use_cause}
 use Rattle.link_meaning.specs.laws.PlaceFits.{IsPlaceIn, place_fits, entry_there, offset-le, short_load, name_there, in_parts, in-append}

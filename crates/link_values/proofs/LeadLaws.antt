@@ -9,11 +9,13 @@ use Rattle.omf_format.specs.Expression.{Term, Operator, Named, Tree, Leaf, Unary
 use Rattle.omf_format.specs.laws.ExpressionLaws.{terms_are}
 use Rattle.link_meaning.specs.First.{IsIn}
 use Rattle.link_meaning.specs.Member.{Member}
-use Rattle.object_meaning.specs.Terms.{asks_value, asked_by, asked_in}
+use Rattle.object_meaning.specs.Terms.{asks_value, asked_by}
+use Rattle.object_meaning.specs.laws.Steps.{asked_in}
 use Rattle.object_meaning.specs.laws.TreeInLaws.{tree_in-again}
 use Rattle.link_meaning.specs.Search.{FoundDefinition, entries, finds}
 use Rattle.link_program.specs.Outside.{all_found}
-use Rattle.link_meaning.specs.Cycles.{is_equate, names_in}
+use Rattle.link_meaning.specs.Cycles.{is_equate}
+use Rattle.link_meaning.specs.laws.Steps.{names_in}
 use Rattle.link_program.specs.Linked.{member_at}
 use Rattle.link_program.specs.Finding.{IsFirstOf, finds_for}
 use Rattle.cycles.specs.Graphs as cycle_order

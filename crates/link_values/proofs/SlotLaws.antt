@@ -7,8 +7,9 @@ use Rattle.omf_format.specs.declared.value.ValueFault.{ValueFault}
 use Rattle.omf_format.specs.declared.value.ValueFault.TheVariants.{NotRelocatable}
 use Rattle.link_meaning.specs.Member.{Member}
 use Rattle.link_meaning.specs.Search.{FoundDefinition}
-use Rattle.link_meaning.specs.Cycles.{has_expr, is_equate}
-use Rattle.link_meaning.specs.LinkValues.{EquateAnswer, value_of_definition, found_value, if_ok, label_value}
+use Rattle.link_meaning.specs.Cycles.{is_equate}
+use Rattle.link_meaning.specs.LinkValues.{EquateAnswer, value_of_definition, found_value, label_value}
+use Rattle.link_meaning.specs.laws.Steps.{if_ok, has_expr}
 use Rattle.link_values.specs.declared.slots.ValueSlot.{ValueSlot}
 use Rattle.link_values.specs.declared.slots.ValueSlot.TheVariants.{Open, Done, Failed}
 use Rattle.link_values.specs.Slots.{answer_of, value_of, row_of, rows_of, label_place, AreSlots, AreOnce}

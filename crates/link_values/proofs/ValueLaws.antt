@@ -14,8 +14,9 @@ use Rattle.object_meaning.specs.Terms.{tree_in, term_at}
 use Rattle.object_meaning.specs.laws.TreeInLaws.{tree_in-again}
 use Rattle.link_meaning.specs.Search.{FoundDefinition, finds}
 use Rattle.link_program.specs.Outside.{all_found}
-use Rattle.link_meaning.specs.Cycles.{has_expr, is_equate}
-use Rattle.link_meaning.specs.LinkValues.{EquateAnswer, value_of_definition, place_value, member_environment, found_value, fault_found, fault_named, value_or_equate_fault, tree_value, value_in}
+use Rattle.link_meaning.specs.Cycles.{is_equate}
+use Rattle.link_meaning.specs.LinkValues.{EquateAnswer, value_of_definition, place_value, member_environment, found_value, fault_named, value_or_equate_fault, value_in}
+use Rattle.link_meaning.specs.laws.Steps.{fault_found, tree_value, has_expr}
 use Rattle.link_program.specs.Linked.{member_at}
 use Rattle.link_program.specs.Finding.{IsFirstOf, finds_for}
 use Rattle.link_values.specs.declared.member_place.MemberPlace.{MemberPlace}

@@ -5,7 +5,8 @@ use Rattle.omf_format.specs.Value.{Environment}
 use Rattle.link_meaning.specs.Member.{Member}
 use Rattle.link_meaning.specs.Layout.{load_of, offset_of}
 use Rattle.link_program.specs.Outside.{all_found}
-use Rattle.link_meaning.specs.LinkValues.{label_value, attribute_value}
+use Rattle.link_meaning.specs.LinkValues.{label_value}
+use Rattle.link_meaning.specs.laws.Steps.{attribute_value}
 use Rattle.link_program.specs.Linked.{member_at}
 use Rattle.link_program.specs.Finding.{finds_for}
 use Rattle.link_values.specs.declared.member_place.MemberPlace.{MemberPlace}

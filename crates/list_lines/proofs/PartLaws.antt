@@ -5,7 +5,8 @@ use Rattle.std.proofs.lemmas.Bool.{eqb-true, eq-eqb}
 use Rattle.omf_format.specs.Expression.{Term, Operator, Location, Constant, Named, Offset, Tree, Leaf, Unary, Binary, terms_in, IsExpression, operand_count, operands_of, Lead}
 use Rattle.omf_format.specs.laws.TreeLaws.{operand_counts}
 use Rattle.omf_format.specs.laws.ExpressionLaws.{tree_leads_to_one}
-use Rattle.object_meaning.specs.Terms.{with_term, trees_after, last_tree, tree_in}
+use Rattle.object_meaning.specs.Terms.{with_term, trees_after, tree_in}
+use Rattle.object_meaning.specs.laws.Steps.{last_tree}
 use Rattle.list_meaning.specs.Listed.{formula_text, operator_text, as_operand}
 use Rattle.list_lines.specs.declared.formula.FormulaPart.{FormulaPart}
 use Rattle.list_lines.specs.FormulaView.{terms_alone, is_leaf, parenthesized, part_view, part_of_tree, all_reported, AreParts}

@@ -10,7 +10,8 @@ use Rattle.omf_format.specs.Record.{Record, End, Const, LongConst, Align, Org, S
 use Rattle.omf_format.specs.File.{Segment}
 use Rattle.load_meaning.specs.Cells.{Patch, patches_in}
 use Rattle.load_meaning.specs.LoadTable.{is_place}
-use Rattle.load_meaning.specs.Loadable.{in_segment, is_kept, is_dynamic_at, patch_refusal, first_refusal, entry_refusal, target_refusal, first_target_fault}
+use Rattle.load_meaning.specs.Loadable.{patch_refusal, first_refusal, entry_refusal, first_target_fault}
+use Rattle.load_meaning.specs.laws.Steps.{is_kept, is_dynamic_at, in_segment, target_refusal}
 
 three : (a b c : Bool) → first_of {F = LoadCause} ((a, PatchOutside) ∷ (b, NoSuchTarget) ∷ (c, DynamicTarget) ∷ []) ≡ Some Memory → ⊥
 three true b c e = cc

@@ -9,7 +9,8 @@ use Rattle.load_meaning.specs.declared.load.LoadFault.{LoadFault}
 use Rattle.omf_format.specs.Record.{Record}
 use Rattle.omf_format.specs.File.{Segment}
 use Rattle.load_meaning.specs.Cells.{Cell, Patch, patches_in, patches_of}
-use Rattle.load_meaning.specs.Loadable.{Fault, in_segment, first_in, target_fault, patch_list, IsPatch}
+use Rattle.load_meaning.specs.Loadable.{Fault, first_in, target_fault, patch_list, IsPatch}
+use Rattle.load_meaning.specs.laws.Steps.{in_segment}
 use Rattle.load_meaning.specs.laws.CellLaws.{patches-cons, sound_patches}
 use Rattle.omf_records.specs.declared.segment.SegmentView.{SegmentView}
 use Rattle.omf_records.specs.Segments.{segment_of_view}

@@ -9,7 +9,8 @@ use Rattle.omf_format.specs.Header.{first_of}
 use Rattle.omf_format.specs.Reading.{Reader}
 use Rattle.omf_format.specs.File.{Segment, body_reader}
 use Rattle.omf_format.specs.Body.{body_bytes}
-use Rattle.load_meaning.specs.Loadable.{Fault, in_segment, first_in, shape_fault}
+use Rattle.load_meaning.specs.Loadable.{Fault, first_in, shape_fault}
+use Rattle.load_meaning.specs.laws.Steps.{in_segment}
 use Rattle.omf_records.specs.declared.segment.SegmentView.{SegmentView}
 use Rattle.omf_records.specs.Segments.{placed_view, segment_of_view}
 use Rattle.load_content.specs.Walk.{content}

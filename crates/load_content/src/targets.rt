@@ -1,16 +1,20 @@
 //! The places that the records of a load file name, which have to be there, and the bytes that its patches give.
 
-ghost use Rattle.std.specs.Prelude.{◌≡◌, ◌+◌, ◌<◌, ◌≤◌, ◌^◌, ◌++◌, [], ◌∷◌, length, map, option_map, IfOk, IfErr, Some, None, Ok};
+ghost use Rattle.std.specs.Prelude.{◌≡◌, ◌+◌, ◌<◌, ◌≤◌, ◌^◌, ◌++◌, [], ◌∷◌, length, map, option_map, IfOk, IfErr, Some, None, Ok, false, not};
 ghost use Rattle.omf_format.specs.Reading.{records_of, IsBody};
 ghost use Rattle.omf_format.specs.Super.{locations_left};
 ghost use Rattle.load_meaning.specs.Cells.{super_patch, patches_in};
 ghost use Rattle.load_meaning.specs.LoadTable.{is_place};
-ghost use Rattle.load_meaning.specs.Loadable.{is_kept, is_dynamic_at, patch_refusal, first_refusal, target_refusal, first_target_fault, target_fault, shape_fault, in_segment, first_in};
+ghost use Rattle.load_meaning.specs.Loadable.{patch_refusal, first_refusal, first_target_fault, target_fault, shape_fault, first_in};
+ghost use Rattle.load_meaning.specs.laws.Steps.{in_segment, target_refusal};
 ghost use Rattle.omf_records.specs.View as records;
 ghost use Rattle.omf_records.specs.Segments.{segment_of_view};
 ghost use Rattle.load_content.specs.Walk.{HasSpelling, patches_from};
 ghost use Rattle.load_content.specs.Views.{IsLoadView, AreShown, IsLaterRefused};
 ghost use Rattle.load_content.specs.Content.{HasPieces, IsNear, IsContent, AreContents, patch_of, spread_all, shown_spots, super_count, super_segment};
+ghost use Rattle.omf_format.specs.File.{segment_at};
+ghost use Rattle.omf_format.specs.Header.{is_skipped, is_dynamic};
+ghost use Rattle.std.specs.Option.{option_map_or};
 
 use crate::data::{data_from, near_u8, near_u16};
 use crate::order::in_order;
@@ -45,7 +49,7 @@ pub fn is_place(views: &Vec<SegmentView>, number: u16, offset: u32) -> bool
 /// Whether the segment with a number, from 1, is there and isn't skipped.
 #[inline(always)]
 fn is_kept(views: &Vec<SegmentView>, number: u16) -> bool
-    ensures { result ≡ is_kept (map segment_of_view views.now.items) number }
+    ensures { result ≡ (option_map_or (λ s. not (is_skipped s.fields.kind)) (segment_at (map segment_of_view views.now.items) number) false) }
 {
     if number == 0 {
         return false;
@@ -59,7 +63,7 @@ fn is_kept(views: &Vec<SegmentView>, number: u16) -> bool
 /// Whether the segment with a number, from 1, is there and dynamic.
 #[inline(always)]
 fn is_dynamic(views: &Vec<SegmentView>, number: u16) -> bool
-    ensures { result ≡ is_dynamic_at (map segment_of_view views.now.items) number }
+    ensures { result ≡ (option_map_or (λ s. is_dynamic s.fields.kind) (segment_at (map segment_of_view views.now.items) number) false) }
 {
     if number == 0 {
         return false;

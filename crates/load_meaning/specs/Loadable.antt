@@ -1,6 +1,6 @@
 -- Load files: which files are loaded, and the first fault of every other file, by phases. Each phase goes through the
 -- segments in order, and a later one begins where the earlier ones found nothing (GS/OS Reference, appendix F).
-use Rattle.std.specs.Prelude.{◌≡◌, ◌<◌, ◌≤◌, ◌⊎◌, ℕ, ◌+◌, ◌-◌, ◌*◌, not, ◌||◌, ◌&&◌, true, false, if◌then◌else◌, List, [], ◌∷◌, length, map, take, drop, codes, Option, Some, None, option_map, Result, Ok, Err, nat_lt, ◌==◌, Bool}
+use Rattle.std.specs.Prelude.{◌≡◌, ◌<◌, ◌≤◌, ◌⊎◌, ℕ, ◌+◌, ◌-◌, ◌*◌, not, ◌||◌, ◌&&◌, true, false, if◌then◌else◌, List, [], ◌∷◌, ◌++◌, length, map, take, drop, codes, Option, Some, None, option_map, Result, Ok, Err, nat_lt, ◌==◌}
 use Rattle.std.specs.List.{AllByRecursion, list_any}
 use Rattle.std.specs.Option.{option_or, option_map_or}
 use Rattle.std.specs.Str.{bytes_eq}
@@ -17,9 +17,9 @@ use Rattle.omf_format.specs.Reading.{Reader, next_answer, HandsOut}
 use Rattle.omf_format.specs.File.{Segment, body_reader, IsHeader, AreSegments, IsFile, segment_at, FaultAt, to_file_header_fault, to_file_record_fault}
 use Rattle.omf_format.specs.Body.{body_bytes}
 use Rattle.load_meaning.specs.Cells.{Patch, segment_bytes, patches_in, patches_of}
-use Rattle.load_meaning.specs.Table.{IsTableOf, file_entry}
+use Rattle.load_meaning.specs.Table.{IsTableOf, file_entry, entry_start}
 use Rattle.load_meaning.specs.Pathnames.{ArePaths, has_pathnames, most_paths, rows_flaw, is_one_long, paths_of}
-use Rattle.load_meaning.specs.LoadTable.{is_table, table_of, entry_count, targets_of, is_place, table_checks}
+use Rattle.load_meaning.specs.LoadTable.{is_table, table_of, entry_count, targets_of, is_place, zero_checks, entries_checks}
 
 -- a cause, and its displacement in the file
 abbrev pub Fault : Type 0
@@ -27,18 +27,11 @@ Fault = LoadCause × ℕ
 
 -- ---- phase 1: header, name and type, and then the records one by one
 
--- `ExpressLoad`, with or without `~` before it, is the name of segments for the Express Loader
-abbrev pub express_name : List ℕ
-express_name = codes "ExpressLoad"
-
-abbrev pub is_express : List ℕ → Bool
-is_express name = bytes_eq name express_name || bytes_eq name (126 ∷ express_name)
-
--- why a load file can't have a segment of this name and type, the name first: a segment for the Express Loader isn't read, and a library
--- dictionary belongs to a library
+-- why a load file can't have a segment of this name and type, the name first: `ExpressLoad`, with or without `~` before it, is a segment for
+-- the Express Loader, which isn't read, and a library dictionary belongs to a library
 unfoldable pub segment_refusal : HeaderFields → Option LoadCause
 segment_refusal f = first_of (
-    (is_express f.name, Unsupported)
+    (bytes_eq f.name (codes "ExpressLoad") || bytes_eq f.name (126 ∷ codes "ExpressLoad"), Unsupported)
     ∷ (form_of f.kind == 0x08, NotLoadFile)
     ∷ [])
 
@@ -101,14 +94,11 @@ pub record IsReadFault (file : List ℕ) (fault : LoadFault) : Type 0 where
 
 -- ---- the later phases, over the segments of the file
 
--- a fault as that of the segment with this number
-abbrev pub in_segment : ℕ → Fault → LoadFault
-in_segment number fault = record { cause = fault.0; segment = number; at = fault.1 }
-
 -- the first fault of a phase, where `number` is that of the first segment in the list
 abbrev pub first_in : (ℕ → Segment → Option Fault) → ℕ → List Segment → Option LoadFault
 first_in phase number [] = None
-first_in phase number (s ∷ segments) = option_or (option_map (in_segment number) (phase number s)) (first_in phase (number + 1) segments)
+first_in phase number (s ∷ segments) =
+    option_or (option_map (λ fault. record { cause = fault.0; segment = number; at = fault.1 }) (phase number s)) (first_in phase (number + 1) segments)
 
 -- phase 2 of a segment: SEGNUM is its number, and LENGTH has room for the bytes of its records
 unfoldable pub shape_fault : ℕ → Segment → Option Fault
@@ -117,21 +107,13 @@ shape_fault number s = first_of (
     ∷ (nat_lt s.fields.length (length (body_bytes s)), (DataTooLong, s.start))
     ∷ [])
 
--- a segment that is there and isn't skipped
-abbrev pub is_kept : List Segment → ℕ → Bool
-is_kept segments number = option_map_or (λ s. not (is_skipped s.fields.kind)) (segment_at segments number) false
-
--- a segment that is there and dynamic
-abbrev pub is_dynamic_at : List Segment → ℕ → Bool
-is_dynamic_at segments number = option_map_or (λ s. is_dynamic s.fields.kind) (segment_at segments number) false
-
 -- why a patch isn't allowed in a segment of the file: it reaches past LENGTH; its target isn't there, or is skipped; or its target is
 -- another segment, which is dynamic
 unfoldable pub patch_refusal : List Segment → Segment → Patch → Option LoadCause
 patch_refusal segments s p = first_of (
     (nat_lt s.fields.length (p.location + p.count), PatchOutside)
-    ∷ (not (p.file == 1 && is_kept segments p.segment), NoSuchTarget)
-    ∷ (not (p.segment == s.fields.seg_num) && is_dynamic_at segments p.segment, DynamicTarget)
+    ∷ (not (p.file == 1 && option_map_or (λ t. not (is_skipped t.fields.kind)) (segment_at segments p.segment) false), NoSuchTarget)
+    ∷ (not (p.segment == s.fields.seg_num) && option_map_or (λ t. is_dynamic t.fields.kind) (segment_at segments p.segment) false, DynamicTarget)
     ∷ [])
 
 -- why the first of these patches that isn't allowed there is refused
@@ -144,29 +126,27 @@ abbrev pub entry_refusal : List Segment → Record → Option LoadCause
 entry_refusal segments (Entry number offset name) = if is_place segments number offset then None else Some NoSuchTarget
 entry_refusal _ _ = None
 
--- phase 3 of a record of a segment: an ENTRY names a place, and each patch is allowed there
-abbrev pub target_refusal : List Segment → Segment → Record → Option LoadCause
-target_refusal segments s r = option_or (entry_refusal segments r) (first_refusal segments s (patches_in s r))
-
--- what phase 3 finds first in records of a segment, at the record's displacement
+-- what phase 3 finds first in records of a segment, at the record's displacement: an ENTRY names a place, and each patch is allowed there
 abbrev pub first_target_fault : List Segment → Segment → List (ℕ × Record) → Option Fault
 first_target_fault segments s [] = None
 first_target_fault segments s (found ∷ founds) =
-    option_or (option_map (λ cause. (cause, found.0)) (target_refusal segments s found.1)) (first_target_fault segments s founds)
+    let refusal = option_or (entry_refusal segments found.1) (first_refusal segments s (patches_in s found.1)) in
+    option_or (option_map (λ cause. (cause, found.0)) refusal) (first_target_fault segments s founds)
 
 -- phase 3 of a segment: its records in order
 abbrev pub target_fault : List Segment → ℕ → Segment → Option Fault
 target_fault segments number s = first_target_fault segments s s.records
 
 -- why a table isn't one, as the place in its segment: it is the second one, has an attribute or a patch, has not the size
--- of entries, or a field is wrong
+-- of entries, or a field is wrong, in the order of their displacements
 unfoldable pub table_flaw : List Segment → ℕ → Segment → Option ℕ
 table_flaw segments number s = first_of (
     (list_any is_table (take (number - 1) segments), 0)
     ∷ (is_dynamic s.fields.kind || is_skipped s.fields.kind, 0)
     ∷ (nat_lt 0 (length (patches_of s)), 0)
     ∷ (not (s.fields.length == 12 + 14 * entry_count s.fields.length), s.fields.length)
-    ∷ table_checks segments (segment_bytes s) (entry_count s.fields.length))
+    ∷ zero_checks (segment_bytes s) 0 8
+    ++ (entries_checks segments (segment_bytes s) 0 (entry_count s.fields.length) ++ zero_checks (segment_bytes s) (entry_start (entry_count s.fields.length)) 4))
 
 -- why a pathname segment isn't one, as the place in its segment: it is the second one, has an attribute or another body than one LCONST
 -- of LENGTH bytes, or a field is wrong

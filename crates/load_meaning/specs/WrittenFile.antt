@@ -22,13 +22,12 @@ pub record Image : Type 0 where
   pub exports : List Record
   pub whole : Bool
 
--- its records without END
-unfoldable pub image_records : Image → List Record
-image_records image = (if image.whole then data_records image.content else body_records image.fields.seg_num image.content image.patches) ++ image.exports
-
 -- its body, with END
 unfoldable pub image_body : Image → List ℕ
-image_body image = flat_map (spelling written_layout) (image_records image) ++ spelling written_layout End
+image_body image =
+    flat_map (spelling written_layout)
+    ((if image.whole then data_records image.content else body_records image.fields.seg_num image.content image.patches) ++ image.exports)
+    ++ spelling written_layout End
 
 -- the fields that are written: RESSPC is the number of zeros that the body leaves out
 abbrev pub image_fields : Image → HeaderFields

@@ -1,3 +1,4 @@
+pub mod Steps
 pub mod PathLaws
 pub mod PathTextLaws
 pub mod LayingLaws

@@ -11,7 +11,8 @@ use Rattle.omf_format.specs.File.{Segment, body_reader}
 use Rattle.omf_format.specs.laws.FileLaws.{Answer, gave, same_found, open_at_some, open_at_fault}
 use Rattle.load_meaning.specs.declared.load.LoadFault.{LoadFault}
 use Rattle.load_meaning.specs.Exports.{Export, exports_of_record, exports_from, exports_of}
-use Rattle.load_meaning.specs.Loadable.{Fault, in_segment, first_in, shape_fault, later_fault}
+use Rattle.load_meaning.specs.Loadable.{Fault, first_in, shape_fault, later_fault}
+use Rattle.load_meaning.specs.laws.Steps.{in_segment}
 use Rattle.load_meaning.specs.laws.CellLaws.{shaped, later_none}
 use Rattle.std.specs.Option.{option_or}
 use Rattle.std.specs.Prelude.{Option, option_map}

@@ -15,7 +15,8 @@ use Rattle.omf_format.specs.laws.FileLaws.{gave, same_found, open_at_some}
 use Rattle.omf_format.specs.laws.BodyLaws.{none_at_end}
 use Rattle.load_meaning.specs.declared.load.LoadCause.TheVariants.{BadTable}
 use Rattle.load_meaning.specs.Cells.{segment_bytes}
-use Rattle.load_meaning.specs.Loadable.{in_segment, pathnames_flaw, pathnames_fault}
+use Rattle.load_meaning.specs.Loadable.{pathnames_flaw, pathnames_fault}
+use Rattle.load_meaning.specs.laws.Steps.{in_segment}
 use Rattle.load_meaning.specs.Pathnames.{has_pathnames, most_paths, paths_of, long_bytes, is_one_long}
 use Rattle.load_tables.specs.Paths.{lone_bytes, TakesLast, flaw_in, rows_in, flaw_after, fault_after, paths_then, is_second}
 

@@ -8,7 +8,8 @@ use Rattle.omf_format.specs.Header.{first_of, is_dynamic, is_skipped}
 use Rattle.omf_format.specs.Number.{number_at}
 use Rattle.omf_format.specs.File.{Segment}
 use Rattle.load_meaning.specs.Table.{entry_start}
-use Rattle.load_meaning.specs.LoadTable.{is_table, entry_count, Check, zero_checks, entry_checks, entries_checks, table_checks}
+use Rattle.load_meaning.specs.LoadTable.{is_table, entry_count, Check, zero_checks, entries_checks}
+use Rattle.load_meaning.specs.laws.Steps.{table_checks, entry_checks}
 use Rattle.load_meaning.specs.Cells.{Patch, segment_bytes, patches_of}
 use Rattle.load_meaning.specs.Loadable.{table_flaw}
 

@@ -1,5 +1,6 @@
 -- Reading the pathname segment of a load file. No public clause cites this module.
 use Rattle.std.specs.Prelude.{◌≡◌, ℕ, ◌-◌, Bool, true, false, not, ◌||◌, if◌then◌else◌, List, [], ◌∷◌, take, Option, Some, None, option_map, Ok}
+use Rattle.load_meaning.specs.laws.Steps.{in_segment}
 use Rattle.std.specs.List.{list_any}
 use Rattle.std.specs.Option.{option_or}
 use Rattle.omf_format.specs.Header.{first_of, is_dynamic, is_skipped}
@@ -10,7 +11,6 @@ use Rattle.load_meaning.specs.declared.load.LoadCause.TheVariants.{BadTable}
 use Rattle.load_meaning.specs.declared.load.LoadFault.{LoadFault}
 use Rattle.load_meaning.specs.Cells.{segment_bytes}
 use Rattle.load_meaning.specs.Pathnames.{has_pathnames, most_paths, paths_in, rows_flaw, long_bytes, is_one_long}
-use Rattle.load_meaning.specs.Loadable.{in_segment}
 use Rattle.load_tables.specs.declared.pathnames.RowsFault.{RowsFault}
 use Rattle.load_tables.specs.declared.pathnames.RowsFault.TheVariants.{Flaw, Memory}
 

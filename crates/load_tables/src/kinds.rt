@@ -1,7 +1,8 @@
 //! Run-time library files: load files whose segments are all dynamic, and none skipped.
 
 ghost use Rattle.std.specs.Prelude.{◌≡◌, ◌+◌, ◌<◌, ◌^◌, length, map, option_map, IfSome};
-ghost use Rattle.load_meaning.specs.Loadable.{in_segment, first_in};
+ghost use Rattle.load_meaning.specs.Loadable.{first_in};
+ghost use Rattle.load_meaning.specs.laws.Steps.{in_segment};
 ghost use Rattle.load_meaning.specs.Runtime.{kind_fault};
 ghost use Rattle.omf_records.specs.Segments.{segment_of_view};
 

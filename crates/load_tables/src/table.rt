@@ -1,17 +1,20 @@
 //! Jump tables: whether a segment is laid out as one, and where its entries lead.
 
-ghost use Rattle.std.specs.Prelude.{◌≡◌, ◌+◌, ◌-◌, ◌<◌, ◌≤◌, ◌^◌, length, map, take, slice_get, option_map, nat_le, ◌&&◌, IfSome, IsSomeAnd};
+ghost use Rattle.std.specs.Prelude.{◌≡◌, ◌+◌, ◌-◌, ◌<◌, ◌≤◌, ◌^◌, length, map, take, slice_get, option_map, nat_le, ◌&&◌, IfSome, IsSomeAnd, false, not};
 ghost use Rattle.std.specs.List.{list_any};
-ghost use Rattle.omf_format.specs.Header.{first_of};
+ghost use Rattle.omf_format.specs.Header.{first_of, is_dynamic, is_skipped};
 ghost use Rattle.omf_format.specs.Number.{number_at};
 ghost use Rattle.load_meaning.specs.Cells.{segment_bytes};
 ghost use Rattle.load_meaning.specs.Table.{entry_start};
 ghost use Rattle.load_meaning.specs.Pathnames.{paths_of};
-ghost use Rattle.load_meaning.specs.LoadTable.{is_table, table_of, is_called, is_call, target_at, zero_checks, entry_checks, entries_checks, table_checks};
-ghost use Rattle.load_meaning.specs.Loadable.{table_flaw, table_fault, in_segment, first_in};
+ghost use Rattle.load_meaning.specs.LoadTable.{is_table, table_of, is_call, target_at, zero_checks, entries_checks};
+ghost use Rattle.load_meaning.specs.laws.Steps.{table_checks, in_segment, entry_checks};
+ghost use Rattle.load_meaning.specs.Loadable.{table_flaw, table_fault, first_in};
 ghost use Rattle.omf_records.specs.Segments.{segment_of_view};
 ghost use Rattle.load_content.specs.Views.{IsLoadView, AreShown};
 ghost use Rattle.load_content.specs.Content.{HasPieces, IsNear, AreContents};
+ghost use Rattle.omf_format.specs.File.{segment_at};
+ghost use Rattle.std.specs.Option.{option_map_or};
 
 use jump_table::{entry_count, is_unloaded, target_in, user_in};
 use load_content::{
@@ -125,7 +128,7 @@ fn nonzero_from(view: &SegmentView, pieces: &[BytePiece], at: u32, count: u32) -
 
 /// Whether an entry can lead to the segment with a number, from 1: it is there and dynamic, and isn't skipped.
 fn is_called(views: &Vec<SegmentView>, number: u16) -> bool
-    ensures { result ≡ is_called (map segment_of_view views.now.items) number }
+    ensures { result ≡ (option_map_or (λ s. is_dynamic s.fields.kind && not (is_skipped s.fields.kind)) (segment_at (map segment_of_view views.now.items) number) false) }
 {
     if number == 0 {
         return false;

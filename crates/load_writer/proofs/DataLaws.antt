@@ -7,7 +7,8 @@ use Rattle.byteorder.specs.Endian.{little_bytes}
 use Rattle.omf_format.specs.Field.{written_layout}
 use Rattle.omf_format.specs.Record.{LongConst, spelling}
 use Rattle.load_meaning.specs.Cells.{Patch}
-use Rattle.load_meaning.specs.WrittenBody.{AreWritten, IsWrittenPatch, stored_bytes, with_stored, written_data, data_records}
+use Rattle.load_meaning.specs.WrittenBody.{AreWritten, IsWrittenPatch, with_stored, written_data, data_records}
+use Rattle.load_meaning.specs.laws.Steps.{stored_bytes}
 use Rattle.load_meaning.specs.laws.FormLaws.{length-stored}
 use Rattle.load_meaning.specs.laws.StoredLaws.{length-data}
 use Rattle.load_writer.specs.WrittenParts.{end_after, IsKept}

@@ -7,7 +7,8 @@ use Rattle.std.proofs.lemmas.Option.{get_or_from_slice_get}
 use Rattle.load_meaning.specs.Cells.{Patch}
 use Rattle.load_meaning.specs.laws.FormLaws as forms
 use Rattle.load_meaning.specs.laws.WrittenBodyLaws.{form_below}
-use Rattle.load_meaning.specs.WrittenBody.{super_form, is_form, of_form}
+use Rattle.load_meaning.specs.WrittenBody.{super_form, of_form}
+use Rattle.load_meaning.specs.laws.Steps.{is_form}
 use Rattle.load_writer.specs.WrittenParts.{places, places_from, locations_by_form, put_in}
 
 -- after the locations of each type, those of the patches that are left

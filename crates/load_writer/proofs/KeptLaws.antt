@@ -4,7 +4,8 @@ use Rattle.std.specs.Prelude.{◌⊎◌, slice_get, get_or, option_map}
 use Rattle.std.proofs.lemmas.Bool.{cases_lt, and_parts, eq-eqb, ne_eqb, leb-true}
 use Rattle.std.proofs.lemmas.Option.{slice_get_within, slice_get-map, slice_get-get_or}
 use Rattle.load_meaning.specs.Cells.{Cell, Byte, Part, Patch, patched_cells}
-use Rattle.load_meaning.specs.WrittenBody.{AreWritten, is_zero, zeros_after, written_cells}
+use Rattle.load_meaning.specs.WrittenBody.{AreWritten, zeros_after, written_cells}
+use Rattle.load_meaning.specs.laws.Steps.{is_zero}
 use Rattle.load_meaning.specs.laws.LayingLaws.{Covers, Has, Missed, Found, get-missed, get-found}
 use Rattle.load_meaning.specs.laws.StoredLaws.{written_apart, parts, get-parts, patched-laid, fit-cells, HasPart, zeros_exact, no_byte, cells_size}
 use Rattle.load_writer.specs.WrittenParts.{end_after, IsKept}

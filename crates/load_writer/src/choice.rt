@@ -1,9 +1,10 @@
 //! Which record a patch becomes.
 
-ghost use Rattle.std.specs.Prelude.{◌≡◌, ◌<◌};
+ghost use Rattle.std.specs.Prelude.{◌≡◌, ◌<◌, is_none};
 ghost use Rattle.omf_records.specs.View.{view};
 ghost use Rattle.load_writer.specs.WrittenParts.{seen};
-ghost use Rattle.load_meaning.specs.WrittenBody.{has_shape, is_named, is_short, is_form, has_none, super_form, lone_record};
+ghost use Rattle.load_meaning.specs.WrittenBody.{has_shape, is_named, is_short, super_form, lone_record};
+ghost use Rattle.load_meaning.specs.laws.Steps.{is_form};
 
 use crate::written::Patch;
 use omf_records::Rec;
@@ -65,7 +66,7 @@ pub fn has_form(own: u16, patch: &Patch, form: u8) -> bool
 
 /// The patch is in no SUPER.
 pub fn is_lone(own: u16, patch: &Patch) -> bool
-    ensures { result ≡ has_none (super_form own (seen patch.now)) }
+    ensures { result ≡ (is_none (super_form own (seen patch.now))) }
 {
     match super_form(own, patch) {
         Some(_) => false,

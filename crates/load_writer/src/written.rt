@@ -4,7 +4,8 @@ ghost use Rattle.std.specs.Prelude.{◌≡◌, ◌≤◌, ◌++◌, length, map,
 ghost use Rattle.std.specs.List.{flat_map};
 ghost use Rattle.omf_format.specs.Field.{written_layout};
 ghost use Rattle.omf_format.specs.Record.{spelling};
-ghost use Rattle.load_meaning.specs.WrittenBody.{AreWritten, zeros_after, written_cells, of_form, patches_stored_alone, lone_record, super_records, supers_from, body_text};
+ghost use Rattle.load_meaning.specs.WrittenBody.{AreWritten, zeros_after, written_cells, of_form, lone_record, super_records, supers_from, body_text};
+ghost use Rattle.load_meaning.specs.laws.Steps.{patches_stored_alone};
 ghost use Rattle.load_writer.specs.WrittenParts.{seen, places, IsFront};
 
 use crate::by_form::by_form;

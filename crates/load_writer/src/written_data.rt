@@ -5,7 +5,8 @@ ghost use Rattle.std.specs.List.{flat_map};
 ghost use Rattle.omf_format.specs.Field.{is_count, written_layout};
 ghost use Rattle.omf_format.specs.Record.{LongConst, spelling};
 ghost use Rattle.load_writer.specs.WrittenParts.{seen, end_after, IsKept};
-ghost use Rattle.load_meaning.specs.WrittenBody.{AreWritten, stored_bytes, with_stored, written_data, data_records};
+ghost use Rattle.load_meaning.specs.WrittenBody.{AreWritten, with_stored, written_data, data_records};
+ghost use Rattle.load_meaning.specs.laws.Steps.{stored_bytes};
 
 use crate::choice::has_form;
 use crate::written::{BodyFault, Patch};

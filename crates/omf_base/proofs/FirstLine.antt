@@ -7,7 +7,8 @@ use Rattle.std.proofs.Math.Seq.{take-length}
 use Rattle.std.proofs.lemmas.List.{take-append-drop, get_or-drop}
 use Rattle.std.proofs.lemmas.List.Sums.{fails_before_first}
 use Rattle.std.proofs.lemmas.List.Quantifiers.{position-Some}
-use Rattle.omf_format.specs.Lines.{lines_of, is_end_byte, HasNoEnd}
+use Rattle.omf_format.specs.Lines.{lines_of, HasNoEnd}
+use Rattle.omf_format.specs.laws.Steps.{is_end_byte}
 use Rattle.omf_format.specs.laws.LinesLaws.{lines_of-ended, lines_of-last, lines_of-nil}
 
 -- no end is among the bytes before the first one

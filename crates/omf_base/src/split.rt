@@ -1,7 +1,8 @@
 //! Lines of a text, taken from its start.
 
 ghost use Rattle.std.specs.Prelude.{◌≡◌, ◌≢◌, ◌∷◌, ◌<◌, ◌≤◌, [], true, length, slice_index, position};
-ghost use Rattle.omf_format.specs.Lines.{is_end_byte, lines_of};
+ghost use Rattle.omf_format.specs.Lines.{lines_of};
+ghost use Rattle.omf_format.specs.laws.Steps.{is_end_byte};
 
 /// Where the first LF or CR is.
 fn first_end(text: &[u8]) -> Option<usize>

@@ -1,11 +1,11 @@
 -- Where the cells and the bytes of a segment end.
 use Rattle.std.proofs.Common.{◌≡◌, ℕ, zero, suc, ◌+◌, ◌-◌, ◌<◌, ◌≤◌, false, List, [], ◌∷◌, ◌++◌, length, take, get_or, Some, None, refl, sym, ap, subst, ◌∙◌, arith, inl, inr}
+use Rattle.load_meaning.specs.laws.Steps.{is_zero}
 use Rattle.std.specs.Prelude.{◌⊎◌, slice_get, max}
 use Rattle.std.specs.Option.{option_or}
 use Rattle.std.proofs.lemmas.Bool.{cases_lt}
 use Rattle.std.proofs.lemmas.List.{take_more}
 use Rattle.load_meaning.specs.Cells.{Cell}
-use Rattle.load_meaning.specs.WrittenBody.{is_zero}
 use Rattle.load_content.specs.declared.pieces.BytePiece.{BytePiece}
 use Rattle.load_content.specs.declared.spots.PatchSpot.{PatchSpot}
 use Rattle.load_content.specs.Content.{ArePieces, IsAt, IsElsewhere, spread_spot, shown_spots, last_at}

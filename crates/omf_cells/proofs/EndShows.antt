@@ -1,12 +1,12 @@
 -- A segment of a load file as a whole.
 use Rattle.std.proofs.Common.{◌≡◌, ℕ, ◌-◌, ◌<◌, ◌≤◌, true, List, length, map, Option, Some, refl, sym, ap, subst, ◌∙◌, arith, inl, inr}
+use Rattle.load_meaning.specs.laws.Steps.{is_zero}
 use Rattle.std.specs.Prelude.{◌⊎◌, slice_get, option_map, IsSomeAnd}
 use Rattle.std.specs.Option.{option_or, option_map_or}
 use Rattle.std.proofs.lemmas.Bool.{cases_lt}
 use Rattle.std.proofs.lemmas.Option.{slice_get_within, slice_get-map}
 use Rattle.omf_format.specs.File.{Segment}
 use Rattle.load_meaning.specs.Cells.{Cell, Byte, Patch, segment_bytes, cells}
-use Rattle.load_meaning.specs.WrittenBody.{is_zero}
 use Rattle.load_meaning.specs.laws.CellLaws.{length-cells, length-segment_bytes}
 use Rattle.load_meaning.specs.laws.StoredLaws.{HasPart, zeros_exact}
 use Rattle.omf_records.specs.Segments.{segment_of_view}

@@ -1,7 +1,7 @@
 -- Where what is kept of a segment ends. No public clause cites this module.
 use Rattle.std.specs.Prelude.{◌≡◌, ◌⊎◌, ℕ, suc, ◌+◌, ◌-◌, ◌<◌, ◌≤◌, false, List, length, Some, None, slice_get}
+use Rattle.load_meaning.specs.laws.Steps.{is_zero}
 use Rattle.load_meaning.specs.Cells.{Cell}
-use Rattle.load_meaning.specs.WrittenBody.{is_zero}
 use Rattle.load_content.specs.declared.pieces.BytePiece.{BytePiece}
 use Rattle.load_content.specs.Content.{last_at, IsAt}
 

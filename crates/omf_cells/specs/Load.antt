@@ -8,7 +8,8 @@ use Rattle.load_meaning.specs.declared.load.LoadFault.{LoadFault}
 use Rattle.omf_format.specs.Header.{HeaderFields}
 use Rattle.omf_format.specs.File.{Segment, IsHeader, segment_at, to_file_header_fault}
 use Rattle.load_meaning.specs.Cells.{Byte, patches_of, cells}
-use Rattle.load_meaning.specs.Loadable.{segment_refusal, as_load, in_segment, HasReadFault, IsSoundSegment, IsLoadable, IsFirstLoadFault}
+use Rattle.load_meaning.specs.Loadable.{segment_refusal, as_load, HasReadFault, IsSoundSegment, IsLoadable, IsFirstLoadFault}
+use Rattle.load_meaning.specs.laws.Steps.{in_segment}
 use Rattle.load_meaning.specs.Exports.{exports_of}
 use Rattle.load_meaning.specs.Pathnames.{paths_of}
 use Rattle.load_meaning.specs.LoadTable.{table_of, targets_of}

@@ -2,7 +2,8 @@
 
 ghost use Rattle.std.specs.Prelude.{◌≡◌, ◌+◌, ◌<◌, ◌≤◌, ◌^◌, length, drop, IfOk, IfErr, Some};
 ghost use Rattle.omf_format.specs.Header.{form_of, version_of};
-ghost use Rattle.load_meaning.specs.Loadable.{is_express, segment_refusal};
+ghost use Rattle.load_meaning.specs.Loadable.{segment_refusal};
+ghost use Rattle.load_meaning.specs.laws.Steps.{is_express};
 ghost use Rattle.omf_header.specs.View.{fields};
 ghost use Rattle.omf_records.specs.Segments.{HasPlace};
 ghost use Rattle.omf_cells.specs.Load.{IsLoadHeader, IsReadRefused, IsHeaderFault};

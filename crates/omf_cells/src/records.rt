@@ -1,7 +1,8 @@
 //! The records of a load segment, checked one by one.
 
 ghost use Rattle.std.specs.Prelude.{◌≡◌, Some, OnOk, IfErr};
-ghost use Rattle.load_meaning.specs.Loadable.{record_refusal, as_load, in_segment};
+ghost use Rattle.load_meaning.specs.Loadable.{record_refusal, as_load};
+ghost use Rattle.load_meaning.specs.laws.Steps.{in_segment};
 ghost use Rattle.omf_format.specs.File.{to_file_record_fault};
 ghost use Rattle.omf_records.specs.View.{view};
 ghost use Rattle.load_content.specs.Walk.{IsLoadBody, HasBodyFault};

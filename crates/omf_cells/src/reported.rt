@@ -1,7 +1,8 @@
 //! Faults that any file may have, as those of a load file.
 
 ghost use Rattle.std.specs.Prelude.{◌≡◌};
-ghost use Rattle.load_meaning.specs.Loadable.{load_cause, as_load, in_segment};
+ghost use Rattle.load_meaning.specs.Loadable.{load_cause, as_load};
+ghost use Rattle.load_meaning.specs.laws.Steps.{in_segment};
 
 use load_meaning::{LoadCause, LoadFault};
 use omf_format::FileCause;

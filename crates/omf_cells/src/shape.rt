@@ -1,7 +1,8 @@
 //! The segments of a load file, each with its number and the size of its data checked.
 
 ghost use Rattle.std.specs.Prelude.{◌≡◌, ◌<◌, ◌^◌, length, map, option_map, IfSome};
-ghost use Rattle.load_meaning.specs.Loadable.{shape_fault, in_segment, first_in};
+ghost use Rattle.load_meaning.specs.Loadable.{shape_fault, first_in};
+ghost use Rattle.load_meaning.specs.laws.Steps.{in_segment};
 ghost use Rattle.omf_records.specs.Segments.{segment_of_view};
 ghost use Rattle.load_content.specs.Views.{IsLoadView, AreShown};
 

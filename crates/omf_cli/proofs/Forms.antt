@@ -8,8 +8,9 @@ use Rattle.std.specs.declared.alloc.Global.{Global}
 use Rattle.std.specs.Cmp.Derive.{both_true}
 use Rattle.std.proofs.lemmas.Bool.{and_parts, leb-true, le-leb, ltb-true}
 use Rattle.std.proofs.lemmas.List.{length-map, length-drop}
-use Rattle.omf_making.specs.Form.{CommandForm, Asm, Link, Dump, Run, Lib, Stress, Rtl, LinkRt, Listing, Compact, form_of, with_output, source_and_output, inputs_only, count_and_seed, last_inputs, output_and_runtimes, input_and_output}
-use Rattle.omf_making.specs.Words.{is_path, are_paths, are_printing, words_of, number_in, number_between, short_number_between}
+use Rattle.omf_making.specs.Form.{CommandForm, Asm, Link, Dump, Run, Lib, Stress, Rtl, LinkRt, Listing, Compact, form_of, with_output, source_and_output, count_and_seed, output_and_runtimes, input_and_output}
+use Rattle.omf_making.specs.Words.{is_path, are_paths, words_of, number_between}
+use Rattle.omf_making.specs.Steps.{are_printing, short_number_between, number_in, inputs_only, last_inputs}
 use Rattle.omf_commands.proofs.Libraries.{few_paths}
 
 -- run-time library files have 1 to 16 paths that a pathname segment can hold

@@ -12,8 +12,10 @@ use Rattle.link_meaning.specs.LinkFaults.{LinkInput}
 use Rattle.load_meaning.specs.Pathnames.{IsPath}
 use Rattle.link_resolve.specs.Runtimes.{files_of}
 use Rattle.link_resolve.specs.Resolved.{total_size, FewGiven, HavePaths, given_of}
-use Rattle.omf_making.specs.Words.{is_path, is_printing, are_paths, are_printing, words_of}
-use Rattle.omf_cli.specs.Link.{given_alone, given_with, under_paths}
+use Rattle.omf_making.specs.Words.{is_path, are_paths, words_of}
+use Rattle.omf_making.specs.Steps.{are_printing, is_printing}
+use Rattle.omf_cli.specs.Link.{given_alone, given_with}
+use Rattle.omf_cli.specs.Steps.{under_paths}
 use Rattle.omf_making.specs.Made.{all_bytes, AreShort}
 
 few_bytes : (files : List (List ℕ)) → AreShort files → total_size files ≤ length files * 0x1000000

@@ -1,5 +1,6 @@
 -- Files under their paths, gathered one by one.
 use Rattle.std.proofs.Common.{◌≡◌, ◌↔◌, ℕ, zero, suc, ◌+◌, ◌<◌, List, [], ◌∷◌, ◌++◌, length, drop, get_or, refl, sym, ap, ◌∙◌, append_assoc, arith}
+use Rattle.omf_cli.specs.Steps.{under_paths}
 use Rattle.std.specs.Prelude.{Vec, String, string_bytes}
 use Rattle.std.specs.declared.alloc.Global.{Global}
 use Rattle.std.proofs.lemmas.List.{append-nil, map-append}
@@ -7,7 +8,6 @@ use Rattle.lib_dict.specs.declared.member.Member.{Member}
 use Rattle.link_resolve.specs.Runtimes.{files_of}
 use Rattle.omf_making.specs.Words.{words_of}
 use Rattle.omf_making.specs.Made.{all_bytes}
-use Rattle.omf_cli.specs.Link.{under_paths}
 use Rattle.omf_commands.proofs.Libraries.{drop_word}
 
 -- the files under the paths that were passed, and those that are left, are all

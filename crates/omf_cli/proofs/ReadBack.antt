@@ -21,8 +21,9 @@ use Rattle.link_meaning.specs.Layout.{load_names, load_fields, load_headers}
 use Rattle.link_meaning.specs.LinkValues.{EquateAnswer}
 use Rattle.link_meaning.specs.Fitting.{load_header, length_of}
 use Rattle.link_meaning.specs.LinkedCells.{table_number, targets}
-use Rattle.link_meaning.specs.LinkFaults.{LinkInput, HasBytes, is_too_long}
-use Rattle.link_meaning.specs.LinkWritten.{image_of, load_images, table_images, path_images, images}
+use Rattle.link_meaning.specs.LinkFaults.{LinkInput, HasBytes}
+use Rattle.link_meaning.specs.laws.Steps.{is_too_long}
+use Rattle.link_meaning.specs.LinkWritten.{load_images, table_images, path_images, images}
 use Rattle.link_meaning.specs.EmitFaults.{IsLinkable}
 use Rattle.link_meaning.specs.LinkLoadable.{IsCalled}
 use Rattle.link_meaning.specs.laws.ReadMembers.{members_read, read_kind}
@@ -149,7 +150,7 @@ module _ (given : LinkInput) (list : List Member) (table : List EquateAnswer) (b
 
   after_loads : (number : ℕ) (xs : List (List ℕ)) (rest : List Image) (segments : List Segment) → ((n : ℕ) (x : List ℕ) → IsIn xs x → PlainKind (load_fields list n x).kind)
       → AreWrittenAs (load_images list table number xs ++ rest) segments → After segments (length xs) rest
-  unfolding paths_of image_of
+  unfolding paths_of
   after_loads number [] rest segments plain written =
       record { following = segments; paths = refl; table' = λ n. ap (λ (m : ℕ). table_from m segments) (omega arith); at = λ k. ap (slice_get segments) (omega arith); written = written }
   after_loads number (x ∷ xs) rest [] plain written = absurd written

@@ -1,5 +1,6 @@
 -- A run of the workload, and how it ends.
 use Rattle.std.proofs.Common.{◌≡◌, ◌≢◌, ◌⊎◌, inl, inr, ℕ, suc, ◌+◌, ◌^◌, ◌<◌, ◌≤◌, List, [], ◌∷◌, ◌++◌, length, Option, None, Some, Result, Ok, Err, refl, sym, ap, subst, ◌∙◌, arith}
+use Rattle.omf_io.specs.Steps.{Rose}
 use Rattle.std.specs.Prelude.{IfOk}
 use Rattle.std.specs.FinMap.{empty, insert}
 use Rattle.std.proofs.lemmas.List.{length-append}
@@ -27,7 +28,6 @@ use Rattle.link_meaning.specs.LinkFaults.{LinkInput, plain, IsResolved}
 use Rattle.link_meaning.specs.EmitFaults.{IsFirstLinkFault, IsLinkedTo}
 use Rattle.link_meaning.specs.laws.EmitFaultLaws.{linkable_stands_for}
 use Rattle.link_meaning.specs.laws.LoadSegmentLaws.{is_read_whole}
-use Rattle.omf_io.specs.Counts.{Rose}
 use Rattle.omf_io.specs.Files.{FileMap}
 use Rattle.omf_io.specs.Sinks.{SinkSeen, FailsToPrint}
 use Rattle.loader_machine.specs.State.{Machine}
@@ -40,7 +40,8 @@ use Rattle.workload.specs.Work.{HasWorked}
 use Rattle.omf_making.specs.declared.status.Status.{Status}
 use Rattle.omf_making.specs.declared.status.Status.TheVariants.{Done, Refused, Usage, CannotRead, CannotWrite, CannotPrint, Memory}
 use Rattle.omf_making.specs.Printing.{Whole, Part, Nothing, IsPrinted}
-use Rattle.omf_cli.specs.Stress.{IsOfWorkload, HasSegments, IsStore, RunsTo, HasStressed, HasEnded, stress_line}
+use Rattle.omf_cli.specs.Stress.{IsOfWorkload, IsStore, RunsTo, HasStressed, HasEnded, stress_line}
+use Rattle.omf_cli.specs.Steps.{HasSegments}
 
 -- ---- the load file's segments
 

@@ -1,3 +1,4 @@
+pub mod Steps
 pub mod LinkCauses
 pub mod Link
 pub mod Stress

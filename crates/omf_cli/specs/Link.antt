@@ -1,6 +1,6 @@
 -- `link`, `rtl` and `linkrt`: the load file of the inputs, which are objects and libraries, in the form Program or Runtime, and with
 -- run-time library files; or their first fault.
-use Rattle.std.specs.Prelude.{◌≡◌, ◌≢◌, ℕ, ◌-◌, List, [], ◌∷◌, length, take, drop}
+use Rattle.std.specs.Prelude.{◌≡◌, ◌≢◌, ℕ, ◌-◌, List, [], length, take, drop}
 use Rattle.link_meaning.specs.declared.form.LinkForm.{LinkForm}
 use Rattle.link_meaning.specs.declared.form.LinkForm.TheVariants.{Program}
 use Rattle.link_meaning.specs.declared.fault.LinkFault.{LinkFault}
@@ -10,6 +10,7 @@ use Rattle.link_meaning.specs.EmitFaults.{IsFirstLinkFault, IsLinkedTo}
 use Rattle.omf_cli.specs.LinkCauses.{link_cause_name}
 use Rattle.omf_making.specs.Lines.{refused_line}
 use Rattle.omf_making.specs.Made.{Made, Bytes, Refusal}
+use Rattle.std.specs.List.{zip}
 
 -- the line of a fault: its cause, the name if there is one, and its spot
 abbrev pub link_fault_line : LinkFault → List ℕ
@@ -24,17 +25,11 @@ LinkMakes given (Refusal text) = (fault : LinkFault) × IsFirstLinkFault given f
 abbrev pub given_alone : LinkForm → List (List ℕ) → LinkInput
 given_alone form files = record { inputs = files; runtimes = []; form = form }
 
--- the files, each with its path
-abbrev pub under_paths : List (List ℕ) → List (List ℕ) → List (List ℕ × List ℕ)
-under_paths (path ∷ paths) (file ∷ files) = (path, file) ∷ under_paths paths files
-under_paths [] files = []
-under_paths (path ∷ paths) [] = []
-
 -- a program of files, of which the last are run-time library files with these paths
 abbrev pub given_with : List (List ℕ) → List (List ℕ) → LinkInput
 given_with paths files =
     let inputs = length files - length paths in
-    record { inputs = take inputs files; runtimes = under_paths paths (drop inputs files); form = Program }
+    record { inputs = take inputs files; runtimes = zip paths (drop inputs files); form = Program }
 
 -- the line of a fault other than out of memory
 abbrev pub ReportsLinkFault : LinkFault → Made → Type 0

@@ -7,7 +7,6 @@ use Rattle.omf_format.specs.Number.{IsBytes}
 use Rattle.omf_format.specs.File.{Segment, IsFile}
 use Rattle.omf_io.specs.Files.{FileMap}
 use Rattle.omf_io.specs.Sinks.{SinkSeen, with_text, FailsToPrint}
-use Rattle.omf_io.specs.Outside.{Outside}
 use Rattle.link_meaning.specs.LinkFaults.{plain}
 use Rattle.link_meaning.specs.EmitFaults.{IsLinkedTo}
 use Rattle.loader_machine.specs.State.{Machine}
@@ -28,15 +27,11 @@ pub record IsOfWorkload (files : List (List ℕ)) : Type 0 where
   pub bytes : IsBytes (object n seed)
   pub short : length (object n seed) ≤ 16777216
 
--- the file has `count` segments
-abbrev pub HasSegments : List ℕ → ℕ → Type 0
-HasSegments file count = (segments : List Segment) × IsFile segments file × (count ≡ length segments)
-
 -- these files hold the object's load file alone, which has `count` segments
 pub record IsStore (object : List ℕ) (files : FileMap) (count : ℕ) : Type 0 where
   pub file : List ℕ
   pub linked : IsLinkedTo (plain (object ∷ [])) file
-  pub segments : HasSegments file count
+  pub segments : (segments : List Segment) × IsFile segments file × (count ≡ length segments)
   pub only : files ≡ insert empty program file
 
 -- how many segments the load file has, and entries its table; how many JSLs entered a segment, and calls were refused; and the
@@ -70,7 +65,3 @@ HasEnded Done n seed (Some loader) before now = (text : List ℕ) × HasStressed
 HasEnded CannotPrint n seed None before now = (loader : Loaded) × (text : List ℕ) × HasStressed n seed loader text × FailsToPrint text before now
 HasEnded Memory n seed None before now = now ≡ before
 HasEnded _ n seed last before now = ⊥
-
--- a run of the workload, which leaves the store as it is
-abbrev pub StressRun : ℕ → ℕ → Status → Option Loaded → Outside → Type 0
-StressRun n seed result last o = HasEnded result n seed last o.sink o.new_sink × (o.new_store ≡ o.store)

@@ -15,23 +15,20 @@ use Rattle.omf_cli.specs.Link.{LinkMakes, given_alone, given_with}
 use Rattle.omf_commands.specs.Listings.{ListMakes}
 use Rattle.omf_commands.specs.Library.{LibMakes}
 use Rattle.omf_commands.specs.Script.{ScriptRun, CanRun}
-use Rattle.omf_cli.specs.Stress.{StressRun}
+use Rattle.omf_cli.specs.Stress.{HasEnded}
 use Rattle.omf_commands.specs.Compact.{CompactMakes}
 
--- the usage line, and nothing else
-abbrev pub UsageRun : Status → Outside → Type 0
-UsageRun result o =
-    Ends (λ wanted text. (wanted ≡ status.Usage) × (text ≡ usage_line) × (o.new_store ≡ o.store)) ⊥ ⊥ result o.sink o.new_sink
-
--- a run over arguments of this form that ends with the status; a loader is handed out by a script and by a workload alone
+-- a run over arguments of this form that ends with the status, where arguments of no form have the usage line and nothing else; a loader is
+-- handed out by a script and by a workload alone
 abbrev pub HasRun : Status → Option CommandForm → Option Loaded → Outside → Type 0
-HasRun result None last o = UsageRun result o × (last ≡ None)
+HasRun result None last o =
+    Ends (λ wanted text. (wanted ≡ status.Usage) × (text ≡ usage_line) × (o.new_store ≡ o.store)) ⊥ ⊥ result o.sink o.new_sink × (last ≡ None)
 HasRun result (Some (Asm source output macros)) last o = MakesRun AsmMakes (Some output) (source ∷ macros) result o × (last ≡ None)
 HasRun result (Some (Link output inputs)) last o = MakesRun (λ files. LinkMakes (given_alone Program files)) (Some output) inputs result o × (last ≡ None)
 HasRun result (Some (Dump inputs)) last o = MakesRun DumpMakes None inputs result o × (last ≡ None)
 HasRun result (Some (Run inputs)) last o = ScriptRun inputs result last o
 HasRun result (Some (Lib output inputs)) last o = MakesRun (LibMakes inputs) (Some output) inputs result o × (last ≡ None)
-HasRun result (Some (Stress n seed)) last o = StressRun n seed result last o
+HasRun result (Some (Stress n seed)) last o = HasEnded result n seed last o.sink o.new_sink × (o.new_store ≡ o.store)
 HasRun result (Some (Rtl output inputs)) last o = MakesRun (λ files. LinkMakes (given_alone Runtime files)) (Some output) inputs result o × (last ≡ None)
 HasRun result (Some (LinkRt output inputs runtimes)) last o = MakesRun (λ files. LinkMakes (given_with runtimes files)) (Some output) inputs result o × (last ≡ None)
 HasRun result (Some (Listing output inputs)) last o = MakesRun ListMakes (Some output) inputs result o × (last ≡ None)

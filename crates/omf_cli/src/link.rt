@@ -4,8 +4,10 @@ ghost use Rattle.std.specs.Prelude.{◌≡◌, ◌≢◌, ◌≤◌, ◌-◌, le
 ghost use Rattle.omf_cli.specs.LinkCauses.{link_cause_name};
 ghost use Rattle.link_resolve.specs.Resolved.{given_of, FewGiven, HavePaths};
 ghost use Rattle.link_resolve.specs.Runtimes.{files_of};
-ghost use Rattle.omf_making.specs.Words.{are_printing, are_paths, words_of};
-ghost use Rattle.omf_cli.specs.Link.{link_fault_line, given_alone, given_with, under_paths, LinkMakes, ReportsLinkFault};
+ghost use Rattle.omf_making.specs.Words.{are_paths, words_of};
+ghost use Rattle.omf_making.specs.Steps.{are_printing};
+ghost use Rattle.omf_cli.specs.Link.{link_fault_line, given_alone, given_with, LinkMakes, ReportsLinkFault};
+ghost use Rattle.omf_cli.specs.Steps.{under_paths};
 ghost use Rattle.omf_making.specs.Made.{all_bytes, made_of, AreShort};
 
 use lib_dict::Member;

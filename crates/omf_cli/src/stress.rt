@@ -1,13 +1,14 @@
 //! `stress`: a workload of the whole chain.
 
-ghost use Rattle.std.specs.Prelude.{◌≡◌, ◌⊎◌, ◌≤◌, ◌<◌, ◌-◌, ◌^◌, ◌∷◌, [], ℕ, length, None, IfOk};
+ghost use Rattle.std.specs.Prelude.{◌≡◌, ◌⊎◌, ◌≤◌, ◌<◌, ◌-◌, ◌^◌, ◌∷◌, [], ℕ, length, None, IfOk, List};
+ghost use Rattle.omf_io.specs.Steps.{Rose};
 ghost use Rattle.omf_format.specs.Number.{IsBytes};
-ghost use Rattle.omf_io.specs.Counts.{Rose};
 ghost use Rattle.link_meaning.specs.LinkFaults.{plain};
 ghost use Rattle.link_meaning.specs.EmitFaults.{IsLinkedTo};
 ghost use Rattle.link_resolve.specs.Resolved.{all_bytes};
 ghost use Rattle.workload_meaning.specs.Object as workload;
-ghost use Rattle.omf_cli.specs.Stress.{IsOfWorkload, HasSegments, IsStore, RunsTo, HasEnded, stress_line};
+ghost use Rattle.omf_cli.specs.Stress.{IsOfWorkload, IsStore, RunsTo, HasEnded, stress_line};
+ghost use Rattle.omf_format.specs.File.{IsFile, Segment};
 
 use link_emit::link;
 use link_meaning::LinkCause;
@@ -42,7 +43,7 @@ fn link_object(alloc: Global, inputs: &Vec<Vec<u8>>) -> Result<Vec<u8>, AllocErr
 /// How many segments the load file of an object has.
 fn count_of(alloc: Global, object: &[u8], file: &[u8]) -> Result<u16, AllocError>
     requires { IsLinkedTo (plain (object.now ∷ [])) file.now }
-    ensures count { IfOk result (λ count. HasSegments file.now count) }
+    ensures count { IfOk result (λ count. ((segments : List Segment) × IsFile segments file.now × (count ≡ length segments))) }
     ensures few { IfOk result (λ count. count ≤ 256) }
 {
     recall_bytes(object);

@@ -12,16 +12,15 @@ abbrev pub following_first : List (List ℕ) → List (List ℕ)
 following_first [] = []
 following_first (file ∷ files) = files
 
--- the line of a fault: its cause, its file and its line
-abbrev pub asm_fault_line : AsmFault → List ℕ
-asm_fault_line fault = line_fault_line (asm_cause_name fault.cause) fault.file fault.line
-
 -- the object, or the line of the first fault
 abbrev pub AsmMakes : List (List ℕ) → Made → Type 0
 AsmMakes files (Bytes object) = IsObject (first_of files) (following_first files) object
-AsmMakes files (Refusal text) = (fault : AsmFault) × IsFirstFault (first_of files) (following_first files) fault × (text ≡ asm_fault_line fault)
+AsmMakes files (Refusal text) =
+    (fault : AsmFault) × IsFirstFault (first_of files) (following_first files) fault
+    × (text ≡ line_fault_line (asm_cause_name fault.cause) fault.file fault.line)
 
 -- the line of a fault other than out of memory
 abbrev pub ReportsAsmFault : AsmFault → Made → Type 0
 ReportsAsmFault fault (Bytes bytes) = ⊥
-ReportsAsmFault fault (Refusal text) = (fault.cause ≢ causes.Memory) × (text ≡ asm_fault_line fault)
+ReportsAsmFault fault (Refusal text) =
+    (fault.cause ≢ causes.Memory) × (text ≡ line_fault_line (asm_cause_name fault.cause) fault.file fault.line)

@@ -11,14 +11,14 @@ use Rattle.omf_format.specs.Field.{written_layout}
 use Rattle.omf_format.specs.Header.{HeaderFields, form_of}
 use Rattle.omf_format.specs.Record.{Record, LongConst, spelling}
 use Rattle.omf_format.specs.File.{Segment, segment_at}
-use Rattle.load_meaning.specs.Cells.{Cell, Byte, Part, Patch, parts_from, segment_bytes, patches_of, cells}
-use Rattle.load_meaning.specs.WrittenBody.{AreWritten, with_stored, zeros_after, written_cells, written_data, data_records, patches_stored_alone, lone_record, supers_from, body_records, body_text}
+use Rattle.load_meaning.specs.Cells.{Cell, Byte, Part, Patch, parts_from, segment_bytes, patches_of, cells, byte_under}
+use Rattle.load_meaning.specs.WrittenBody.{AreWritten, with_stored, zeros_after, written_cells, written_data, data_records, lone_record, supers_from, body_records, body_text}
 use Rattle.load_meaning.specs.laws.CellLaws.{length-cells, length-segment_bytes}
 use Rattle.load_meaning.specs.laws.LayingLaws.{get-front, get-take, Missed, same_laid}
 use Rattle.load_meaning.specs.laws.StoredLaws.{zeros-le, written_apart, parts, patched-laid, stored-laid, fit-stored, fit-cells}
-use Rattle.load_meaning.specs.WrittenBody.{stored_bytes}
+use Rattle.load_meaning.specs.laws.Steps.{patches_stored_alone, stored_bytes}
 use Rattle.omf_cells.specs.Whole.{front_of, front_at, data_at}
-use Rattle.omf_compact.specs.Stretches.{first_broken, stretches, byte_in, bytes_in, IsWrittenCell}
+use Rattle.omf_compact.specs.Stretches.{first_broken, stretches, bytes_in, IsWrittenCell}
 use Rattle.omf_compact.specs.Canonical.{plain_of, is_pathname, canon_fields, canon_segment}
 use Rattle.omf_compact.specs.laws.Writing.{IsKnown, first_records, first_text}
 use Rattle.omf_compact.specs.laws.StretchLaws.{covers, stretches_written}
@@ -116,14 +116,14 @@ module _ (segments : List Segment) (number : ℕ) (s : Segment) (known : IsKnown
         by_cell lt found.0 found.1
     | inr past ↦
         slice_get_past (take n (segment_bytes s)) k (omega (arith, past, length-take n (segment_bytes s)))
-        ∙ sym (slice_get_past (bytes_in (front cs)) k (omega (arith, past, is, length-map (front cs) byte_in)))
+        ∙ sym (slice_get_past (bytes_in (front cs)) k (omega (arith, past, is, length-map (front cs) byte_under)))
   ]
     where
       by_cell : k < n → (c : Cell) → slice_get (front cs) k ≡ Some c → slice_get (take n (segment_bytes s)) k ≡ slice_get (bytes_in (front cs)) k
       by_cell lt (Byte b) e =
           get-take n (segment_bytes s) k lt
           ∙ byte_of_data k b (front-get cs k (omega (arith, lt, is)) ∙ e)
-          ∙ sym (slice_get-map byte_in (front cs) k ∙ ap (option_map byte_in) e)
+          ∙ sym (slice_get-map byte_under (front cs) k ∙ ap (option_map byte_under) e)
       by_cell lt (Part f g o sh i) e =
           let covered = covers (front cs) f g o sh i k (unbroken-front cs un) e in
           absurd (none covered.0 covered.1 covered.2)
@@ -137,7 +137,7 @@ module _ (segments : List Segment) (number : ℕ) (s : Segment) (known : IsKnown
   pub patches_written : (patches : List Patch) (content : List ℕ) → content ≡ take (front_at segments number) (data_at segments number) → patches ≡ stretches cs → AreWritten (length content) 0 patches
   patches_written patches content is are =
       subst (λ (l : List Patch). AreWritten (length content) 0 l) (sym (are ∙ stretches-front cs))
-      (subst (λ (n : ℕ). AreWritten n 0 ps) (length-map (front cs) byte_in ∙ sym (content_length content is)) (stretches_written (front cs) (written-front cs written)))
+      (subst (λ (n : ℕ). AreWritten n 0 ps) (length-map (front cs) byte_under ∙ sym (content_length content is)) (stretches_written (front cs) (written-front cs written)))
 
   first_plain : is_pathname (plain_of s) ≡ false → first_text number (plain_of s) ≡ flat_map (spelling written_layout) (body_records number (bytes_in cs) (stretches cs))
   unfolding first_text first_records plain_of
@@ -148,7 +148,7 @@ module _ (segments : List Segment) (number : ℕ) (s : Segment) (known : IsKnown
   unfolding body_text
   body_is patches content is are other =
       let size = content_length content is in
-      let sizes : length content ≡ length (bytes_in (front cs)) = size ∙ sym (length-map (front cs) byte_in) in
+      let sizes : length content ≡ length (bytes_in (front cs)) = size ∙ sym (length-map (front cs) byte_under) in
       let whole : content ≡ take (length (front cs)) (segment_bytes s) = is ∙ ap (λ (n : ℕ). take n (data_at segments number)) front_is ∙ ap (take (length (front cs))) data_is in
       let same_there : (k : ℕ) → Missed ps k → slice_get content k ≡ slice_get (bytes_in (front cs)) k =
       λ k none. ap (λ (l : List ℕ). slice_get l k) whole ∙ content_same (length (front cs)) k refl none in

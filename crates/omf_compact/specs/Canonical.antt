@@ -5,7 +5,7 @@ use Rattle.std.specs.List.{filter, flat_map}
 use Rattle.std.specs.Option.{option_or}
 use Rattle.omf_format.specs.Header.{HeaderFields, form_of, header_bytes}
 use Rattle.omf_format.specs.Field.{written_layout}
-use Rattle.omf_format.specs.Record.{Record, spelling, End, Const, LongConst, Align, Org, Space, Reloc, InterSeg, ShortReloc, ShortInterSeg, Super, Using, Strong, Label, Equate, Formula, Entry}
+use Rattle.omf_format.specs.Record.{Record, spelling, End, LongConst, Entry}
 use Rattle.omf_format.specs.File.{Segment}
 use Rattle.load_meaning.specs.Cells.{Cell, cells}
 use Rattle.load_meaning.specs.WrittenBody.{zeros_after, body_records}
@@ -15,22 +15,7 @@ use Rattle.omf_compact.specs.Stretches.{first_broken, stretches, bytes_in}
 
 abbrev pub is_entry : Record → Bool
 is_entry (Entry segment offset name) = true
-is_entry End = false
-is_entry (Const bytes) = false
-is_entry (LongConst bytes) = false
-is_entry (Align n) = false
-is_entry (Org n) = false
-is_entry (Space n) = false
-is_entry (Reloc count shift location offset) = false
-is_entry (InterSeg count shift location file segment offset) = false
-is_entry (ShortReloc count shift location offset) = false
-is_entry (ShortInterSeg count shift location segment offset) = false
-is_entry (Super form bytes) = false
-is_entry (Using name) = false
-is_entry (Strong name) = false
-is_entry (Label global name size form private) = false
-is_entry (Equate global name size form private expr) = false
-is_entry (Formula code count n expr) = false
+is_entry _ = false
 
 -- a segment's header as far as it says something of the segment in memory, its cells, and its ENTRY records in order
 pub record Plain : Type 0 where

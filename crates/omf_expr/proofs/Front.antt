@@ -4,7 +4,8 @@ use Rattle.std.proofs.lemmas.List.{drop_at}
 use Rattle.omf_format.specs.declared.fault.Flaw.{Flaw}
 use Rattle.omf_format.specs.declared.expression.ExprFault.{ExprFault}
 use Rattle.omf_format.specs.Number.{IsBytes}
-use Rattle.omf_format.specs.Expression.{BeginsWith, read_all, flaw_of, expression_field}
+use Rattle.omf_format.specs.Expression.{BeginsWith, flaw_of, expression_field}
+use Rattle.omf_format.specs.laws.TermSteps.{read_all, split_of}
 use Rattle.omf_format.specs.laws.ExpressionLaws.{read-all-takes, read-all-again, text_before}
 
 pub are_bytes : (bytes : List ℕ) → ((i : ℕ) → Fits w8 (get_or bytes i 0)) → IsBytes bytes
@@ -46,8 +47,8 @@ pair text rest = Ok (text, rest)
 
 pub field_is : (l : ℕ) (bytes rest : List ℕ) → IsBytes bytes → read_all l bytes ≡ Ok rest → Ok (front bytes rest, drop (length (front bytes rest)) bytes) ≡ expression_field l bytes
 unfolding expression_field
-field_is l bytes rest fits read = ap (pair (front bytes rest)) (drop-front bytes rest l fits read) ∙ sym (rw read refl)
+field_is l bytes rest fits read = ap (pair (front bytes rest)) (drop-front bytes rest l fits read) ∙ sym (ap (split_of bytes) read)
 
 pub flaw_is : (l : ℕ) (bytes : List ℕ) (fault : ExprFault) → read_all l bytes ≡ Err fault → Err (flaw_of fault) ≡ expression_field l bytes
 unfolding expression_field
-flaw_is l bytes fault read = sym (rw read refl)
+flaw_is l bytes fault read = sym (ap (split_of bytes) read)

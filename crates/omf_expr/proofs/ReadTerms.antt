@@ -1,7 +1,8 @@
 -- Reading terms up to the end of an expression: what is left goes on as the whole does.
 use Rattle.std.proofs.Common.{◌≡◌, ℕ, zero, suc, ◌+◌, ◌-◌, ◌<◌, ◌≤◌, List, length, Some, None, Ok, Err, refl, sym, ◌∙◌, arith}
 use Rattle.omf_format.specs.declared.expression.ExprFault.{ExprFault}
-use Rattle.omf_format.specs.Expression.{term_step, read_from, read_all}
+use Rattle.omf_format.specs.Expression.{term_step, read_from}
+use Rattle.omf_format.specs.laws.TermSteps.{read_all}
 use Rattle.omf_format.specs.laws.ExpressionLaws.{read-term, read-end, read-wrong}
 
 -- the bytes left, where this many values are pending, are read as the whole is
@@ -13,7 +14,6 @@ pub record Reads (lab_len : ℕ) (bytes left : List ℕ) (pending : ℕ) : Type 
   pub same : read_from (suc fuel) lab_len (length bytes - length left) pending left ≡ read_all lab_len bytes
 
 pub reads_begin : (l : ℕ) (bytes : List ℕ) → Reads l bytes bytes 0
-unfolding read_all
 reads_begin l bytes =
     let place : length bytes - length bytes ≡ 0 = omega arith in
     let fuel : suc (length bytes) ≡ length bytes + 1 = omega arith in

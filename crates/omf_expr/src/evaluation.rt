@@ -2,7 +2,8 @@
 
 ghost use Rattle.std.specs.Prelude.{◌≡◌, ◌≤◌, ◌<◌, ◌-◌, ◌+◌, ℕ, length, Ok, Err, IfErr, OnOk};
 ghost use Rattle.omf_format.specs.Expression.{Tree, Spells, IsExpression, operand_count, operands_of, pending_after};
-ghost use Rattle.omf_format.specs.Value.{named_value, operand_value, value};
+ghost use Rattle.omf_format.specs.Value.{operand_value, value};
+ghost use Rattle.omf_format.specs.laws.Steps.{named_value};
 ghost use Rattle.omf_expr.specs.View.{view};
 ghost use Rattle.omf_expr.specs.Machine.{step_one, step_two, step_operand, step};
 

@@ -1,7 +1,8 @@
 //! An expression in postfix form.
 
 ghost use Rattle.std.specs.Prelude.{◌≡◌, ◌<◌, ◌≤◌, List, ℕ, length, Ok, IfOk, IfErr, IfSome};
-ghost use Rattle.omf_format.specs.Expression.{Tree, Spells, terms_of, terms_in, placed_terms, operand_count, operands_of, pending_after_term, term_step, read_all, IsExpression, IsFirstFault, BeginsWith, expression_field};
+ghost use Rattle.omf_format.specs.Expression.{Tree, Spells, terms_of, terms_in, placed_terms, operand_count, operands_of, pending_after_term, term_step, IsExpression, IsFirstFault, BeginsWith, expression_field};
+ghost use Rattle.omf_format.specs.laws.TermSteps.{read_all};
 ghost use Rattle.omf_format.specs.Field.{Gives};
 ghost use Rattle.omf_expr.specs.View.{view, view_next, as_field};
 

@@ -1,8 +1,10 @@
 //! Operators on values. Numbers are 32 bits in two's complement.
 
 ghost use Rattle.std.specs.Prelude.{◌≡◌, ◌≢◌, false, pos, int_div, int_rem, IsTrue, IfOk, IfErr};
-ghost use Rattle.omf_format.specs.Value.{signed, bits_of, truth, shifted_bits, number_of_one, arithmetic, logical, comparison, bitwise, number_of_two, divides, apply_one, apply_two};
+ghost use Rattle.omf_format.specs.Value.{signed, truth, shifted_bits, number_of_one, number_of_two, divides, apply_one, apply_two};
+ghost use Rattle.omf_format.specs.laws.Steps.{arithmetic, logical, comparison, bitwise};
 ghost use Rattle.omf_format.specs.Field.{is_shift};
+ghost use Rattle.std.specs.Int.{cast_unsigned, w32};
 
 use omf_format::{Value, ValueFault};
 
@@ -52,7 +54,7 @@ fn number_of_one(code: u8, a: u32) -> u32
 #[inline]
 fn quotient(a: u32, b: u32) -> u32
     requires { b ≢ 0 }
-    ensures { result ≡ bits_of (int_div (signed a) (signed b)) }
+    ensures { result ≡ cast_unsigned w32 (int_div (signed a) (signed b)) }
 {
     let quotient = a.cast_signed().wrapping_div(b.cast_signed());
     quotient.cast_unsigned()
@@ -62,7 +64,7 @@ fn quotient(a: u32, b: u32) -> u32
 #[inline]
 fn remainder(a: u32, b: u32) -> u32
     requires { b ≢ 0 }
-    ensures { result ≡ bits_of (int_rem (signed a) (signed b)) }
+    ensures { result ≡ cast_unsigned w32 (int_rem (signed a) (signed b)) }
 {
     let remainder = a.cast_signed().wrapping_rem(b.cast_signed());
     remainder.cast_unsigned()
@@ -70,7 +72,6 @@ fn remainder(a: u32, b: u32) -> u32
 
 /// Add, subtract, multiply, divide, modulo and shift. A divisor isn't 0.
 #[inline]
-#[tactic(auto, unfolding(omf_format::specs::Value::arithmetic))]
 fn arithmetic(code: u8, a: u32, b: u32) -> u32
     requires { IsTrue (divides code) → b ≢ 0 }
     ensures { result ≡ arithmetic code a b }
@@ -87,7 +88,6 @@ fn arithmetic(code: u8, a: u32, b: u32) -> u32
 
 /// Logical AND, OR and EOR.
 #[inline]
-#[tactic(auto, unfolding(omf_format::specs::Value::logical))]
 fn logical(code: u8, a: u32, b: u32) -> u32
     ensures { result ≡ logical code a b }
 {
@@ -100,7 +100,6 @@ fn logical(code: u8, a: u32, b: u32) -> u32
 
 /// Comparisons of numbers in two's complement: <=, >=, <>, <, > and =.
 #[inline]
-#[tactic(auto, unfolding(omf_format::specs::Value::comparison))]
 fn comparison(code: u8, a: u32, b: u32) -> u32
     ensures { result ≡ comparison code a b }
 {
@@ -117,7 +116,6 @@ fn comparison(code: u8, a: u32, b: u32) -> u32
 
 /// Bit AND, OR and EOR.
 #[inline]
-#[tactic(auto, unfolding(omf_format::specs::Value::bitwise))]
 fn bitwise(code: u8, a: u32, b: u32) -> u32
     ensures { result ≡ bitwise code a b }
 {

@@ -124,17 +124,15 @@ abbrev pub placed_terms : ℕ → ℕ → List Term → List (ℕ × Term)
 placed_terms lab_len at [] = []
 placed_terms lab_len at (term ∷ terms) = (at, term) ∷ placed_terms lab_len (at + length (term_text lab_len term)) terms
 
--- a term that was read, and those after it, or none at the end
-abbrev pub term_then : ℕ → (List ℕ → List (ℕ × Term)) → Result (Option Term × List ℕ) Flaw → List (ℕ × Term)
-term_then at following (Err flaw) = []
-term_then at following (Ok (None, rest)) = []
-term_then at following (Ok (Some term, rest)) = (at, term) ∷ following rest
-
 -- the terms at the start, n at most, with their displacements, of which the first has this one
 unfoldable pub first_terms : ℕ → ℕ → ℕ → List ℕ → List (ℕ × Term)
 first_terms zero lab_len at bytes = []
 first_terms (suc n) lab_len at bytes =
-    term_then at (λ rest. first_terms n lab_len (at + (length bytes - length rest)) rest) (term_field lab_len bytes)
+    elim (term_field lab_len bytes) [
+      | Err flaw ↦ []
+      | Ok (None, rest) ↦ []
+      | Ok (Some term, rest) ↦ (at, term) ∷ first_terms n lab_len (at + (length bytes - length rest)) rest
+    ]
 
 -- all terms up to the end: no more than there are bytes, since each term has one at least
 unfoldable pub terms_in : ℕ → ℕ → List ℕ → List (ℕ × Term)
@@ -166,15 +164,14 @@ pending_after_term at pending (Some term) =
     else if nat_lt 64 (pending_after pending term) then Err (TooDeep at)
     else Ok (Some (pending_after pending term))
 
--- how many values are pending after what was read at the start of the bytes, or what is wrong with it first; and the bytes after it
-abbrev pub step_of : ℕ → ℕ → Result (Option Term × List ℕ) Flaw → Result (Option ℕ × List ℕ) ExprFault
-step_of at pending (Err Cut) = Err (Truncated at)
-step_of at pending (Err Unread) = Err (BadTerm at)
-step_of at pending (Err Broken) = Err (BadTerm at)
-step_of at pending (Ok found) = pending_after_term at pending found.0 >>= λ following. Ok (following, found.1)
-
+-- how many values are pending after what is read at the start of the bytes, or what is wrong with it first; and the bytes after it
 unfoldable pub term_step : ℕ → ℕ → ℕ → List ℕ → Result (Option ℕ × List ℕ) ExprFault
-term_step lab_len at pending bytes = step_of at pending (term_field lab_len bytes)
+term_step lab_len at pending bytes = elim (term_field lab_len bytes) [
+  | Err Cut ↦ Err (Truncated at)
+  | Err Unread ↦ Err (BadTerm at)
+  | Err Broken ↦ Err (BadTerm at)
+  | Ok found ↦ pending_after_term at pending found.0 >>= λ following. Ok (following, found.1)
+]
 
 -- terms with which nothing is wrong are at the start, and the fault is that of what follows them
 pub record IsFirstFault (lab_len : ℕ) (bytes : List ℕ) (fault : ExprFault) : Type 0 where
@@ -203,10 +200,6 @@ read_from (suc n) lab_len at pending bytes =
       | Some following ↦ read_from n lab_len (at + (length bytes - length found.1)) following found.1
     ]
 
--- a term takes a byte at least, so that many are enough
-unfoldable pub read_all : ℕ → List ℕ → Result (List ℕ) ExprFault
-read_all lab_len bytes = read_from (length bytes + 1) lab_len 0 0 bytes
-
 -- in a record the bytes that end too early are a cut, and every other fault is a bad value
 abbrev pub flaw_of : ExprFault → Flaw
 flaw_of (Truncated at) = Cut
@@ -214,10 +207,9 @@ flaw_of (BadTerm at) = Broken
 flaw_of (Shape at) = Broken
 flaw_of (TooDeep at) = Broken
 
-abbrev pub split_of : List ℕ → Result (List ℕ) ExprFault → Result (List ℕ × List ℕ) Flaw
-split_of bytes (Ok rest) = Ok (take (length bytes - length rest) bytes, rest)
-split_of bytes (Err fault) = Err (flaw_of fault)
-
--- the bytes of the expression at the start, and the bytes after it
+-- the bytes of the expression at the start, and the bytes after it; a term takes a byte at least, so that many are enough
 unfoldable pub expression_field : ℕ → List ℕ → Result (List ℕ × List ℕ) Flaw
-expression_field lab_len bytes = split_of bytes (read_all lab_len bytes)
+expression_field lab_len bytes = elim (read_from (length bytes + 1) lab_len 0 0 bytes) [
+  | Ok rest ↦ Ok (take (length bytes - length rest) bytes, rest)
+  | Err fault ↦ Err (flaw_of fault)
+]

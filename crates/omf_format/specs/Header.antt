@@ -31,22 +31,17 @@ pub record HeaderFields : Type 0 where
 unfoldable pub version_of : List ℕ → ℕ
 version_of bytes = number_at 1 0x0F bytes
 
--- BYTECNT is the number at $00; in version 1 that number counts blocks of 512 bytes
-unfoldable pub byte_count_of : List ℕ → ℕ
-byte_count_of bytes = if version_of bytes == 1 then 512 * number_at 4 0x00 bytes else number_at 4 0x00 bytes
-
--- KIND of version 1 is one byte: the type in bits 0 to 4, and in bits 5 to 7 what later versions have in bits 13 to 15
-abbrev pub kind_of_byte : ℕ → ℕ
-kind_of_byte byte = byte % 32 + 256 * (byte / 32 * 32)
-
--- KIND is the number at $14, in version 1 the byte at $0C
+-- KIND is the number at $14; in version 1 it is the byte at $0C, with the type in bits 0 to 4, and in bits 5 to 7 what later versions have
+-- in bits 13 to 15
 unfoldable pub kind_of : List ℕ → ℕ
-kind_of bytes = if version_of bytes == 1 then kind_of_byte (number_at 1 0x0C bytes) else number_at 2 0x14 bytes
+kind_of bytes =
+    if version_of bytes == 1 then number_at 1 0x0C bytes % 32 + 256 * (number_at 1 0x0C bytes / 32 * 32) else number_at 2 0x14 bytes
 
--- each field is at its displacement, and at DISPNAME are the load name of ten bytes and the segment's name
+-- each field is at its displacement, where BYTECNT of version 1 counts blocks of 512 bytes, and at DISPNAME are the load name of ten bytes
+-- and the segment's name
 unfoldable pub fields_of : List ℕ → HeaderFields
 fields_of bytes = record {
-  byte_count = byte_count_of bytes;
+  byte_count = if version_of bytes == 1 then 512 * number_at 4 0x00 bytes else number_at 4 0x00 bytes;
   res_spc = number_at 4 0x04 bytes;
   length = number_at 4 0x08 bytes;
   lab_len = number_at 1 0x0D bytes;
@@ -119,16 +114,12 @@ alignment_of align = if align == 0 then 1 else if nat_le align 0x100 then 0x100 
 
 -- ---- the checks
 
--- the versions that are read
-abbrev pub is_read_version : ℕ → Bool
-is_read_version version = version == 1 || version == 2
-
 -- the checks of a header in their order, each with the refusal where it holds; the bytes are those from the segment's start to the file's end
 abbrev pub checks_of : HeaderFields → List ℕ → List (Bool × HeaderFault)
 checks_of f bytes =
     (nat_lt (length bytes) 44, Truncated (length bytes))
     ∷ (not (number_at 1 0x0E bytes == 4), Unsupported NumLen)
-    ∷ (not (is_read_version f.version), Unsupported Version)
+    ∷ (not (f.version == 1 || f.version == 2), Unsupported Version)
     ∷ (nat_lt 0x10000 f.bank_size, BadField BankSize)
     ∷ (not (is_listed (form_of f.kind)), Unsupported Kind)
     ∷ (not (number_at 1 0x20 bytes == 0), Unsupported NumSex)
@@ -138,9 +129,6 @@ checks_of f bytes =
     ∷ (nat_lt f.length f.res_spc, BadField ResSpc)
     ∷ []
 
-unfoldable pub header_checks : List ℕ → List (Bool × HeaderFault)
-header_checks bytes = checks_of (fields_of bytes) bytes
-
 -- the fault of the first check that holds, if one does
 abbrev pub first_of : {F : Type 0} → List (Bool × F) → Option F
 first_of [] = None
@@ -148,7 +136,7 @@ first_of (check ∷ checks) = if check.0 then Some check.1 else first_of checks
 
 -- the first fault of a header
 unfoldable pub header_fault : List ℕ → Option HeaderFault
-header_fault bytes = first_of (header_checks bytes)
+header_fault bytes = first_of (checks_of (fields_of bytes) bytes)
 
 -- where in a header of a version a field is
 abbrev pub displacement_of : ℕ → Field → ℕ
@@ -178,17 +166,15 @@ written_fields f body_length = record f {
   disp_data = 0x37 + length f.name;
 }
 
--- the widths and values of the written header's numbers, in order
-unfoldable pub written_numbers : HeaderFields → List (ℕ × ℕ)
-written_numbers f =
-    (4, f.byte_count) ∷ (4, f.res_spc) ∷ (4, f.length) ∷ (1, 0) ∷ (1, f.lab_len) ∷ (1, 4) ∷ (1, f.version)
-    ∷ (4, f.bank_size) ∷ (2, f.kind) ∷ (2, 0) ∷ (4, f.org) ∷ (4, f.align) ∷ (1, 0) ∷ (1, 0)
-    ∷ (2, f.seg_num) ∷ (4, f.entry) ∷ (2, f.disp_name) ∷ (2, f.disp_data) ∷ []
-
--- a written header: its numbers, the load name, and the segment's name after its length
+-- a written header: its numbers in order, each with its width, the load name, and the segment's name after its length
 unfoldable pub header_bytes : HeaderFields → ℕ → List ℕ
 header_bytes f body_length =
-    laid_out (written_numbers (written_fields f body_length)) ++ f.load_name ++ length f.name ∷ f.name
+    let h = written_fields f body_length in
+    laid_out (
+      (4, h.byte_count) ∷ (4, h.res_spc) ∷ (4, h.length) ∷ (1, 0) ∷ (1, h.lab_len) ∷ (1, 4) ∷ (1, h.version)
+      ∷ (4, h.bank_size) ∷ (2, h.kind) ∷ (2, 0) ∷ (4, h.org) ∷ (4, h.align) ∷ (1, 0) ∷ (1, 0)
+      ∷ (2, h.seg_num) ∷ (4, h.entry) ∷ (2, h.disp_name) ∷ (2, h.disp_data) ∷ [])
+    ++ f.load_name ++ length f.name ∷ f.name
 
 -- which headers may be written: those of version 2 for which the checks of BANKSIZE, KIND and RESSPC don't hold
 pub record IsWritable (f : HeaderFields) : Type 0 where

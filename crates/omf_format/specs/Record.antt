@@ -40,10 +40,6 @@ pub data Record : Type 0 where
 abbrev pub is_formula : ℕ → Bool
 is_formula code = code == EXPR || code == ZEXPR || code == BEXPR || code == RELEXPR || code == LEXPR
 
--- the length, type and private flag of a label, whose length takes `width` bytes
-abbrev pub label_text : ℕ → ℕ → ℕ → ℕ → List ℕ
-label_text width size form private = little_bytes width size ++ form ∷ private ∷ []
-
 -- the bytes of a record, which under a layout has one spelling: its code, then its fields
 unfoldable pub spelling : Layout → Record → List ℕ
 spelling l End = 0x00 ∷ []
@@ -62,26 +58,20 @@ spelling l (Super form bytes) = SUPER ∷ little_bytes 4 (length bytes + 1) ++ f
 spelling l (Using name) = USING ∷ name_text l.lab_len name
 spelling l (Strong name) = STRONG ∷ name_text l.lab_len name
 spelling l (Label global name size form private) =
-    (if global then GLOBAL else LOCAL) ∷ name_text l.lab_len name ++ label_text l.length_width size form private
+    (if global then GLOBAL else LOCAL) ∷ name_text l.lab_len name ++ (little_bytes l.length_width size ++ form ∷ private ∷ [])
 spelling l (Equate global name size form private expr) =
-    (if global then GEQU else EQU) ∷ name_text l.lab_len name ++ (label_text l.length_width size form private ++ expr)
+    (if global then GEQU else EQU) ∷ name_text l.lab_len name ++ ((little_bytes l.length_width size ++ form ∷ private ∷ []) ++ expr)
 spelling l (Formula code count n expr) = code ∷ count ∷ (if code == RELEXPR then little_bytes 4 n ++ expr else expr)
 spelling l (Entry segment offset name) = ENTRY ∷ little_bytes 2 segment ++ (little_bytes 4 offset ++ name_text l.lab_len name)
 
 -- ---- which records have a spelling
-
--- the patches' count and shift
-abbrev pub IsPatch : ℕ → ℤ → Type 0
-IsPatch count shift = IsTrue (is_count count) × IsTrue (is_shift shift)
-
-abbrev pub IsLabel : ℕ → ℕ → ℕ → ℕ → Type 0
-IsLabel width size form private = (size < 256 ^ width) × (form < 2 ^ 8) × (private < 2 ^ 8)
 
 -- the n of RELEXPR; every other formula has 0
 abbrev pub IsDistance : Bool → ℕ → Type 0
 IsDistance true n = n < 2 ^ 32
 IsDistance false n = n ≡ 0
 
+-- a record whose fields fit their widths; its bytes hold what its kind asks for
 abbrev pub IsRecord : Layout → Record → Type 0
 IsRecord l End = Unit {0}
 IsRecord l (Const bytes) = (1 ≤ length bytes) × (length bytes ≤ 0xDF)
@@ -89,17 +79,18 @@ IsRecord l (LongConst bytes) = length bytes < 2 ^ 32
 IsRecord l (Align n) = n < 2 ^ 32
 IsRecord l (Org n) = n < 2 ^ 31
 IsRecord l (Space n) = n < 2 ^ 32
-IsRecord l (Reloc count shift location offset) = IsPatch count shift × (location < 2 ^ 32) × (offset < 2 ^ 32)
+IsRecord l (Reloc count shift location offset) = (IsTrue (is_count count) × IsTrue (is_shift shift)) × (location < 2 ^ 32) × (offset < 2 ^ 32)
 IsRecord l (InterSeg count shift location file segment offset) =
-    IsPatch count shift × (location < 2 ^ 32) × (file < 2 ^ 16) × (segment < 2 ^ 16) × (offset < 2 ^ 32)
-IsRecord l (ShortReloc count shift location offset) = IsPatch count shift × (location < 2 ^ 16) × (offset < 2 ^ 16)
+    (IsTrue (is_count count) × IsTrue (is_shift shift)) × (location < 2 ^ 32) × (file < 2 ^ 16) × (segment < 2 ^ 16) × (offset < 2 ^ 32)
+IsRecord l (ShortReloc count shift location offset) = (IsTrue (is_count count) × IsTrue (is_shift shift)) × (location < 2 ^ 16) × (offset < 2 ^ 16)
 IsRecord l (ShortInterSeg count shift location segment offset) =
-    IsPatch count shift × (location < 2 ^ 16) × (segment < 2 ^ 8) × (offset < 2 ^ 16)
+    (IsTrue (is_count count) × IsTrue (is_shift shift)) × (location < 2 ^ 16) × (segment < 2 ^ 8) × (offset < 2 ^ 16)
 IsRecord l (Super form bytes) = IsTrue (is_super form) × (length bytes + 1 < 2 ^ 32) × HavePages bytes
 IsRecord l (Using name) = IsName l.lab_len name
 IsRecord l (Strong name) = IsName l.lab_len name
-IsRecord l (Label global name size form private) = IsName l.lab_len name × IsLabel l.length_width size form private
-IsRecord l (Equate global name size form private expr) = IsName l.lab_len name × IsLabel l.length_width size form private × IsExpression l.lab_len expr
+IsRecord l (Label global name size form private) = IsName l.lab_len name × ((size < 256 ^ l.length_width) × (form < 2 ^ 8) × (private < 2 ^ 8))
+IsRecord l (Equate global name size form private expr) =
+    IsName l.lab_len name × ((size < 256 ^ l.length_width) × (form < 2 ^ 8) × (private < 2 ^ 8)) × IsExpression l.lab_len expr
 IsRecord l (Formula code count n expr) =
     IsTrue (is_formula code) × IsTrue (is_count count) × IsDistance (code == RELEXPR) n × IsExpression l.lab_len expr
 IsRecord l (Entry segment offset name) = (segment < 2 ^ 16) × (offset < 2 ^ 32) × IsName l.lab_len name

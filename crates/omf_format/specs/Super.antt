@@ -34,18 +34,11 @@ locations_from page [] = []
 locations_from page (Passed pages ∷ more) = locations_from (page + pages) more
 locations_from page (Located lows ∷ more) = map (λ low. page * 256 + low) lows ++ locations_from (page + 1) more
 
--- how many low bytes of the current page are left after a byte, where this many were left before it
-abbrev pub lows_after : ℕ → ℕ → ℕ
-lows_after zero count = if nat_lt count 0x80 then count + 1 else 0
-lows_after (suc lows) low = lows
-
--- read from left to right, where `lows` low bytes are left, the bytes end with a subrecord
+-- read from left to right, where `lows` low bytes are left, the bytes end with a subrecord: a byte below $80 where none are left says how
+-- many follow, less one, and another byte passes pages over
 abbrev pub end_pages : ℕ → List ℕ → Bool
 end_pages lows [] = lows == 0
-end_pages lows (byte ∷ bytes) = end_pages (lows_after lows byte) bytes
-
-unfoldable pub are_pages : List ℕ → Bool
-are_pages bytes = end_pages 0 bytes
+end_pages lows (byte ∷ bytes) = end_pages (elim lows [ zero ↦ if nat_lt byte 0x80 then byte + 1 else 0 | suc n ↦ n ]) bytes
 
 -- the locations that are left, from this page on, where `lows` low bytes of it are left
 abbrev pub locations_left : ℕ → ℕ → List ℕ → List ℕ

@@ -1,5 +1,5 @@
 -- What an expression represents: its value in an environment (GS/OS Reference, appendix F, "Expressions").
-use Rattle.std.specs.Prelude.{ℕ, ◌+◌, ◌-◌, ◌*◌, ◌/◌, ◌%◌, ◌^◌, Bool, not, ◌||◌, ◌&&◌, ℤ, pos, negsuc, List, length, Option, Some, None, Result, Ok, Err, nat_lt, nat_le, ◌==◌, if◌then◌else◌, bit_and, bit_or, bit_xor, int_lt, int_le, int_div, int_rem}
+use Rattle.std.specs.Prelude.{ℕ, ◌+◌, ◌-◌, ◌*◌, ◌/◌, ◌%◌, ◌^◌, Bool, not, ◌||◌, ◌&&◌, ℤ, pos, negsuc, List, length, Option, Result, Ok, Err, nat_lt, nat_le, ◌==◌, if◌then◌else◌, ok_or, bit_and, bit_or, bit_xor, int_lt, int_le, int_div, int_rem}
 use Rattle.std.specs.Ordering.{int_eq}
 use Rattle.std.specs.Int.{w32, cast_signed, cast_unsigned, bit_not}
 use Rattle.omf_format.specs.declared.value.Value.{Value}
@@ -11,12 +11,9 @@ use Rattle.omf_format.specs.Expression.{Term, Operator, Location, Constant, Name
 
 -- ---- numbers of 32 bits
 
--- the number that 32 bits are in two's complement, and the bits of such a number
+-- the number that 32 bits are in two's complement
 abbrev pub signed : ℕ → ℤ
 signed n = cast_signed w32 n
-
-abbrev pub bits_of : ℤ → ℕ
-bits_of z = cast_unsigned w32 z
 
 -- what is left of a number in 32 bits
 abbrev pub wrapped_to_32_bits : ℕ → ℕ
@@ -42,47 +39,32 @@ number_of_one code a =
     else if code == 0x0B then truth (not (is_true a))
     else bit_not w32 a
 
--- add, subtract, multiply, divide (towards zero), modulo (with the dividend's sign), shift; a divisor isn't 0
-unfoldable pub arithmetic : ℕ → ℕ → ℕ → ℕ
-arithmetic code a b =
-    if code == 0x01 then wrapped_to_32_bits (a + b)
-    else if code == 0x02 then wrapped_to_32_bits (a + (2 ^ 32 - b))
-    else if code == 0x03 then wrapped_to_32_bits (a * b)
-    else if code == 0x04 then bits_of (int_div (signed a) (signed b))
-    else if code == 0x05 then bits_of (int_rem (signed a) (signed b))
-    else shifted_bits a (signed b)
-
--- logical AND, OR, EOR
-unfoldable pub logical : ℕ → ℕ → ℕ → ℕ
-logical code a b =
-    if code == 0x08 then truth (is_true a && is_true b)
-    else if code == 0x09 then truth (is_true a || is_true b)
-    else truth ((is_true a && not (is_true b)) || (is_true b && not (is_true a)))
-
--- <=, >=, <>, <, >, =, all of signed numbers
-unfoldable pub comparison : ℕ → ℕ → ℕ → ℕ
-comparison code a b =
-    if code == 0x0C then truth (int_le (signed a) (signed b))
-    else if code == 0x0D then truth (int_le (signed b) (signed a))
-    else if code == 0x0E then truth (not (a == b))
-    else if code == 0x0F then truth (int_lt (signed a) (signed b))
-    else if code == 0x10 then truth (int_lt (signed b) (signed a))
-    else truth (a == b)
-
--- bit AND, OR, EOR
-unfoldable pub bitwise : ℕ → ℕ → ℕ → ℕ
-bitwise code a b =
-    if code == 0x12 then bit_and a b
-    else if code == 0x13 then bit_or a b
-    else bit_xor a b
-
--- the operators of two numbers: $01 to $07, $08 to $0A, $0C to $11, $12 to $14
+-- the operators of two numbers: $01 to $07 are add, subtract, multiply, divide (towards zero), modulo (with the dividend's sign) and shift,
+-- where a divisor isn't 0; $08 to $0A are logical AND, OR and EOR; $0C to $11 are <=, >=, <>, <, > and =, all of signed numbers; $12 to $14
+-- are bit AND, OR and EOR
 unfoldable pub number_of_two : ℕ → ℕ → ℕ → ℕ
 number_of_two code a b =
-    if nat_le code 0x07 then arithmetic code a b
-    else if nat_le code 0x0A then logical code a b
-    else if nat_le code 0x11 then comparison code a b
-    else bitwise code a b
+    if nat_le code 0x07 then (
+        if code == 0x01 then wrapped_to_32_bits (a + b)
+        else if code == 0x02 then wrapped_to_32_bits (a + (2 ^ 32 - b))
+        else if code == 0x03 then wrapped_to_32_bits (a * b)
+        else if code == 0x04 then cast_unsigned w32 (int_div (signed a) (signed b))
+        else if code == 0x05 then cast_unsigned w32 (int_rem (signed a) (signed b))
+        else shifted_bits a (signed b))
+    else if nat_le code 0x0A then (
+        if code == 0x08 then truth (is_true a && is_true b)
+        else if code == 0x09 then truth (is_true a || is_true b)
+        else truth ((is_true a && not (is_true b)) || (is_true b && not (is_true a))))
+    else if nat_le code 0x11 then (
+        if code == 0x0C then truth (int_le (signed a) (signed b))
+        else if code == 0x0D then truth (int_le (signed b) (signed a))
+        else if code == 0x0E then truth (not (a == b))
+        else if code == 0x0F then truth (int_lt (signed a) (signed b))
+        else if code == 0x10 then truth (int_lt (signed b) (signed a))
+        else truth (a == b))
+    else if code == 0x12 then bit_and a b
+    else if code == 0x13 then bit_or a b
+    else bit_xor a b
 
 -- ---- operators on values
 
@@ -125,23 +107,15 @@ pub record Environment : Type 0 where
   pub location : Value
   pub start : Value
 
--- an answer, or that there is none for the term at this place
-abbrev pub known_or_fault : {A : Type 0} → ℕ → Option A → Result A ValueFault
-known_or_fault at None = Err (Unknown at)
-known_or_fault at (Some answer) = Ok answer
-
--- $82 is a weak name and $83 a name; $84, $85 and $86 ask for its length, type and count
-abbrev pub named_value : Environment → ℕ → ℕ → List ℕ → Result Value ValueFault
-named_value env at code name =
-    if nat_le code 0x83 then known_or_fault at (env.label name (code == 0x82))
-    else known_or_fault at (env.attribute code name) >>= λ n. Ok (Fixed n)
-
--- the value of an operand at this place
+-- the value of an operand at this place: $82 is a weak name and $83 a name, and $84, $85 and $86 ask for its length, type and count; where
+-- there is no answer, the fault has the place
 unfoldable pub operand_value : Environment → ℕ → Term → Result Value ValueFault
 operand_value env at (Operator code) = Err NotRelocatable
 operand_value env at Location = Ok env.location
 operand_value env at (Constant n) = Ok (Fixed n)
-operand_value env at (Named code name) = named_value env at code name
+operand_value env at (Named code name) =
+    if nat_le code 0x83 then ok_or (env.label name (code == 0x82)) (Unknown at)
+    else ok_or (env.attribute code name) (Unknown at) >>= λ n. Ok (Fixed n)
 operand_value env at (Offset n) = apply_two 0x01 env.start (Fixed n)
 
 -- how many bytes the tree's terms take

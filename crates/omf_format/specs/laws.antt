@@ -1,3 +1,5 @@
+pub mod TermSteps
+pub mod Steps
 pub mod FieldLaws
 pub mod RecordLaws
 pub mod FileLaws

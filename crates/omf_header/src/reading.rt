@@ -1,9 +1,9 @@
 //! Reading a header: the fields at their displacements, and the first of the checks that holds.
 
-ghost use Rattle.std.specs.Prelude.{◌≡◌, ◌+◌, ◌<◌, ◌≤◌, ◌^◌, ◌||◌, nat_lt, length, take, drop, None, OnOk, IfOk, IfErr};
+ghost use Rattle.std.specs.Prelude.{◌≡◌, ◌+◌, ◌<◌, ◌≤◌, ◌^◌, ◌||◌, nat_lt, length, take, drop, None, OnOk, IfOk, IfErr, ◌%◌, ◌*◌, ◌/◌, ◌==◌, if◌then◌else◌};
 ghost use Rattle.omf_format.specs.Number.{number_at};
 ghost use Rattle.omf_format.specs.Name.{name_at, name_size, without_trailing};
-ghost use Rattle.omf_format.specs.Header.{version_of, byte_count_of, kind_of_byte, kind_of, fields_of, names_end, is_listed, is_read_version, header_fault};
+ghost use Rattle.omf_format.specs.Header.{version_of, kind_of, fields_of, names_end, is_listed, header_fault};
 ghost use Rattle.omf_header.specs.View.{fields, IsRefused};
 
 use crate::header::Header;
@@ -53,10 +53,9 @@ pub fn version_of(bytes: &[u8]) -> u8
 }
 
 /// How many bytes the segment says to have.
-#[tactic(auto, unfolding(omf_format::specs::Header::byte_count_of))]
 fn byte_count(bytes: &[u8]) -> u64
     requires { 44 ≤ length bytes.now }
-    ensures { result ≡ byte_count_of bytes.now }
+    ensures { result ≡ (if version_of bytes.now == 1 then 512 * number_at 4 0x00 bytes.now else number_at 4 0x00 bytes.now) }
 {
     let count = u64::from(u32_at(bytes, 0x00));
     if version_of(bytes) == 1 {
@@ -68,7 +67,7 @@ fn byte_count(bytes: &[u8]) -> u64
 
 /// KIND of a header of version 1 from its byte.
 fn kind_of_byte(byte: u8) -> u16
-    ensures { result ≡ kind_of_byte byte }
+    ensures { result ≡ (byte % 32 + 256 * (byte / 32 * 32)) }
 {
     let byte = u16::from(byte);
     byte % 32 + 256 * (byte / 32 * 32)
@@ -89,7 +88,7 @@ fn kind(bytes: &[u8]) -> Kind
 
 /// Whether a version is read.
 fn is_read_version(version: u8) -> bool
-    ensures { result ≡ is_read_version version }
+    ensures { result ≡ (version == 1 || version == 2) }
 {
     version == 1 || version == 2
 }
@@ -124,7 +123,7 @@ fn is_listed(form: u8) -> bool
 }
 
 /// The fault of the first check that holds.
-#[tactic(auto, unfolding(omf_format::specs::Header::header_fault, omf_format::specs::Header::header_checks, omf_format::specs::Header::fields_of))]
+#[tactic(auto, unfolding(omf_format::specs::Header::header_fault, omf_format::specs::Header::fields_of))]
 fn first_fault(bytes: &[u8]) -> Option<HeaderFault>
     requires { length bytes.now < 2 ^ 32 }
     ensures { result ≡ header_fault bytes.now }
@@ -166,7 +165,7 @@ fn first_fault(bytes: &[u8]) -> Option<HeaderFault>
 /// The names end after DISPDATA, or DISPDATA exceeds BYTECNT.
 fn is_data_misplaced(bytes: &[u8]) -> bool
     requires { 44 ≤ length bytes.now }
-    ensures { result ≡ (nat_lt (number_at 2 0x2A bytes.now) (names_end bytes.now) || nat_lt (byte_count_of bytes.now) (number_at 2 0x2A bytes.now)) }
+    ensures { result ≡ (nat_lt (number_at 2 0x2A bytes.now) (names_end bytes.now) || nat_lt (if version_of bytes.now == 1 then 512 * number_at 4 0x00 bytes.now else number_at 4 0x00 bytes.now) (number_at 2 0x2A bytes.now)) }
 {
     let disp_data = u16_at(bytes, 0x2A);
     names_end(bytes) > disp_data as usize || u64::from(disp_data) > byte_count(bytes)

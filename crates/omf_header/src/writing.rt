@@ -2,7 +2,7 @@
 
 ghost use Rattle.std.specs.Prelude.{◌≡◌, ◌≢◌, ◌↔◌, ◌+◌, ◌<◌, ◌≤◌, ◌^◌, ◌++◌, ◌∷◌, [], List, ℕ, length, take, drop, None, OnOk, IfOk, IfErr, IsErrOf};
 ghost use Rattle.byteorder.specs.Endian.{little_bytes};
-ghost use Rattle.omf_format.specs.Header.{fields_of, header_fault, header_bytes, written_fields, laid_out, written_numbers, IsWritable};
+ghost use Rattle.omf_format.specs.Header.{fields_of, header_fault, header_bytes, written_fields, laid_out, IsWritable};
 ghost use Rattle.omf_format.specs.WrittenHeader.{FitsWritten};
 ghost use Rattle.omf_header.specs.View.{fields};
 ghost use Rattle.omf_header.specs.Parts.{sizes, placement, order, displacements, numbers};
@@ -147,7 +147,7 @@ fn know_widths(header: &Header, body_length: u32)
 }
 
 /// The header's bytes, where the segment isn't too long.
-#[tactic(auto, unfolding(omf_format::specs::Header::header_bytes, omf_format::specs::Header::written_numbers))]
+#[tactic(auto, unfolding(omf_format::specs::Header::header_bytes))]
 fn header_bytes(alloc: Global, header: &Header, body_length: u32) -> Result<Vec<u8>, AllocError>
     requires { 0x37 + length header.now.name + body_length < 2 ^ 32 }
     ensures { IfOk result (λ written. written.items ≡ header_bytes (fields header.now) body_length) }

@@ -1,5 +1,5 @@
 -- Counts of failures, and objects that reveal what they hold or don't.
-use Rattle.std.specs.Prelude.{◌≡◌, ℕ, ◌+◌, ◌-◌, ◌^◌, ◌≤◌, List, ◌++◌, min, zero, suc, Option, None, Some}
+use Rattle.std.specs.Prelude.{◌≡◌, ℕ, ◌+◌, ◌-◌, ◌^◌, List, ◌++◌, min, zero, suc, Option, None, Some}
 
 -- one more, up to 2^64 - 1, where a count stops
 abbrev pub one_more : ℕ → ℕ
@@ -9,15 +9,6 @@ one_more count = min (count + 1) (2 ^ 64 - 1)
 abbrev pub saturating_sum : ℕ → ℕ → ℕ
 saturating_sum zero count = count
 saturating_sum (suc more) count = one_more (saturating_sum more count)
-
--- the count rose, or has stopped at its end
-abbrev pub Rose : ℕ → ℕ → Type 0
-Rose before now = one_more before ≤ now
-
--- where the object reveals what it holds, `P` is true of that
-abbrev pub IfRevealed : {X : Type 0} → Option X → (X → Type 0) → Type 0
-IfRevealed None P = Unit {0}
-IfRevealed (Some x) P = P x
 
 -- where the object reveals what it holds, `P` is true of that, and where it doesn't, `Q` is true
 abbrev pub IfRevealedOr : {X : Type 0} → Option X → Type 0 → (X → Type 0) → Type 0

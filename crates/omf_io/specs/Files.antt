@@ -8,7 +8,7 @@ use Rattle.omf_io.specs.declared.files.ReadFault.{ReadFault}
 use Rattle.omf_io.specs.declared.files.ReadFault.TheVariants as read
 use Rattle.omf_io.specs.declared.files.WriteFault.{WriteFault}
 use Rattle.omf_io.specs.declared.files.WriteFault.TheVariants as write
-use Rattle.omf_io.specs.Counts.{one_more, saturating_sum, IfRevealed, IfRevealedOr, IsFront}
+use Rattle.omf_io.specs.Counts.{one_more, saturating_sum, IfRevealedOr, IsFront}
 
 -- files by the bytes of their paths
 abbrev pub FileMap : Type 0
@@ -17,10 +17,6 @@ FileMap = FinMap (slice_cmp nat_cmp) (List ℕ)
 -- the most bytes that a file may have
 abbrev pub max_file : ℕ
 max_file = 16777216
-
--- the files with these bytes at the path, and all other paths as they are; files that aren't revealed stay so
-abbrev pub with_file : Option FileMap → List ℕ → List ℕ → Option FileMap
-with_file held path bytes = option_map (λ files. insert files path bytes) held
 
 -- what is seen of a store: its files, where it reveals them; how often the outside failed; and how often it was read
 pub record StoreSeen : Type 0 where
@@ -32,13 +28,13 @@ pub record StoreSeen : Type 0 where
 abbrev pub after_reads : ℕ → StoreSeen → StoreSeen
 after_reads count store = record store { asked = saturating_sum count store.asked }
 
--- the store with these bytes at a path
+-- the store with these bytes at the path, and all other paths as they are; files that aren't revealed stay so
 abbrev pub with_written : List ℕ → List ℕ → StoreSeen → StoreSeen
-with_written path bytes store = record store { held = with_file store.held path bytes }
+with_written path bytes store = record store { held = option_map (λ files. insert files path bytes) store.held }
 
 -- the file that a read gave: the held one, where files are revealed
 abbrev pub IsRead : Option FileMap → List ℕ → List ℕ → Type 0
-IsRead held path file = (length file ≤ max_file) × IfRevealed held (λ files. get files path ≡ Some file)
+IsRead held path file = (length file ≤ max_file) × (elim held [ None ↦ Unit {0} | Some files ↦ get files path ≡ Some file ])
 
 -- a read that gave these bytes
 abbrev pub HasRead : List ℕ → List ℕ → StoreSeen → StoreSeen → Type 0

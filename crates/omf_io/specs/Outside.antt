@@ -1,7 +1,8 @@
 -- The outside: a store of files and a sink of text, before something is done and after it.
-use Rattle.omf_io.specs.Counts.{Rose}
+use Rattle.omf_io.specs.Counts.{one_more}
 use Rattle.omf_io.specs.Files.{StoreSeen}
 use Rattle.omf_io.specs.Sinks.{SinkSeen}
+use Rattle.std.specs.Prelude.{◌≤◌}
 
 pub record Outside : Type 0 where
   pub store : StoreSeen
@@ -15,5 +16,5 @@ outside store new_store sink new_sink = record { store = store; new_store = new_
 
 -- no count of faults rose
 pub record IsCalm (o : Outside) : Type 0 where
-  pub store : Rose o.store.faults o.new_store.faults → ⊥
-  pub sink : Rose o.sink.faults o.new_sink.faults → ⊥
+  pub store : one_more o.store.faults ≤ o.new_store.faults → ⊥
+  pub sink : one_more o.sink.faults ≤ o.new_sink.faults → ⊥

@@ -1,7 +1,8 @@
 -- A run that can be done is done, unless out of memory.
 use Rattle.std.proofs.Common.{◌≡◌, ◌⊎◌, inl, inr, ℕ, ◌<◌, ◌≤◌, List, [], ◌∷◌, ◌++◌, length, Option, None, Some, IsSomeAnd, refl, sym, ap, subst, ◌∙◌, arith}
 use Rattle.std.specs.FinMap.{get}
-use Rattle.omf_io.specs.Counts.{one_more, Rose, IfRevealedOr}
+use Rattle.omf_io.specs.Counts.{one_more, IfRevealedOr}
+use Rattle.omf_io.specs.Steps.{Rose}
 use Rattle.omf_io.specs.Files.{max_file, FileMap, StoreSeen, IsUnread}
 use Rattle.omf_io.specs.Sinks.{SinkSeen, FailsToPrint}
 use Rattle.omf_io.specs.Outside.{Outside}

@@ -1,5 +1,6 @@
 -- Numbers in arguments, digit by digit.
 use Rattle.std.proofs.Common.{◌≡◌, ℕ, suc, ◌+◌, ◌-◌, ◌*◌, ◌^◌, ◌<◌, ◌≤◌, Bool, true, false, cond, List, [], ◌∷◌, length, Some, None, refl, ap, ◌∙◌, arith}
+use Rattle.omf_making.specs.Steps.{number_in}
 use Rattle.std.specs.Prelude.{◌&&◌, nat_le}
 use Rattle.std.specs.Char.{digit_value}
 use Rattle.std.specs.List.{list_all}
@@ -7,7 +8,6 @@ use Rattle.std.specs.Str.Parse.{digits_value, digits_value_after}
 use Rattle.std.proofs.Math.Nat.{pow-suc, pow-le-pow_right}
 use Rattle.std.proofs.lemmas.Bool.{le-leb, le-ltb, lt-ltb, lt-leb}
 use Rattle.orca_meaning.specs.Characters.{is_decimal_digit}
-use Rattle.omf_making.specs.Words.{number_in}
 
 -- the digits of an argument that are left, after those of a number
 pub record IsRead (word left : List ℕ) (number : ℕ) : Type 0 where

@@ -7,7 +7,8 @@ use Rattle.omf_making.specs.declared.status.Status.{Status}
 use Rattle.omf_making.specs.declared.status.Status.TheVariants as status
 use Rattle.omf_making.specs.declared.making.MakeResult.{MakeResult}
 use Rattle.omf_making.specs.declared.making.MakeResult.TheVariants as end
-use Rattle.omf_making.specs.Lines.{cannot_read_line, cannot_write_line}
+use Rattle.omf_making.specs.Lines.{cannot_read_line}
+use Rattle.omf_making.specs.Steps.{cannot_write_line}
 use Rattle.omf_making.specs.Made.{Made}
 use Rattle.omf_making.specs.Printing.{Ends, IsPut, Whole, Part, Nothing, IsPrinted}
 use Rattle.omf_making.specs.Making.{MakesRun, Says, Writes, IsShort, HasCome, HasSaid}

@@ -1,10 +1,12 @@
 -- The forms of arguments, one for each command.
-use Rattle.std.specs.Prelude.{ℕ, ◌-◌, ◌&&◌, if◌then◌else◌, List, [], ◌∷◌, length, drop, codes, Option, None, Some, nat_lt}
+use Rattle.std.specs.Prelude.{ℕ, ◌-◌, ◌&&◌, if◌then◌else◌, List, [], ◌∷◌, length, drop, codes, Option, None, Some, nat_lt, nat_le}
 use Rattle.std.specs.Option.{option_map, option_and_then}
 use Rattle.std.specs.Str.{bytes_eq}
-use Rattle.omf_making.specs.Words.{is_path, are_paths, are_printing, words_of, number_between, short_number_between}
+use Rattle.omf_making.specs.Words.{is_path, are_paths, words_of, number_between}
 use Rattle.omf_making.specs.declared.form.CommandForm.{CommandForm as Words}
 use Rattle.omf_making.specs.declared.form.CommandForm.TheVariants as words
+use Rattle.std.specs.List.{list_all}
+use Rattle.load_meaning.specs.Pathnames.{is_path_byte}
 
 pub data CommandForm : Type 0 where
   Asm : (source output : List ℕ) (macros : List (List ℕ)) → CommandForm
@@ -28,41 +30,28 @@ abbrev pub source_and_output : List (List ℕ) → Option (List ℕ × List ℕ 
 source_and_output [] = None
 source_and_output (source ∷ words) = if is_path source then option_map (λ w. (source, w.0, w.1)) (with_output 0 254 words) else None
 
--- `least` to `most` inputs
-abbrev pub inputs_only : ℕ → ℕ → List (List ℕ) → Option (List (List ℕ))
-inputs_only least most inputs = if are_paths least most inputs then Some inputs else None
-
 -- how many dynamic segments, 1 to 64, and a seed
 abbrev pub count_and_seed : List (List ℕ) → Option (ℕ × ℕ)
 count_and_seed (count ∷ seed ∷ []) =
     option_and_then (λ n. option_map (λ seed. (n, seed)) (number_between 0 4294967295 seed)) (number_between 1 64 count)
 count_and_seed _ = None
 
--- the last `count` inputs, where there are more, and these have printing paths
-abbrev pub last_inputs : ℕ → List (List ℕ) → Option (List (List ℕ))
-last_inputs count inputs =
-    let last = drop (length inputs - count) inputs in
-    if nat_lt count (length inputs) && are_printing last then Some last else None
-
--- an output, how many of the inputs are run-time library files, 1 to 16 in one or two digits, and the inputs, of which these are the last
+-- an output, how many of the inputs are run-time library files, 1 to 16 in one or two digits, and the inputs, of which these are the last:
+-- there are more, and a pathname segment can hold the paths of these, whose characters print and aren't a space
 abbrev pub output_and_runtimes : List (List ℕ) → Option (List ℕ × List (List ℕ) × List (List ℕ))
 output_and_runtimes (output ∷ count ∷ inputs) =
-    option_and_then (λ n. if is_path output && are_paths 2 255 inputs then option_map (λ last. (output, inputs, last)) (last_inputs n inputs) else None)
-    (short_number_between 1 16 count)
+    option_and_then (λ n.
+        let last = drop (length inputs - n) inputs in
+        if is_path output && are_paths 2 255 inputs then option_map (λ last. (output, inputs, last)) (
+            if nat_lt n (length inputs) && list_all (λ path. list_all is_path_byte path) last then Some last else None)
+        else None)
+    (if nat_le (length count) 2 then number_between 1 16 count else None)
 output_and_runtimes _ = None
 
 -- an input, and an output after it
 abbrev pub input_and_output : List (List ℕ) → Option (List ℕ × List (List ℕ))
 input_and_output (input ∷ output ∷ []) = if is_path input && is_path output then Some (output, input ∷ []) else None
 input_and_output _ = None
-
--- after `rtl`, `linkrt`, `list` and `compact`
-abbrev pub later_form : List ℕ → List (List ℕ) → Option CommandForm
-later_form name words =
-    if bytes_eq name (codes "rtl") then option_map (λ w. Rtl w.0 w.1) (with_output 1 255 words)
-    else (if bytes_eq name (codes "linkrt") then option_map (λ w. LinkRt w.0 w.1 w.2) (output_and_runtimes words)
-    else (if bytes_eq name (codes "list") then option_map (λ w. Listing w.0 w.1) (input_and_output words)
-    else (if bytes_eq name (codes "compact") then option_map (λ w. Compact w.0 w.1) (input_and_output words) else None)))
 
 -- `asm SRC OBJ MACROS..`, `link OUT FILE..`, `dump FILE`, `run SCRIPT`, `lib OUT OBJ..`, `stress N SEED`, `rtl OUT FILE..`,
 -- `linkrt OUT K FILE..`, `list OBJ SRC`, `compact IN OUT`; other arguments have no form
@@ -71,11 +60,14 @@ form_of [] = None
 form_of (name ∷ words) =
     if bytes_eq name (codes "asm") then option_map (λ w. Asm w.0 w.1 w.2) (source_and_output words)
     else (if bytes_eq name (codes "link") then option_map (λ w. Link w.0 w.1) (with_output 1 255 words)
-    else (if bytes_eq name (codes "dump") then option_map Dump (inputs_only 1 1 words)
-    else (if bytes_eq name (codes "run") then option_map Run (inputs_only 1 1 words)
+    else (if bytes_eq name (codes "dump") then option_map Dump (if are_paths 1 1 words then Some words else None)
+    else (if bytes_eq name (codes "run") then option_map Run (if are_paths 1 1 words then Some words else None)
     else (if bytes_eq name (codes "lib") then option_map (λ w. Lib w.0 w.1) (with_output 1 255 words)
     else (if bytes_eq name (codes "stress") then option_map (λ w. Stress w.0 w.1) (count_and_seed words)
-    else later_form name words)))))
+    else (if bytes_eq name (codes "rtl") then option_map (λ w. Rtl w.0 w.1) (with_output 1 255 words)
+    else (if bytes_eq name (codes "linkrt") then option_map (λ w. LinkRt w.0 w.1 w.2) (output_and_runtimes words)
+    else (if bytes_eq name (codes "list") then option_map (λ w. Listing w.0 w.1) (input_and_output words)
+    else (if bytes_eq name (codes "compact") then option_map (λ w. Compact w.0 w.1) (input_and_output words) else None)))))))))
 
 -- a form as it was read from arguments
 abbrev pub form_of_words : Words → CommandForm

@@ -10,19 +10,11 @@ usage_line = line (codes "usage: omf asm, link, lib, dump, run, stress, rtl, lin
 abbrev pub cannot_read_line : List ℕ → List ℕ
 cannot_read_line path = line (codes "cannot read " ++ path)
 
-abbrev pub cannot_write_line : List ℕ → List ℕ
-cannot_write_line path = line (codes "cannot write " ++ path)
-
--- a name after a space, if there is one
-abbrev pub with_name : Option (List ℕ) → List ℕ
-with_name None = []
-with_name (Some name) = name_text name
-
 -- a cause, its name, if it has one, and its spot: the file and the segment in decimal, and the displacement in eight hexadecimal
 -- digits
 abbrev pub refused_line : List ℕ → Option (List ℕ) → ℕ → ℕ → ℕ → List ℕ
 refused_line cause name file segment at =
-    line (codes "refused " ++ cause ++ with_name name ++ codes " " ++ decimal file ++ codes " " ++ decimal segment ++ codes " " ++ hexadecimal 8 at)
+    line (codes "refused " ++ cause ++ (elim name [ None ↦ [] | Some text ↦ name_text text ]) ++ codes " " ++ decimal file ++ codes " " ++ decimal segment ++ codes " " ++ hexadecimal 8 at)
 
 -- a cause against a script, with the line's number in decimal
 abbrev pub script_line : List ℕ → ℕ → List ℕ

@@ -1,11 +1,12 @@
 -- Commands that read all their inputs in order, make bytes of them, and then write or print these.
-use Rattle.std.specs.Prelude.{◌≡◌, ℕ, suc, ◌≤◌, List, [], ◌∷◌, ◌++◌, length, Option, None, Some}
+use Rattle.std.specs.Prelude.{◌≡◌, ℕ, suc, ◌≤◌, List, [], ◌∷◌, ◌++◌, length, Option, None, Some, codes}
 use Rattle.std.specs.FinMap.{get}
 use Rattle.omf_io.specs.Counts.{one_more, IsFront}
 use Rattle.omf_io.specs.Files.{FileMap, StoreSeen, max_file, IsRead, IsUnread, after_reads, with_written}
 use Rattle.omf_io.specs.Sinks.{SinkSeen}
 use Rattle.omf_io.specs.Outside.{Outside, IsCalm}
-use Rattle.omf_making.specs.Lines.{cannot_read_line, cannot_write_line}
+use Rattle.omf_making.specs.Lines.{cannot_read_line}
+use Rattle.omf_making.specs.Steps.{cannot_write_line}
 use Rattle.omf_making.specs.Printing.{Ends, IsPut}
 use Rattle.omf_making.specs.Made.{Made, Bytes, Refusal, all_bytes, AreShort}
 use Rattle.omf_making.specs.declared.reading.Reading.{Reading}
@@ -14,6 +15,7 @@ use Rattle.omf_making.specs.declared.making.MakeResult.{MakeResult}
 use Rattle.omf_making.specs.declared.making.MakeResult.TheVariants as end
 use Rattle.omf_making.specs.declared.status.Status.{Status}
 use Rattle.omf_making.specs.declared.status.Status.TheVariants.{Done, Refused, CannotRead, CannotWrite, Memory}
+use Rattle.omf_base.specs.Lines.{line}
 
 -- these paths hold these files, one each, in order
 abbrev pub AreRead : Option FileMap → List (List ℕ) → List (List ℕ) → Type 0
@@ -67,7 +69,7 @@ abbrev pub Says : Status → (List (List ℕ) → Made → Type 0) → Option (L
 Says Done makes None inputs before now text = HasMade makes inputs before (Bytes text) × (now ≡ all_read inputs before)
 Says Refused makes output inputs before now text = HasMade makes inputs before (Refusal text) × (now ≡ all_read inputs before)
 Says CannotRead makes output inputs before now text = (path : List ℕ) × StopsReading inputs path before now × (text ≡ cannot_read_line path)
-Says CannotWrite makes (Some output) inputs before now text = StopsWriting makes output inputs before now × (text ≡ cannot_write_line output)
+Says CannotWrite makes (Some output) inputs before now text = StopsWriting makes output inputs before now × (text ≡ line (codes "cannot write " ++ output))
 Says _ makes output inputs before now text = ⊥
 
 -- a run of a maker

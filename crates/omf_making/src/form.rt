@@ -1,9 +1,12 @@
 //! Forms of arguments.
 
-ghost use Rattle.std.specs.Prelude.{◌≡◌, ◌<◌, ◌^◌};
+ghost use Rattle.std.specs.Prelude.{◌≡◌, ◌<◌, ◌^◌, None, if◌then◌else◌, length, nat_le, Some};
 ghost use Rattle.std.specs.Option.{option_map};
-ghost use Rattle.omf_making.specs.Words.{is_path, are_paths, is_printing, are_printing, words_of, number_in, number_between, short_number_between};
-ghost use Rattle.omf_making.specs.Form.{with_output, source_and_output, inputs_only, input_and_output, count_and_seed, last_inputs, output_and_runtimes, later_form, form_of, form_of_words};
+ghost use Rattle.omf_making.specs.Words.{is_path, are_paths, words_of, number_between};
+ghost use Rattle.omf_making.specs.Steps.{are_printing, number_in, later_form, last_inputs};
+ghost use Rattle.omf_making.specs.Form.{with_output, source_and_output, input_and_output, count_and_seed, output_and_runtimes, form_of, form_of_words};
+ghost use Rattle.load_meaning.specs.Pathnames.{is_path_byte};
+ghost use Rattle.std.specs.List.{list_all};
 
 /// A command with its paths.
 pub enum CommandForm<'a> {
@@ -93,7 +96,7 @@ fn source_and_output(words: &[String]) -> Option<(&str, &str, &[String])>
 
 /// `least` to `most` inputs.
 fn inputs_only(least: usize, most: usize, words: &[String]) -> Option<&[String]>
-    ensures { option_map (λ w. words_of w.now) result ≡ inputs_only least most (words_of words.now) }
+    ensures { option_map (λ w. words_of w.now) result ≡ (if are_paths least most (words_of words.now) then Some (words_of words.now) else None) }
 {
     if are_paths(least, most, words) {
         Some(words)
@@ -151,7 +154,7 @@ fn count_and_seed(words: &[String]) -> Option<(u32, u32)>
 /// The same for a word of no more than two digits.
 fn short_number_between(least: u64, most: u64, word: &str) -> Option<u32>
     requires { most < 2 ^ 32 }
-    ensures { result ≡ short_number_between least most word.now }
+    ensures { result ≡ (if nat_le (length word.now) 2 then number_between least most word.now else None) }
 {
     if word.len() <= 2 {
         number_between(least, most, word)
@@ -162,7 +165,7 @@ fn short_number_between(least: u64, most: u64, word: &str) -> Option<u32>
 
 /// A path that a pathname segment can hold: printing characters other than a space.
 fn is_printing(word: &str) -> bool
-    ensures { result ≡ is_printing word.now }
+    ensures { result ≡ (list_all is_path_byte word.now) }
 {
     word.as_bytes()
         .iter()

@@ -3,7 +3,8 @@
 ghost use Rattle.std.specs.Prelude.{◌≡◌, ◌++◌, IfOk, OnOk};
 ghost use Rattle.std.specs.Option.{option_map};
 ghost use Rattle.omf_base.specs.Lines.{line};
-ghost use Rattle.omf_making.specs.Lines.{usage_line, with_name, refused_line, script_line, line_fault_line};
+ghost use Rattle.omf_making.specs.Lines.{usage_line, refused_line, script_line, line_fault_line};
+ghost use Rattle.omf_making.specs.Steps.{with_name};
 ghost use Rattle.omf_making.specs.FileCauses.{cause_name};
 ghost use Rattle.omf_making.specs.ScriptCauses.{script_cause_name};
 ghost use Rattle.omf_making.specs.Printing.{IsPut, IsPrinted};

@@ -1,10 +1,12 @@
 //! The record at the start of the bytes: each field is taken from the left, and the first that fails decides.
 
-ghost use Rattle.std.specs.Prelude.{◌≡◌, ◌<◌, ◌≤◌, length, IfOk};
-ghost use Rattle.omf_format.specs.Field.{Gives};
-ghost use Rattle.omf_format.specs.Record.{IsRecord};
-ghost use Rattle.omf_format.specs.Reading.{constant_field, long_constant_field, align_field, org_field, space_field, rows, by_code, first_record};
+ghost use Rattle.std.specs.Prelude.{◌≡◌, ◌<◌, ◌≤◌, length, IfOk, nat_lt, ◌^◌};
+ghost use Rattle.omf_format.specs.Field.{Gives, bytes_field, taken_as, number_field, field_that_passes};
+ghost use Rattle.omf_format.specs.Record.{IsRecord, Const, Align, Org, Space};
+ghost use Rattle.omf_format.specs.Reading.{rows, by_code, first_record};
 ghost use Rattle.omf_records.specs.View.{view, view_layout};
+ghost use Rattle.omf_format.specs.laws.Steps.{long_constant_field};
+ghost use Rattle.omf_format.specs.declared.fault.Flaw.TheVariants.{Unread};
 
 use crate::labels::{distance, entry, equate, formula, label, strong, using};
 use crate::layout::Layout;
@@ -17,9 +19,8 @@ use omf_format::{
 };
 
 #[inline]
-#[tactic(auto, unfolding(omf_format::specs::Reading::constant_field))]
 fn constant(rest: &[u8], n: u8) -> Result<(Rec<'_>, &[u8]), Flaw>
-    ensures gives { Gives (λ x. (view x.0, x.1.now)) result (constant_field n rest.now) }
+    ensures gives { Gives (λ x. (view x.0, x.1.now)) result (taken_as Const (bytes_field n) rest.now) }
     ensures no_longer { IfOk result (λ x. length x.1.now ≤ length rest.now) }
 {
     let (bytes, rest) = bytes_field(rest, n as usize)?;
@@ -27,7 +28,6 @@ fn constant(rest: &[u8], n: u8) -> Result<(Rec<'_>, &[u8]), Flaw>
 }
 
 #[inline]
-#[tactic(auto, unfolding(omf_format::specs::Reading::long_constant_field))]
 fn long_constant(rest: &[u8]) -> Result<(Rec<'_>, &[u8]), Flaw>
     ensures gives { Gives (λ x. (view x.0, x.1.now)) result (long_constant_field rest.now) }
     ensures no_longer { IfOk result (λ x. length x.1.now ≤ length rest.now) }
@@ -38,9 +38,8 @@ fn long_constant(rest: &[u8]) -> Result<(Rec<'_>, &[u8]), Flaw>
 }
 
 #[inline]
-#[tactic(auto, unfolding(omf_format::specs::Reading::align_field))]
 fn align(rest: &[u8]) -> Result<(Rec<'_>, &[u8]), Flaw>
-    ensures gives { Gives (λ x. (view x.0, x.1.now)) result (align_field rest.now) }
+    ensures gives { Gives (λ x. (view x.0, x.1.now)) result (taken_as Align (number_field 4) rest.now) }
     ensures no_longer { IfOk result (λ x. length x.1.now ≤ length rest.now) }
 {
     let (n, rest) = u32_field(rest)?;
@@ -48,9 +47,8 @@ fn align(rest: &[u8]) -> Result<(Rec<'_>, &[u8]), Flaw>
 }
 
 #[inline]
-#[tactic(auto, unfolding(omf_format::specs::Reading::org_field))]
 fn org(rest: &[u8]) -> Result<(Rec<'_>, &[u8]), Flaw>
-    ensures gives { Gives (λ x. (view x.0, x.1.now)) result (org_field rest.now) }
+    ensures gives { Gives (λ x. (view x.0, x.1.now)) result (taken_as Org (field_that_passes (λ n. nat_lt n (2 ^ 31)) Unread (number_field 4)) rest.now) }
     ensures no_longer { IfOk result (λ x. length x.1.now ≤ length rest.now) }
 {
     let (n, rest) = u32_field(rest)?;
@@ -61,9 +59,8 @@ fn org(rest: &[u8]) -> Result<(Rec<'_>, &[u8]), Flaw>
 }
 
 #[inline]
-#[tactic(auto, unfolding(omf_format::specs::Reading::space_field))]
 fn space(rest: &[u8]) -> Result<(Rec<'_>, &[u8]), Flaw>
-    ensures gives { Gives (λ x. (view x.0, x.1.now)) result (space_field rest.now) }
+    ensures gives { Gives (λ x. (view x.0, x.1.now)) result (taken_as Space (number_field 4) rest.now) }
     ensures no_longer { IfOk result (λ x. length x.1.now ≤ length rest.now) }
 {
     let (n, rest) = u32_field(rest)?;

@@ -1,10 +1,12 @@
 //! Records with names and expressions.
 
 ghost use Rattle.std.specs.Prelude.{◌≡◌, ◌<◌, ◌≤◌, length, IfOk};
-ghost use Rattle.omf_format.specs.Field.{Gives, length_width_of, number_field};
+ghost use Rattle.omf_format.specs.Field.{Gives, length_width_of, number_field, name_field, taken_as, count_field, ◌⊗◌};
 ghost use Rattle.omf_format.specs.Expression.{expression_field};
-ghost use Rattle.omf_format.specs.Reading.{using_field, strong_field, attributes_field, label_field, equate_field, formula_field, distance_field, entry_field};
+ghost use Rattle.omf_format.specs.Reading.{attributes_field, label_field, equate_field, formula_field};
 ghost use Rattle.omf_records.specs.View.{view, view_layout};
+ghost use Rattle.omf_format.specs.Record.{Using, Strong, Formula, Entry};
+ghost use Rattle.omf_format.specs.declared.codes.TheConstants.{RELEXPR};
 
 use crate::layout::Layout;
 use crate::record::Rec;
@@ -13,9 +15,8 @@ use omf_expr::Expr;
 use omf_format::{ExprFault, Flaw, RELEXPR};
 
 #[inline]
-#[tactic(auto, unfolding(omf_format::specs::Reading::using_field))]
 pub fn using(rest: &[u8], lab_len: u8) -> Result<(Rec<'_>, &[u8]), Flaw>
-    ensures gives { Gives (λ x. (view x.0, x.1.now)) result (using_field lab_len rest.now) }
+    ensures gives { Gives (λ x. (view x.0, x.1.now)) result (taken_as Using (name_field lab_len) rest.now) }
     ensures no_longer { IfOk result (λ x. length x.1.now ≤ length rest.now) }
 {
     let (name, rest) = name_field(rest, lab_len)?;
@@ -23,9 +24,8 @@ pub fn using(rest: &[u8], lab_len: u8) -> Result<(Rec<'_>, &[u8]), Flaw>
 }
 
 #[inline]
-#[tactic(auto, unfolding(omf_format::specs::Reading::strong_field))]
 pub fn strong(rest: &[u8], lab_len: u8) -> Result<(Rec<'_>, &[u8]), Flaw>
-    ensures gives { Gives (λ x. (view x.0, x.1.now)) result (strong_field lab_len rest.now) }
+    ensures gives { Gives (λ x. (view x.0, x.1.now)) result (taken_as Strong (name_field lab_len) rest.now) }
     ensures no_longer { IfOk result (λ x. length x.1.now ≤ length rest.now) }
 {
     let (name, rest) = name_field(rest, lab_len)?;
@@ -136,9 +136,8 @@ pub fn formula(rest: &[u8], lab_len: u8, code: u8) -> Result<(Rec<'_>, &[u8]), F
 
 /// RELEXPR.
 #[inline]
-#[tactic(auto, unfolding(omf_format::specs::Reading::distance_field))]
 pub fn distance(rest: &[u8], lab_len: u8) -> Result<(Rec<'_>, &[u8]), Flaw>
-    ensures gives { Gives (λ x. (view x.0, x.1.now)) result (distance_field lab_len rest.now) }
+    ensures gives { Gives (λ x. (view x.0, x.1.now)) result (taken_as (λ x. Formula RELEXPR x.0 x.1.0 x.1.1) (count_field ⊗ number_field 4 ⊗ expression_field lab_len) rest.now) }
     ensures no_longer { IfOk result (λ x. length x.1.now ≤ length rest.now) }
 {
     let (count, rest) = count_field(rest)?;
@@ -155,9 +154,8 @@ pub fn distance(rest: &[u8], lab_len: u8) -> Result<(Rec<'_>, &[u8]), Flaw>
 
 /// ENTRY.
 #[inline]
-#[tactic(auto, unfolding(omf_format::specs::Reading::entry_field))]
 pub fn entry(rest: &[u8], lab_len: u8) -> Result<(Rec<'_>, &[u8]), Flaw>
-    ensures gives { Gives (λ x. (view x.0, x.1.now)) result (entry_field lab_len rest.now) }
+    ensures gives { Gives (λ x. (view x.0, x.1.now)) result (taken_as (λ x. Entry x.0 x.1.0 x.1.1) (number_field 2 ⊗ number_field 4 ⊗ name_field lab_len) rest.now) }
     ensures no_longer { IfOk result (λ x. length x.1.now ≤ length rest.now) }
 {
     let (segment, rest) = u16_field(rest)?;

@@ -1,10 +1,12 @@
 //! Records of patches.
 
 ghost use Rattle.std.specs.Prelude.{◌≡◌, ◌≤◌, ◌-◌, length, IfOk};
-ghost use Rattle.omf_format.specs.Field.{Gives};
-ghost use Rattle.omf_format.specs.Super.{are_pages, lows_after, is_super};
-ghost use Rattle.omf_format.specs.Reading.{patch_field, reloc_field, interseg_field, short_reloc_field, short_interseg_field, super_field};
+ghost use Rattle.omf_format.specs.Field.{Gives, number_field, taken_as, ◌⊗◌, byte_field};
+ghost use Rattle.omf_format.specs.Super.{is_super, end_pages};
+ghost use Rattle.omf_format.specs.Reading.{patch_field, super_field};
+ghost use Rattle.omf_format.specs.laws.Steps.{lows_after};
 ghost use Rattle.omf_records.specs.View.{view};
+ghost use Rattle.omf_format.specs.Record.{Reloc, InterSeg, ShortReloc, ShortInterSeg};
 
 use crate::record::Rec;
 use omf_base::{bytes_field, count_field, shift_field, u8_field, u16_field, u32_field};
@@ -23,9 +25,8 @@ fn patch(rest: &[u8]) -> Result<((u8, i8), &[u8]), Flaw>
 }
 
 #[inline]
-#[tactic(auto, unfolding(omf_format::specs::Reading::reloc_field))]
 pub fn reloc(rest: &[u8]) -> Result<(Rec<'_>, &[u8]), Flaw>
-    ensures gives { Gives (λ x. (view x.0, x.1.now)) result (reloc_field rest.now) }
+    ensures gives { Gives (λ x. (view x.0, x.1.now)) result (taken_as (λ x. Reloc x.0.0 x.0.1 x.1.0 x.1.1) (patch_field ⊗ number_field 4 ⊗ number_field 4) rest.now) }
     ensures no_longer { IfOk result (λ x. length x.1.now ≤ length rest.now) }
 {
     let ((count, shift), rest) = patch(rest)?;
@@ -41,9 +42,8 @@ pub fn reloc(rest: &[u8]) -> Result<(Rec<'_>, &[u8]), Flaw>
 }
 
 #[inline]
-#[tactic(auto, unfolding(omf_format::specs::Reading::interseg_field))]
 pub fn interseg(rest: &[u8]) -> Result<(Rec<'_>, &[u8]), Flaw>
-    ensures gives { Gives (λ x. (view x.0, x.1.now)) result (interseg_field rest.now) }
+    ensures gives { Gives (λ x. (view x.0, x.1.now)) result (taken_as (λ x. InterSeg x.0.0 x.0.1 x.1.0 x.1.1.0 x.1.1.1.0 x.1.1.1.1) (patch_field ⊗ number_field 4 ⊗ number_field 2 ⊗ number_field 2 ⊗ number_field 4) rest.now) }
     ensures no_longer { IfOk result (λ x. length x.1.now ≤ length rest.now) }
 {
     let ((count, shift), rest) = patch(rest)?;
@@ -63,9 +63,8 @@ pub fn interseg(rest: &[u8]) -> Result<(Rec<'_>, &[u8]), Flaw>
 }
 
 #[inline]
-#[tactic(auto, unfolding(omf_format::specs::Reading::short_reloc_field))]
 pub fn short_reloc(rest: &[u8]) -> Result<(Rec<'_>, &[u8]), Flaw>
-    ensures gives { Gives (λ x. (view x.0, x.1.now)) result (short_reloc_field rest.now) }
+    ensures gives { Gives (λ x. (view x.0, x.1.now)) result (taken_as (λ x. ShortReloc x.0.0 x.0.1 x.1.0 x.1.1) (patch_field ⊗ number_field 2 ⊗ number_field 2) rest.now) }
     ensures no_longer { IfOk result (λ x. length x.1.now ≤ length rest.now) }
 {
     let ((count, shift), rest) = patch(rest)?;
@@ -81,9 +80,8 @@ pub fn short_reloc(rest: &[u8]) -> Result<(Rec<'_>, &[u8]), Flaw>
 }
 
 #[inline]
-#[tactic(auto, unfolding(omf_format::specs::Reading::short_interseg_field))]
 pub fn short_interseg(rest: &[u8]) -> Result<(Rec<'_>, &[u8]), Flaw>
-    ensures gives { Gives (λ x. (view x.0, x.1.now)) result (short_interseg_field rest.now) }
+    ensures gives { Gives (λ x. (view x.0, x.1.now)) result (taken_as (λ x. ShortInterSeg x.0.0 x.0.1 x.1.0 x.1.1.0 x.1.1.1) (patch_field ⊗ number_field 2 ⊗ byte_field ⊗ number_field 2) rest.now) }
     ensures no_longer { IfOk result (λ x. length x.1.now ≤ length rest.now) }
 {
     let ((count, shift), rest) = patch(rest)?;
@@ -101,9 +99,8 @@ pub fn short_interseg(rest: &[u8]) -> Result<(Rec<'_>, &[u8]), Flaw>
 }
 
 /// Whether the bytes are subrecords of a SUPER, one after another.
-#[tactic(auto, unfolding(omf_format::specs::Super::are_pages))]
 fn are_pages(bytes: &[u8]) -> bool
-    ensures { result ≡ are_pages bytes.now }
+    ensures { result ≡ end_pages 0 bytes.now }
 {
     let mut lows = 0u32;
     'bytes: for place in 0..bytes.len() {

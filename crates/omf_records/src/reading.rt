@@ -2,7 +2,8 @@
 
 ghost use Rattle.std.specs.Prelude.{◌≡◌, ◌<◌, ◌≤◌, false, length, slice_index, IfOk, IfSome, OnSome};
 ghost use Rattle.omf_format.specs.Record.{IsRecord};
-ghost use Rattle.omf_format.specs.Reading.{next_answer, after_next, fault_at, is_end};
+ghost use Rattle.omf_format.specs.Reading.{next_answer, after_next, is_end};
+ghost use Rattle.omf_format.specs.laws.Steps.{fault_at};
 ghost use Rattle.omf_records.specs.View.{record_answer, view, view_layout};
 
 use crate::front::record_at_front;

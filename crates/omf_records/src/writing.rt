@@ -3,7 +3,7 @@
 ghost use Rattle.std.specs.Prelude.{◌≡◌, ◌+◌, ◌<◌, ◌^◌, ◌++◌, ◌∷◌, [], length, OnOk, OnErr};
 ghost use Rattle.byteorder.specs.Endian.{little_bytes};
 ghost use Rattle.omf_format.specs.Field.{written_layout, shift_byte, name_text, IsName};
-ghost use Rattle.omf_format.specs.Record.{Formula, Entry, label_text, spelling, IsRecord};
+ghost use Rattle.omf_format.specs.Record.{Formula, Entry, spelling, IsRecord};
 ghost use Rattle.omf_records.specs.View.{view};
 
 use crate::record::Rec;
@@ -133,7 +133,7 @@ fn put_interseg(
 
 /// The length, the type and the private byte of a label.
 fn attributes(size: u16, form: u8, private: u8) -> [u8; 4]
-    ensures { result ≡ label_text 2 size form private }
+    ensures { result ≡ (little_bytes 2 size ++ form ∷ private ∷ []) }
 {
     let [low, high] = word(size);
     [low, high, form, private]

@@ -143,7 +143,7 @@ fn value_of(
 }
 
 /// What an operator makes of two numbers. None says nothing.
-#[tactic(auto, unfolding(omf_format::specs::Value::apply_two, omf_format::specs::Value::number_of_two, omf_format::specs::Value::arithmetic, omf_format::specs::Value::comparison))]
+#[tactic(auto, unfolding(omf_format::specs::Value::apply_two, omf_format::specs::Value::number_of_two))]
 fn joined_numbers(operator: Operator, a: u32, b: u32) -> Option<u32>
     ensures { IfSome result (λ n. apply_two (operator_code operator) (Value.Fixed a) (Value.Fixed b) ≡ Ok (Value.Fixed n)) }
 {

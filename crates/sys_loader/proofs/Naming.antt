@@ -10,7 +10,8 @@ use Rattle.omf_format.specs.Number.{number_at}
 use Rattle.omf_format.specs.Value.{wrapped_to_32_bits, shifted_bits}
 use Rattle.omf_format.specs.File.{Segment, segment_at}
 use Rattle.omf_io.specs.Files.{FileMap}
-use Rattle.load_meaning.specs.Cells.{Cell, Byte, Part, Patch, cells, segment_bytes, parts_from, with_patch, patched_cells, byte_of}
+use Rattle.load_meaning.specs.Cells.{Cell, Byte, Part, Patch, cells, segment_bytes, parts_from, patched_cells, byte_of}
+use Rattle.load_meaning.specs.laws.Steps.{with_patch}
 use Rattle.load_meaning.specs.laws.CellLaws.{cells-bytes, loadable_has}
 use Rattle.load_meaning.specs.Loadable.{patch_list, IsPatch, IsSoundSegment}
 use Rattle.load_meaning.specs.LoadTable.{is_table, targets_of}

@@ -6,7 +6,8 @@ use Rattle.omf_format.specs.Header.{is_dynamic, is_skipped}
 use Rattle.omf_format.specs.File.{Segment}
 use Rattle.load_meaning.specs.declared.load.LoadCause.TheVariants.{NotLoadFile}
 use Rattle.load_meaning.specs.declared.load.LoadFault.{LoadFault}
-use Rattle.load_meaning.specs.Loadable.{Fault, first_in, in_segment, IsLoadable}
+use Rattle.load_meaning.specs.Loadable.{Fault, first_in, IsLoadable}
+use Rattle.load_meaning.specs.laws.Steps.{in_segment}
 use Rattle.load_meaning.specs.Runtime.{kind_fault, runtime_fault, OfLoading, OfKind}
 use Rattle.load_meaning.specs.laws.LoadableLaws.{loadable_same, loadable_sound}
 use Rattle.loader_machine.specs.declared.seen.SegmentHead.{SegmentHead}

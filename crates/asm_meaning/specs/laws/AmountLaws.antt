@@ -8,7 +8,8 @@ use Rattle.std.proofs.Math.Facts.{Fits-of_lt, sfits_to_z}
 use Rattle.std.proofs.lemmas.Nat.{or_lt, xor_lt}
 use Rattle.std.specs.Int.{w32, bit_not}
 use Rattle.omf_format.specs.Expression.{Operator, Location, Constant, Named, Offset, Tree, Leaf, Unary, Binary, IsTree, IsExpression, depth}
-use Rattle.omf_format.specs.Value.{number_of_one, number_of_two, arithmetic, logical, comparison, bitwise, wrapped_to_32_bits, shifted_bits, truth, bits_of, signed, divides}
+use Rattle.omf_format.specs.Value.{number_of_one, number_of_two, wrapped_to_32_bits, shifted_bits, truth, signed, divides}
+use Rattle.omf_format.specs.laws.Steps.{bits_of, arithmetic, logical, comparison, bitwise}
 use Rattle.orca_meaning.specs.Formula.{pending, values_of, with_location_less}
 use Rattle.asm_meaning.specs.Answer.{Answer}
 use Rattle.asm_meaning.specs.Constant.{Constants, AreSmall, KnownValue, Number, Open, Divided, number_or_open, worth_of_one, worth_of_two, known_value, number_or, with_values, Amount, Known, Written, amount_by, amount}
@@ -102,7 +103,6 @@ small_remainder (negsuc a) (pos b) fits = small_negated (suc a % b)
 small_remainder (negsuc a) (negsuc b) fits = small_negated (suc a % suc b)
 
 small_arithmetic : (code a b : ℕ) → Small a → Small (arithmetic code a b)
-unfolding arithmetic
 small_arithmetic code a b p =
     small_cond (eqb code 0x01) (wrapped_to_32_bits (a + b)) _ (wrapped-lt (a + b)) (
     small_cond (eqb code 0x02) (wrapped_to_32_bits (a + (2 ^ 32 - b))) _ (wrapped-lt (a + (2 ^ 32 - b))) (
@@ -111,11 +111,9 @@ small_arithmetic code a b p =
     small_cond (eqb code 0x05) (bits_of (int_rem (signed a) (signed b))) _ (small_remainder (signed a) (signed b) (sfits_to_z (Fits-of_lt p))) (small_shifted a (signed b) p)))))
 
 small_logical : (code a b : ℕ) → Small (logical code a b)
-unfolding logical
 small_logical code a b = small_cond (eqb code 0x08) _ _ (small_truth _) (small_cond (eqb code 0x09) _ _ (small_truth _) (small_truth _))
 
 small_comparison : (code a b : ℕ) → Small (comparison code a b)
-unfolding comparison
 small_comparison code a b =
     small_cond (eqb code 0x0C) _ _ (small_truth _) (
     small_cond (eqb code 0x0D) _ _ (small_truth _) (
@@ -124,7 +122,6 @@ small_comparison code a b =
     small_cond (eqb code 0x10) _ _ (small_truth _) (small_truth _)))))
 
 small_bitwise : (code a b : ℕ) → Small a → Small b → Small (bitwise code a b)
-unfolding bitwise
 small_bitwise code a b p q =
     small_cond (eqb code 0x12) (bit_and a b) _ (and_lt 32 a b p q) (small_cond (eqb code 0x13) (bit_or a b) (bit_xor a b) (or_lt 32 a b p q) (xor_lt 32 a b p q))
 

@@ -16,7 +16,9 @@ use Rattle.link_meaning.specs.laws.LinkFaultLaws.{one_program, one_resolve_fault
 use Rattle.link_meaning.specs.LinkWritten.{AreMade, start, written_file}
 use Rattle.link_meaning.specs.laws.LinkedRuns.{state_from-append}
 use Rattle.link_meaning.specs.laws.ValueFits.{linked_stands_for}
-use Rattle.link_meaning.specs.EmitFaults.{HasCycleFault, HasValueFault, most_bytes, Cycles, Values, Size, emit_phases, HasEmitFault, IsFirstEmitFault, IsEmitted, OfResolving, OfEmitting, IsFirstLinkFault, IsLinkedTo, OneLinkAnswer, OneEmitAnswer, LinkAnswersAsEmit, MadeWhereSound, LinkableStandsFor}
+use Rattle.link_meaning.specs.EmitFaults.{HasCycleFault, HasValueFault, Cycles, Values, Size, HasEmitFault, IsFirstEmitFault, IsEmitted, OfResolving, OfEmitting, IsFirstLinkFault, IsLinkedTo, OneLinkAnswer, OneEmitAnswer, LinkAnswersAsEmit, MadeWhereSound, LinkableStandsFor}
+use Rattle.object_meaning.specs.Sizes.{most_bytes}
+use Rattle.link_meaning.specs.laws.Steps.{emit_phases}
 
 -- ---- one first fault
 

@@ -10,7 +10,8 @@ use Rattle.object_meaning.specs.Sizes.{Located, size_at, located_from, records_w
 use Rattle.link_meaning.specs.Member.{Member}
 use Rattle.object_meaning.specs.Defines.{Definition, title_of, defined_by, defined_in}
 use Rattle.link_meaning.specs.Search.{FoundDefinition, entries_from, entries}
-use Rattle.link_meaning.specs.Cycles.{has_expr, is_equate}
+use Rattle.link_meaning.specs.Cycles.{is_equate}
+use Rattle.link_meaning.specs.laws.Steps.{has_expr}
 use Rattle.link_meaning.specs.laws.ReadMembers.{members_read}
 use Rattle.link_meaning.specs.laws.PlaceFits.{of_located}
 use Rattle.link_meaning.specs.laws.EquatePlaces.{Rising, read_rising, title_none}

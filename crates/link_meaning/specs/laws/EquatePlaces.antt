@@ -10,7 +10,8 @@ use Rattle.omf_format.specs.Number.{IsBytes}
 use Rattle.omf_format.specs.Header.{is_private}
 use Rattle.omf_format.specs.Record.{Record, End, Const, LongConst, Align, Org, Space, Reloc, InterSeg, ShortReloc, ShortInterSeg, Super, Using, Strong, Label, Equate, Formula, Entry, spelling}
 use Rattle.omf_format.specs.laws.RecordLaws.{front-takes}
-use Rattle.omf_format.specs.Reading.{Reader, place_of, first_record, answer_of_reader, next_answer, after_next, HandsOut}
+use Rattle.omf_format.specs.Reading.{Reader, first_record, next_answer, after_next, HandsOut}
+use Rattle.omf_format.specs.laws.Steps.{answer_of_reader, place_of}
 use Rattle.omf_format.specs.laws.BodyLaws.{found_by, spelling-some, body_fits}
 use Rattle.omf_format.specs.File.{Segment, body_reader}
 use Rattle.omf_format.specs.laws.FileLaws.{header_lies}
@@ -21,7 +22,8 @@ use Rattle.object_meaning.specs.Sizes.{Located, size_at, located_from, records_w
 use Rattle.link_meaning.specs.Member.{Member}
 use Rattle.object_meaning.specs.Defines.{Definition, outer_scope, title_of, defined_by, defined_in}
 use Rattle.link_meaning.specs.Search.{FoundDefinition, entries_from, entries}
-use Rattle.link_meaning.specs.Cycles.{has_expr, is_equate, equates}
+use Rattle.link_meaning.specs.Cycles.{is_equate, equates}
+use Rattle.link_meaning.specs.laws.Steps.{has_expr}
 use Rattle.link_meaning.specs.LinkFaults.{LinkInput, HasBytes, IsResolved}
 use Rattle.link_meaning.specs.laws.ReadMembers.{IsRead, members_read}
 use Rattle.link_meaning.specs.laws.PlaceFits.{IsPlaceIn, in-append, of_located, own_entry, entry_there}
@@ -59,11 +61,11 @@ end_is : (r : Reader) → (after_next r).end ≡ r.end
 unfolding after_next
 end_is r = by_end r.ended (first_record r.layout r.left)
   where
-    by_answer : (answer : Result (Record × List ℕ) Flaw) → (Rattle.omf_format.specs.Reading.reader_after r answer).end ≡ r.end
+    by_answer : (answer : Result (Record × List ℕ) Flaw) → (Rattle.omf_format.specs.laws.Steps.reader_after r answer).end ≡ r.end
     by_answer (Ok f) = refl
     by_answer (Err flaw) = refl
 
-    by_end : (b : Bool) (answer : Result (Record × List ℕ) Flaw) → (cond b r (Rattle.omf_format.specs.Reading.reader_after r answer)).end ≡ r.end
+    by_end : (b : Bool) (answer : Result (Record × List ℕ) Flaw) → (cond b r (Rattle.omf_format.specs.laws.Steps.reader_after r answer)).end ≡ r.end
     by_end true answer = refl
     by_end false answer = by_answer answer
 

@@ -9,7 +9,8 @@ use Rattle.link_meaning.specs.First.{IsIn}
 use Rattle.link_meaning.specs.laws.MemberLists.{in_filter, filter_in}
 use Rattle.link_meaning.specs.Member.{Member}
 use Rattle.link_meaning.specs.Search.{FoundDefinition, finds}
-use Rattle.link_meaning.specs.Cycles.{is_equate, equates, names_in, LeadsTo, IsCircular}
+use Rattle.link_meaning.specs.Cycles.{is_equate, equates, LeadsTo, IsCircular}
+use Rattle.link_meaning.specs.laws.Steps.{names_in}
 use Rattle.link_meaning.specs.LinkValues.{EquateAnswer, equate_value, IsTable}
 use Rattle.link_meaning.specs.laws.TableLaws.{in_equates, by_cycles}
 use Rattle.link_meaning.specs.EquateValues.{HasValue, ByOthers, GiveValues, AreApart, TableWithoutCycles}

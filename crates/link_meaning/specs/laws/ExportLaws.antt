@@ -1,5 +1,6 @@
 -- What a list exports can be written as ENTRY records.
 use Rattle.std.proofs.Common.{◌≡◌, ℕ, zero, suc, ◌+◌, ◌-◌, ◌^◌, ◌<◌, ◌≤◌, Bool, true, false, eqb, ltb, List, [], ◌∷◌, ◌++◌, length, map, take, drop, Option, Some, None, Result, Ok, Err, refl, sym, subst, arith, inl, inr}
+use Rattle.link_meaning.specs.laws.Steps.{is_too_long, export_of}
 use Rattle.std.specs.Prelude.{◌&&◌, ◌||◌, cond, slice_get}
 use Rattle.std.specs.List.{flat_map, AllByRecursion}
 use Rattle.std.proofs.lemmas.Bool.{ne_eqb, and_parts, ltb-true, ltb-false}
@@ -27,8 +28,7 @@ use Rattle.link_meaning.specs.Search.{FoundDefinition, entries_from, entries}
 use Rattle.link_meaning.specs.Layout.{load_headers}
 use Rattle.link_meaning.specs.LinkValues.{EquateAnswer, found_value}
 use Rattle.link_meaning.specs.Fitting.{load_header, length_of}
-use Rattle.link_meaning.specs.LinkFaults.{is_too_long}
-use Rattle.link_meaning.specs.LinkWritten.{export_at, export_of, exports}
+use Rattle.link_meaning.specs.LinkWritten.{export_at, exports}
 use Rattle.link_meaning.specs.laws.ReadMembers.{IsRead, read_records}
 
 -- ---- names

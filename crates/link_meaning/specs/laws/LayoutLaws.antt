@@ -5,7 +5,8 @@ use Rattle.std.specs.Int.{next_multiple_of}
 use Rattle.std.proofs.lemmas.Nat.{mul-le, div-add-mod', mod_below}
 use Rattle.std.proofs.Math.Nat.{lt_of_mul-lt-mul_right, mul-mod_left, mod_self, mod-eq_of_lt}
 use Rattle.omf_format.specs.Header.{alignment_of}
-use Rattle.link_meaning.specs.Layout.{IsOffsetAfter, aligned_from, end_from, offset_of, OffsetIsLeast, OneOffset}
+use Rattle.link_meaning.specs.Layout.{IsOffsetAfter, end_from, offset_of, OffsetIsLeast, OneOffset}
+use Rattle.link_meaning.specs.laws.Steps.{aligned_from}
 
 -- two offsets after one end are one
 pub one_offset : OneOffset

@@ -17,7 +17,8 @@ use Rattle.load_meaning.specs.Runtime.{runtime_fault, IsFirstRuntimeFault, OfLoa
 use Rattle.link_meaning.specs.LinkedList.{all_uses, IsLinked}
 use Rattle.link_meaning.specs.laws.LinkedListLaws.{one_linked_list}
 use Rattle.link_meaning.specs.Layout.{load_members, load_headers}
-use Rattle.link_meaning.specs.LinkFaults.{LinkInput, link_cause, segments_fault, rows_in_file, HasFileFault, OfFile, OfSegment, OfDictionary, IsInput, AreInputs, IsProgram, HasUseFault, HasOrgFault, first_spot, HasCountFault, HasLengthFault, Orgs, Count, Lengths, HasLayoutFault, Reading, Objects, Names, Layout, phases, HasPhaseFault, IsFirstResolveFault, IsResolved, IsSetting, AreRuntimes, HasKindFault, Kinds, OfInput, OfRuntime, parts_of, HasPartFault, runtime_cause}
+use Rattle.link_meaning.specs.LinkFaults.{LinkInput, link_cause, segments_fault, rows_in_file, HasFileFault, OfFile, OfSegment, OfDictionary, IsInput, AreInputs, IsProgram, HasUseFault, HasOrgFault, first_spot, HasCountFault, HasLengthFault, Orgs, Count, Lengths, HasLayoutFault, Reading, Objects, Names, Layout, HasPhaseFault, IsFirstResolveFault, IsResolved, IsSetting, AreRuntimes, HasKindFault, Kinds, OfInput, OfRuntime, HasPartFault, runtime_cause}
+use Rattle.link_meaning.specs.laws.Steps.{parts_of, phases}
 
 abbrev some : {A : Type 0} → A → Option A
 some x = Some x

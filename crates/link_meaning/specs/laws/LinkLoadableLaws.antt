@@ -25,7 +25,8 @@ use Rattle.load_meaning.specs.declared.load.LoadFault.{LoadFault}
 use Rattle.load_meaning.specs.declared.table.Target.{Target}
 use Rattle.load_meaning.specs.Cells.{Cell, Byte, Part, Patch, segment_bytes}
 use Rattle.load_meaning.specs.LoadTable.{is_place}
-use Rattle.load_meaning.specs.Loadable.{Fault, is_express, IsLoadSegment, first_in, in_segment, shape_fault, patch_refusal, target_fault, table_flaw, table_fault, later_fault, IsLoadable, IsTarget, pathnames_fault, pathnames_flaw, entry_refusal}
+use Rattle.load_meaning.specs.Loadable.{Fault, IsLoadSegment, first_in, shape_fault, patch_refusal, target_fault, table_flaw, table_fault, later_fault, IsLoadable, IsTarget, pathnames_fault, pathnames_flaw, entry_refusal}
+use Rattle.load_meaning.specs.laws.Steps.{is_express, in_segment}
 use Rattle.load_meaning.specs.laws.LoadableLaws.{loadable_sound}
 use Rattle.load_meaning.specs.WrittenBody.{data_records}
 use Rattle.load_meaning.specs.WrittenFile.{Image, table_fields, pathnames_image, pathnames_fields}
@@ -50,8 +51,9 @@ use Rattle.link_meaning.specs.Fitting.{load_header, length_of}
 use Rattle.link_meaning.specs.LinkedCells.{table_number, items_from, items, targets, linked}
 use Rattle.link_meaning.specs.declared.fault.LinkCause.TheVariants.{Empty}
 use Rattle.link_meaning.specs.LinkFaults as phases
-use Rattle.link_meaning.specs.LinkFaults.{LinkInput, HasBytes, MayHave, AreRuntimes, may_not_stand, no_spot, Reading, Objects, Layout, IsResolved}
-use Rattle.link_meaning.specs.LinkWritten.{load_images, table_images, images, written_file, table_cells, linked_cells, export_at, export_of, exports, exports_for, path_images, path_cells}
+use Rattle.link_meaning.specs.LinkFaults.{LinkInput, HasBytes, MayHave, AreRuntimes, no_spot, Reading, Objects, Layout, IsResolved}
+use Rattle.link_meaning.specs.laws.Steps.{may_not_stand, export_of, exports_for}
+use Rattle.link_meaning.specs.LinkWritten.{load_images, table_images, images, written_file, table_cells, linked_cells, export_at, exports, path_images, path_cells}
 use Rattle.link_meaning.specs.laws.LinkWrittenLaws.{few_loads, standing_loads, short_loads, load_header_fits, are_images}
 use Rattle.link_meaning.specs.EmitFaults.{IsLinkable}
 use Rattle.link_meaning.specs.laws.EmitFaultLaws.{linkable_made, linkable_short, linkable_stands_for}

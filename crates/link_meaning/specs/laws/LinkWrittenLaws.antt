@@ -14,7 +14,7 @@ use Rattle.omf_format.specs.laws.WrittenHeaderLaws.{length-header}
 use Rattle.omf_format.specs.laws.FieldLaws.{length-trim}
 use Rattle.omf_format.specs.File.{Segment, IsFile}
 use Rattle.load_meaning.specs.declared.table.Target.{Target}
-use Rattle.load_meaning.specs.Cells.{Cell, cells}
+use Rattle.load_meaning.specs.Cells.{Cell, cells, byte_under}
 use Rattle.load_meaning.specs.Table.{file_entry}
 use Rattle.load_meaning.specs.WrittenBody.{written_cells, zeros_after}
 use Rattle.load_meaning.specs.laws.StoredLaws.{zeros-le}
@@ -33,11 +33,12 @@ use Rattle.link_meaning.specs.First.{IsIn, HasNone, IsFirst}
 use Rattle.link_meaning.specs.laws.FirstLaws.{none_yet, none_more}
 use Rattle.link_meaning.specs.laws.MemberLists.{in_filter, filter_in}
 use Rattle.link_meaning.specs.Member.{Member, RuntimeFile, setting_in, form_in}
-use Rattle.link_meaning.specs.Layout.{in_load, load_length, distinct, load_names, load_members, lesser_bank, load_segment_kind, least_bank, greatest_align, of_first, load_fields, headers_from, load_headers}
-use Rattle.link_meaning.specs.LinkFaults.{LinkInput, HasBytes, may_not_stand, HasKindFault, HasCountFault, is_too_long, HasLengthFault, Orgs, Count, Lengths, Kinds, HasLayoutFault, Reading, Objects, Names, Layout, IsResolved}
+use Rattle.link_meaning.specs.Layout.{in_load, load_length, distinct, load_names, load_members, load_segment_kind, least_bank, greatest_align, of_first, load_fields, headers_from, load_headers}
+use Rattle.link_meaning.specs.LinkFaults.{LinkInput, HasBytes, HasKindFault, HasCountFault, HasLengthFault, Orgs, Count, Lengths, Kinds, HasLayoutFault, Reading, Objects, Names, Layout, IsResolved}
+use Rattle.link_meaning.specs.laws.Steps.{is_too_long, may_not_stand, exports_for, lesser_bank, image_of}
 use Rattle.link_meaning.specs.LinkValues.{EquateAnswer}
 use Rattle.link_meaning.specs.LinkedCells.{table_number, items, state_after, targets, linked}
-use Rattle.link_meaning.specs.LinkWritten.{byte_under, patches_of_cells, image_of, load_images, table_images, images, written_file, table_cells, linked_cells, HaveCells, AreMade, start, exports, exports_for, path_images, path_cells}
+use Rattle.link_meaning.specs.LinkWritten.{patches_of_cells, load_images, table_images, images, written_file, table_cells, linked_cells, HaveCells, AreMade, start, exports, path_images, path_cells}
 use Rattle.link_meaning.specs.laws.RunCells.{AreRuns, runs_written, runs_stand}
 use Rattle.link_meaning.specs.laws.LinkedRuns.{HasCells, MembersHave, linked_has, AreSoundItems, members_have, AreSized, few_on}
 use Rattle.link_meaning.specs.laws.ReadMembers.{IsRead, members_read, HasHeader, read_header, read_size, read_some}
@@ -191,7 +192,7 @@ load_header_fits list number x each is =
 
 image_fits : (f : HeaderFields) (cs : List Cell) (es : List Record) → AllByRecursion IsExport es → HasHeader f → f.version ≡ 2 → f.seg_num < 2 ^ 16 → length f.name ≤ 255 → f.length ≡ length cs → length cs ≤ 0xFFFFFF → AreRuns cs
     → length (image_text (image_of f cs es)) ≤ 0x1000000 → IsImage (image_of f cs es)
-unfolding image_of image_text
+unfolding image_text
 image_fits f cs es exported header version number name len small runs short =
     let image : Image = record { fields = f; content = map byte_under cs; patches = patches_of_cells cs; exports = es; whole = false } in
     let n = length (image_body image) in
@@ -279,7 +280,6 @@ all-append (x ∷ xs) ys p q = (p.0, all-append xs ys p.1 q)
 -- ---- the cells of what is read
 
 cells_read : (f : HeaderFields) (cs : List Cell) (es : List Record) (s : Segment) → AreRuns cs → IsReadAs (image_of f cs es) s → cells s ≡ cs
-unfolding image_of
 cells_read f cs es s runs is = is.cells' ∙ runs_stand cs runs
 
 loads_read : (list : List Member) (table : List EquateAnswer) (number : ℕ) (xs : List (List ℕ)) (tables : List Image) (last : List (List Cell)) (segments : List Segment) → MembersHave list table

@@ -11,7 +11,8 @@ use Rattle.load_meaning.specs.Cells.{Cell}
 use Rattle.link_meaning.specs.declared.fault.LinkCause.{LinkCause}
 use Rattle.object_meaning.specs.Sizes.{Located, size_at, located_from, place_after, records_with_offsets, body_size}
 use Rattle.link_meaning.specs.Member.{Member}
-use Rattle.link_meaning.specs.Layout.{aligned_from, in_load, end_from, load_length, offset_of}
+use Rattle.link_meaning.specs.Layout.{in_load, end_from, load_length, offset_of}
+use Rattle.link_meaning.specs.laws.Steps.{aligned_from}
 use Rattle.link_meaning.specs.laws.LayoutLaws.{aligned_from-least, alignment-some}
 use Rattle.link_meaning.specs.LinkValues.{EquateAnswer}
 use Rattle.link_meaning.specs.LinkedCells.{Item, LinkState, Made, zeros, items_from, items, cells_before, made, state_after_item, state_from, state_after, member_cells, cells_from, linked, table_number}

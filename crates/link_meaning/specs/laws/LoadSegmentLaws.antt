@@ -1,5 +1,6 @@
 -- The load segments and the table of a linked file, as they are read: each of them passes.
 use Rattle.std.proofs.Common.{Ok, ◌≡◌, ℕ, zero, suc, ◌+◌, ◌-◌, ◌*◌, ◌^◌, ◌<◌, ◌≤◌, Bool, true, false, not, eqb, ltb, List, [], ◌∷◌, ◌++◌, length, map, take, filter, replicate, Option, Some, None, refl, sym, ap, subst, ◌∙◌, arith, inl, inr}
+use Rattle.object_meaning.specs.Sizes.{most_bytes}
 use Rattle.std.specs.Prelude.{◌⊎◌, ◌&&◌, ◌||◌, cond, slice_get, option_map}
 use Rattle.std.specs.List.{AllByRecursion, list_any}
 use Rattle.std.specs.Option.{option_map_or}
@@ -22,8 +23,9 @@ use Rattle.load_meaning.specs.Cells.{Cell, Byte, Part, Patch, segment_bytes, pat
 use Rattle.load_meaning.specs.Table.{FitsEntry, IsTableOf, file_entry, table_bytes}
 use Rattle.load_meaning.specs.laws.TableLaws.{table_laid_out}
 use Rattle.load_meaning.specs.laws.WrittenTableLaws.{length-table_bytes}
-use Rattle.load_meaning.specs.LoadTable.{is_table, entry_count, table_checks}
-use Rattle.load_meaning.specs.Loadable.{Fault, is_express, express_name, segment_refusal, record_refusal, IsLoadSegment, shape_fault, is_kept, is_dynamic_at, patch_refusal, target_fault, table_flaw, table_fault, patch_list, IsTarget, pathnames_fault, pathnames_flaw, entry_refusal}
+use Rattle.load_meaning.specs.LoadTable.{is_table, entry_count}
+use Rattle.load_meaning.specs.laws.Steps.{table_checks, express_name, is_express, is_kept, is_dynamic_at}
+use Rattle.load_meaning.specs.Loadable.{Fault, segment_refusal, record_refusal, IsLoadSegment, shape_fault, patch_refusal, target_fault, table_flaw, table_fault, patch_list, IsTarget, pathnames_fault, pathnames_flaw, entry_refusal}
 use Rattle.load_meaning.specs.laws.LayingLaws.{Has, get-front, get-following}
 use Rattle.load_meaning.specs.laws.StoredLaws.{written_is, length-data}
 use Rattle.load_meaning.specs.WrittenBody.{with_stored}
@@ -40,10 +42,9 @@ use Rattle.link_meaning.specs.Layout.{in_load, distinct, load_names, number_in, 
 use Rattle.link_meaning.specs.LinkValues.{EquateAnswer, found_value}
 use Rattle.link_meaning.specs.Fitting.{load_header, is_dynamic_load, length_of}
 use Rattle.link_meaning.specs.LinkedCells.{table_number, targets, linked}
-use Rattle.link_meaning.specs.LinkFaults.{may_not_stand, is_too_long}
-use Rattle.link_meaning.specs.LinkWritten.{run_length, patches_from, patches_of_cells, image_of, load_images, table_images, images, linked_cells, HaveCells, exports, path_images}
+use Rattle.link_meaning.specs.laws.Steps.{is_too_long, may_not_stand, image_of}
+use Rattle.link_meaning.specs.LinkWritten.{run_length, patches_from, patches_of_cells, load_images, table_images, images, linked_cells, HaveCells, exports, path_images}
 use Rattle.link_meaning.specs.laws.LinkWrittenLaws.{short_length, some_members, first_has, cleared-form}
-use Rattle.link_meaning.specs.EmitFaults.{most_bytes}
 use Rattle.link_meaning.specs.laws.EmitFaultLaws.{linkable_short, linkable_stands_for}
 use Rattle.link_meaning.specs.LinkLoadable.{plain_fields, table_headers, linked_headers, StandFor, IsLoad, Reaches, OfLoad, OfTable, Names, IsCalled, is_skipped_load, StandsForLinkedCells, IsReadWhole, IsNamed, IsCalledHere, IsCalledThere, path_headers}
 use Rattle.link_meaning.specs.laws.Reached.{MembersReach}
@@ -56,7 +57,7 @@ use Rattle.link_meaning.specs.laws.WrittenSegments.{IsWritten, length_written, b
 headers_read : (list : List Member) (table : List EquateAnswer) (number : ℕ) (xs : List (List ℕ)) (tables : List Image) (last : List HeaderFields) (segments : List Segment)
     → ((rest : List Segment) → AreReadAs tables rest → map (λ (s : Segment). plain_fields s.fields) rest ≡ last) → AreReadAs (load_images list table number xs ++ tables) segments
     → map (λ (s : Segment). plain_fields s.fields) segments ≡ headers_from list number xs ++ last
-unfolding image_of load_fields
+unfolding load_fields
 headers_read list table number [] tables last segments rest are = rest segments are
 headers_read list table number (x ∷ xs) tables last [] rest are = absurd are
 headers_read list table number (x ∷ xs) tables last (s ∷ segments) rest are =
@@ -433,19 +434,15 @@ AllPass segments number (s ∷ more) = Passes segments number s × AllPass segme
 
 -- the image of a load segment
 fields_of_image : (f : HeaderFields) (cs : List Cell) (es : List Record) → (image_of f cs es).fields ≡ f
-unfolding image_of
 fields_of_image f cs es = refl
 
 patches_of_image : (f : HeaderFields) (cs : List Cell) (es : List Record) → (image_of f cs es).patches ≡ patches_of_cells cs
-unfolding image_of
 patches_of_image f cs es = refl
 
 part_image : (f : HeaderFields) (cs : List Cell) (es : List Record) → (image_of f cs es).whole ≡ false
-unfolding image_of
 part_image f cs es = refl
 
 exports_of_image : (f : HeaderFields) (cs : List Cell) (es : List Record) → (image_of f cs es).exports ≡ es
-unfolding image_of
 exports_of_image f cs es = refl
 
 number_of_load : (list : List Member) (number : ℕ) (x : List ℕ) → (load_fields list number x).seg_num ≡ number

@@ -27,8 +27,9 @@ use Rattle.link_meaning.specs.Member.{Member, LinkSetting}
 use Rattle.link_meaning.specs.Layout.{load_headers}
 use Rattle.link_meaning.specs.LinkValues.{EquateAnswer, value_in}
 use Rattle.link_meaning.specs.Fitting as fitting
-use Rattle.link_meaning.specs.Fitting.{PatchPlace, Fit, Number, Place, number_fit, place_fit, distance_fit, or_does_not_fit, is_dynamic_load, is_call, target_of, has_room_for, call_fit, fit_value, parts, entry_of, fit_cells, targets_after, value_or_cause, is_far, length_there, may_call}
-use Rattle.link_meaning.specs.LinkedCells.{Item, LinkState, Made, zeros, made_by, table_number, frame_of, cells_before}
+use Rattle.link_meaning.specs.Fitting.{PatchPlace, Fit, Number, Place, place_fit, is_dynamic_load, call_fit, fit_value, parts, fit_cells, targets_after, value_or_cause}
+use Rattle.link_meaning.specs.laws.Steps.{distance_fit, length_there, has_room_for, is_far, target_of, number_fit, entry_of, may_call, or_does_not_fit, frame_of, is_call}
+use Rattle.link_meaning.specs.LinkedCells.{Item, LinkState, Made, zeros, made_by, table_number, cells_before}
 use Rattle.link_meaning.specs.laws.RunCells.{Piece, One, Whole, cells_of, IsPiece, AreRuns}
 
 -- ---- bytes and whole places

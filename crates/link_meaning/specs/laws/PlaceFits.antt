@@ -16,9 +16,10 @@ use Rattle.object_meaning.specs.Sizes.{Located, size_at, located_from, records_w
 use Rattle.link_meaning.specs.Member.{Member}
 use Rattle.object_meaning.specs.Defines.{Definition, outer_scope, title_of, defined_by, defined_in}
 use Rattle.link_meaning.specs.Search.{FoundDefinition, entries_from, entries}
-use Rattle.link_meaning.specs.Layout.{in_load, aligned_from, end_from, load_length, offset_of, distinct, load_names, number_in, load_of, load_fields, headers_from, load_headers}
+use Rattle.link_meaning.specs.Layout.{in_load, end_from, load_length, offset_of, distinct, load_names, number_in, load_of, load_fields, headers_from, load_headers}
 use Rattle.link_meaning.specs.laws.LayoutLaws.{aligned_from-least, alignment-some}
-use Rattle.link_meaning.specs.LinkFaults.{LinkInput, is_too_long, IsResolved}
+use Rattle.link_meaning.specs.LinkFaults.{LinkInput, IsResolved}
+use Rattle.link_meaning.specs.laws.Steps.{is_too_long, aligned_from}
 use Rattle.link_meaning.specs.LinkValues.{place_value}
 use Rattle.link_meaning.specs.laws.MadeLaws.{FitsPatch}
 use Rattle.link_meaning.specs.laws.LinkWrittenLaws.{few_loads, short_loads, short_length}

@@ -10,14 +10,17 @@ use Rattle.omf_format.specs.declared.value.ValueFault.TheVariants.{DivideByZero,
 use Rattle.omf_format.specs.Field.{◌>>=◌, is_shift}
 use Rattle.omf_format.specs.laws.FieldLaws.{bind_ok}
 use Rattle.omf_format.specs.Expression.{Term, Operator, Location, Constant, Named, Offset, Tree, Leaf, Unary, Binary}
-use Rattle.omf_format.specs.Value.{wrapped_to_32_bits, signed, is_unshifted, divides, number_of_two, known_or_fault, operand_value, apply_one, apply_two, size_of, value}
+use Rattle.omf_format.specs.Value.{wrapped_to_32_bits, signed, is_unshifted, divides, number_of_two, operand_value, apply_one, apply_two, size_of, value}
+use Rattle.omf_format.specs.laws.Steps.{known_or_fault}
 use Rattle.link_meaning.specs.First.{IsIn}
 use Rattle.link_meaning.specs.laws.MemberLists.{in_filter, filter_in}
 use Rattle.link_meaning.specs.Member.{Member, setting_in}
-use Rattle.object_meaning.specs.Terms.{asks_value, asked_by, asked_in, tree_in}
+use Rattle.object_meaning.specs.Terms.{asks_value, asked_by, tree_in}
+use Rattle.object_meaning.specs.laws.Steps.{asked_in}
 use Rattle.link_meaning.specs.Search.{FoundDefinition, entries, finds, outside}
-use Rattle.link_meaning.specs.Cycles.{has_expr, is_equate, equates, names_in, LeadsTo}
-use Rattle.link_meaning.specs.LinkValues.{EquateAnswer, value_of_definition, place_value, found_value, if_ok, label_value, member_environment, value_or_equate_fault, tree_value, value_in, IsTable, outside_value}
+use Rattle.link_meaning.specs.Cycles.{is_equate, equates, LeadsTo}
+use Rattle.link_meaning.specs.LinkValues.{EquateAnswer, value_of_definition, place_value, found_value, label_value, member_environment, value_or_equate_fault, value_in, IsTable, outside_value}
+use Rattle.link_meaning.specs.laws.Steps.{if_ok, tree_value, has_expr, names_in}
 use Rattle.link_meaning.specs.laws.TableLaws.{in_entries, reports_of, by_cycles, in_found, is_outside}
 use Rattle.link_meaning.specs.laws.MadeLaws.{FitsPlace}
 use Rattle.link_meaning.specs.laws.PlaceFits.{IsPlaceIn, entry_there}

@@ -13,10 +13,11 @@ use Rattle.std.proofs.lemmas.Bool.{eq-eqb, eqb-true}
 use Rattle.link_meaning.specs.laws.MemberLists.{filter_in}
 use Rattle.link_meaning.specs.declared.search.SearchStep.{SearchStep}
 use Rattle.link_meaning.specs.declared.search.SearchStep.TheVariants.{Within, OfUnit, Everyone}
-use Rattle.link_meaning.specs.Search.{FoundDefinition, step_for, is_step, is_seen_by_step, or_else, first_step_found, outer_steps, steps_of, used_data, entries_from, entries, with_this_name, finds, finds_data, data_titles, finds_inside, outside}
+use Rattle.link_meaning.specs.Search.{FoundDefinition, step_for, is_step, or_else, first_step_found, outer_steps, used_data, entries_from, entries, with_this_name, finds, finds_data, data_titles, outside}
 use Rattle.link_meaning.specs.declared.search.SearchKind.TheVariants.{Data, One}
 use Rattle.link_meaning.specs.Uses.{Use}
-use Rattle.link_meaning.specs.LinkedList.{has_title, counts_for, is_of_member, first_offer, row_for}
+use Rattle.link_meaning.specs.LinkedList.{has_title, counts_for, first_offer, row_for}
+use Rattle.link_meaning.specs.laws.Steps.{is_of_member, steps_of, is_seen_by_step, finds_inside}
 
 -- nothing decided: no step has anything
 abbrev pub AllNone : List SearchStep → List FoundDefinition → Type 0
@@ -167,7 +168,7 @@ none_first (x ∷ xs) ys e = let clash : x ∷ xs ≡ [] = e in absurd cc
 -- an ordinary use that finds nothing has no row whose member is in the list
 pub fresh_name : (offers : List Offer) (list : List Member) (place : ℕ) (u m : Member) (name : List ℕ) (at : ℕ) → AreSound offers
     → finds list place u name ≡ [] → row_for offers u (record { want = One; name = name; at = at }) ≡ Some m → IsIn list m → ⊥
-unfolding finds finds_inside with_this_name entries
+unfolding finds  with_this_name entries
 fresh_name offers list place u m name at sound none row there =
     let r = row_is offers u (record { want = One; name = name; at = at }) m row in
     let d = sound r.offer r.among in

@@ -23,8 +23,9 @@ use Rattle.link_meaning.specs.declared.form.LinkForm.{LinkForm}
 use Rattle.link_meaning.specs.Layout.{in_load, load_names, number_in, load_of, load_headers, offset_of}
 use Rattle.link_meaning.specs.LinkValues.{EquateAnswer, value_in}
 use Rattle.link_meaning.specs.Fitting as fitting
-use Rattle.link_meaning.specs.Fitting.{PatchPlace, Fit, Number, Place, number_fit, place_fit, distance_fit, or_does_not_fit, is_dynamic_load, length_of, is_call, target_of, has_room_for, call_fit, fit_value, parts, entry_of, fit_cells, targets_after, value_or_cause, is_far, length_there, length_outside, may_call}
-use Rattle.link_meaning.specs.LinkedCells.{Item, LinkState, Made, zeros, made_by, made, table_number, frame_of, items_from, items, cells_before, state_after_item, state_from, state_after, targets, member_cells, cells_from, linked}
+use Rattle.link_meaning.specs.Fitting.{PatchPlace, Fit, Number, Place, place_fit, is_dynamic_load, length_of, call_fit, fit_value, parts, fit_cells, targets_after, value_or_cause, length_outside}
+use Rattle.link_meaning.specs.laws.Steps.{distance_fit, length_there, has_room_for, is_far, target_of, number_fit, entry_of, may_call, or_does_not_fit, frame_of, is_call}
+use Rattle.link_meaning.specs.LinkedCells.{Item, LinkState, Made, zeros, made_by, made, table_number, items_from, items, cells_before, state_after_item, state_from, state_after, targets, member_cells, cells_from, linked}
 use Rattle.link_meaning.specs.LinkWritten.{AreMade, start}
 use Rattle.link_meaning.specs.LinkLoadable.{IsLoad, Reaches, OfLoad, OfTable, Names, IsCalled, IsNamed, IsCalledHere, IsCalledThere}
 use Rattle.link_meaning.specs.laws.MadeLaws.{FitsPlace, okay, one_made, value_ok, own_file}

@@ -24,10 +24,11 @@ use Rattle.object_meaning.specs.Sizes.{body_size}
 use Rattle.link_meaning.specs.Member.{OfferedRow, Input, Member, is_library, members_from, objects_from, objects, Offer, offer_of, offers_from, library_offers, LinkSetting}
 use Rattle.link_meaning.specs.Uses.{Use}
 use Rattle.link_meaning.specs.Search.{FoundDefinition}
-use Rattle.link_meaning.specs.LinkedList.{first_offer, row_for, unless_found, wanted_by, PlacedUse, all_uses, wanted, Follow}
+use Rattle.link_meaning.specs.LinkedList.{first_offer, row_for, wanted_by, PlacedUse, all_uses, wanted, Follow}
 use Rattle.load_meaning.specs.Pathnames.{long_bytes}
 use Rattle.link_meaning.specs.Dictionary.{first_pair, or_false, numbered_from, file_numbers, names_from, row_at, rows_from, rows_in, rows_of_records, rows_of}
-use Rattle.link_meaning.specs.LinkFaults.{LinkInput, HasBytes, type_fault, with_place, rows_in_file, segment_fault, segments_fault, AreInputs, IsProgram}
+use Rattle.link_meaning.specs.LinkFaults.{LinkInput, HasBytes, type_fault, rows_in_file, segment_fault, segments_fault, AreInputs, IsProgram}
+use Rattle.link_meaning.specs.laws.Steps.{with_place, unless_found}
 
 -- ---- lists
 

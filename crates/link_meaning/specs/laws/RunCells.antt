@@ -9,10 +9,11 @@ use Rattle.std.proofs.lemmas.Bool.Decides.{Decides-int_eq}
 use Rattle.std.proofs.lemmas.List.{take_at, drop_at, length-append, length-map, map-append}
 use Rattle.std.proofs.lemmas.List.Concat.{flat_map-cons}
 use Rattle.omf_format.specs.Field.{is_count, is_shift}
-use Rattle.load_meaning.specs.Cells.{Cell, Byte, Part, Patch, parts_from, with_patch, patched_cells}
+use Rattle.load_meaning.specs.Cells.{Cell, Byte, Part, Patch, parts_from, patched_cells, byte_under}
+use Rattle.load_meaning.specs.laws.Steps.{with_patch}
 use Rattle.load_meaning.specs.WrittenBody.{AreWritten, written_cells}
 use Rattle.link_meaning.specs.Fitting.{parts}
-use Rattle.link_meaning.specs.LinkWritten.{run_length, patch_at, patches_from, patches_of_cells, byte_under}
+use Rattle.link_meaning.specs.LinkWritten.{run_length, patch_at, patches_from, patches_of_cells}
 
 -- a byte, or the bytes of a place
 pub data Piece : Type 0 where

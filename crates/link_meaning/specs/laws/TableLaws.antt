@@ -11,18 +11,21 @@ use Rattle.omf_format.specs.declared.value.ValueFault.{ValueFault}
 use Rattle.omf_format.specs.declared.value.ValueFault.TheVariants.{DivideByZero, NotRelocatable, Unknown}
 use Rattle.omf_format.specs.Field.{◌>>=◌}
 use Rattle.omf_format.specs.Expression.{Term, Operator, Location, Constant, Named, Offset, Tree, Leaf, Unary, Binary}
-use Rattle.omf_format.specs.Value.{known_or_fault, operand_value, apply_one, apply_two, size_of, value}
+use Rattle.omf_format.specs.Value.{operand_value, apply_one, apply_two, size_of, value}
+use Rattle.omf_format.specs.laws.Steps.{known_or_fault}
 use Rattle.load_meaning.specs.Exports.{Export, exports_of}
 use Rattle.omf_format.specs.File.{Segment, segment_at}
 use Rattle.object_meaning.specs.Defines.{ForAll}
 use Rattle.link_meaning.specs.First.{IsIn}
 use Rattle.link_meaning.specs.laws.MemberLists.{in_filter, filter_in}
 use Rattle.link_meaning.specs.Member.{Member, RuntimeFile, LinkSetting, setting_in, without_runtimes}
-use Rattle.object_meaning.specs.Terms.{asks_value, asked_by, asked_in, term_at, tree_in}
+use Rattle.object_meaning.specs.Terms.{asks_value, asked_by, term_at, tree_in}
+use Rattle.object_meaning.specs.laws.Steps.{asked_in}
 use Rattle.link_meaning.specs.declared.search.SearchStep.{SearchStep}
-use Rattle.link_meaning.specs.Search.{FoundDefinition, is_seen_by_step, or_else, first_step_found, steps_of, with_this_name, entries, finds, finds_inside, outside_of, outside_from, outside}
-use Rattle.link_meaning.specs.Cycles.{is_equate, equates, names_in, LeadsTo, Path, Last, Through, IsCircular}
-use Rattle.link_meaning.specs.LinkValues.{EquateAnswer, value_of_definition, found_value, if_ok, label_value, member_environment, fault_found, fault_named, value_or_equate_fault, tree_value, value_in, equate_value, AreReported, IsTable}
+use Rattle.link_meaning.specs.Search.{FoundDefinition, or_else, first_step_found, with_this_name, entries, finds, outside_of, outside_from, outside}
+use Rattle.link_meaning.specs.Cycles.{is_equate, equates, LeadsTo, Path, Last, Through, IsCircular}
+use Rattle.link_meaning.specs.LinkValues.{EquateAnswer, value_of_definition, found_value, label_value, member_environment, fault_named, value_or_equate_fault, value_in, equate_value, AreReported, IsTable}
+use Rattle.link_meaning.specs.laws.Steps.{if_ok, fault_found, tree_value, steps_of, is_seen_by_step, names_in}
 
 -- ---- members of lists
 
@@ -40,7 +43,7 @@ in_decided (s ∷ steps) all f is = settle (in_either (filter (is_seen_by_step s
 
 -- what a name finds is an entry, or a name of a run-time library file
 pub in_found : (list : List Member) (place : ℕ) (m : Member) (name : List ℕ) (f : FoundDefinition) → IsIn (finds list place m name) f → IsIn (entries list) f ⊎ IsIn (outside (setting_in list)) f
-unfolding finds finds_inside with_this_name
+unfolding finds  with_this_name
 in_found list place m name f is = elim (in_either (first_step_found (steps_of list place m) (with_this_name name (entries list))) (with_this_name name (outside (setting_in list))) f is) [
   | inl h ↦ inl (in_filter _ (entries list) f (in_decided (steps_of list place m) (with_this_name name (entries list)) f h))
   | inr h ↦ inr (in_filter _ (outside (setting_in list)) f h)
@@ -87,7 +90,7 @@ is_outside setting f is = outside_all 2 setting.runtimes f is
 pub in_entries : (list : List Member) (place : ℕ) (m : Member) (name : List ℕ) (f : FoundDefinition) → is_equate f ≡ true → IsIn (finds list place m name) f → IsIn (entries list) f
 in_entries list place m name f equate is = elim (in_found list place m name f is) [
   | inl h ↦ h
-  | inr h ↦ absurd (no_equate (sym (ap Rattle.link_meaning.specs.Cycles.has_expr (is_outside (setting_in list) f h).place) ∙ equate))
+  | inr h ↦ absurd (no_equate (sym (ap Rattle.link_meaning.specs.laws.Steps.has_expr (is_outside (setting_in list) f h).place) ∙ equate))
 ]
   where
     no_equate : false ≡ true → ⊥
@@ -294,7 +297,7 @@ found_same : (list : List Member) (a b : List EquateAnswer) (e f : FoundDefiniti
     → ((g : FoundDefinition) → LeadsTo list e g → value_of_definition a g.place g.definition.at ≡ value_of_definition b g.place g.definition.at) → found_value list a f ≡ found_value list b f
 found_same list a b e f name asked found go = by_test (is_equate f) refl
   where
-    no_expr : (x : Option (List ℕ)) (p r s : Result Value ValueFault) → Rattle.link_meaning.specs.Cycles.has_expr x ≡ false
+    no_expr : (x : Option (List ℕ)) (p r s : Result Value ValueFault) → Rattle.link_meaning.specs.laws.Steps.has_expr x ≡ false
         → elim x as (λ y. Result Value ValueFault) [ None ↦ p | Some text ↦ r ] ≡ elim x as (λ y. Result Value ValueFault) [ None ↦ p | Some text ↦ s ]
     no_expr None p r s is = refl
     no_expr (Some text) p r s is = let clash : true ≡ false = is in absurd cc

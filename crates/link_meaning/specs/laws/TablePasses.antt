@@ -14,7 +14,8 @@ use Rattle.omf_format.specs.File.{Segment, segment_at}
 use Rattle.load_meaning.specs.declared.table.Target.{Target}
 use Rattle.load_meaning.specs.Table.{IsEntryAt, IsTableOf, entry_start, file_entry}
 use Rattle.load_meaning.specs.laws.TableLaws.{number_front}
-use Rattle.load_meaning.specs.LoadTable.{is_place, is_called, Check, zero_checks, is_call, entry_checks, entries_checks, table_checks, is_file_number}
+use Rattle.load_meaning.specs.LoadTable.{is_place, Check, zero_checks, is_call, entries_checks}
+use Rattle.load_meaning.specs.laws.Steps.{is_called, is_file_number, table_checks, entry_checks}
 use Rattle.load_meaning.specs.Loadable.{IsTarget}
 
 -- ---- lists of checks

@@ -13,14 +13,15 @@ use Rattle.omf_format.specs.File.{Segment, IsSegment, AreSegments, IsFile}
 use Rattle.load_meaning.specs.declared.load.LoadCause.{LoadCause}
 use Rattle.load_meaning.specs.Cells.{Patch, segment_bytes, patches_in, patches_of}
 use Rattle.load_meaning.specs.laws.CellLaws.{patches-cons}
-use Rattle.load_meaning.specs.Loadable.{Fault, record_refusal, patch_refusal, first_refusal, entry_refusal, target_refusal, first_target_fault, target_fault, patch_list}
+use Rattle.load_meaning.specs.Loadable.{Fault, record_refusal, patch_refusal, first_refusal, entry_refusal, first_target_fault, target_fault, patch_list}
 use Rattle.omf_format.specs.Body.{body_bytes}
 use Rattle.load_meaning.specs.laws.ExportLaws.{exports_content, exports_patches}
 use Rattle.object_meaning.specs.laws.RunLaws.{placed, flat-placed}
 use Rattle.load_meaning.specs.laws.LayingLaws.{Has}
-use Rattle.load_meaning.specs.WrittenBody.{is_own, is_short, lone_record, patches_stored_alone, of_form, super_records, with_stored, supers_from, data_records, written_data, body_records, HasBody}
+use Rattle.load_meaning.specs.WrittenBody.{is_own, is_short, lone_record, of_form, super_records, with_stored, supers_from, data_records, written_data, body_records, HasBody}
+use Rattle.load_meaning.specs.laws.Steps.{patches_stored_alone, image_records, target_refusal}
 use Rattle.load_meaning.specs.laws.WrittenBodyLaws.{without, without_places, data_content, data_patches, segment_has, stands, patches_are, from_records, HasRecords}
-use Rattle.load_meaning.specs.WrittenFile.{Image, image_body, image_fields, image_text, file_text, IsImage, IsReadAs, AreReadAs, image_records, IsExport}
+use Rattle.load_meaning.specs.WrittenFile.{Image, image_body, image_fields, image_text, file_text, IsImage, IsReadAs, AreReadAs, IsExport}
 use Rattle.load_meaning.specs.laws.WrittenFileLaws.{has_image}
 use Rattle.link_meaning.specs.laws.Reached.{all-both}
 
@@ -185,7 +186,6 @@ length_written image s is = ap (λ (f : HeaderFields). f.length) is.read.fields 
 
 -- the records of an image that isn't whole
 part_records : (image : Image) → image.whole ≡ false → image_records image ≡ body_records image.fields.seg_num image.content image.patches ++ image.exports
-unfolding image_records
 part_records image e = ap (λ (b : Bool). cond b (data_records image.content) (body_records image.fields.seg_num image.content image.patches) ++ image.exports) e
 
 pub has_of : (image : Image) (s : Segment) → image.whole ≡ false → IsWritten image s → HasRecords image.fields.seg_num image.content image.patches s
@@ -206,7 +206,6 @@ patches_written image s e is p h =
 -- its records are those of load files
 pub records_written : (image : Image) (segments : List Segment) (s : Segment) → IsWritten image s → AllByRecursion (λ r. entry_refusal segments r ≡ None) image.exports
     → AllByRecursion (λ (found : ℕ × Record). IsAllowedIn segments found.1) s.records
-unfolding image_records
 records_written image segments s is names =
     subst (AllByRecursion (λ (found : ℕ × Record). IsAllowedIn segments found.1)) (sym is.records)
     (placed_allowed segments is.end (image_records image)
@@ -243,7 +242,6 @@ records_written image segments s is names =
 -- ---- an image that keeps its zeros
 
 whole_records : (image : Image) → image.whole ≡ true → image_records image ≡ data_records image.content ++ image.exports
-unfolding image_records
 whole_records image e = ap (λ (b : Bool). cond b (data_records image.content) (body_records image.fields.seg_num image.content image.patches) ++ image.exports) e
 
 pub records_whole : (image : Image) (s : Segment) → image.whole ≡ true → (is : IsWritten image s) → s.records ≡ placed is.end (data_records image.content ++ image.exports)

@@ -231,7 +231,7 @@ shaped said short s =
           (subst (λ (o : List ℕ). IsOfAssembler s.label (operation_or_anop o)) (sym laid.operation_is) s.assembles);
     } in
     record {
-      no_end = subst HasNoEnd (sym s.text) (whole_all (λ byte. Rattle.omf_format.specs.Lines.is_end_byte byte ≡ false) refl s.label s.operation s.operand (ends s.label s.label_clean) (ends s.operation s.operation_clean) (ends s.operand s.operand_clean'));
+      no_end = subst HasNoEnd (sym s.text) (whole_all (λ byte. Rattle.omf_format.specs.laws.Steps.is_end_byte byte ≡ false) refl s.label s.operation s.operand (ends s.label s.label_clean) (ends s.operation s.operation_clean) (ends s.operand s.operand_clean'));
       plain = subst IsPlainLine (sym s.text) plain;
     }
 

@@ -13,9 +13,10 @@ use Rattle.omf_format.specs.Header.{is_dynamic, is_skipped, first_of}
 use Rattle.omf_format.specs.Record.{Record}
 use Rattle.omf_format.specs.File.{Segment, IsSegment, AreSegments, segment_at}
 use Rattle.omf_format.specs.Body.{body_bytes}
-use Rattle.load_meaning.specs.Cells.{Cell, Byte, Patch, parts_from, with_patch, segment_bytes, patched_cells, patches_in, patches_of, cells}
+use Rattle.load_meaning.specs.Cells.{Cell, Byte, Patch, parts_from, segment_bytes, patched_cells, patches_in, patches_of, cells}
+use Rattle.load_meaning.specs.laws.Steps.{with_patch, is_kept, is_dynamic_at, in_segment, target_refusal}
 use Rattle.load_meaning.specs.laws.LayingLaws.{laid, Fit, length-laid}
-use Rattle.load_meaning.specs.Loadable.{Fault, IsLoadSegment, in_segment, first_in, shape_fault, is_kept, is_dynamic_at, patch_refusal, first_refusal, entry_refusal, target_refusal, first_target_fault, target_fault, pathnames_flaw, IsPathnames, pathnames_fault, table_fault, later_fault, IsLoadable, patch_list, IsPatch, IsSoundSegment}
+use Rattle.load_meaning.specs.Loadable.{Fault, IsLoadSegment, first_in, shape_fault, patch_refusal, first_refusal, entry_refusal, first_target_fault, target_fault, pathnames_flaw, IsPathnames, pathnames_fault, table_fault, later_fault, IsLoadable, patch_list, IsPatch, IsSoundSegment}
 use Rattle.load_meaning.specs.Pathnames.{ArePaths, has_pathnames, most_paths, paths_in, paths_of, rows_flaw, is_one_long}
 use Rattle.load_meaning.specs.laws.PathLaws.{paths_there}
 use Rattle.load_meaning.specs.laws.LoadTableLaws.{first_of-none, table_is, table_first}

@@ -11,7 +11,8 @@ use Rattle.omf_format.specs.Record.{Record}
 use Rattle.omf_format.specs.Reading.{Reader, next_answer, after_next, HandsOut}
 use Rattle.omf_format.specs.File.{Segment, body_reader, IsHeader, IsSegment, AreSegments, IsFile, to_file_header_fault, to_file_record_fault}
 use Rattle.omf_format.specs.laws.FileLaws.{segment_same, file_same, open_at_some}
-use Rattle.load_meaning.specs.Loadable.{Fault, segment_refusal, record_refusal, as_load, front_fault, answer_fault, IsLoadSegment, HasReadFault, OfFront, OfRecord, in_segment, later_fault, IsLoadable, IsFirstLoadFault, IsEmpty, OfReading, OfSegments}
+use Rattle.load_meaning.specs.Loadable.{Fault, segment_refusal, record_refusal, as_load, front_fault, answer_fault, IsLoadSegment, HasReadFault, OfFront, OfRecord, later_fault, IsLoadable, IsFirstLoadFault, IsEmpty, OfReading, OfSegments}
+use Rattle.load_meaning.specs.laws.Steps.{in_segment}
 
 abbrev Found : Type 0
 Found = ℕ × Record

@@ -9,8 +9,9 @@ use Rattle.std.proofs.lemmas.Option.{slice_get_past, slice_get-map, slice_get-ge
 use Rattle.byteorder.specs.Endian.{little_bytes, little_number}
 use Rattle.byteorder.specs.Numbers.{little_number-reads_back}
 use Rattle.omf_format.specs.Number.{number_at}
-use Rattle.load_meaning.specs.Cells.{Cell, Byte, Part, Patch, parts_from, with_patch, patched_cells}
-use Rattle.load_meaning.specs.WrittenBody.{IsWrittenPatch, AreWritten, super_form, stored_as, stored_bytes, with_stored, is_zero, zeros_after, written_cells, written_data}
+use Rattle.load_meaning.specs.Cells.{Cell, Byte, Part, Patch, parts_from, patched_cells}
+use Rattle.load_meaning.specs.laws.Steps.{with_patch, stored_as, is_zero, stored_bytes}
+use Rattle.load_meaning.specs.WrittenBody.{IsWrittenPatch, AreWritten, super_form, with_stored, zeros_after, written_cells, written_data}
 use Rattle.load_meaning.specs.laws.LayingLaws.{get-front, get-following, get-take, get-drop, same_list, Covers, Has, Missed, Found, look, laid, Fit, length-laid, get-missed, get-found, Apart}
 use Rattle.load_meaning.specs.laws.FormLaws.{Holds, length-stored}
 

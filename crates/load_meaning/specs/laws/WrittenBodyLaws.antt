@@ -19,7 +19,8 @@ use Rattle.load_meaning.specs.laws.ExportLaws.{exports_content, exports_patches}
 use Rattle.load_meaning.specs.WrittenFile.{IsExport}
 use Rattle.load_meaning.specs.Cells.{Byte, Patch, segment_bytes, patched_cells, super_patch, patches_in, patches_of, cells}
 use Rattle.load_meaning.specs.WrittenPages.{pages_of, pages_text, Rise}
-use Rattle.load_meaning.specs.WrittenBody.{IsWrittenPatch, AreWritten, is_own, is_short, super_form, lone_record, with_stored, zeros_after, written_cells, written_data, data_records, is_form, has_none, of_form, patches_stored_alone, super_records, supers_from, body_records, body_text, HasBody}
+use Rattle.load_meaning.specs.WrittenBody.{IsWrittenPatch, AreWritten, is_own, is_short, super_form, lone_record, with_stored, zeros_after, written_cells, written_data, data_records, of_form, super_records, supers_from, body_records, body_text, HasBody}
+use Rattle.load_meaning.specs.laws.Steps.{is_form, has_none, patches_stored_alone}
 use Rattle.load_meaning.specs.laws.PageLaws.{read_again}
 use Rattle.load_meaning.specs.laws.LayingLaws.{Has, Missed, same_laid}
 use Rattle.load_meaning.specs.laws.FormLaws.{IsForm, Own2, Own3, Other3, Named, NamedBank, form_is, Holds, super_gives, lone_gives, lone_fits, lone_content}

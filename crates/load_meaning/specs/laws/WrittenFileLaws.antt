@@ -18,7 +18,8 @@ use Rattle.load_meaning.specs.laws.ExportLaws.{exports_fit, exports_content, exp
 use Rattle.load_meaning.specs.WrittenBody.{body_records, HasBody, data_records, written_cells}
 use Rattle.object_meaning.specs.laws.RunLaws.{reader_at, text, placed, runs, IsBodyRecord, flat-placed}
 use Rattle.load_meaning.specs.laws.WrittenBodyLaws.{records_fit, cells_are, without, without_places, data_content, data_patches, reader_is}
-use Rattle.load_meaning.specs.WrittenFile.{Image, image_body, image_fields, image_text, file_text, IsImage, IsReadAs, AreReadAs, image_records, IsExport}
+use Rattle.load_meaning.specs.WrittenFile.{Image, image_body, image_fields, image_text, file_text, IsImage, IsReadAs, AreReadAs, IsExport}
+use Rattle.load_meaning.specs.laws.Steps.{image_records}
 
 -- ---- where a segment is read from
 
@@ -64,7 +65,6 @@ body_is image = refl
 
 -- the records have spellings
 pub image_fit : (image : Image) → IsImage image → AllByRecursion IsBodyRecord (image_records image)
-unfolding image_records
 image_fit image is = all-append (cond image.whole (data_records image.content) (body_records image.fields.seg_num image.content image.patches)) image.exports (by_kind image.whole) (exports_fit image.exports is.exports')
   where
     data_fit : (bytes : List ℕ) → length bytes ≤ 0xFFFFFF → AllByRecursion IsBodyRecord (data_records bytes)
@@ -133,7 +133,7 @@ is_segment at image rest file is part =
     }
 
 is_read_as : (at : ℕ) (image : Image) (rest file : List ℕ) → IsImage image → IsPart at image rest file → IsReadAs image (segment_read at image)
-unfolding segment_read image_records
+unfolding segment_read 
 is_read_as at image rest file is part = record { fields = refl; cells' = by_kind image.whole refl }
   where
     by_kind : (w : Bool) → image.whole ≡ w → cells (segment_read at image) ≡ written_cells image.content image.patches

@@ -11,7 +11,7 @@ use Rattle.load_meaning.specs.Cells.{Byte, cells}
 use Rattle.load_meaning.specs.Pathnames.{IsPath, rows_text, paths_text, most_paths}
 use Rattle.load_meaning.specs.WrittenBody.{written_cells, data_records}
 use Rattle.load_meaning.specs.laws.WrittenTableLaws.{plain_data, length-end}
-use Rattle.load_meaning.specs.WrittenFile.{image_body, image_records, IsImage, IsReadAs, table_fields, pathnames_fields, pathnames_image}
+use Rattle.load_meaning.specs.WrittenFile.{image_body, IsImage, IsReadAs, table_fields, pathnames_fields, pathnames_image}
 
 length-rows : (number : ℕ) (paths : List (List ℕ)) → AllByRecursion IsPath paths → length (rows_text number paths) ≤ 2 + 266 * length paths
 length-rows number [] all = omega (arith, length-bytes_low_first 0 2 0)
@@ -34,7 +34,7 @@ unfolding paths_text
 length-paths_text paths all few = omega (arith, length-rows 2 paths all, few)
 
 pub pathnames_image_is : (number : ℕ) (paths : List (List ℕ)) → number < 2 ^ 16 → AllByRecursion IsPath paths → length paths ≤ most_paths → IsImage (pathnames_image number paths)
-unfolding pathnames_image pathnames_fields table_fields image_body image_records
+unfolding pathnames_image pathnames_fields table_fields image_body 
 pathnames_image_is number paths small all few =
     let size = length-paths_text paths all few in
     let data' = plain_data (paths_text paths) in

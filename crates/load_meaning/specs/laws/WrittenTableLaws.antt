@@ -14,7 +14,7 @@ use Rattle.load_meaning.specs.Table.{entry_bytes, table_bytes}
 use Rattle.load_meaning.specs.laws.TableLaws.{length-entry_bytes}
 use Rattle.load_meaning.specs.WrittenBody.{zeros_after, written_cells, written_data, data_records, body_records, body_text}
 use Rattle.load_meaning.specs.laws.StoredLaws.{zeros-le}
-use Rattle.load_meaning.specs.WrittenFile.{image_body, IsImage, IsReadAs, table_fields, table_image, TableStandsFor, image_records}
+use Rattle.load_meaning.specs.WrittenFile.{image_body, IsImage, IsReadAs, table_fields, table_image, TableStandsFor}
 
 length-entries : (entries : List Entry) → length (flat_map entry_bytes entries) ≡ 14 * length entries
 length-entries [] = refl
@@ -61,7 +61,7 @@ length-end = refl
 -- ---- the table
 
 is_image : (number : ℕ) (entries : List Entry) → number < 2 ^ 16 → length entries ≤ 4680 → IsImage (table_image number entries)
-unfolding table_image table_fields image_body image_records body_text
+unfolding table_image table_fields image_body  body_text
 is_image number entries small few =
     let size = length-table_bytes entries in
     let zeros = zeros_within (table_bytes entries) in

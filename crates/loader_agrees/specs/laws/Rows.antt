@@ -15,7 +15,8 @@ use Rattle.load_meaning.specs.Cells.{segment_bytes}
 use Rattle.load_meaning.specs.Table.{entry_start}
 use Rattle.load_meaning.specs.Pathnames.{has_pathnames, most_paths, paths_in, paths_of, first_path, after_path}
 use Rattle.load_meaning.specs.LoadTable.{is_table, table_of, targets_of}
-use Rattle.load_meaning.specs.Loadable.{Fault, first_in, in_segment, IsLoadable}
+use Rattle.load_meaning.specs.Loadable.{Fault, first_in, IsLoadable}
+use Rattle.load_meaning.specs.laws.Steps.{in_segment}
 use Rattle.load_meaning.specs.Runtime.{kind_fault, runtime_fault, IsRuntime}
 use Rattle.load_meaning.specs.laws.CellLaws.{loadable_has}
 use Rattle.loader_machine.specs.declared.seen.SegmentHead.{SegmentHead}

@@ -8,7 +8,8 @@ use Rattle.std.proofs.lemmas.List.{length-map, length-append}
 use Rattle.omf_format.specs.Header.{is_dynamic, is_skipped}
 use Rattle.omf_format.specs.File.{Segment, segment_at}
 use Rattle.load_meaning.specs.declared.table.Target.{Target}
-use Rattle.load_meaning.specs.Cells.{Cell, Byte, Part, Patch, cells, segment_bytes, parts_from, with_patch, patched_cells, byte_of}
+use Rattle.load_meaning.specs.Cells.{Cell, Byte, Part, Patch, cells, segment_bytes, parts_from, patched_cells, byte_of}
+use Rattle.load_meaning.specs.laws.Steps.{with_patch}
 use Rattle.load_meaning.specs.declared.table.Entry.{Entry}
 use Rattle.load_meaning.specs.Table.{entry_bytes, table_bytes, file_entry}
 use Rattle.load_meaning.specs.laws.TableLaws.{length-entry_bytes}

@@ -7,7 +7,8 @@ use Rattle.omf_format.specs.declared.fault.RecordFault.{RecordFault}
 use Rattle.omf_format.specs.Field.{written_layout}
 use Rattle.omf_format.specs.Record.{Record, End, spelling, IsRecord}
 use Rattle.omf_format.specs.laws.RecordLaws.{front-again}
-use Rattle.omf_format.specs.Reading.{Reader, first_record, answer_of_reader, reader_after, is_end, next_answer, after_next, HandsOut}
+use Rattle.omf_format.specs.Reading.{Reader, first_record, is_end, next_answer, after_next, HandsOut}
+use Rattle.omf_format.specs.laws.Steps.{answer_of_reader, reader_after}
 
 -- a record that isn't END and has a spelling
 abbrev pub IsBodyRecord : Record → Type 0

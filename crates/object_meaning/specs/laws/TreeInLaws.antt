@@ -3,7 +3,8 @@ use Rattle.std.proofs.Common.{◌≡◌, ℕ, ◌+◌, List, [], ◌∷◌, ◌+
 use Rattle.std.proofs.lemmas.List.{append-nil}
 use Rattle.omf_format.specs.Expression.{Term, Operator, Location, Constant, Named, Offset, Tree, Leaf, Unary, Binary, IsOperand, IsTree, terms_of, term_text, placed_terms, operand_count, Spells}
 use Rattle.omf_format.specs.laws.ExpressionLaws.{terms_are}
-use Rattle.object_meaning.specs.Terms.{with_term, trees_after, last_tree, tree_in}
+use Rattle.object_meaning.specs.Terms.{with_term, trees_after, tree_in}
+use Rattle.object_meaning.specs.laws.Steps.{last_tree}
 
 placed-terms : (l at : ℕ) (terms : List Term) → map (λ placed. placed.1) (placed_terms l at terms) ≡ terms
 placed-terms l at [] = refl

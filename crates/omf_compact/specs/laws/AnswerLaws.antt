@@ -14,14 +14,15 @@ use Rattle.omf_format.specs.Number.{IsBytes}
 use Rattle.omf_format.specs.laws.WrittenHeaderLaws.{length-header}
 use Rattle.omf_format.specs.Record.{Record, End, LongConst, spelling}
 use Rattle.omf_format.specs.File.{Segment}
-use Rattle.load_meaning.specs.Cells.{Cell, Byte, Patch, cells}
+use Rattle.load_meaning.specs.Cells.{Cell, Byte, Patch, cells, byte_under}
 use Rattle.load_meaning.specs.laws.CellLaws.{length-cells, loadable_at, loadable_has}
 use Rattle.load_meaning.specs.Loadable.{IsLoadable}
-use Rattle.load_meaning.specs.WrittenBody.{data_records, written_data, zeros_after, body_records, patches_stored_alone, lone_record, supers_from}
+use Rattle.load_meaning.specs.WrittenBody.{data_records, written_data, zeros_after, body_records, lone_record, supers_from}
+use Rattle.load_meaning.specs.laws.Steps.{patches_stored_alone}
 use Rattle.load_meaning.specs.laws.StoredLaws.{zeros_left}
 use Rattle.load_meaning.specs.laws.WrittenBodyLaws.{length-written}
 use Rattle.object_meaning.specs.laws.RunLaws.{text}
-use Rattle.omf_compact.specs.Stretches.{first_broken, stretches, byte_in, bytes_in, IsWrittenCell}
+use Rattle.omf_compact.specs.Stretches.{first_broken, stretches, bytes_in, IsWrittenCell}
 use Rattle.omf_compact.specs.laws.StretchLaws.{stretches_written, given_back}
 use Rattle.omf_compact.specs.laws.Fronts.{front, zero_cells, front-zeros}
 use Rattle.omf_compact.specs.Canonical.{Plain, plain_of, plain, broken_in, canon_records, canon_fields, canon_segment, canon_from, canon}
@@ -93,7 +94,7 @@ are_held file segments fits loadable un = held-from 1 segments (λ k s is. segme
 pub data-length : (own : ℕ) (of : List Cell) → first_broken of ≡ None → AllByRecursion IsWrittenCell of → length (written_data own (bytes_in of) (stretches of)) ≡ length (front of)
 data-length own of un all =
     let left = zeros_left own (bytes_in of) (stretches of) (stretches_written of all) ∙ ap zeros_after (given_back of un all) in
-    omega (arith, left, length-written own (bytes_in of) (stretches of), length-map of byte_in, ap length (front-zeros of), length-append (front of) (zero_cells (zeros_after of)), length-replicate {A = Cell} (zeros_after of) (Byte 0))
+    omega (arith, left, length-written own (bytes_in of) (stretches of), length-map of byte_under, ap length (front-zeros of), length-append (front of) (zero_cells (zeros_after of)), length-replicate {A = Cell} (zeros_after of) (Byte 0))
 
 data-text : (bytes : List ℕ) → length bytes ≤ length (flat_map (spelling written_layout) (data_records bytes))
 unfolding spelling

@@ -10,11 +10,12 @@ use Rattle.omf_format.specs.Header.{HeaderFields, form_of, is_listed, written_fi
 use Rattle.omf_format.specs.Record.{Record, End, Const, LongConst, Align, Org, Space, Reloc, InterSeg, ShortReloc, ShortInterSeg, Super, Using, Strong, Label, Equate, Formula, Entry, content_of, IsRecord}
 use Rattle.omf_format.specs.File.{Segment, IsFile}
 use Rattle.omf_format.specs.Body.{body_bytes}
-use Rattle.load_meaning.specs.Cells.{Cell, Byte, Patch, patched_cells, segment_bytes, patches_in, patches_of, cells}
-use Rattle.load_meaning.specs.WrittenBody.{is_own, is_short, patches_stored_alone, lone_record, super_records, supers_from, of_form, data_records, written_data, body_records}
+use Rattle.load_meaning.specs.Cells.{Cell, Byte, Patch, patched_cells, segment_bytes, patches_in, patches_of, cells, byte_under}
+use Rattle.load_meaning.specs.WrittenBody.{is_own, is_short, lone_record, super_records, supers_from, of_form, data_records, written_data, body_records}
+use Rattle.load_meaning.specs.laws.Steps.{patches_stored_alone}
 use Rattle.load_meaning.specs.laws.StoredLaws.{zeros-le}
 use Rattle.object_meaning.specs.laws.RunLaws.{IsBodyRecord, text, placed, flat-placed}
-use Rattle.omf_compact.specs.Stretches.{first_broken, stretches, byte_in, bytes_in, IsWrittenCell}
+use Rattle.omf_compact.specs.Stretches.{first_broken, stretches, bytes_in, IsWrittenCell}
 use Rattle.omf_compact.specs.Canonical.{is_entry, Plain, entries_in, plain_of, plain, is_pathname, canon_records, canon_fields, canon_segment, canon_from, canon}
 use Rattle.omf_compact.specs.laws.Sheets.{Sheet, sheet_text, IsSheet, IsSheetOf, AreSheetsOf, file_of_sheets}
 use Rattle.omf_compact.specs.laws.CellsBack.{given, patches_given, AreEntries, entry_content, entry_patches, none_of, cells_back}
@@ -176,7 +177,7 @@ pathname_back number p s held is len of =
     let none : given s s.records ≡ [] =
     ap (given s) of.records' ∙ flat-placed (patches_in s) of.end (canon_records number p) refl ∙ ap (flat_map (patches_in s)) rs
     ∙ flat_map-cons (patches_in s) (LongConst bytes) p.entries ∙ none_of (patches_in s) p.entries (entry_patches s) held.entries' in
-    bytes_back s bytes body (omega (arith, len, held.sized, length-map p.cells' byte_in)) none ∙ sym (held.paths is)
+    bytes_back s bytes body (omega (arith, len, held.sized, length-map p.cells' byte_under)) none ∙ sym (held.paths is)
 
 plain_cells : (number : ℕ) (p : Plain) (s : Segment) → IsHeld number p → IsSheetOf (sheet_of number p) s → cells s ≡ p.cells'
 unfolding canon_fields
@@ -271,7 +272,7 @@ records_fit number p held small =
   where
     first : AllByRecursion IsBodyRecord (first_records number p)
     first = elim (cases_Bool (is_pathname p)) [
-      | inl is ↦ rw is ((omega (arith, held.length', held.sized, length-map p.cells' byte_in), refl), tt)
+      | inl is ↦ rw is ((omega (arith, held.length', held.sized, length-map p.cells' byte_under), refl), tt)
       | inr other ↦ rw other (records_fit_front number p.cells' held.unbroken held.written (small.data' other))
     ]
 

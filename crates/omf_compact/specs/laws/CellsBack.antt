@@ -11,11 +11,11 @@ use Rattle.omf_format.specs.Super.{locations_left}
 use Rattle.omf_format.specs.Record.{Record, End, Const, LongConst, Align, Org, Space, Reloc, InterSeg, ShortReloc, ShortInterSeg, Super, Using, Strong, Label, Equate, Formula, Entry, content_of}
 use Rattle.omf_format.specs.File.{Segment}
 use Rattle.omf_format.specs.Body.{body_bytes}
-use Rattle.load_meaning.specs.Cells.{Cell, Byte, Patch, patched_cells, segment_bytes, super_patch, patches_in, patches_of, cells}
+use Rattle.load_meaning.specs.Cells.{Cell, Byte, Patch, patched_cells, segment_bytes, super_patch, patches_in, patches_of, cells, byte_under}
 use Rattle.load_meaning.specs.WrittenBody.{AreWritten, written_cells, body_records}
 use Rattle.object_meaning.specs.laws.RunLaws.{placed, flat-placed}
 use Rattle.load_meaning.specs.laws.WrittenBodyLaws.{cells_are}
-use Rattle.omf_compact.specs.Stretches.{first_broken, stretches, byte_in, bytes_in, IsWrittenCell}
+use Rattle.omf_compact.specs.Stretches.{first_broken, stretches, bytes_in, IsWrittenCell}
 use Rattle.omf_compact.specs.laws.StretchLaws.{stretches_written, given_back}
 use Rattle.omf_compact.specs.Canonical.{is_entry}
 
@@ -188,4 +188,4 @@ cells_and own content patches entries s number len are has =
 pub cells_back : (own : ℕ) (of : List Cell) (entries : List Record) (s : Segment) → s.fields.seg_num ≡ own → s.fields.length ≡ length of
     → first_broken of ≡ None → AllByRecursion IsWrittenCell of → HasBodyAnd own (bytes_in of) (stretches of) entries s → cells s ≡ of
 cells_back own of entries s number len un all has =
-    cells_and own (bytes_in of) (stretches of) entries s number (len ∙ sym (length-map of byte_in)) (stretches_written of all) has ∙ given_back of un all
+    cells_and own (bytes_in of) (stretches of) entries s number (len ∙ sym (length-map of byte_under)) (stretches_written of all) has ∙ given_back of un all

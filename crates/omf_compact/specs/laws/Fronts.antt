@@ -5,13 +5,14 @@ use Rattle.std.specs.Prelude.{◌⊎◌, if◌then◌else◌}
 use Rattle.std.specs.List.{list_all, AllByRecursion}
 use Rattle.std.proofs.lemmas.Bool.{cases_Bool, and_parts, and_from, eqb-true}
 use Rattle.std.proofs.lemmas.List.{append-nil, length-map, length-append, length-replicate, length-take, length-drop, map-append, take_at, take-append-le, drop-append-le}
-use Rattle.load_meaning.specs.Cells.{Cell, Byte, Part, Patch}
-use Rattle.load_meaning.specs.WrittenBody.{stored_bytes, with_stored, is_zero, zeros_after, written_cells, written_data, body_records, data_records, patches_stored_alone, lone_record, supers_from}
+use Rattle.load_meaning.specs.Cells.{Cell, Byte, Part, Patch, byte_under}
+use Rattle.load_meaning.specs.WrittenBody.{with_stored, zeros_after, written_cells, written_data, body_records, data_records, lone_record, supers_from}
+use Rattle.load_meaning.specs.laws.Steps.{is_zero, patches_stored_alone, stored_bytes}
 use Rattle.load_meaning.specs.laws.LayingLaws.{laid, Fit}
 use Rattle.load_meaning.specs.laws.StoredLaws.{stored-laid, fit-stored, length-data}
 use Rattle.object_meaning.specs.laws.RunLaws.{IsBodyRecord}
 use Rattle.load_meaning.specs.laws.WrittenBodyLaws.{records_fit}
-use Rattle.omf_compact.specs.Stretches.{same_cell, first_broken, broken_from, run_length, stretches_from, stretches, byte_in, bytes_in, IsWrittenCell}
+use Rattle.omf_compact.specs.Stretches.{same_cell, first_broken, broken_from, run_length, stretches_from, stretches, bytes_in, IsWrittenCell}
 use Rattle.omf_compact.specs.laws.StretchLaws.{unbroken-both, stretches_written, given_back}
 
 -- ---- the cells up to the last that isn't a byte 0
@@ -124,7 +125,7 @@ laid-more {A} piece (p ∷ patches) xs ys fit =
 -- ---- a body for all cells is that of the cells before the last zeros
 
 bytes-more : (cells : List Cell) → bytes_in cells ≡ bytes_in (front cells) ++ replicate (zeros_after cells) 0
-bytes-more cells = ap bytes_in (front-zeros cells) ∙ map-append byte_in (front cells) (zero_cells (zeros_after cells)) ∙ ap (λ (l : List ℕ). bytes_in (front cells) ++ l) (zeros (zeros_after cells))
+bytes-more cells = ap bytes_in (front-zeros cells) ∙ map-append byte_under (front cells) (zero_cells (zeros_after cells)) ∙ ap (λ (l : List ℕ). bytes_in (front cells) ++ l) (zeros (zeros_after cells))
   where
     zeros : (n : ℕ) → bytes_in (zero_cells n) ≡ replicate n 0
     zeros zero = refl
@@ -190,5 +191,5 @@ pub records_fit_front : (own : ℕ) (cells : List Cell) → first_broken cells �
     → AllByRecursion IsBodyRecord (body_records own (bytes_in cells) (stretches cells))
 records_fit_front own cells un all small =
     let f = front cells in
-    let size = length-map f byte_in in
+    let size = length-map f byte_under in
     subst (AllByRecursion IsBodyRecord) (sym (records-front own cells un all)) (records_fit own (bytes_in f) (stretches f) (omega (arith, size, small)) (stretches_written f (written-front cells all)))

@@ -13,13 +13,14 @@ use Rattle.omf_format.specs.Record.{Record, End, Const, LongConst, Align, Org, S
 use Rattle.omf_format.specs.File.{Segment, IsFile, segment_at}
 use Rattle.omf_format.specs.Body.{body_bytes}
 use Rattle.load_meaning.specs.declared.load.LoadCause.{LoadCause}
-use Rattle.load_meaning.specs.Cells.{Cell, Byte, Part, Patch, parts_from, segment_bytes, patches_in, patches_of, cells}
+use Rattle.load_meaning.specs.Cells.{Cell, Byte, Part, Patch, parts_from, segment_bytes, patches_in, patches_of, cells, byte_under}
 use Rattle.load_meaning.specs.declared.load.LoadCause.TheVariants.{NotLoadFile, Unsupported, NoSuchTarget, BadTable}
 use Rattle.load_meaning.specs.Table.{entry_start}
 use Rattle.load_meaning.specs.Pathnames.{has_pathnames, most_paths, rows_flaw, is_one_long, paths_of}
-use Rattle.load_meaning.specs.LoadTable.{Check, is_table, is_called, is_place, entry_count, zero_checks, entry_checks, entries_checks, table_checks}
-use Rattle.load_meaning.specs.Loadable.{Fault, is_express, IsLoadSegment, segment_refusal, record_refusal, shape_fault, is_kept, is_dynamic_at, patch_refusal, first_refusal, entry_refusal, target_refusal, first_target_fault, target_fault, pathnames_flaw, pathnames_fault, table_flaw, table_fault, later_fault, IsLoadable, patch_list, IsPatch, IsSoundSegment}
-use Rattle.load_meaning.specs.WrittenBody.{AreWritten, is_own, is_short, patches_stored_alone, lone_record, super_records, supers_from, of_form, data_records, written_data, body_records}
+use Rattle.load_meaning.specs.LoadTable.{Check, is_table, is_place, entry_count, zero_checks, entries_checks}
+use Rattle.load_meaning.specs.laws.Steps.{is_called, table_checks, is_express, is_kept, is_dynamic_at, patches_stored_alone, entry_checks, target_refusal}
+use Rattle.load_meaning.specs.Loadable.{Fault, IsLoadSegment, segment_refusal, record_refusal, shape_fault, patch_refusal, first_refusal, entry_refusal, first_target_fault, target_fault, pathnames_flaw, pathnames_fault, table_flaw, table_fault, later_fault, IsLoadable, patch_list, IsPatch, IsSoundSegment}
+use Rattle.load_meaning.specs.WrittenBody.{AreWritten, is_own, is_short, lone_record, super_records, supers_from, of_form, data_records, written_data, body_records}
 use Rattle.load_meaning.specs.laws.FormLaws.{lone_content}
 use Rattle.load_meaning.specs.laws.WrittenBodyLaws.{HasRecords, length-written, by_forms, from_records, patches_are, stands}
 use Rattle.load_meaning.specs.WrittenPages.{pages_text}
@@ -27,7 +28,7 @@ use Rattle.load_meaning.specs.laws.LayingLaws.{Has, last_over, get-laid}
 use Rattle.load_meaning.specs.laws.CellLaws.{later_none, loadable_at, loadable_has, cells-bytes, length-segment_bytes, fit_in}
 use Rattle.load_meaning.specs.laws.StoredLaws.{parts, patched-laid, written_is}
 use Rattle.object_meaning.specs.laws.RunLaws.{text, placed, flat-placed}
-use Rattle.omf_compact.specs.Stretches.{stretches_from, stretches, byte_in, bytes_in}
+use Rattle.omf_compact.specs.Stretches.{stretches_from, stretches, bytes_in}
 use Rattle.omf_compact.specs.laws.StretchLaws.{get-stretch, stretches_written}
 use Rattle.omf_compact.specs.laws.PartedLaws.{count_some}
 use Rattle.omf_compact.specs.laws.Sheets.{IsSheetOf, AreSheetsOf}
@@ -460,7 +461,7 @@ module _ (number : ℕ) (s t : Segment) (twin' : IsTwin number s t) where
 
   length-is : t.fields.length ≡ length (bytes_in p.cells')
   unfolding canon_fields
-  length-is = ap (λ (f : HeaderFields). f.length) twin'.of.fields ∙ twin'.held.sized ∙ sym (length-map p.cells' byte_in)
+  length-is = ap (λ (f : HeaderFields). f.length) twin'.of.fields ∙ twin'.held.sized ∙ sym (length-map p.cells' byte_under)
 
   allowed : AllByRecursion (λ (found : ℕ × Record). record_refusal found.1 ≡ None) t.records
   allowed = subst (AllByRecursion (λ (found : ℕ × Record). record_refusal found.1 ≡ None)) (sym records_are)
@@ -612,7 +613,7 @@ module _ (number : ℕ) (s t : Segment) (twin' : IsPathTwin number s t) where
 
   path_length : t.fields.length ≡ length held_bytes
   unfolding canon_fields
-  path_length = ap (λ (f : HeaderFields). f.length) twin'.of.fields ∙ twin'.held.sized ∙ sym (length-map (plain_of s).cells' byte_in)
+  path_length = ap (λ (f : HeaderFields). f.length) twin'.of.fields ∙ twin'.held.sized ∙ sym (length-map (plain_of s).cells' byte_under)
 
   path_lone : IsLone t
   path_lone = record {

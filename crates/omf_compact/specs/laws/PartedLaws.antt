@@ -5,11 +5,11 @@ use Rattle.std.specs.List.{AllByRecursion}
 use Rattle.std.proofs.lemmas.Bool.{cases_lt, and_parts, leb-true}
 use Rattle.std.proofs.lemmas.List.{length-map}
 use Rattle.std.proofs.lemmas.Option.{slice_get-map}
-use Rattle.load_meaning.specs.Cells.{Cell, Byte, Part, Patch}
+use Rattle.load_meaning.specs.Cells.{Cell, Byte, Part, Patch, byte_under}
 use Rattle.load_meaning.specs.WrittenBody.{IsWrittenPatch, AreWritten, written_cells}
 use Rattle.load_meaning.specs.laws.LayingLaws.{get-drop, Covers, Has, Missed, look, Fit, laid, get-missed, get-found, Apart}
 use Rattle.load_meaning.specs.laws.StoredLaws.{written_is, written_apart, parts, get-parts, patched-laid, fit-cells, cells_size}
-use Rattle.omf_compact.specs.Stretches.{same_cell, broken_from, first_broken, run_length, stretches_from, stretches, byte_in, bytes_in, IsWrittenCell}
+use Rattle.omf_compact.specs.Stretches.{same_cell, broken_from, first_broken, run_length, stretches_from, stretches, bytes_in, IsWrittenCell}
 use Rattle.omf_compact.specs.laws.StretchLaws.{some_cell, cell_is, is_same, get-run, run-reaches, begun, get-stretch, has-stretch, stretches_written}
 
 -- ---- rising lists with the same members
@@ -194,7 +194,7 @@ module _ (content : List ℕ) (ps : List Patch) (are : AreWritten (length conten
       subst (Has (stretches_from 0 shown)) is (has-stretch 0 shown p.location p.file p.segment p.offset p.shift first)
 
   bytes_size : length (bytes_in shown) ≡ length content
-  bytes_size = length-map shown byte_in ∙ ap length (sym (patched-laid (map Byte content) ps)) ∙ cells_size content ps are
+  bytes_size = length-map shown byte_under ∙ ap length (sym (patched-laid (map Byte content) ps)) ∙ cells_size content ps are
 
   stretches_are : AreWritten (length content) 0 (stretches_from 0 shown)
   unfolding stretches

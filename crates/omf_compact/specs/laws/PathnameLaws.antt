@@ -9,7 +9,8 @@ use Rattle.omf_format.specs.declared.fault.Flaw.{Flaw}
 use Rattle.omf_format.specs.declared.fault.RecordFault.{RecordFault}
 use Rattle.omf_format.specs.Header.{first_of, is_dynamic, is_skipped}
 use Rattle.omf_format.specs.Record.{Record, End, Const, LongConst, Align, Org, Space, Reloc, InterSeg, ShortReloc, ShortInterSeg, Super, Using, Strong, Label, Equate, Formula, Entry}
-use Rattle.omf_format.specs.Reading.{Reader, first_record, is_end, answer_of_reader, next_answer, after_next, HandsOut}
+use Rattle.omf_format.specs.Reading.{Reader, first_record, is_end, next_answer, after_next, HandsOut}
+use Rattle.omf_format.specs.laws.Steps.{answer_of_reader}
 use Rattle.omf_format.specs.File.{Segment, IsSegment, body_reader}
 use Rattle.load_meaning.specs.declared.load.LoadCause.TheVariants.{BadTable}
 use Rattle.load_meaning.specs.Cells.{Byte, Patch, segment_bytes, patches_in, patches_of, cells}

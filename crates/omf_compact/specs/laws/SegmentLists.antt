@@ -4,7 +4,8 @@ use Rattle.std.specs.Prelude.{slice_get, option_map}
 use Rattle.std.specs.Option.{option_or}
 use Rattle.omf_format.specs.File.{Segment}
 use Rattle.load_meaning.specs.declared.load.LoadFault.{LoadFault}
-use Rattle.load_meaning.specs.Loadable.{Fault, in_segment, first_in}
+use Rattle.load_meaning.specs.Loadable.{Fault, first_in}
+use Rattle.load_meaning.specs.laws.Steps.{in_segment}
 
 abbrev pub no_fault : Option Fault
 no_fault = None

@@ -8,11 +8,11 @@ use Rattle.std.proofs.lemmas.Bool.Decides.{Decides-int_eq}
 use Rattle.std.proofs.lemmas.List.{length-map}
 use Rattle.std.proofs.lemmas.Option.{slice_get_past, slice_get-map}
 use Rattle.omf_format.specs.Field.{is_count}
-use Rattle.load_meaning.specs.Cells.{Cell, Byte, Part, Patch}
+use Rattle.load_meaning.specs.Cells.{Cell, Byte, Part, Patch, byte_under}
 use Rattle.load_meaning.specs.WrittenBody.{AreWritten, written_cells}
 use Rattle.load_meaning.specs.laws.LayingLaws.{get-drop, Covers, Has, Missed, Fit, same_list, laid, get-missed, get-found, Apart}
 use Rattle.load_meaning.specs.laws.StoredLaws.{written_apart, parts, get-parts, patched-laid, fit-cells}
-use Rattle.omf_compact.specs.Stretches.{same_cell, is_broken, broken_from, first_broken, run_length, stretches_from, stretches, byte_in, bytes_in, IsWrittenCell}
+use Rattle.omf_compact.specs.Stretches.{same_cell, is_broken, broken_from, first_broken, run_length, stretches_from, stretches, bytes_in, IsWrittenCell}
 
 -- ---- cells
 
@@ -272,7 +272,7 @@ stretches-written size at zero (Part f s o sh zero ∷ cells) fits all quiet =
 -- the stretches of cells that can be written rise, lie apart and lie inside
 pub stretches_written : (cells : List Cell) → AllByRecursion IsWrittenCell cells → AreWritten (length (bytes_in cells)) 0 (stretches cells)
 unfolding stretches
-stretches_written cells all = stretches-written (length (bytes_in cells)) 0 0 cells (omega (arith, length-map cells byte_in)) all (quiet-none cells)
+stretches_written cells all = stretches-written (length (bytes_in cells)) 0 0 cells (omega (arith, length-map cells byte_under)) all (quiet-none cells)
 
 -- ---- the cells are given back
 
@@ -319,7 +319,7 @@ given_back cells un all = patched-laid bs ps ∙ same_list (laid parts bs ps) ce
     ps = stretches_from 0 cells
 
     are : AreWritten (length (bytes_in cells)) 0 ps
-    are = stretches-written (length (bytes_in cells)) 0 0 cells (omega (arith, length-map cells byte_in)) all (quiet-none cells)
+    are = stretches-written (length (bytes_in cells)) 0 0 cells (omega (arith, length-map cells byte_under)) all (quiet-none cells)
 
     fit : Fit parts (length bs) ps
     fit = fit-cells ps (bytes_in cells) are
@@ -327,8 +327,8 @@ given_back cells un all = patched-laid bs ps ∙ same_list (laid parts bs ps) ce
     apart : Apart ps
     apart = written_apart (length (bytes_in cells)) 0 ps are
 
-    under : (k : ℕ) (c : Cell) → slice_get cells k ≡ Some c → slice_get bs k ≡ Some (Byte (byte_in c))
-    under k c is = slice_get-map Byte (bytes_in cells) k ∙ ap (option_map Byte) (slice_get-map byte_in cells k ∙ ap (option_map byte_in) is)
+    under : (k : ℕ) (c : Cell) → slice_get cells k ≡ Some c → slice_get bs k ≡ Some (Byte (byte_under c))
+    under k c is = slice_get-map Byte (bytes_in cells) k ∙ ap (option_map Byte) (slice_get-map byte_under cells k ∙ ap (option_map byte_under) is)
 
     at_cell : (k : ℕ) (c : Cell) → slice_get cells k ≡ Some c → slice_get (laid parts bs ps) k ≡ Some c
     at_cell k (Byte b) is = get-missed parts ps bs k fit (no-byte cells k b is) ∙ under k (Byte b) is
@@ -338,7 +338,7 @@ given_back cells un all = patched-laid bs ps ∙ same_list (laid parts bs ps) ce
 
     by_cell : (k : ℕ) (o : Option Cell) → slice_get cells k ≡ o → length cells ≤ k ⊎ ((c : Cell) × (o ≡ Some c)) → slice_get (laid parts bs ps) k ≡ o
     by_cell k o is (inl past) = get-missed parts ps bs k fit (none-past cells k past)
-        ∙ slice_get_past bs k (omega (arith, past, length-map (bytes_in cells) (λ (n : ℕ). Byte n), length-map cells byte_in)) ∙ sym (slice_get_past cells k past) ∙ is
+        ∙ slice_get_past bs k (omega (arith, past, length-map (bytes_in cells) (λ (n : ℕ). Byte n), length-map cells byte_under)) ∙ sym (slice_get_past cells k past) ∙ is
     by_cell k o is (inr some) = at_cell k some.0 (is ∙ some.1) ∙ sym some.1
 
     there : (xs : List Cell) (k : ℕ) → length xs ≤ k ⊎ ((c : Cell) × (slice_get xs k ≡ Some c))

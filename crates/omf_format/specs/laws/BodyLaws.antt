@@ -11,7 +11,8 @@ use Rattle.omf_format.specs.Field.{Layout}
 use Rattle.omf_format.specs.laws.FieldLaws.{IsBytes-drop, IsBytes-take}
 use Rattle.omf_format.specs.Record.{Record, End, Const, LongConst, Align, Org, Space, Reloc, InterSeg, ShortReloc, ShortInterSeg, Super, Using, Strong, Label, Equate, Formula, Entry, spelling, IsRecord}
 use Rattle.omf_format.specs.laws.RecordLaws.{front-takes}
-use Rattle.omf_format.specs.Reading.{Reader, first_record, answer_of_reader, next_answer, after_next, HandsOut, answer_then, first_records, records_of}
+use Rattle.omf_format.specs.Reading.{Reader, first_record, next_answer, after_next, HandsOut, first_records, records_of}
+use Rattle.omf_format.specs.laws.Steps.{answer_of_reader, answer_then}
 use Rattle.omf_format.specs.File.{Segment, body_reader, IsSegment, segment_of}
 
 -- after END there is no record
@@ -26,7 +27,7 @@ first_records-run zero r [] last run ended few = refl
 first_records-run zero r (found ∷ founds) last run ended few = absurd (omega arith)
 first_records-run (suc n) r [] last run ended few =
     let none : next_answer r ≡ Ok None = none_at_end r (ap (λ (m : Reader). m.ended) run ∙ ended) in
-    rw none refl
+    ap (λ a. answer_then a (first_records n (after_next r))) none
 first_records-run (suc n) r (found ∷ founds) last run ended few =
     ap (λ a. answer_then a (first_records n (after_next r))) run.0
     ∙ ap (λ (l : List (ℕ × Record)). found ∷ l) (first_records-run n (after_next r) founds last run.1 ended (omega arith))

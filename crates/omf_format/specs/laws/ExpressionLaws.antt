@@ -6,7 +6,8 @@ use Rattle.omf_format.specs.declared.expression.ExprFault.{ExprFault}
 use Rattle.omf_format.specs.declared.expression.ExprFault.TheVariants.{Truncated}
 use Rattle.omf_format.specs.Number.{IsBytes}
 use Rattle.omf_format.specs.laws.FieldLaws.{ok_is, Takes, IsBytes-drop}
-use Rattle.omf_format.specs.Expression.{Term, AreTerms, term_text, terms_text, Tree, IsTree, terms_of, depth, Spells, IsExpression, pending_after, Lead, term_step, IsFirstFault, BeginsWith, placed_terms, first_terms, terms_in, read_from, read_all, flaw_of, split_of, expression_field}
+use Rattle.omf_format.specs.Expression.{Term, AreTerms, term_text, terms_text, Tree, IsTree, terms_of, depth, Spells, IsExpression, pending_after, Lead, term_step, IsFirstFault, BeginsWith, placed_terms, first_terms, terms_in, read_from, flaw_of, expression_field}
+use Rattle.omf_format.specs.laws.TermSteps.{split_of, read_all}
 use Rattle.omf_format.specs.laws.TermLaws.{term_takes_some, term-takes, term-again, end-again, terms_take_some, terms-same, StepIs, step-found, step-end, step-term}
 use Rattle.omf_format.specs.laws.TreeLaws.{tree_has_terms, tree_leads, tree_of, tree-same}
 
@@ -159,7 +160,6 @@ read_stops l (suc n) at pending bytes fault fits enough e = by_step (term_step l
 
 -- what is read to its end is an expression
 pub read-all-takes : (l : ℕ) (bytes rest : List ℕ) → IsBytes bytes → read_all l bytes ≡ Ok rest → (text : List ℕ) × IsExpression l text × (bytes ≡ text ++ rest)
-unfolding read_all
 read-all-takes l bytes rest fits e =
     let runs = read_runs l (length bytes + 1) 0 0 bytes rest fits e in
     let t = tree_of l runs.terms runs.formed runs.leads in
@@ -172,7 +172,6 @@ read-all-takes l bytes rest fits e =
 
 -- an expression is read to its end, whatever follows
 pub read-all-again : (l : ℕ) (text rest : List ℕ) → IsExpression l text → read_all l (text ++ rest) ≡ Ok rest
-unfolding read_all
 read-all-again l text rest is =
     let terms = terms_of is.tree in
     let formed = tree_has_terms l is.tree is.spells.formed in
@@ -189,7 +188,6 @@ read-all-again l text rest is =
 
 -- what isn't read to its end has this first fault
 pub read-all-fault : (l : ℕ) (bytes : List ℕ) (fault : ExprFault) → IsBytes bytes → read_all l bytes ≡ Err fault → IsFirstFault l bytes fault
-unfolding read_all
 read-all-fault l bytes fault fits e =
     let stops = read_stops l (length bytes + 1) 0 0 bytes fault fits (omega arith) e in
     let place : 0 + (length bytes - length stops.rest) ≡ length (terms_text l stops.runs.terms) = omega (arith, ap length stops.runs.parts, length-append (terms_text l stops.runs.terms) stops.rest) in
@@ -205,7 +203,6 @@ read-all-fault l bytes fault fits e =
 
 -- what has a first fault isn't read to its end
 pub read-all-fault-again : (l : ℕ) (bytes : List ℕ) (fault : ExprFault) → IsFirstFault l bytes fault → read_all l bytes ≡ Err fault
-unfolding read_all
 read-all-fault-again l bytes fault is = stops_at l (length bytes + 1) bytes fault is (omega arith)
   where
     stops_at : (l n : ℕ) (bytes : List ℕ) (fault : ExprFault) (is : IsFirstFault l bytes fault) → length bytes < n → read_from n l 0 0 bytes ≡ Err fault
@@ -237,14 +234,14 @@ pub first_terms-again : (n l at : ℕ) (terms : List Term) (rest : List ℕ) →
     → first_terms n l at (terms_text l terms ++ 0x00 ∷ rest) ≡ placed_terms l at terms
 unfolding first_terms
 first_terms-again zero l at terms rest are less = absurd (omega arith)
-first_terms-again (suc n) l at [] rest are less = let end = end-again l rest in rw end refl
+first_terms-again (suc n) l at [] rest are less = let end = end-again l rest in rw (first_terms, end) refl
 first_terms-again (suc n) l at (term ∷ terms) rest are less =
     let text = term_text l term in
     let more = terms_text l terms ++ 0x00 ∷ rest in
     let whole : (text ++ terms_text l terms) ++ 0x00 ∷ rest ≡ text ++ more = append_assoc text (terms_text l terms) (0x00 ∷ rest) in
     let read = term-again l term more are.0 in
     let place : at + (length (text ++ more) - length more) ≡ at + length text = omega (arith, length-append text more) in
-    rw (whole, read, place) (ap (λ (ts : List (ℕ × Term)). (at, term) ∷ ts) (first_terms-again n l (at + length text) terms rest are.1 (omega arith)))
+    rw (first_terms, whole, read, whole, place) (ap (λ (ts : List (ℕ × Term)). (at, term) ∷ ts) (first_terms-again n l (at + length text) terms rest are.1 (omega arith)))
 
 pub terms_in-again : (l at : ℕ) (terms : List Term) (rest : List ℕ) → AreTerms l terms → terms_in l at (terms_text l terms ++ 0x00 ∷ rest) ≡ placed_terms l at terms
 unfolding terms_in
@@ -286,9 +283,10 @@ pub expression-again : (l : ℕ) (text rest : List ℕ) → IsExpression l text 
 unfolding expression_field
 expression-again l text rest is =
     let text_is = text_before (text ++ rest) text rest refl in
-    rw (read-all-again l text rest is, text_is) refl
+    let split : split_of (text ++ rest) (Ok rest) ≡ Ok (text, rest) = rw text_is refl in
+    ap (split_of (text ++ rest)) (read-all-again l text rest is) ∙ split
 
 -- where there is no expression, the first fault decides
 pub expression-flaw : (l : ℕ) (bytes : List ℕ) (fault : ExprFault) → IsFirstFault l bytes fault → expression_field l bytes ≡ Err (flaw_of fault)
 unfolding expression_field
-expression-flaw l bytes fault is = rw (read-all-fault-again l bytes fault is) refl
+expression-flaw l bytes fault is = ap (split_of bytes) (read-all-fault-again l bytes fault is)

@@ -14,7 +14,8 @@ use Rattle.omf_format.specs.declared.fault.Flaw.{Flaw}
 use Rattle.omf_format.specs.declared.fault.Flaw.TheVariants.{Cut, Broken}
 use Rattle.omf_format.specs.Number.{number_at}
 use Rattle.omf_format.specs.Name.{without_trailing, name_at, name_size}
-use Rattle.omf_format.specs.Header.{version_of, kind_of, kind_of_byte}
+use Rattle.omf_format.specs.Header.{version_of, kind_of}
+use Rattle.omf_format.specs.laws.Steps.{kind_of_byte}
 use Rattle.omf_format.specs.Number.{IsBytes}
 use Rattle.omf_format.specs.Field.{◌>>=◌, Reads, ◌⊗◌, field_that_passes, byte_field, bytes_field, number_field, name_field, name_text, IsName, is_count, count_field, is_shift, shift_byte, shift_field}
 

@@ -8,7 +8,8 @@ use Rattle.omf_format.specs.declared.fault.FileFault.{FileFault}
 use Rattle.omf_format.specs.Header.{HeaderFields, fields_of, version_of, names_end, header_fault}
 use Rattle.omf_format.specs.laws.HeaderLaws.{IsSound, sound_from_none}
 use Rattle.omf_format.specs.Record.{Record}
-use Rattle.omf_format.specs.Reading.{Reader, first_record, answer_of_reader, next_answer, after_next, HandsOut}
+use Rattle.omf_format.specs.Reading.{Reader, first_record, next_answer, after_next, HandsOut}
+use Rattle.omf_format.specs.laws.Steps.{answer_of_reader}
 use Rattle.omf_format.specs.File.{Segment, body_reader, IsHeader, IsSegment, AreSegments, IsFile, FaultAt, to_file_header_fault, to_file_record_fault, HasFault, InHeader, InRecord, IsFirstFault}
 
 abbrev pub Answer : Type 0

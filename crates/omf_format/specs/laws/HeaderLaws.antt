@@ -9,7 +9,8 @@ use Rattle.byteorder.specs.Numbers.{little_number-reads_back, length-bytes_low_f
 use Rattle.omf_format.specs.declared.fault.HeaderFault.{HeaderFault}
 use Rattle.omf_format.specs.declared.fault.HeaderFault.TheVariants.{Truncated, Unsupported, BadField, Memory}
 use Rattle.omf_format.specs.Number.{number_at}
-use Rattle.omf_format.specs.Header.{HeaderFields, fields_of, names_end, form_of, is_listed, is_read_version, header_checks, first_of, header_fault, laid_out}
+use Rattle.omf_format.specs.Header.{HeaderFields, fields_of, names_end, form_of, is_listed, first_of, header_fault, laid_out}
+use Rattle.omf_format.specs.laws.Steps.{is_read_version, header_checks}
 
 -- ---- no check holds
 
@@ -50,7 +51,7 @@ neither true b e = absurd cc
 neither false b e = (refl, e)
 
 pub sound_from_none : (bytes : List ℕ) → header_fault bytes ≡ None → IsSound bytes (fields_of bytes)
-unfolding header_fault header_checks
+unfolding header_fault 
 sound_from_none bytes none =
     let each = each_false (header_checks bytes) none in
     let ends = neither _ _ each.1.1.1.1.1.1.1.1.0 in
@@ -128,7 +129,7 @@ found_among {F = F} P (check ∷ checks) f each e = cases check.0 e (found_among
     cases false e later = later e
 
 pub fault_fits : (bytes : List ℕ) (f : HeaderFault) → header_fault bytes ≡ Some f → FitsFault f (length bytes)
-unfolding header_fault header_checks
+unfolding header_fault 
 fault_fits bytes f e = cases (ltb (length bytes) 44) (ltb-false (length bytes) 44) e
   where
     others : List (Bool × HeaderFault)

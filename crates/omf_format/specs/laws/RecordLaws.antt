@@ -9,10 +9,11 @@ use Rattle.omf_format.specs.Field.{Layout, ◌>>=◌, Reads, ◌⊗◌, field_th
 use Rattle.omf_format.specs.laws.FieldLaws.{IsBytes-front, IsBytes-rest, either, bind_ok, done, ok_is, chosen, Takes, Takes-then, Takes-code, bytes_again, IsField, byte_is_field, bytes_is_field, number_is_field, name_is_field, checked_is_field, both_are_field, count_is_field, shift_is_field}
 use Rattle.omf_format.specs.Expression.{IsExpression, expression_field}
 use Rattle.omf_format.specs.laws.ExpressionLaws.{expression-takes, expression-again}
-use Rattle.omf_format.specs.Super.{is_super, are_pages, HavePages}
+use Rattle.omf_format.specs.Super.{is_super, HavePages}
 use Rattle.omf_format.specs.laws.SuperLaws.{pages-read, pages-again}
 use Rattle.omf_format.specs.Record.{Record, End, Const, LongConst, Align, Org, Space, Reloc, InterSeg, ShortReloc, ShortInterSeg, Super, Using, Strong, Label, Equate, Formula, Entry, is_formula, spelling, IsDistance, IsRecord}
-use Rattle.omf_format.specs.Reading.{constant_field, long_constant_field, align_field, org_field, space_field, patch_field, reloc_field, interseg_field, short_reloc_field, short_interseg_field, super_field, using_field, strong_field, attributes_field, label_field, equate_field, formula_field, distance_field, entry_field, rows, by_code, first_record}
+use Rattle.omf_format.specs.Reading.{patch_field, super_field, attributes_field, label_field, equate_field, formula_field, rows, by_code, first_record}
+use Rattle.omf_format.specs.laws.Steps.{constant_field, long_constant_field, align_field, org_field, space_field, reloc_field, interseg_field, short_reloc_field, short_interseg_field, using_field, strong_field, distance_field, entry_field, are_pages}
 
 -- ---- the fields of each record
 
@@ -185,12 +186,12 @@ row_takes {A} Is text read field l code make spelled rest found fits e =
     subst (TakesRecord l (code ∷ rest)) (ok_is made found x.2) is_made
 
 constant_takes : (l : Layout) (code : ℕ) → 1 ≤ code → code < 0xE0 → TakesRow l (code, constant_field code)
-unfolding constant_field spelling
+unfolding spelling
 constant_takes l code low high = row_takes (λ bytes. length bytes ≡ code) as_it_is (bytes_field code) (bytes_is_field code) l code Const
     (λ bytes is. ((omega arith, omega arith), ap (λ (n : ℕ). n ∷ bytes) (sym is)))
 
 long_constant_takes : (l : Layout) → TakesRow l (0xF2, long_constant_field)
-unfolding long_constant_field spelling
+unfolding spelling
 long_constant_takes l rest found fits e =
     let a = bind_ok (number_field 4 rest) (λ n. taken_as LongConst (bytes_field n.0) n.1) found e in
     let b = bind_ok (bytes_field a.0.0 a.0.1) (λ bytes. Ok (LongConst bytes.0, bytes.1)) found a.2 in
@@ -223,43 +224,43 @@ super_takes l rest found fits e =
 
 -- the rows of numbers, patches, names and formulas
 align_takes : (l : Layout) → TakesRow l (0xE0, align_field)
-unfolding align_field spelling
+unfolding spelling
 align_takes l = row_takes Is4 (little_bytes 4) (number_field 4) n4 l 0xE0 Align (λ n is. (is, refl))
 
 org_takes : (l : Layout) → TakesRow l (0xE1, org_field)
-unfolding org_field spelling
+unfolding spelling
 org_takes l = row_takes (λ n. Is4 n × Passes (λ n. ltb n (2 ^ 31)) n) (little_bytes 4) (field_that_passes (λ n. ltb n (2 ^ 31)) Unread (number_field 4)) org l 0xE1 Org (λ n is. (ltb-true n (2 ^ 31) is.1, refl))
 
 space_takes : (l : Layout) → TakesRow l (0xF1, space_field)
-unfolding space_field spelling
+unfolding spelling
 space_takes l = row_takes Is4 (little_bytes 4) (number_field 4) n4 l 0xF1 Space (λ n is. (is, refl))
 
 reloc_takes : (l : Layout) → TakesRow l (0xE2, reloc_field)
-unfolding reloc_field spelling
+unfolding spelling
 reloc_takes l = row_takes (Both Patch (Both Is4 Is4)) (texts patch_text (texts (little_bytes 4) (little_bytes 4))) (patch_field ⊗ number_field 4 ⊗ number_field 4) reloc l 0xE2
     (λ x. Reloc x.0.0 x.0.1 x.1.0 x.1.1) (λ x is. ((is.0, is.1.0, is.1.1), refl))
 
 interseg_takes : (l : Layout) → TakesRow l (0xE3, interseg_field)
-unfolding interseg_field spelling
+unfolding spelling
 interseg_takes l = row_takes (Both Patch InterSegs) (texts patch_text interseg_text) (patch_field ⊗ number_field 4 ⊗ number_field 2 ⊗ number_field 2 ⊗ number_field 4) interseg l 0xE3
     (λ x. InterSeg x.0.0 x.0.1 x.1.0 x.1.1.0 x.1.1.1.0 x.1.1.1.1) (λ x is. ((is.0, is.1.0, is.1.1.0, is.1.1.1.0, is.1.1.1.1), refl))
 
 short_reloc_takes : (l : Layout) → TakesRow l (0xF5, short_reloc_field)
-unfolding short_reloc_field spelling
+unfolding spelling
 short_reloc_takes l = row_takes (Both Patch (Both Is2 Is2)) (texts patch_text (texts (little_bytes 2) (little_bytes 2))) (patch_field ⊗ number_field 2 ⊗ number_field 2) short_reloc l 0xF5
     (λ x. ShortReloc x.0.0 x.0.1 x.1.0 x.1.1) (λ x is. ((is.0, is.1.0, is.1.1), refl))
 
 short_interseg_takes : (l : Layout) → TakesRow l (0xF6, short_interseg_field)
-unfolding short_interseg_field spelling
+unfolding spelling
 short_interseg_takes l = row_takes (Both Patch ShortInterSegs) (texts patch_text short_interseg_text) (patch_field ⊗ number_field 2 ⊗ byte_field ⊗ number_field 2) short_interseg l 0xF6
     (λ x. ShortInterSeg x.0.0 x.0.1 x.1.0 x.1.1.0 x.1.1.1) (λ x is. ((is.0, is.1.0, is.1.1.0, is.1.1.1), refl))
 
 using_takes : (l : Layout) → TakesRow l (0xE4, using_field l.lab_len)
-unfolding using_field spelling
+unfolding spelling
 using_takes l = row_takes (IsName l.lab_len) (name_text l.lab_len) (name_field l.lab_len) (name_is_field l.lab_len) l 0xE4 Using (λ n is. (is, refl))
 
 strong_takes : (l : Layout) → TakesRow l (0xE5, strong_field l.lab_len)
-unfolding strong_field spelling
+unfolding spelling
 strong_takes l = row_takes (IsName l.lab_len) (name_text l.lab_len) (name_field l.lab_len) (name_is_field l.lab_len) l 0xE5 Strong (λ n is. (is, refl))
 
 abbrev label_code : Bool → ℕ
@@ -284,12 +285,12 @@ formula_takes l code is_code other = row_takes (Both (Passes is_count) (IsExpres
     (λ x. Formula code x.0 0 x.1) (λ x is. let none : IsDistance (eqb code 0xEE) 0 = rw other refl in ((is_code, is.0, none, is.1), ap (λ (b : Bool). code ∷ x.0 ∷ cond b (little_bytes 4 0 ++ x.1) x.1) (sym other)))
 
 distance_takes : (l : Layout) → TakesRow l (0xEE, distance_field l.lab_len)
-unfolding distance_field spelling
+unfolding spelling
 distance_takes l = row_takes (Both (Passes is_count) (Both Is4 (IsExpression l.lab_len))) (texts one (texts (little_bytes 4) as_it_is)) (count_field ⊗ number_field 4 ⊗ expression_field l.lab_len) (distance l.lab_len) l 0xEE
     (λ x. Formula 0xEE x.0 x.1.0 x.1.1) (λ x is. ((refl, is.0, is.1.0, is.1.1), refl))
 
 entry_takes : (l : Layout) → TakesRow l (0xF4, entry_field l.lab_len)
-unfolding entry_field spelling
+unfolding spelling
 entry_takes l = row_takes (Entries l.lab_len) (entry_text l.lab_len) (number_field 2 ⊗ number_field 4 ⊗ name_field l.lab_len) (entry l.lab_len) l 0xF4
     (λ x. Entry x.0 x.1.0 x.1.1) (λ x is. ((is.0, is.1.0, is.1.1), refl))
 
@@ -426,7 +427,7 @@ without_n l code count n expr rest none e = e ∙ ap (λ (m : ℕ). done (Formul
 
 formula_again : (l : Layout) (code count n : ℕ) (expr rest : List ℕ) → is_formula code ≡ true → is_count count ≡ true → IsDistance (eqb code 0xEE) n → IsExpression l.lab_len expr
     → first_record l (spelling l (Formula code count n expr) ++ rest) ≡ Ok (Formula code count n expr, rest)
-unfolding first_record spelling rows distance_field
+unfolding first_record spelling rows 
 formula_again l code count n expr rest is is_count' far is_expr = formula_code (IsAgain l count expr rest) code is
     (λ n far. without_n l 0xEB count n expr rest far (plain_again l 0xEB count expr rest is_count' is_expr))
     (λ n far. without_n l 0xEC count n expr rest far (plain_again l 0xEC count expr rest is_count' is_expr))
@@ -438,7 +439,7 @@ formula_again l code count n expr rest is is_count' far is_expr = formula_code (
 
 -- what is spelled so is read, whatever follows
 pub front-again : (l : Layout) (r : Record) (rest : List ℕ) → IsRecord l r → first_record l (spelling l r ++ rest) ≡ Ok (r, rest)
-unfolding first_record spelling rows constant_field long_constant_field align_field org_field space_field reloc_field interseg_field short_reloc_field short_interseg_field using_field strong_field label_field equate_field entry_field
+unfolding first_record spelling rows  label_field equate_field 
 front-again l End rest fits = refl
 front-again l (Const []) rest fits = absurd (omega arith)
 front-again l (Const (x ∷ bytes)) rest fits =

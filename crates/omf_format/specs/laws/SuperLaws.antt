@@ -5,7 +5,8 @@ use Rattle.std.proofs.lemmas.List.{append-nil}
 use Rattle.std.proofs.lemmas.Bool.{cases_lt, lt-ltb, le-ltb, eqb-true, ne_eqb}
 use Rattle.omf_format.specs.Number.{IsBytes}
 use Rattle.omf_format.specs.laws.FieldLaws.{IsBytes-rest}
-use Rattle.omf_format.specs.Super.{Page, Passed, Located, IsPage, page_text, HavePages, locations_from, end_pages, are_pages, locations_left}
+use Rattle.omf_format.specs.Super.{Page, Passed, Located, IsPage, page_text, HavePages, locations_from, end_pages, locations_left}
+use Rattle.omf_format.specs.laws.Steps.{are_pages}
 
 -- the low bytes that are left, and subrecords after them
 record Ends (lows : ℕ) (bytes : List ℕ) : Type 0 where
@@ -64,7 +65,6 @@ ends zero (count ∷ bytes) fits e = elim (cases_lt count 0x80) [
 
 -- what ends with a subrecord is subrecords
 pub pages-read : (bytes : List ℕ) → IsBytes bytes → are_pages bytes ≡ true → HavePages bytes
-unfolding are_pages
 pages-read bytes fits e = none_left bytes (ends 0 bytes fits e)
 
 -- low bytes are passed over
@@ -84,7 +84,6 @@ all_past (page ∷ pages) each = page_past page (flat_map page_text pages) each.
 
 -- subrecords end with a subrecord
 pub pages-again : (bytes : List ℕ) → HavePages bytes → are_pages bytes ≡ true
-unfolding are_pages
 pages-again bytes have = rw have.text (all_past have.pages have.each)
 
 -- ---- locations

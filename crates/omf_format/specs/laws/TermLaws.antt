@@ -10,7 +10,8 @@ use Rattle.omf_format.specs.declared.expression.ExprFault.TheVariants.{Shape, To
 use Rattle.omf_format.specs.Number.{IsBytes}
 use Rattle.omf_format.specs.Field.{◌>>=◌, number_field, name_field, name_text, IsName}
 use Rattle.omf_format.specs.laws.FieldLaws.{IsBytes-rest, bind_ok, done, ok_is, chosen, Takes, Takes-code, number_takes, number_again, name_takes, name_again}
-use Rattle.omf_format.specs.Expression.{Term, Operator, Location, Constant, Named, Offset, is_operator, is_named, IsTerm, term_text, AreTerms, terms_text, term_field, operands_of, pending_after, pending_after_term, step_of, term_step}
+use Rattle.omf_format.specs.Expression.{Term, Operator, Location, Constant, Named, Offset, is_operator, is_named, IsTerm, term_text, AreTerms, terms_text, term_field, operands_of, pending_after, pending_after_term, term_step}
+use Rattle.omf_format.specs.laws.TermSteps.{step_of}
 
 -- ---- one term
 
@@ -237,7 +238,7 @@ step-found l at pending bytes found e = step_found l at pending bytes (term_fiel
 
 pub step-end : (l at : ℕ) (rest : List ℕ) → term_step l at 1 (0x00 ∷ rest) ≡ Ok (None, rest)
 unfolding term_step
-step-end l at rest = rw (end-again l rest) refl
+step-end l at rest = ap (step_of at 1) (end-again l rest)
 
 pub step-term : (l at pending : ℕ) (term : Term) (rest : List ℕ) → IsTerm l term → operands_of term ≤ pending → pending_after pending term ≤ 64
     → term_step l at pending (term_text l term ++ rest) ≡ Ok (Some (pending_after pending term), rest)
@@ -245,4 +246,5 @@ unfolding term_step
 step-term l at pending term rest is some fits =
     let enough = le-ltb pending (operands_of term) some in
     let room = le-ltb 64 (pending_after pending term) fits in
-    rw (term-again l term rest is, enough, room) refl
+    let judged : step_of at pending (Ok (Some term, rest)) ≡ Ok (Some (pending_after pending term), rest) = rw (enough, room) refl in
+    ap (step_of at pending) (term-again l term rest is) ∙ judged

@@ -5,7 +5,8 @@ use Rattle.std.proofs.lemmas.Bool.{le-ltb}
 use Rattle.std.proofs.lemmas.List.{take_at, drop_at, length-append}
 use Rattle.omf_format.specs.Number.{number_at}
 use Rattle.omf_format.specs.Name.{name_at, name_size}
-use Rattle.omf_format.specs.Header.{HeaderFields, version_of, byte_count_of, kind_of, fields_of, names_end, checks_of, header_checks, first_of, header_fault, laid_out, written_fields, written_numbers, header_bytes, IsWritable}
+use Rattle.omf_format.specs.Header.{HeaderFields, version_of, kind_of, fields_of, names_end, checks_of, first_of, header_fault, laid_out, written_fields, header_bytes, IsWritable}
+use Rattle.omf_format.specs.laws.Steps.{byte_count_of, written_numbers}
 use Rattle.omf_format.specs.laws.HeaderLaws.{none_holds, length-laid_out, number_at-laid_out, drop-more}
 use Rattle.omf_format.specs.WrittenHeader.{FitsWritten}
 
@@ -44,7 +45,6 @@ record Stands (f : HeaderFields) (bytes : List ℕ) : Type 0 where
   disp_data : number_at 2 0x2A bytes ≡ f.disp_data
 
 stands : (f : HeaderFields) (rest : List ℕ) → FitsFields f → Stands f (laid_out (written_numbers f) ++ rest)
-unfolding written_numbers
 stands f rest fits =
     let all = written_numbers f in
     record {
@@ -67,7 +67,6 @@ stands f rest fits =
 
 -- the numbers take 44 bytes
 length-numbers : (f : HeaderFields) → length (laid_out (written_numbers f)) ≡ 44
-unfolding written_numbers
 length-numbers f = length-laid_out (written_numbers f)
 
 -- ---- names
@@ -155,7 +154,7 @@ names_end-written f n bytes w =
 
 -- in version 2 BYTECNT counts bytes, and KIND is at $14
 in_version_2 : (bytes : List ℕ) → version_of bytes ≡ 2 → (byte_count_of bytes ≡ number_at 4 0x00 bytes) × (kind_of bytes ≡ number_at 2 0x14 bytes)
-unfolding byte_count_of kind_of
+unfolding kind_of
 in_version_2 bytes is = (rw is refl, rw is refl)
 
 version-written : (f : HeaderFields) (n : ℕ) (bytes : List ℕ) → Written f n bytes → version_of bytes ≡ 2
@@ -170,12 +169,12 @@ fields_of-written f n rest fits =
     let s = w.numbers in
     let two = version-written f n (header_bytes f n ++ rest) w in
     let in2 = in_version_2 (header_bytes f n ++ rest) two in
-    rw (two, in2.0, in2.1, s.byte_count, s.res_spc, s.length', s.lab_len, s.bank_size, s.kind, s.org, s.align, s.seg_num, s.entry, s.disp_name, s.disp_data)
+    rw (two, in2.1, s.byte_count, s.res_spc, s.length', s.lab_len, s.bank_size, s.kind, s.org, s.align, s.seg_num, s.entry, s.disp_name, s.disp_data)
     (rw (w.load_name, w.name_length, w.name) refl)
 
 -- and none of the checks holds, where the whole body follows
 pub header_fault-written : (f : HeaderFields) (n : ℕ) (rest : List ℕ) → FitsWritten f n → IsWritable f → n ≤ length rest → header_fault (header_bytes f n ++ rest) ≡ None
-unfolding header_fault header_checks
+unfolding header_fault
 header_fault-written f n rest fits writable long =
     let bytes = header_bytes f n ++ rest in
     let w = written f n rest fits in

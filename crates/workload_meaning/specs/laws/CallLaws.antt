@@ -11,7 +11,8 @@ use Rattle.omf_format.specs.declared.value.Value.TheVariants.{At}
 use Rattle.omf_format.specs.declared.value.ValueFault.{ValueFault}
 use Rattle.omf_format.specs.Header.{HeaderFields}
 use Rattle.omf_format.specs.Expression.{Named, Leaf}
-use Rattle.omf_format.specs.Value.{operand_value, known_or_fault}
+use Rattle.omf_format.specs.Value.{operand_value}
+use Rattle.omf_format.specs.laws.Steps.{known_or_fault}
 use Rattle.omf_format.specs.Record.{Record, End, Const, LongConst, Formula}
 use Rattle.omf_format.specs.File.{Segment}
 use Rattle.load_meaning.specs.Cells.{Cell, Byte}
@@ -28,10 +29,11 @@ use Rattle.link_meaning.specs.Layout.{load_length, load_names, number_in, load_o
 use Rattle.object_meaning.specs.laws.TreeInLaws.{tree_in-again}
 use Rattle.object_meaning.specs.Terms.{tree_in}
 use Rattle.link_meaning.specs.laws.PlaceFits.{name_there, offset-le, in_parts}
-use Rattle.link_meaning.specs.LinkValues.{EquateAnswer, place_value, outside_value, label_value, member_environment, value_or_equate_fault, tree_value, value_in}
-use Rattle.link_meaning.specs.Fitting.{PatchPlace, Fit, Place, place_fit, is_dynamic_load, length_of, ends_in_jsl, is_call, target_of, has_room_for, may_call, call_fit, or_does_not_fit, fit_value, fit_cells, targets_after}
+use Rattle.link_meaning.specs.LinkValues.{EquateAnswer, place_value, outside_value, label_value, member_environment, value_or_equate_fault, value_in}
+use Rattle.link_meaning.specs.Fitting.{PatchPlace, Fit, Place, place_fit, is_dynamic_load, length_of, ends_in_jsl, call_fit, fit_value, fit_cells, targets_after}
+use Rattle.link_meaning.specs.laws.Steps.{has_room_for, target_of, may_call, or_does_not_fit, tree_value, frame_of, is_call}
 use Rattle.link_meaning.specs.Fitting as fitting
-use Rattle.link_meaning.specs.LinkedCells.{Item, LinkState, Made, items_from, items, frame_of, table_number, cells_before, made_by, made, state_after_item}
+use Rattle.link_meaning.specs.LinkedCells.{Item, LinkState, Made, items_from, items, table_number, cells_before, made_by, made, state_after_item}
 use Rattle.link_meaning.specs.LinkWritten.{AreMade, start}
 use Rattle.link_meaning.specs.laws.LinkedRuns.{item}
 use Rattle.workload_meaning.specs.Object.{name_of, padded, value_of, calls, dynamic_segment}

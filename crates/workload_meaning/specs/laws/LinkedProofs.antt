@@ -19,7 +19,8 @@ use Rattle.link_meaning.specs.laws.LinkWrittenLaws.{some_members, in_at}
 use Rattle.link_meaning.specs.laws.ReadMembers.{members_read, read_size, read_some, read_header}
 use Rattle.link_meaning.specs.laws.ValueFits.{all_sound}
 use Rattle.link_meaning.specs.laws.MemberLists.{in_filter}
-use Rattle.link_meaning.specs.EmitFaults.{HasCycleFault, EmitPhase, Cycles, Values, Size, emit_phases, HasEmitFault, IsFirstLinkFault, IsLinkable, IsLinkAnswer}
+use Rattle.link_meaning.specs.EmitFaults.{HasCycleFault, EmitPhase, Cycles, Values, Size, HasEmitFault, IsFirstLinkFault, IsLinkable, IsLinkAnswer}
+use Rattle.link_meaning.specs.laws.Steps.{emit_phases}
 use Rattle.link_meaning.specs.laws.EmitFaultLaws.{made_sound, one_link_answer}
 use Rattle.asm_meaning.specs.Object.{object_text}
 use Rattle.asm_meaning.specs.laws.ObjectFileLaws.{ended_are_file}

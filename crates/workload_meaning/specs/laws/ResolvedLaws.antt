@@ -22,10 +22,11 @@ use Rattle.link_meaning.specs.declared.form.LinkForm.TheVariants.{Program}
 use Rattle.link_meaning.specs.Member.{OfferedRow, Input, RuntimeFile, LinkSetting, without_runtimes, Member, is_library, members_from, objects, setting_in, Offer, library_offers}
 use Rattle.link_meaning.specs.Uses.{Use, uses_of}
 use Rattle.link_meaning.specs.Search.{FoundDefinition, finds}
-use Rattle.link_meaning.specs.LinkedList.{PlacedUse, asked_from, all_uses, found_for, unless_found, row_for, wanted_by, wanted, Follow, IsLinked}
-use Rattle.link_meaning.specs.Layout.{in_load, aligned_from, end_from, load_length, distinct, load_names, load_members, lesser_bank, least_bank, load_fields, headers_from, load_headers}
+use Rattle.link_meaning.specs.LinkedList.{PlacedUse, asked_from, all_uses, found_for, row_for, wanted_by, wanted, Follow, IsLinked}
+use Rattle.link_meaning.specs.Layout.{in_load, end_from, load_length, distinct, load_names, load_members, least_bank, load_fields, headers_from, load_headers}
 use Rattle.link_meaning.specs.laws.LayoutLaws.{aligned_from-least}
-use Rattle.link_meaning.specs.LinkFaults.{plain, InputPart, OfInput, AreRuntimes, IsSetting, HasPartFault, with_place, type_fault, record_fault, records_fault, length_fault, segment_fault, segments_fault, rows_in_file, HasFileFault, OfFile, OfSegment, OfDictionary, IsInput, AreInputs, IsProgram, use_cause, HasUseFault, HasOrgFault, is_too_long, HasLengthFault, may_not_stand, HasKindFault, LayoutCheck, Orgs, Count, Lengths, Kinds, HasLayoutFault, Phase, Reading, Objects, Names, Layout, phases, HasPhaseFault, IsResolved}
+use Rattle.link_meaning.specs.LinkFaults.{plain, InputPart, OfInput, AreRuntimes, IsSetting, HasPartFault, type_fault, record_fault, segment_fault, segments_fault, rows_in_file, HasFileFault, OfFile, OfSegment, OfDictionary, IsInput, AreInputs, IsProgram, use_cause, HasUseFault, HasOrgFault, HasLengthFault, HasKindFault, LayoutCheck, Orgs, Count, Lengths, Kinds, HasLayoutFault, Phase, Reading, Objects, Names, Layout, HasPhaseFault, IsResolved}
+use Rattle.link_meaning.specs.laws.Steps.{with_place, records_fault, length_fault, is_too_long, may_not_stand, unless_found, aligned_from, lesser_bank, phases}
 use Rattle.workload_meaning.specs.Object.{name_of, padded}
 use Rattle.workload_meaning.specs.laws.NameLaws.{padded_differs, padded_not_main}
 use Rattle.workload_meaning.specs.laws.ObjectLaws.{IsOwnRecord, IsOwn, AreDynamic, IsWorkload}

@@ -16,8 +16,9 @@ use Rattle.link_meaning.specs.declared.search.SearchStep.{SearchStep}
 use Rattle.object_meaning.specs.Sizes.{Located, size_at, located_from, records_with_offsets}
 use Rattle.link_meaning.specs.Member.{Member, without_runtimes, members_from, setting_in}
 use Rattle.object_meaning.specs.Defines.{Definition, ForAll, outer_scope, title_of, defined_by, defined_in}
-use Rattle.link_meaning.specs.Uses.{Use, used_by, used_in_text, used_by_term, uses_of, data_name, usings_of}
-use Rattle.link_meaning.specs.Search.{FoundDefinition, entries_from, entries, with_this_name, first_step_found, steps_of, outer_steps, or_else, only_place, finds_data, used_data, finds_inside, outside, finds}
+use Rattle.link_meaning.specs.Uses.{Use, used_by, used_by_term, uses_of, usings_of}
+use Rattle.link_meaning.specs.Search.{FoundDefinition, entries_from, entries, with_this_name, first_step_found, outer_steps, or_else, only_place, finds_data, used_data, outside, finds}
+use Rattle.link_meaning.specs.laws.Steps.{steps_of, data_name, finds_inside, used_in_text}
 use Rattle.workload_meaning.specs.Object.{name_of, padded, value_of}
 use Rattle.workload_meaning.specs.laws.NameLaws.{is_name, value_spells, name_differs, name_not_main}
 use Rattle.workload_meaning.specs.laws.ObjectLaws.{IsOwnRecord, IsOwn}
@@ -235,7 +236,6 @@ named_after i main ms title_is are some less few =
     }
 
 inside_one : (n i place : ℕ) (list : List Member) (m : Member) → n ≤ 64 → AreOwn n list → IsOwn n m.segment → (at : IsNamedAt i 1 list) → finds_inside list place m (name_of i) ≡ title_at (1 + length at.front) at.member ∷ []
-unfolding finds_inside
 inside_one n i place list m small all own at =
     ap (λ (l : List FoundDefinition). first_step_found (steps_of list place m) (with_this_name (name_of i) l)) (entries_are n list all)
     ∙ ap (λ (l : List FoundDefinition). first_step_found (steps_of list place m) l) at.found

@@ -15,21 +15,23 @@ use Rattle.omf_format.specs.laws.WrittenHeaderLaws.{length-header}
 use Rattle.omf_format.specs.Record.{Record, End, LongConst, Super, spelling}
 use Rattle.omf_format.specs.Super.{Passed, Located, page_text}
 use Rattle.load_meaning.specs.declared.table.Target.{Target}
-use Rattle.load_meaning.specs.Cells.{Patch}
+use Rattle.load_meaning.specs.Cells.{Patch, byte_under}
 use Rattle.load_meaning.specs.Table.{file_entry, table_bytes}
 use Rattle.load_meaning.specs.laws.WrittenTableLaws.{length-table_bytes, length-plain_body}
 use Rattle.load_meaning.specs.WrittenPages.{passing, Group, in_front, by_page, pages_from, pages_of, pages_text, Rise}
 use Rattle.load_meaning.specs.laws.PageLaws.{held, all_held, all_held_again, Climb, climb_lower, climb_all}
 use Rattle.load_meaning.specs.laws.PageSizeLaws.{Under}
-use Rattle.load_meaning.specs.WrittenBody.{AreWritten, is_own, is_short, lone_record, data_records, written_data, has_none, super_form, of_form, patches_stored_alone, super_records, supers_from, body_records, body_text}
+use Rattle.load_meaning.specs.WrittenBody.{AreWritten, is_own, is_short, lone_record, data_records, written_data, super_form, of_form, super_records, supers_from, body_records, body_text}
+use Rattle.load_meaning.specs.laws.Steps.{has_none, patches_stored_alone}
 use Rattle.load_meaning.specs.laws.WrittenBodyLaws.{places, rise_form, under_form, length-written}
-use Rattle.load_meaning.specs.WrittenFile.{Image, image_records, image_body, image_fields, image_text, file_text, table_fields, table_image}
+use Rattle.load_meaning.specs.WrittenFile.{Image, image_body, image_fields, image_text, file_text, table_fields, table_image}
 use Rattle.link_meaning.specs.First.{IsIn}
 use Rattle.link_meaning.specs.Member.{LinkSetting, without_runtimes, Member, setting_in, form_in}
 use Rattle.link_meaning.specs.Layout.{load_length, load_names, load_fields}
 use Rattle.link_meaning.specs.LinkValues.{EquateAnswer}
 use Rattle.link_meaning.specs.LinkedCells.{table_number, targets, linked}
-use Rattle.link_meaning.specs.LinkWritten.{byte_under, image_of, exports, exports_for, load_images, table_images, path_images, images, written_file}
+use Rattle.link_meaning.specs.LinkWritten.{exports, load_images, table_images, path_images, images, written_file}
+use Rattle.link_meaning.specs.laws.Steps.{exports_for, image_of}
 use Rattle.link_meaning.specs.laws.RunCells.{runs_written}
 use Rattle.link_meaning.specs.laws.LinkedRuns.{MembersHave, linked_has}
 
@@ -149,7 +151,7 @@ supers_short : (own size form n : ℕ) (patches : List Patch) → size ≤ 4114 
 supers_short own size form zero patches small are = omega arith
 supers_short own size form (suc n) patches small are =
     let these = of_form own patches form in
-    let few : length these ≤ size = omega (arith, filter-le (λ p. Rattle.load_meaning.specs.WrittenBody.is_form form (super_form own p)) patches, few_patches size 0 patches (omega arith) are) in
+    let few : length these ≤ size = omega (arith, filter-le (λ p. Rattle.load_meaning.specs.laws.Steps.is_form form (super_form own p)) patches, few_patches size 0 patches (omega arith) are) in
     omega (
       arith,
       text_parts (super_records form these) (supers_from own patches (form + 1) n),
@@ -185,7 +187,7 @@ record IsBare (image : Image) : Type 0 where
 
 -- its body is the records of its cells, and END
 bare_body : (image : Image) → IsBare image → length (image_body image) ≡ length (body_text image.fields.seg_num image.content image.patches) + length (spelling written_layout End)
-unfolding image_body image_records body_text
+unfolding image_body  body_text
 bare_body image bare =
     let own = body_records image.fields.seg_num image.content image.patches in
     let records : cond image.whole (data_records image.content) own ++ image.exports ≡ own =
@@ -223,7 +225,7 @@ module _ (list : List Member) (table : List EquateAnswer) (have : MembersHave li
   none_exported number = ap (λ (s : LinkSetting). exports_for s.form number (exports list table)) own
 
   load_short : (number : ℕ) (x : List ℕ) → length x ≡ 10 → length (image_text (image_of (load_fields list number x) (linked list table x) (exports_for (form_in list) number (exports list table)))) ≤ 223101
-  unfolding image_of load_fields
+  unfolding load_fields
   load_short number x ten =
       let cells = linked list table x in
       let has = linked_has list table x have in

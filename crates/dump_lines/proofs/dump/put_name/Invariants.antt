@@ -1,5 +1,5 @@
 use Rattle.std.proofs.Common.{◌≡◌, ◌∷◌, ◌++◌, take, map}
-use Rattle.dump_lines.specs.Listing.{printable_byte}
+use Rattle.dump_lines.specs.Steps.{printable_byte}
 use Rattle.dump_lines.proofs.dump.put_name.Given as goal
 
 -- the bytes so far were appended

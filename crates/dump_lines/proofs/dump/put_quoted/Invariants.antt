@@ -1,5 +1,5 @@
 use Rattle.std.proofs.Common.{◌≡◌, ◌∷◌, ◌++◌, take, map}
-use Rattle.dump_lines.specs.Listing.{quoted_byte}
+use Rattle.dump_lines.specs.Steps.{quoted_byte}
 use Rattle.dump_lines.proofs.dump.put_quoted.Given as goal
 
 -- the bytes so far were appended

@@ -1,10 +1,10 @@
 use Rattle.std.proofs.Common.{◌≡◌, ℕ, [], ◌∷◌, ◌++◌, List, sym, ap, ◌∙◌, append_assoc}
+use Rattle.dump_lines.specs.Steps.{record_line}
 use Rattle.std.specs.List.{flat_map}
 use Rattle.omf_format.specs.Record.{Record}
 use Rattle.omf_records.specs.View.{view}
 use Rattle.omf_format.specs.Field.{length_width_of}
 use Rattle.omf_format.specs.Reading.{records_of}
-use Rattle.dump_lines.specs.Listing.{record_line}
 use Rattle.omf_records.specs.WalkLaws.{walk_on, walk_ends, walk_fails, gives_more}
 use Rattle.dump_lines.proofs.dump.put_records.Goals as goal
 

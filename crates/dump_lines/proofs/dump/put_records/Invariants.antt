@@ -1,9 +1,9 @@
 use Rattle.std.proofs.Common.{◌≡◌, List, ℕ, ◌++◌, length}
+use Rattle.dump_lines.specs.Steps.{record_line}
 use Rattle.std.specs.List.{flat_map}
 use Rattle.omf_format.specs.Record.{Record}
 use Rattle.omf_format.specs.Reading.{HandsOut}
 use Rattle.omf_format.specs.Field.{length_width_of}
-use Rattle.dump_lines.specs.Listing.{record_line}
 use Rattle.dump_lines.proofs.dump.put_records.Given as goal
 
 -- the lines of the records so far were appended

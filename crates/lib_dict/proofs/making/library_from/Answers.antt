@@ -2,7 +2,8 @@ use Rattle.std.proofs.Common.{◌≡◌, ◌≤◌, ◌-◌, ◌*◌, ℕ, List,
 use Rattle.std.proofs.lemmas.List.{length-map}
 use Rattle.lib_dict.specs.View.{outer_row}
 use Rattle.lib_dict.specs.declared.fault.LibFault.{LibFault}
-use Rattle.lib_dict.specs.Library.{LibraryRow, files_text, names_text, rows_from, library_bytes, dictionary_size, most_bytes}
+use Rattle.lib_dict.specs.Library.{LibraryRow, files_text, names_text, rows_from, library_bytes, dictionary_size}
+use Rattle.object_meaning.specs.Sizes.{most_bytes}
 use Rattle.lib_dict.specs.Made.{library_file, IsTooLongOrMemory}
 use Rattle.lib_dict.specs.Sizes.{StartBefore, moved_row}
 use Rattle.lib_dict.proofs.SizeLaws.{start_before, library_is, length-library, length-rows, too_long_is, place_is}

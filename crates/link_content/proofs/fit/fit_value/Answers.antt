@@ -2,7 +2,8 @@ use mir.Val.{to_z, of_z}
 use Rattle.std.proofs.Common.{◌≡◌, w8, Bool, false, cond, sym, ap, ◌∙◌, arith}
 use Rattle.std.proofs.lemmas.Int.{to_z-of_z}
 use Rattle.link_meaning.specs.Member.{setting_in}
-use Rattle.link_meaning.specs.Fitting.{place_fit, is_far, is_call, target_of, or_does_not_fit, call_fit, fit_value}
+use Rattle.link_meaning.specs.Fitting.{place_fit, call_fit, fit_value}
+use Rattle.link_meaning.specs.laws.Steps.{is_far, target_of, or_does_not_fit, is_call}
 use Rattle.link_content.specs.Fits.{shown_frame}
 use Rattle.link_content.proofs.FitLaws.{reported_answer, place_plain}
 use Rattle.link_content.proofs.fit.fit_value.Goals as goal

@@ -1,6 +1,6 @@
 use Rattle.std.proofs.Common.{◌<◌, ◌++◌, length, sym, ap, ◌∙◌, arith}
+use Rattle.load_meaning.specs.Cells.{byte_under}
 use Rattle.std.proofs.lemmas.List.{length-map}
-use Rattle.link_meaning.specs.LinkWritten.{byte_under}
 use Rattle.link_content.proofs.RecordLaws.{is_22, jsl_there}
 use Rattle.link_content.proofs.record.ends_in_jsl.Goals as goal
 

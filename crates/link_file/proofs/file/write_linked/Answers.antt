@@ -2,7 +2,8 @@ use Rattle.std.proofs.Common.{◌+◌, ◌++◌, ◌<◌, ℕ, List, length, ap,
 use Rattle.std.proofs.lemmas.Result.{err_from_is_err_and}
 use Rattle.load_meaning.specs.WrittenFile.{file_text}
 use Rattle.link_meaning.specs.Member.{setting_in, form_in}
-use Rattle.link_meaning.specs.LinkWritten.{exports, exports_for}
+use Rattle.link_meaning.specs.LinkWritten.{exports}
+use Rattle.link_meaning.specs.laws.Steps.{exports_for}
 use Rattle.link_file.specs.Images.{images_in, images_after}
 use Rattle.link_file.proofs.FileLaws.{both_text, long_both, long_first}
 use Rattle.link_file.proofs.ImageLaws.{err_moved}

@@ -1,8 +1,8 @@
 use Rattle.std.proofs.Common.{ℕ, refl, sym, ap, ◌∙◌}
+use Rattle.link_meaning.specs.laws.Steps.{records_fault}
 use Rattle.omf_format.specs.Record.{Record}
 use Rattle.omf_records.specs.Segments.{segment_of_view}
 use Rattle.omf_records.specs.View.{view}
-use Rattle.link_meaning.specs.LinkFaults.{records_fault}
 use Rattle.object_meaning.specs.Sizes.{body_size}
 use Rattle.link_tables.proofs.ComingLaws.{coming_view, found_next, found_end}
 use Rattle.link_tables.proofs.FirstLeft.{first_end, first_here}

@@ -1,8 +1,8 @@
 use Rattle.std.proofs.Common.{Option, Some, Result, Ok, Err, ap, ◌∙◌}
+use Rattle.link_meaning.specs.laws.Steps.{has_expr}
 use Rattle.omf_format.specs.declared.value.Value.{Value}
 use Rattle.omf_format.specs.declared.value.ValueFault.{ValueFault}
 use Rattle.link_program.specs.Outside.{all_found}
-use Rattle.link_meaning.specs.Cycles.{has_expr}
 use Rattle.link_meaning.specs.LinkValues.{equate_value}
 use Rattle.link_program.specs.Programs.{SymbolView, symbol_of}
 use Rattle.link_values.specs.Slots.{rows_of}

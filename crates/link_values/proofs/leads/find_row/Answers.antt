@@ -1,10 +1,10 @@
 use Rattle.std.proofs.Common.{◌≡◌, ◌∙◌, ℕ, Result, Ok, Err, Some, ap}
+use Rattle.link_meaning.specs.laws.Steps.{has_expr}
 use Rattle.std.specs.Prelude.{OnOk, slice_get}
 use Rattle.link_meaning.specs.Search.{FoundDefinition}
 use Rattle.link_program.specs.Outside.{all_found}
 use Rattle.link_program.specs.Programs.{SymbolView, symbol_of, symbol_view}
 use Rattle.link_values.specs.Equates.{IsRow}
-use Rattle.link_meaning.specs.Cycles.{has_expr}
 use Rattle.link_values.proofs.AllFound.{inside_equate}
 use Rattle.link_values.proofs.EquateLaws.{text_of, no_member_place, its_member_place, member_place_spelled}
 use Rattle.link_values.proofs.LeadLaws.{row_from}

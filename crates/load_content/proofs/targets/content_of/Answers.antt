@@ -3,7 +3,8 @@ use Rattle.std.specs.Prelude.{option_map}
 use Rattle.omf_format.specs.Reading.{Reader, records_of}
 use Rattle.omf_format.specs.File.{Segment}
 use Rattle.load_meaning.specs.declared.load.LoadFault.{LoadFault}
-use Rattle.load_meaning.specs.Loadable.{first_target_fault, target_fault, in_segment}
+use Rattle.load_meaning.specs.Loadable.{first_target_fault, target_fault}
+use Rattle.load_meaning.specs.laws.Steps.{in_segment}
 use Rattle.omf_records.specs.Segments.{segment_of_view}
 use Rattle.load_content.specs.declared.spots.PatchSpot.{PatchSpot}
 use Rattle.load_content.specs.Walk.{patches_from}

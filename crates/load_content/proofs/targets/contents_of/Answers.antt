@@ -1,6 +1,7 @@
 use Rattle.std.proofs.Common.{◌+◌, ◌<◌, ◌++◌, ◌∷◌, [], List, length, take, get_or, map, refl, sym, ap, subst, ◌∙◌, arith}
 use Rattle.std.specs.Prelude.{option_map}
-use Rattle.load_meaning.specs.Loadable.{in_segment, shape_fault, target_fault}
+use Rattle.load_meaning.specs.Loadable.{shape_fault, target_fault}
+use Rattle.load_meaning.specs.laws.Steps.{in_segment}
 use Rattle.omf_records.specs.declared.segment.SegmentView.{SegmentView}
 use Rattle.omf_records.specs.Segments.{segment_of_view}
 use Rattle.load_content.specs.Content.{AreContents}

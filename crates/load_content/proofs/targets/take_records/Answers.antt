@@ -5,7 +5,8 @@ use Rattle.load_meaning.specs.declared.load.LoadCause.{LoadCause}
 use Rattle.omf_format.specs.Record.{Record}
 use Rattle.omf_format.specs.Reading.{Reader}
 use Rattle.load_meaning.specs.Cells.{Cell, patches_in}
-use Rattle.load_meaning.specs.Loadable.{Fault, first_target_fault, in_segment}
+use Rattle.load_meaning.specs.Loadable.{Fault, first_target_fault}
+use Rattle.load_meaning.specs.laws.Steps.{in_segment}
 use Rattle.omf_records.specs.View.{view}
 use Rattle.omf_records.specs.Segments.{segment_of_view}
 use Rattle.load_content.specs.Content.{shown_spots, spread_all}

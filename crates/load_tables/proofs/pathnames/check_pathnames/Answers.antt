@@ -5,7 +5,8 @@ use Rattle.std.proofs.lemmas.Option.{slice_get_read, slice_get-map}
 use Rattle.std.proofs.lemmas.List.{length-map}
 use Rattle.std.proofs.lemmas.Result.{err_from_is_err_and}
 use Rattle.load_meaning.specs.Pathnames.{has_pathnames}
-use Rattle.load_meaning.specs.Loadable.{in_segment, shape_fault, pathnames_fault}
+use Rattle.load_meaning.specs.Loadable.{shape_fault, pathnames_fault}
+use Rattle.load_meaning.specs.laws.Steps.{in_segment}
 use Rattle.load_meaning.specs.laws.CellLaws.{shaped, length-segment_bytes}
 use Rattle.omf_records.specs.declared.segment.SegmentView.{SegmentView}
 use Rattle.omf_records.specs.Segments.{segment_of_view}

@@ -2,7 +2,8 @@ use Rattle.std.proofs.Common.{◌≡◌, ◌+◌, ◌-◌, suc, map, sym, ◌∙
 use Rattle.omf_format.specs.Header.{first_of}
 use Rattle.load_meaning.specs.Cells.{segment_bytes}
 use Rattle.load_meaning.specs.Table.{entry_start}
-use Rattle.load_meaning.specs.LoadTable.{entry_checks, entries_checks}
+use Rattle.load_meaning.specs.LoadTable.{entries_checks}
+use Rattle.load_meaning.specs.laws.Steps.{entry_checks}
 use Rattle.omf_records.specs.Segments.{segment_of_view}
 use Rattle.load_tables.proofs.TableRuns.{entries_next, or-here, or-next}
 use Rattle.load_tables.proofs.table.entries_flaw.Goals as goal

@@ -4,7 +4,8 @@ use Rattle.omf_format.specs.Header.{first_of}
 use Rattle.omf_format.specs.File.{Segment}
 use Rattle.load_meaning.specs.Cells.{segment_bytes}
 use Rattle.load_meaning.specs.Table.{entry_start}
-use Rattle.load_meaning.specs.LoadTable.{zero_checks, entries_checks, table_checks}
+use Rattle.load_meaning.specs.LoadTable.{zero_checks, entries_checks}
+use Rattle.load_meaning.specs.laws.Steps.{table_checks}
 use Rattle.omf_records.specs.Segments.{segment_of_view}
 use Rattle.load_tables.proofs.TableRuns.{first_of-append, or-here, or-next}
 use Rattle.load_tables.proofs.table.layout_flaw.Goals as goal

@@ -4,7 +4,8 @@ use Rattle.std.proofs.lemmas.Bool.{ne_eqb, eq-eqb}
 use Rattle.omf_format.specs.Reading.{Reader, records_of}
 use Rattle.load_meaning.specs.Cells.{segment_bytes, patches_of}
 use Rattle.omf_format.specs.Header.{first_of}
-use Rattle.load_meaning.specs.LoadTable.{entry_count, table_checks}
+use Rattle.load_meaning.specs.LoadTable.{entry_count}
+use Rattle.load_meaning.specs.laws.Steps.{table_checks}
 use Rattle.omf_records.specs.Segments.{segment_of_view}
 use Rattle.load_content.specs.Walk.{gives_patch}
 use Rattle.load_content.proofs.PatchRuns.{has_some, has_none}

@@ -3,7 +3,8 @@ use Rattle.std.specs.List.{flat_map}
 use Rattle.omf_format.specs.Field.{written_layout}
 use Rattle.omf_format.specs.Record.{spelling}
 use Rattle.load_writer.specs.WrittenParts.{seen, IsFront}
-use Rattle.load_meaning.specs.WrittenBody.{AreWritten, patches_stored_alone, lone_record}
+use Rattle.load_meaning.specs.WrittenBody.{AreWritten, lone_record}
+use Rattle.load_meaning.specs.laws.Steps.{patches_stored_alone}
 use Rattle.load_writer.proofs.written.put_lone.Given as goal
 
 -- the records so far and those of the patches that are left

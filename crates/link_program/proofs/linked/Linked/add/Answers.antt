@@ -3,7 +3,8 @@ use Rattle.std.specs.List.{flat_map}
 use Rattle.omf_records.specs.Segments.{segment_of_view}
 use Rattle.object_meaning.specs.Sizes.{records_with_offsets}
 use Rattle.object_meaning.specs.Defines.{title_of, defined_in}
-use Rattle.link_meaning.specs.Uses.{Use, data_name}
+use Rattle.link_meaning.specs.Uses.{Use}
+use Rattle.link_meaning.specs.laws.Steps.{data_name}
 use Rattle.link_tables.specs.declared.definitions.Origin.{Origin}
 use Rattle.link_program.specs.declared.linked.Linked.{Linked}
 use Rattle.link_program.specs.Linked.{names_of}

@@ -1,5 +1,6 @@
 use Rattle.std.proofs.Common.{sym, subst}
-use Rattle.link_meaning.specs.Search.{entries, outside, finds, finds_inside}
+use Rattle.link_meaning.specs.Search.{entries, outside, finds}
+use Rattle.link_meaning.specs.laws.Steps.{finds_inside}
 use Rattle.link_meaning.specs.Member.{setting_in}
 use Rattle.link_tables.specs.declared.names.Matches.{Matches}
 use Rattle.link_tables.specs.declared.names.Matches.TheVariants.{One, Several}

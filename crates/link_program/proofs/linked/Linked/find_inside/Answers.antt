@@ -3,7 +3,8 @@ use Rattle.std.specs.Prelude.{filter, slice_get}
 use Rattle.std.proofs.lemmas.Option.{slice_get_read}
 use Rattle.link_meaning.specs.declared.search.SearchStep.TheVariants.{Within}
 use Rattle.link_meaning.specs.Uses.{usings_of}
-use Rattle.link_meaning.specs.Search.{FoundDefinition, entries, with_this_name, is_seen_by_step, first_step_found}
+use Rattle.link_meaning.specs.Search.{FoundDefinition, entries, with_this_name, first_step_found}
+use Rattle.link_meaning.specs.laws.Steps.{is_seen_by_step}
 use Rattle.link_tables.specs.declared.names.Matches.{Matches}
 use Rattle.link_tables.specs.declared.names.Matches.TheVariants.{One, Several}
 use Rattle.link_tables.specs.Definitions.{Sees}

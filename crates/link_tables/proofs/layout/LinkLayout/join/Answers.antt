@@ -1,8 +1,8 @@
 use Rattle.std.proofs.Common.{◌≡◌, length, refl, sym, ap, subst, ◌∙◌}
+use Rattle.link_meaning.specs.laws.Steps.{aligned_from}
 use Rattle.std.specs.Vec.{with_item}
 use Rattle.std.proofs.lemmas.Option.{slice_get_read}
 use Rattle.omf_format.specs.Header.{HeaderFields, alignment_of}
-use Rattle.link_meaning.specs.Layout.{aligned_from}
 use Rattle.link_tables.specs.declared.layout.LoadOffset.{LoadOffset}
 use Rattle.link_tables.specs.declared.layout.LinkLayout.{LinkLayout}
 use Rattle.link_tables.specs.Laid.{IsJoined, conflict_with}
