@@ -1,8 +1,8 @@
 -- Texts separated by commas or plus signs, and texts in quotes.
-use Rattle.std.specs.Prelude.{ℕ, ◌+◌, ◌-◌, Bool, ◌&&◌, ◌||◌, ◌==◌, nat_lt, List, [], ◌∷◌, ◌++◌, length, take, drop, Option, Some, None, if◌then◌else◌}
+use Rattle.std.specs.Prelude.{ℕ, ◌+◌, ◌-◌, Bool, ◌&&◌, ◌||◌, ◌==◌, nat_lt, List, [], ◌∷◌, ◌++◌, length, take, drop, Option, Some, None, if◌then◌else◌, is_none}
 use Rattle.std.specs.List.{position_or_len}
 use Rattle.omf_format.specs.Ascii as ascii
-use Rattle.orca_meaning.specs.Quotes.{quote_following, is_closed}
+use Rattle.orca_meaning.specs.Quotes.{quote_following}
 use Rattle.orca_meaning.specs.Token.{Found}
 use Rattle.macro_meaning.specs.Statements.{whole_match}
 
@@ -13,7 +13,7 @@ open_after (Some quote) count byte = count
 
 -- whether the byte is a separator outside quotes and parentheses
 abbrev pub parts : ℕ → Option ℕ → ℕ → ℕ → Bool
-parts separator quote count byte = is_closed quote && count == 0 && byte == separator
+parts separator quote count byte = is_none quote && count == 0 && byte == separator
 
 -- the pieces between the separators outside quotes and parentheses, where this quote and this number of parentheses are open
 unfoldable pub pieces_from : ℕ → Option ℕ → ℕ → List ℕ → List (List ℕ)

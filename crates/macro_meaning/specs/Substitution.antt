@@ -1,11 +1,11 @@
 -- Symbols in a line, and the texts that replace them (ORCA/M reference manual, "Symbolic parameters").
-use Rattle.std.specs.Prelude.{ℕ, zero, suc, ◌+◌, ◌-◌, Bool, true, false, ◌||◌, ◌&&◌, ◌==◌, nat_le, nat_lt, List, [], ◌∷◌, ◌++◌, take, drop, slice_index, Option, Some, None, if◌then◌else◌}
+use Rattle.std.specs.Prelude.{ℕ, zero, suc, ◌+◌, ◌-◌, Bool, true, false, ◌||◌, ◌&&◌, ◌==◌, nat_le, nat_lt, List, [], ◌∷◌, ◌++◌, take, drop, slice_index, Option, Some, None, if◌then◌else◌, is_none}
 use Rattle.std.specs.Char.{to_ascii_uppercase}
 use Rattle.std.specs.List.{prefix_len}
 use Rattle.omf_format.specs.Ascii as ascii
 use Rattle.orca_meaning.specs.declared.lines.Span.{Span}
 use Rattle.orca_meaning.specs.Characters.{is_letter, is_name_start, is_name_byte, folded}
-use Rattle.orca_meaning.specs.Quotes.{is_closed, quote_after}
+use Rattle.orca_meaning.specs.Quotes.{quote_after}
 use Rattle.orca_meaning.specs.Line.{LineFields, part}
 use Rattle.macro_meaning.specs.declared.statements.SymbolKind.TheVariants.{Number, Flag}
 use Rattle.macro_meaning.specs.declared.statements.Statement.{Statement}
@@ -29,7 +29,7 @@ abbrev pub is_asked : List ℕ → Span → ℕ → Bool
 is_asked text field at =
     let letter = to_ascii_uppercase (slice_index text (at - 2)) in
     nat_le (field.from + 2) at && nat_lt at field.to && ((letter == ascii.capital_l || letter == ascii.capital_c) && slice_index text (at - 1) == ascii.colon)
-    && is_closed (quote_after None (take (at - field.from) (drop field.from text)))
+    && is_none (quote_after None (take (at - field.from) (drop field.from text)))
 
 -- the statements whose operand may ask for `L:&NAME` and `C:&NAME`
 abbrev pub may_ask : Statement → Bool

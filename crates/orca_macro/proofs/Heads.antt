@@ -8,7 +8,8 @@ use Rattle.std.proofs.lemmas.List.Folds.{prefix_len-append, list_all-append}
 use Rattle.std.proofs.lemmas.List.Sums.{prefix_len-le-length}
 use Rattle.orca_meaning.specs.declared.lines.Span.{Span}
 use Rattle.orca_meaning.specs.Characters.{is_blank, folded}
-use Rattle.orca_meaning.specs.Line.{LineFields, Line, part, three_fields, is_comment, is_ink, next_blank, next_ink, span}
+use Rattle.orca_meaning.specs.Line.{LineFields, Line, part, three_fields, is_comment, next_blank, next_ink, span}
+use Rattle.orca_meaning.specs.laws.Steps.{is_ink}
 use Rattle.macro_meaning.specs.declared.statements.Statement.{Statement}
 use Rattle.macro_meaning.specs.Effect.{SymbolSetting, without_sequence_symbol, operation_or_anop, IsDone, IsStatement, IsAfterText, calling_at}
 use Rattle.macro_meaning.specs.laws.Steps.{IsDoneBy, IsAfterCut, IsShort, begins_definition}
