@@ -2,15 +2,12 @@
 use Rattle.std.specs.Prelude.{◌≡◌, ℕ, ◌==◌, Bool, true, false, not, ◌&&◌, nat_lt, List, [], ◌∷◌, length, bytes_eq, Option, Some, None, is_some, option_map, Result, Ok, Err, if◌then◌else◌}
 use Rattle.std.specs.List.{list_all}
 use Rattle.omf_format.specs.Ascii as ascii
-use Rattle.omf_format.specs.declared.value.Value.{Value}
-use Rattle.omf_format.specs.declared.value.Value.TheVariants.{Fixed, At}
-use Rattle.omf_format.specs.declared.value.ValueFault.{ValueFault}
+use Rattle.omf_format.specs.declared.value.Value.TheVariants.{Fixed}
 use Rattle.omf_format.specs.Expression as expression
 use Rattle.omf_format.specs.Expression.{Tree, terms_of, depth}
 use Rattle.omf_format.specs.Value.{Environment, value, truth}
 use Rattle.orca_meaning.specs.declared.operators.Operands.TheVariants as operands
 use Rattle.orca_meaning.specs.Formula.{MeansAt, has_large}
-use Rattle.orca_meaning.specs.Token.{Found}
 use Rattle.macro_meaning.specs.declared.faults.MacroCause.{MacroCause}
 use Rattle.macro_meaning.specs.declared.faults.MacroCause.TheVariants.{NoSuchSymbol, BadSetting}
 use Rattle.macro_meaning.specs.Pieces.{quoted_at, unquoted_text}

@@ -1,11 +1,11 @@
 -- Macro definitions (ORCA/M reference manual, "Macro definitions").
-use Rattle.std.specs.Prelude.{ℕ, ◌+◌, Bool, nat_lt, List, [], ◌∷◌, ◌++◌, length, map, codes, bytes_eq, Option, Some, None, option_map, if◌then◌else◌}
+use Rattle.std.specs.Prelude.{ℕ, ◌+◌, Bool, List, [], ◌∷◌, ◌++◌, length, map, codes, bytes_eq, Option, Some, None, option_map, if◌then◌else◌}
 use Rattle.omf_format.specs.Ascii as ascii
 use Rattle.macro_meaning.specs.declared.faults.MacroCause.{MacroCause}
 use Rattle.macro_meaning.specs.declared.faults.MacroCause.TheVariants.{Unclosed, BadArguments}
 use Rattle.orca_meaning.specs.Characters.{folded}
 use Rattle.orca_meaning.specs.Token.{name_at}
-use Rattle.orca_meaning.specs.Line.{Line, LineFields, part, is_comment, three_fields}
+use Rattle.orca_meaning.specs.Line.{Line, part, is_comment, three_fields}
 use Rattle.macro_meaning.specs.Pieces.{pieces}
 use Rattle.macro_meaning.specs.Statements.{whole_match, symbol_name}
 

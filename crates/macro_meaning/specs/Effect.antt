@@ -4,7 +4,7 @@ use Rattle.omf_format.specs.Ascii as ascii
 use Rattle.omf_format.specs.Value.{signed}
 use Rattle.orca_meaning.specs.Line.{Line, LineFields, part, is_comment, three_fields}
 use Rattle.macro_meaning.specs.declared.faults.MacroCause.{MacroCause}
-use Rattle.macro_meaning.specs.declared.faults.MacroCause.TheVariants.{LineTooLong, TooManyLines, NoSuchSymbol, BadSetting, BadArguments, NoSequenceSymbol, Unclosed, Counter, TooNested, Noted, Memory}
+use Rattle.macro_meaning.specs.declared.faults.MacroCause.TheVariants.{LineTooLong, NoSuchSymbol, BadSetting, BadArguments, Noted}
 use Rattle.macro_meaning.specs.declared.statements.SymbolKind.{SymbolKind}
 use Rattle.macro_meaning.specs.declared.statements.SymbolKind.TheVariants.{Number, Flag, Text}
 use Rattle.macro_meaning.specs.declared.statements.Declaration.{Declaration}
@@ -17,7 +17,7 @@ use Rattle.macro_meaning.specs.Definition.{MacroDefinition, first_named, operati
 use Rattle.macro_meaning.specs.Pieces.{pieces, unquoted_text, joined_texts}
 use Rattle.macro_meaning.specs.Statements.{statement_of, symbol_name, sequence_name, target_name}
 use Rattle.macro_meaning.specs.Substitution.{naming_at, substituted_from}
-use Rattle.macro_meaning.specs.Symbol.{Symbol, Symbols, Values, text_of, is_count, kind_of, declaration_of, is_kind, is_declaration, signed_decimal}
+use Rattle.macro_meaning.specs.Symbol.{Symbols, Values, text_of, is_count, kind_of, declaration_of, is_kind, is_declaration, signed_decimal}
 use Rattle.orca_meaning.specs.Characters.{folded}
 
 pub data Effect : Type 0 where
