@@ -9,6 +9,7 @@ use Rattle.orca_meaning.specs.Quotes.{quote_following}
 use Rattle.macro_meaning.specs.declared.faults.MacroCause.TheVariants.{BadSetting}
 use Rattle.macro_meaning.specs.Effect.{middle_from}
 use Rattle.macro_meaning.specs.Pieces.{pieces_from, pieces, parts, open_after, closed_at, quoted_at, unquoted_text, joined_texts}
+use Rattle.macro_meaning.specs.Statements.{whole_match}
 use Rattle.macro_meaning.specs.laws.Steps.{with_byte, appended_texts}
 
 -- how many bytes pieces have
