@@ -133,9 +133,9 @@ IsDone values Nothing text label operand effect_done = effect_done ≡ (elim lab
 IsDone values Leave text label operand effect_done = effect_done ≡ Exit
 IsDone values Note text label operand effect_done = elim (pieces ascii.comma operand) [
   | message ∷ severity ∷ [] ↦ (answer : Answer) × IsNumber values severity answer × (effect_done ≡ (elim (pair_or_earlier_fault (or_bad (unquoted_text message)) answer) [
-      | Ok (said, n) ↦ if int_le (pos 8) (signed n) then Fail (Noted n) else NoEffect
-      | Err cause ↦ Fail cause
-    ]))
+    | Ok (said, n) ↦ if int_le (pos 8) (signed n) then Fail (Noted n) else NoEffect
+    | Err cause ↦ Fail cause
+  ]))
   | _ ↦ effect_done ≡ Fail BadSetting
 ]
 IsDone values Define text label operand effect_done = effect_done ≡ Emit text
@@ -150,7 +150,7 @@ calling_at definitions root text (Some place) label operand = elim (slice_get de
   | Some d ↦
       if nat_lt d.visible_after root
       then if names_count d.model then Fail BadSetting
-        else elim (bound_arguments d.model label operand) [ None ↦ Fail BadArguments | Some symbols ↦ CallMacro place symbols ]
+      else elim (bound_arguments d.model label operand) [ None ↦ Fail BadArguments | Some symbols ↦ CallMacro place symbols ]
       else Emit text
 ]
 

@@ -1,124 +1,21 @@
 -- The instructions of the 65816 in the order of the opcode (WDC 65C816 data sheet, opcode matrix).
-use Rattle.std.specs.Prelude.{ℕ, Bool, ◌&&◌, List, [], ◌∷◌, ◌++◌, Option, position}
+use Rattle.std.specs.Prelude.{ℕ, ◌&&◌, List, [], ◌∷◌, Option, position}
 use denote.Enum.Bare.{sameb}
 use Rattle.orca_meaning.specs.contracts.mnemonics.Mnemonic as mnemonic_type
 use Rattle.orca_meaning.specs.contracts.modes.Mode as mode_type
 use Rattle.orca_meaning.specs.declared.mnemonics.Mnemonic.{Mnemonic}
 use Rattle.orca_meaning.specs.declared.mnemonics.Mnemonic.TheVariants.{Adc, And, Asl, Bcc, Bcs, Beq, Bit, Bmi, Bne, Bpl, Bra, Brk, Brl, Bvc, Bvs, Clc, Cld, Cli, Clv, Cmp, Cop, Cpx, Cpy, Dec, Dex, Dey, Eor, Inc, Inx, Iny, Jml, Jmp, Jsl, Jsr, Lda, Ldx, Ldy, Lsr, Mvn, Mvp, Nop, Ora, Pea, Pei, Per, Pha, Phb, Phd, Phk, Php, Phx, Phy, Pla, Plb, Pld, Plp, Plx, Ply, Rep, Rol, Ror, Rti, Rtl, Rts, Sbc, Sec, Sed, Sei, Sep, Sta, Stp, Stx, Sty, Stz, Tax, Tay, Tcd, Tcs, Tdc, Trb, Tsb, Tsc, Tsx, Txa, Txs, Txy, Tya, Tyx, Wai, Wdm, Xba, Xce}
 use Rattle.orca_meaning.specs.declared.modes.Mode.{Mode}
-use Rattle.orca_meaning.specs.declared.modes.Mode.TheVariants.{Implied, Accumulator, Immediate, Direct, DirectX, DirectY, DirectIndirect, DirectIndirectY, DirectXIndirect, DirectLong, DirectLongY, Stack, StackIndirectY, Absolute, AbsoluteX, AbsoluteY, AbsoluteIndirect, AbsoluteXIndirect, AbsoluteLongIndirect, Long, LongX, Relative8, Relative16, Move, Signature}
+use Rattle.orca_meaning.specs.declared.modes.Mode.TheVariants.{Implied as i, Accumulator as A, Immediate as #, Direct as d, DirectX as dx, DirectY as dy, DirectIndirect as ⟨d⟩, DirectIndirectY as ⟨d⟩y, DirectXIndirect as ⟨dx⟩, DirectLong as [d], DirectLongY as [d]y, Stack as ds, StackIndirectY as ⟨ds⟩y, Absolute as a, AbsoluteX as ax, AbsoluteY as ay, AbsoluteIndirect as ⟨a⟩, AbsoluteXIndirect as ⟨ax⟩, AbsoluteLongIndirect as [a], Long as al, LongX as alx, Relative8 as r, Relative16 as rl, Move as xyc, Signature as sig}
 
 -- an instruction without its operand: a mnemonic in a mode
 abbrev pub Instruction : Type 0
 Instruction = Mnemonic × Mode
 
--- The data sheet's short names of the modes, less the commas and with ⟨ ⟩ for round brackets. Where it writes only `s`,
--- for the stack, the operand says the mode here: none, a signature byte (BRK, COP), `a` (PEA), `⟨d⟩` (PEI), `rl` (PER).
--- The reserved WDM has a signature byte too, and `[a]` distinguishes JML through a long address from JMP through a short one.
-
--- no operand, or none but the stack
-abbrev i : Mode
-i = Implied
-
--- the accumulator
-abbrev A : Mode
-A = Accumulator
-
--- immediate
-abbrev # : Mode
-# = Immediate
-
--- direct
-abbrev d : Mode
-d = Direct
-
--- direct indexed with X
-abbrev dx : Mode
-dx = DirectX
-
--- direct indexed with Y
-abbrev dy : Mode
-dy = DirectY
-
--- direct indirect
-abbrev ⟨d⟩ : Mode
-⟨d⟩ = DirectIndirect
-
--- direct indirect indexed with Y
-abbrev ⟨d⟩y : Mode
-⟨d⟩y = DirectIndirectY
-
--- direct indexed with X, indirect
-abbrev ⟨dx⟩ : Mode
-⟨dx⟩ = DirectXIndirect
-
--- direct indirect long
-abbrev [d] : Mode
-[d] = DirectLong
-
--- direct indirect long indexed with Y
-abbrev [d]y : Mode
-[d]y = DirectLongY
-
--- stack relative
-abbrev ds : Mode
-ds = Stack
-
--- stack relative indirect indexed with Y
-abbrev ⟨ds⟩y : Mode
-⟨ds⟩y = StackIndirectY
-
--- absolute
-abbrev a : Mode
-a = Absolute
-
--- absolute indexed with X
-abbrev ax : Mode
-ax = AbsoluteX
-
--- absolute indexed with Y
-abbrev ay : Mode
-ay = AbsoluteY
-
--- absolute indirect
-abbrev ⟨a⟩ : Mode
-⟨a⟩ = AbsoluteIndirect
-
--- absolute indexed with X, indirect
-abbrev ⟨ax⟩ : Mode
-⟨ax⟩ = AbsoluteXIndirect
-
--- absolute indirect long
-abbrev [a] : Mode
-[a] = AbsoluteLongIndirect
-
--- absolute long
-abbrev al : Mode
-al = Long
-
--- absolute long indexed with X
-abbrev alx : Mode
-alx = LongX
-
--- relative to the program counter
-abbrev r : Mode
-r = Relative8
-
--- relative to the program counter, long
-abbrev rl : Mode
-rl = Relative16
-
--- block move
-abbrev xyc : Mode
-xyc = Move
-
--- a signature byte
-abbrev sig : Mode
-sig = Signature
-
--- The matrix, one row for each high digit of the opcode.
-
--- the instruction of each opcode
+-- The instruction of each opcode, one row for each high digit. The modes have the data sheet's short names, less the commas and with
+-- ⟨ ⟩ for round brackets. Where it writes only `s`, for the stack, the operand says the mode here: none, a signature byte (BRK, COP),
+-- `a` (PEA), `⟨d⟩` (PEI), `rl` (PER). The reserved WDM has a signature byte too, and `[a]` distinguishes JML through a long address
+-- from JMP through a short one.
 unfoldable pub matrix : List Instruction
 matrix =
     (Brk, sig) ∷ (Ora, ⟨dx⟩) ∷ (Cop, sig) ∷ (Ora, ds) ∷  -- $00 to $03

@@ -82,8 +82,8 @@ attribute_at name (letter ∷ []) = None
 attribute_at name (letter ∷ colon ∷ following) =
     if colon == ascii.colon
     then if to_ascii_uppercase letter == ascii.capital_l then seen_as LengthOf (name following)
-      else if to_ascii_uppercase letter == ascii.capital_c then seen_as CountOf (name following)
-      else None
+    else if to_ascii_uppercase letter == ascii.capital_c then seen_as CountOf (name following)
+    else None
     else None
 
 -- ---- operands
