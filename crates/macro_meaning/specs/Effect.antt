@@ -149,8 +149,7 @@ calling_at definitions root text (Some place) label operand = elim (slice_get de
   | None ↦ Emit text
   | Some d ↦
       if nat_lt d.visible_after root
-      then if names_count d.model then Fail BadSetting
-      else elim (bound_arguments d.model label operand) [ None ↦ Fail BadArguments | Some symbols ↦ CallMacro place symbols ]
+      then (if names_count d.model then Fail BadSetting else elim (bound_arguments d.model label operand) [ None ↦ Fail BadArguments | Some symbols ↦ CallMacro place symbols ])
       else Emit text
 ]
 

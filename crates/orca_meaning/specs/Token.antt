@@ -75,16 +75,18 @@ unfoldable pub symbol_at : List ℕ → Found (List ℕ)
 symbol_at [] = None
 symbol_at (byte ∷ following) = if byte == ascii.ampersand then name_at following else None
 
+-- what is asked of a name by this letter before a colon
+abbrev pub asked_by : ℕ → Found (List ℕ) → Found Operand
+asked_by letter name =
+    if to_ascii_uppercase letter == ascii.capital_l then seen_as LengthOf name
+    else if to_ascii_uppercase letter == ascii.capital_c then seen_as CountOf name
+    else None
+
 -- `L:` or `C:` before what a reader finds
 unfoldable pub attribute_at : (List ℕ → Found (List ℕ)) → List ℕ → Found Operand
 attribute_at name [] = None
 attribute_at name (letter ∷ []) = None
-attribute_at name (letter ∷ colon ∷ following) =
-    if colon == ascii.colon
-    then if to_ascii_uppercase letter == ascii.capital_l then seen_as LengthOf (name following)
-    else if to_ascii_uppercase letter == ascii.capital_c then seen_as CountOf (name following)
-    else None
-    else None
+attribute_at name (letter ∷ colon ∷ following) = if colon == ascii.colon then asked_by letter (name following) else None
 
 -- ---- operands
 

@@ -4,7 +4,7 @@ use Rattle.orca_meaning.specs.Line.{LineFields, operand_span, part, span}
 use Rattle.orca_meaning.specs.Matrix.{Instruction}
 use Rattle.orca_meaning.specs.Operation.{operation_use}
 use Rattle.orca_meaning.specs.Quotes.{outside_from}
-use Rattle.orca_meaning.specs.Token.{CountOf, Found, Label, LengthOf, Operand, attribute_at, location_at, name_at, seen_as, symbol_at}
+use Rattle.orca_meaning.specs.Token.{Found, Label, Operand, attribute_at, location_at, name_at, seen_as, symbol_at}
 use Rattle.orca_meaning.specs.declared.forms.Form.{Form}
 use Rattle.orca_meaning.specs.declared.forms.Form.TheVariants.{Immediate}
 use Rattle.orca_meaning.specs.declared.forms.Opening.{Opening}
@@ -22,7 +22,6 @@ use Rattle.orca_meaning.specs.declared.operators.Operator.{Operator}
 use Rattle.orca_meaning.specs.declared.operators.Operator.TheVariants.{Add, And, Divide, Eor, Equal, Greater, GreaterOrEqual, Less, LessOrEqual, Multiply, NotEqual, Or, Shift, Subtract}
 use Rattle.orca_meaning.specs.declared.operators.Sign.{Sign}
 use Rattle.orca_meaning.specs.declared.operators.Sign.TheVariants.{Negate, Not}
-use Rattle.std.specs.Char.{to_ascii_uppercase}
 use Rattle.std.specs.Option.{option_or}
 use Rattle.std.specs.Prelude.{◌&&◌, ◌+◌, ◌==◌, Bool, List, None, Option, Some, [], ◌^◌, codes, drop, false, if◌then◌else◌, nat_le, not, true, ◌||◌, ℕ, ◌∷◌}
 use denote.Enum.Bare.{sameb}
@@ -99,13 +98,6 @@ next_outside text at = at + outside_from is_blank None (drop at text)
 abbrev pub statement_fields : List ℕ → LineFields → LineFields
 statement_fields text fields =
     record fields { operand = operand_span (operation_use (part text fields.operation)) text fields.operand }
-
--- what is asked of a name by this letter before a colon
-abbrev pub asked_by : ℕ → Found (List ℕ) → Found Operand
-asked_by letter name =
-    if to_ascii_uppercase letter == ascii.capital_l then seen_as LengthOf name
-    else if to_ascii_uppercase letter == ascii.capital_c then seen_as CountOf name
-    else None
 
 abbrev pub signs : List (List ℕ × Sign)
 signs = (codes "-", Negate) ∷ (codes ".NOT.", Not) ∷ []
